@@ -1,0 +1,3 @@
+pub mod Banks
+pub mod Values
+pub mod Hashes
