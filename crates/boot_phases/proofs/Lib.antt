@@ -1,0 +1,3 @@
+pub mod Words
+pub mod Distinct
+pub mod ReadBack

@@ -1,0 +1,67 @@
+//! The lines that predict PCR 11.
+ghost use Rattle.std.specs.Prelude.{◌≡◌, ◌++◌, map, IfOk, OnOk, OnErr};
+ghost use Rattle.pcr_fold.specs.Values.{pcr_bank, pcr_bytes};
+ghost use Rattle.boot_phases.specs.Phases.{HasDistinctPaths};
+ghost use Rattle.boot_phases.specs.Lines.{HasDistinctBanks, heading_of, lines_of, result_text, shown, value_line};
+
+use crate::phase_path::{PhasePath, after_phases};
+use pcr_fold::Pcr;
+use std::alloc::{AllocError, Global};
+
+/// Appends the path's heading, `# PCR[11] Phase <PATH>` and a newline: its words joined by colons,
+/// and `:` for the path without words. After want of memory `out` is as it was.
+#[tactic(auto, unfolding(crate::specs::Lines::heading_of))]
+pub fn append_heading(out: &mut Vec<u8>, path: &PhasePath) -> Result<(), AllocError>
+    ensures ok { OnOk result (out.new.items ≡ out.old.items ++ heading_of path.now) }
+    ensures err { OnErr result (out.new.items ≡ out.old.items) }
+{
+    let heading = format!(in *out.allocator(); "# PCR[11] Phase <{path}>\n")?;
+    out.extend_from_slice(heading.as_bytes())
+}
+
+/// Appends the register's value, `11:NAME=HEX` and a newline: its bank's name, and its bytes in
+/// lower-case hex. After want of memory `out` is as it was.
+#[tactic(auto, unfolding(crate::specs::Lines::value_line))]
+pub fn append_value(alloc: Global, out: &mut Vec<u8>, pcr: &Pcr) -> Result<(), AllocError>
+    ensures ok { OnOk result (out.new.items ≡ out.old.items ++ value_line (pcr_bank pcr.now) (pcr_bytes pcr.now)) }
+    ensures err { OnErr result (out.new.items ≡ out.old.items) }
+{
+    let name = pcr.bank().name();
+    let hex = hex::encode(alloc, pcr.bytes())?;
+    let line = format!(in alloc; "11:{name}={hex}\n")?;
+    out.extend_from_slice(line.as_bytes())
+}
+
+/// Appends the path's heading, and below it the value of each register after the path's words.
+fn append_lines(
+    alloc: Global,
+    out: &mut Vec<u8>,
+    starts: &[Pcr],
+    path: &PhasePath,
+) -> Result<(), AllocError>
+    ensures { OnOk result (out.new.items ≡ out.old.items ++ lines_of (map shown starts.now) path.now) }
+{
+    append_heading(out, path)?;
+    for start in starts {
+        append_value(alloc, out, &after_phases(*start, path))?;
+    }
+    Ok(())
+}
+
+/// The lines for registers that have measured the sections: for each path its heading, and below it
+/// a value for each of the registers, which are of different banks, after the path's words.
+pub fn result_lines(
+    alloc: Global,
+    starts: &[Pcr],
+    paths: &[PhasePath],
+) -> Result<Vec<u8>, AllocError>
+    requires banks { HasDistinctBanks starts.now }
+    requires paths { HasDistinctPaths paths.now }
+    ensures { IfOk result (λ lines. lines.items ≡ result_text (map shown starts.now) paths.now) }
+{
+    let mut out = Vec::new(alloc);
+    for path in paths {
+        append_lines(alloc, &mut out, starts, path)?;
+    }
+    Ok(out)
+}
