@@ -1,0 +1,3 @@
+pub mod Joined
+pub mod LastComponent
+pub mod Temp

@@ -1,0 +1,371 @@
+//! Paths of boot files and of temporary ones, and names of files.
+ghost use Rattle.std.specs.Prelude.{◌≡◌, ◌++◌, false, true, not, length, Some, None, IfOk, OnOk, string_bytes, if◌then◌else◌, ◌==◌, ◌∷◌, []};
+ghost use Rattle.std.specs.List.{list_any};
+ghost use Rattle.boot_base.specs.Paths.{temp_end, is_temp, is_slash, components, is_kept, is_refused, normal_of, is_path_text, path_of, path_below, file_name_of, beside, is_component, sibling_of, is_file_name, leftover_of};
+
+use crate::append::{AppendText, append_displayed};
+use std::alloc::{AllocError, Global};
+use std::fmt;
+use std::marker::Model;
+use thiserror::Error;
+
+/// The most bytes of a component of a path. A temporary file's name has four more.
+const COMPONENT_LIMIT: usize = 251;
+
+/// The most bytes of a file's name.
+const NAME_LIMIT: usize = 255;
+
+/// The most bytes of a path.
+const PATH_LIMIT: usize = 1024;
+
+/// Why there is no path or name.
+#[derive(Debug, PartialEq, Eq, Drop, Error)]
+pub enum PathFault {
+    /// There was no memory for it.
+    #[error("out of memory")]
+    Memory,
+    /// The text is no path, or no name.
+    #[error("not a path")]
+    BadPath,
+}
+
+impl From<AllocError> for PathFault {
+    ghost use Rattle.std.specs.Prelude.{◌≡◌};
+    ghost use Rattle.boot_base.specs.declared.path.PathFault.TheVariants.{Memory};
+
+    ghost from_gives = { λ _ fault. fault ≡ Memory };
+
+    fn from(_error: AllocError) -> PathFault {
+        PathFault::Memory
+    }
+}
+
+/// The path of a boot file, below the folder that the machine stands on: components with a `/` between
+/// each two, none of them `.` or `..`. It doesn't end in `.tmp`.
+#[derive(Debug, Drop)]
+pub struct BootPath {
+    text: String,
+}
+
+impl Model for BootPath {
+    ghost use Rattle.std.specs.Prelude.{◌≡◌, false, List, ℕ, string_bytes};
+    ghost use Rattle.boot_base.specs.Paths.{is_temp};
+
+    ghost Value = { List ℕ };
+
+    ghost view = { λ p. string_bytes p.text };
+
+    ghost invariant = { λ p. is_temp (string_bytes p.text) ≡ false };
+}
+
+impl BootPath {
+    /// The path that a word names: its components without the empty ones and `.`, joined by `/`.
+    ///
+    /// # Errors
+    ///
+    /// `BadPath` exactly where a component is `..` or has more than 251 bytes, a NUL is there, or what is
+    /// left is empty, has more than 1,024 bytes or ends in `.tmp`; `Memory` where there is no memory.
+    pub fn read(alloc: Global, text: &str) -> Result<BootPath, PathFault>
+        ensures ok { IfOk result (λ path. path_of text.now ≡ Some path) }
+        ensures bad { result ≡ Err PathFault.BadPath → path_of text.now ≡ None }
+    {
+        if has_nul(text) || has_refused_component(text) {
+            return Err(PathFault::BadPath);
+        }
+        let text = normal(alloc, text)?;
+        if !is_boot_text(text.as_str()) {
+            return Err(PathFault::BadPath);
+        }
+        Ok(BootPath { text })
+    }
+
+    /// The path's text, without a leading `/`.
+    pub fn as_str(&self) -> &str
+        ensures text { result.now ≡ self.now }
+        ensures lasting { is_temp self.now ≡ false }
+    {
+        self.text.as_str()
+    }
+
+    /// The last component.
+    pub fn file_name(&self) -> &str
+        ensures { result.now ≡ file_name_of self.now }
+    {
+        match self.text.rsplit_once('/') {
+            Some((_, name)) => name,
+            None => self.text.as_str(),
+        }
+    }
+
+    /// The path that `read` gives for the folder's text, `/` and what is below it.
+    ///
+    /// # Errors
+    ///
+    /// As of `read`; a `below` without a component is no path.
+    pub fn under(alloc: Global, folder: &BootPath, below: &str) -> Result<BootPath, PathFault>
+        ensures ok { IfOk result (λ path. path_below folder.now below.now ≡ Some path) }
+        ensures bad { result ≡ Err PathFault.BadPath → path_below folder.now below.now ≡ None }
+    {
+        if !has_component(below) {
+            return Err(PathFault::BadPath);
+        }
+        let joined = joined_with(alloc, folder.as_str(), "/", below)?;
+        BootPath::read(alloc, joined.as_str())
+    }
+
+    /// The path of the file of that name in the same folder: the last component replaced by `name`.
+    ///
+    /// # Errors
+    ///
+    /// `BadPath` exactly where `name` is empty, is `.` or holds `/`, or the new text is no path by `read`.
+    pub fn sibling(&self, alloc: Global, name: &str) -> Result<BootPath, PathFault>
+        ensures ok { IfOk result (λ path. sibling_of self.now name.now ≡ Some path) }
+        ensures bad { result ≡ Err PathFault.BadPath → sibling_of self.now name.now ≡ None }
+    {
+        if !is_one_component(name) {
+            return Err(PathFault::BadPath);
+        }
+        let text = self.beside(alloc, name)?;
+        BootPath::read(alloc, text.as_str())
+    }
+
+    // The path's text with its last component replaced.
+    fn beside(&self, alloc: Global, name: &str) -> Result<String, AllocError>
+        ensures { IfOk result (λ text. string_bytes text ≡ beside self.now name.now) }
+    {
+        match self.text.rsplit_once('/') {
+            Some((folder, _)) => joined_with(alloc, folder, "/", name),
+            None => String::from_str(alloc, name),
+        }
+    }
+
+    /// It says that the path isn't that of a temporary file, and does nothing.
+    pub fn know(&self)
+        ensures { is_temp self.now ≡ false }
+    {
+        let _ = &self.text;
+    }
+}
+
+impl fmt::Display for BootPath {
+    ghost use Rattle.std.specs.Prelude.{Some, ◌∷◌};
+
+    ghost output = { λ path. Some (47 ∷ path) };
+
+    fn fmt<W: fmt::Write>(&self, f: &mut fmt::Formatter<W>) -> fmt::Result {
+        let text = self.as_str();
+        write!(f, "/{text}")
+    }
+}
+
+/// A path is printed with a leading `/`.
+impl AppendText for BootPath {
+    ghost use Rattle.std.specs.Prelude.{◌∷◌};
+
+    ghost text = { λ path. 47 ∷ path };
+
+    fn append_to(&self, out: &mut Vec<u8>) -> Result<(), AllocError> {
+        append_displayed(self, out)
+    }
+}
+
+/// The path of a temporary file. It ends in `.tmp`.
+#[derive(Debug, Drop)]
+pub struct TempPath {
+    text: String,
+}
+
+impl Model for TempPath {
+    ghost use Rattle.std.specs.Prelude.{◌≡◌, true, List, ℕ, string_bytes};
+    ghost use Rattle.boot_base.specs.Paths.{is_temp};
+
+    ghost Value = { List ℕ };
+
+    ghost view = { λ p. string_bytes p.text };
+
+    ghost invariant = { λ p. is_temp (string_bytes p.text) ≡ true };
+}
+
+impl TempPath {
+    /// Where the file of that path is written first: its path with `.tmp` behind it.
+    pub fn of(alloc: Global, path: &BootPath) -> Result<TempPath, AllocError>
+        ensures { IfOk result (λ temp. temp ≡ path.now ++ temp_end) }
+    {
+        let mut text = String::from_str(alloc, path.as_str())?;
+        text.push_str(".tmp")?;
+        Ok(TempPath { text })
+    }
+
+    /// The path of a file of that name in the folder, where the name is that of a temporary file: None
+    /// exactly where it doesn't end in `.tmp`.
+    pub fn leftover(
+        alloc: Global,
+        folder: &BootPath,
+        name: &FileName,
+    ) -> Result<Option<TempPath>, AllocError>
+        ensures { IfOk result (λ temp. temp ≡ leftover_of folder.now name.now) }
+    {
+        if !ends_as_temp(name.as_str()) {
+            return Ok(None);
+        }
+        let text = joined_with(alloc, folder.as_str(), "/", name.as_str())?;
+        Ok(Some(TempPath { text }))
+    }
+
+    /// The path's text, without a leading `/`.
+    pub fn as_str(&self) -> &str
+        ensures text { result.now ≡ self.now }
+        ensures passing { is_temp self.now ≡ true }
+    {
+        self.text.as_str()
+    }
+
+    /// It says that the path is that of a temporary file, and does nothing.
+    pub fn know(&self)
+        ensures { is_temp self.now ≡ true }
+    {
+        let _ = &self.text;
+    }
+}
+
+/// Where a file is to stand, and where it is written first.
+#[derive(Debug, Drop)]
+pub struct Target {
+    pub path: BootPath,
+    pub temp: TempPath,
+}
+
+impl Target {
+    /// The target at that path, and its temporary file beside it.
+    pub fn of(alloc: Global, path: BootPath) -> Result<Target, AllocError>
+        ensures path { IfOk result (λ target. target.path ≡ path) }
+        ensures temp { IfOk result (λ target. target.temp ≡ path ++ temp_end) }
+    {
+        let temp = TempPath::of(alloc, &path)?;
+        Ok(Target { path, temp })
+    }
+}
+
+/// The name of a file directly in a folder, temporary or not.
+#[derive(Debug, Drop)]
+pub struct FileName {
+    text: String,
+}
+
+impl Model for FileName {
+    ghost use Rattle.std.specs.Prelude.{◌≡◌, true, List, ℕ, string_bytes};
+    ghost use Rattle.boot_base.specs.Paths.{is_file_name};
+
+    ghost Value = { List ℕ };
+
+    ghost view = { λ n. string_bytes n.text };
+
+    ghost invariant = { λ n. is_file_name (string_bytes n.text) ≡ true };
+}
+
+impl FileName {
+    /// The name with this text.
+    ///
+    /// # Errors
+    ///
+    /// `BadPath` exactly where the text is empty, `.` or `..`, holds `/` or NUL, or has more than 255 bytes.
+    pub fn read(alloc: Global, text: &str) -> Result<FileName, PathFault>
+        ensures ok { IfOk result (λ name. (is_file_name text.now ≡ true) × (name ≡ text.now)) }
+        ensures bad { result ≡ Err PathFault.BadPath → is_file_name text.now ≡ false }
+    {
+        if !is_name(text) {
+            return Err(PathFault::BadPath);
+        }
+        let text = String::from_str(alloc, text)?;
+        Ok(FileName { text })
+    }
+
+    /// The name's text.
+    pub fn as_str(&self) -> &str
+        ensures text { result.now ≡ self.now }
+        ensures name { is_file_name self.now ≡ true }
+    {
+        self.text.as_str()
+    }
+}
+
+#[tactic(auto, unfolding(crate::specs::Paths::is_file_name))]
+fn is_name(text: &str) -> bool
+    ensures { result ≡ is_file_name text.now }
+{
+    is_one_component(text) && text != ".." && !has_nul(text) && text.len() <= NAME_LIMIT
+}
+
+// The text is one component of a path.
+fn is_one_component(name: &str) -> bool
+    ensures { result ≡ is_component name.now }
+{
+    counts(name) && !name.as_bytes().contains(&b'/')
+}
+
+// Some component of the text counts.
+fn has_component(text: &str) -> bool
+    ensures { result ≡ list_any is_kept (components text.now) }
+{
+    text.split('/').any(|component| counts(component))
+}
+
+// The three texts, one behind the other.
+fn joined_with(alloc: Global, front: &str, middle: &str, back: &str) -> Result<String, AllocError>
+    ensures { IfOk result (λ text. string_bytes text ≡ front.now ++ (middle.now ++ back.now)) }
+{
+    format!(in alloc; "{front}{middle}{back}")
+}
+
+#[tactic(auto, unfolding(crate::specs::Paths::is_temp))]
+fn ends_as_temp(text: &str) -> bool
+    ensures { result ≡ is_temp text.now }
+{
+    text.as_bytes().ends_with(b".tmp")
+}
+
+fn has_nul(text: &str) -> bool
+    ensures { result ≡ list_any (λ b. b == 0) text.now }
+{
+    text.as_bytes().contains(&0)
+}
+
+fn has_refused_component(text: &str) -> bool
+    ensures { result ≡ list_any is_refused (components text.now) }
+{
+    text.split('/').any(|component| component == ".." || component.len() > COMPONENT_LIMIT)
+}
+
+fn is_boot_text(text: &str) -> bool
+    ensures { result ≡ is_path_text text.now }
+{
+    !(text.is_empty() || text.len() > PATH_LIMIT || ends_as_temp(text))
+}
+
+fn normal(alloc: Global, text: &str) -> Result<String, AllocError>
+    ensures { IfOk result (λ normal. string_bytes normal ≡ normal_of text.now) }
+{
+    let mut normal = String::new(alloc);
+    for component in text.split('/') {
+        if counts(component) {
+            add(&mut normal, component)?;
+        }
+    }
+    Ok(normal)
+}
+
+// The component counts: it is neither empty nor `.`.
+fn counts(component: &str) -> bool
+    ensures { result ≡ is_kept component.now }
+{
+    !(component.is_empty() || component == ".")
+}
+
+fn add(text: &mut String, component: &str) -> Result<(), AllocError>
+    ensures { OnOk result (string_bytes text.new ≡ (if length (string_bytes text.old) == 0 then component.now else string_bytes text.old ++ (47 ∷ component.now))) }
+{
+    if !text.is_empty() {
+        text.push('/')?;
+    }
+    text.push_str(component)
+}
