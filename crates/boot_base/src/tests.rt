@@ -153,43 +153,31 @@ fn refusal(alloc: Global, number: u8) -> Result<Refusal, AllocError> {
 
 #[test]
 fn refusals_are_printed(rt: HostRuntime) -> Result<(), Fail> {
-    let rows = [
-        "W is not there",
-        "W is not a path",
-        "W has 268435457 bytes",
-        "not a PE32+ file: raw data at 260",
-        "the stub has a certificate table",
-        "headers need 320 bytes and have 288",
-        "section W is there twice",
-        "W is not a section name",
-        ".sbat has 518 bytes and room for 512",
-        "the image ends at 4294967296",
-        "no W",
-        "W is not a name",
-        "no entries",
-        "W is there already",
-        "W has no counter",
-        "nothing to bless at W",
-        "line 2 is not a command",
-        "4097 entries",
-        "W is not a number here",
+    let lines = [
+        "refusal 1: W is not there\n",
+        "refusal 2: W is not a path\n",
+        "refusal 3: W has 268435457 bytes\n",
+        "refusal 4: not a PE32+ file: raw data at 260\n",
+        "refusal 5: the stub has a certificate table\n",
+        "refusal 6: headers need 320 bytes and have 288\n",
+        "refusal 7: section W is there twice\n",
+        "refusal 8: W is not a section name\n",
+        "refusal 9: .sbat has 518 bytes and room for 512\n",
+        "refusal 10: the image ends at 4294967296\n",
+        "refusal 11: no W\n",
+        "refusal 12: W is not a name\n",
+        "refusal 13: no entries\n",
+        "refusal 14: W is there already\n",
+        "refusal 15: W has no counter\n",
+        "refusal 16: nothing to bless at W\n",
+        "refusal 17: line 2 is not a command\n",
+        "refusal 18: 4097 entries\n",
+        "refusal 19: W is not a number here\n",
     ];
-    let mut number = 0u8;
-    for text in rows {
-        number = number.saturating_add(1);
-        let refusal = refusal(rt.alloc(), number)?;
-        assert_eq!(rt; refusal.number(), number);
-        let mut printed = Vec::from_slice(rt.alloc(), b"> ")?;
-        refusal.append_to(&mut printed)?;
-        assert_eq!(rt;
-            printed.as_slice(),
-            format!(in rt.alloc(); "> {text}")?.as_bytes()
-        );
+    for (place, text) in lines.iter().enumerate() {
+        let refusal = refusal(rt.alloc(), place as u8 + 1)?;
         let line = refusal.line(rt.alloc())?;
-        assert_eq!(rt;
-            line.as_str(),
-            format!(in rt.alloc(); "refusal {number}: {text}\n")?.as_str()
-        );
+        assert_eq!(rt; line.as_str(), *text);
     }
     Ok(())
 }
@@ -212,6 +200,7 @@ fn texts_and_lists(rt: HostRuntime) -> Result<(), Fail> {
     assert_eq!(rt; bytes.as_slice()[0].as_slice(), [255, 0].as_slice());
     let mut printed = Vec::new(alloc);
     BootPath::read(alloc, "efi/a.efi")?.append_to(&mut printed)?;
-    assert_eq!(rt; printed.as_slice(), b"/efi/a.efi".as_slice());
+    Refusal::NoEntries.append_to(&mut printed)?;
+    assert_eq!(rt; printed.as_slice(), b"/efi/a.efino entries".as_slice());
     Ok(())
 }
