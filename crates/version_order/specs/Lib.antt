@@ -1,0 +1,4 @@
+pub mod Tokens
+pub mod Order
+pub mod Laws
+pub mod Lexemes
