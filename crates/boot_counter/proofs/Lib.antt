@@ -1,0 +1,4 @@
+mod Cuts
+mod Readings
+mod Written
+mod Steps
