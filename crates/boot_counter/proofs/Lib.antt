@@ -1,4 +1,4 @@
 mod Cuts
-mod Readings
-mod Written
+pub mod Readings
+pub mod Written
 mod Steps

@@ -1,8 +1,9 @@
 -- Boot counters in file names (UAPI Boot Loader Specification, "Boot counting"; that a number has at most nine digits is this project's choice).
-use Rattle.std.specs.Prelude.{◌≡◌, ◌⊎◌, ℕ, Bool, not, nat_le, ◌&&◌, ◌==◌, ◌<◌, ◌≤◌, List, [], ◌∷◌, ◌++◌, length, take, if◌then◌else◌}
+use Rattle.std.specs.Prelude.{◌≡◌, ◌⊎◌, ℕ, Bool, not, nat_le, ◌&&◌, ◌==◌, ◌+◌, ◌-◌, ◌<◌, ◌≤◌, min, List, [], ◌∷◌, ◌++◌, length, take, if◌then◌else◌}
 use Rattle.std.specs.Char.{is_ascii_digit}
 use Rattle.std.specs.Fmt.{decimal}
 use Rattle.std.specs.List.{list_all}
+use Rattle.std.specs.Str.{IsCharBoundary}
 use Rattle.std.specs.Str.Parse.{IsNumeral, digits_value}
 use Rattle.boot_counter.specs.declared.counted.Counted.{Counted}
 use Rattle.boot_counter.specs.declared.counted.Suffix.{Suffix}
@@ -23,7 +24,7 @@ pub record IsNumber (text : List ℕ) (n : ℕ) : Type 0 where
 abbrev pub is_number : List ℕ → Bool
 is_number text = not (length text == 0) && nat_le (length text) 9 && list_all is_ascii_digit text
 
--- the text of DONE: nothing for none, or a hyphen and a number
+-- the text of DONE: nothing for none, or a hyphen (45) and a number
 abbrev pub IsDone : List ℕ → ℕ → Type 0
 IsDone text done = ((text ≡ []) × (done ≡ 0)) ⊎ ((number : List ℕ) × (text ≡ 45 ∷ number) × IsNumber number done)
 
@@ -35,7 +36,7 @@ pub record IsCounter (text : List ℕ) (left done : ℕ) : Type 0 where
   pub left_is : IsNumber left_text left
   pub done_is : IsDone done_text done
 
--- the name is a base that isn't empty, a plus, a counter and a suffix
+-- the name is a base that isn't empty, a plus (43), a counter and a suffix
 pub record IsCounted (name base : List ℕ) (left done : ℕ) (suffix : Suffix) : Type 0 where
   pub counter : List ℕ
   pub parts : name ≡ base ++ (43 ∷ (counter ++ suffix_text suffix))
@@ -50,9 +51,17 @@ IsUncounted name = (base : List ℕ) (left done : ℕ) (suffix : Suffix) → IsC
 abbrev pub IsSplit : List ℕ → Counted → Type 0
 IsSplit name counted = IsCounted name (take counted.base_length name) counted.left counted.done counted.suffix
 
+-- the base of a name is so many bytes long, and not all of it, and the name may be cut behind it
+abbrev pub IsBaseLength : List ℕ → ℕ → Type 0
+IsBaseLength name n = (0 < n) × (n < length name) × IsCharBoundary name n
+
 -- what a name is split into
 abbrev pub counted_of : List ℕ → ℕ → ℕ → Suffix → Counted
 counted_of base left done suffix = record { base_length = length base; left = left; done = done; suffix = suffix }
+
+-- after a boot LEFT is one lower and DONE one higher, up to nine digits
+abbrev pub after_boot : Counted → Counted
+after_boot counted = record counted { left = counted.left - 1; done = min (counted.done + 1) 999999999 }
 
 -- how DONE is written: not at all where it is 0
 abbrev pub done_text_of : ℕ → List ℕ

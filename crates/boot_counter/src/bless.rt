@@ -39,7 +39,8 @@ pub enum Choice {
     NoSource,
 }
 
-/// What a verb renames: nothing where its target is there, else the first of its sources that is.
+/// What a verb renames to its target, as systemd-bless-boot.service(8) has it: nothing where the
+/// target is there, else the first of its sources that is. It takes no memory.
 pub fn bless_choice(verb: BlessVerb, present: Present) -> Choice
     ensures { result ≡ choice_of verb present }
 {

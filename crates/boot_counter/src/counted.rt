@@ -1,9 +1,8 @@
 //! Names with a boot counter.
-ghost use Rattle.std.specs.Prelude.{◌≡◌, ◌≢◌, ◌↔◌, ◌<◌, ◌≤◌, ◌+◌, ◌-◌, ◌∷◌, ◌++◌, ℕ, List, length, min, take, string_bytes, IfOk, IfSome, IsNone, IsTrue, MatchOption};
+ghost use Rattle.std.specs.Prelude.{◌≡◌, ◌≢◌, ◌↔◌, ◌<◌, ◌≤◌, ◌∷◌, ◌++◌, ℕ, List, length, string_bytes, IfOk, IfSome, IsNone, IsTrue, MatchOption};
 ghost use Rattle.std.specs.Char.{is_ascii_digit};
 ghost use Rattle.std.specs.List.{list_all};
-ghost use Rattle.std.specs.Str.{IsCharBoundary};
-ghost use Rattle.boot_counter.specs.Counter.{suffix_text, is_number, IsNumber, IsCounter, IsCounted, IsUncounted, IsSplit, counted_of, written_name, IsGoodName, IsBadName};
+ghost use Rattle.boot_counter.specs.Counter.{suffix_text, is_number, IsNumber, IsCounter, IsCounted, IsUncounted, IsSplit, IsBaseLength, counted_of, after_boot, written_name, IsGoodName, IsBadName};
 ghost use Rattle.boot_counter.specs.Laws.{OneReading, WrittenReads, ShortestRewrites};
 
 use std::alloc::{AllocError, Global};
@@ -32,7 +31,7 @@ impl Suffix {
     }
 }
 
-/// The boot counter of a name, and where its base ends.
+/// The boot counter of a file name, and where its base ends.
 #[derive(Clone, Copy, PartialEq, Eq, Debug)]
 pub struct Counted {
     /// How many bytes the name has before the plus of its counter.
@@ -46,12 +45,15 @@ pub struct Counted {
 }
 
 impl Counted {
-    /// The counter of a name; None exactly where it has none.
+    /// The counter of a file name, as the UAPI Boot Loader Specification writes it; None exactly
+    /// where the name has none. It takes no memory.
     pub fn split(name: &str) -> Option<Counted>
         ensures counted { MatchOption result (IsUncounted name.now) (IsSplit name.now) }
-        ensures only { (base : List ℕ) (left done : ℕ) (suffix : Suffix) → IsCounted name.now base left done suffix → result ≡ Some (counted_of base left done suffix) }
+        ensures only { (base : List ℕ) (left done : ℕ) (suffix : Suffix)
+            → IsCounted name.now base left done suffix
+            → result ≡ Some (counted_of base left done suffix) }
         ensures limits { IfSome result (λ c. (c.left ≤ MAX_COUNT) × (c.done ≤ MAX_COUNT)) }
-        ensures cut { IfSome result (λ c. (0 < c.base_length) × (c.base_length < length name.now) × IsCharBoundary name.now c.base_length) }
+        ensures cut { IfSome result (λ c. IsBaseLength name.now c.base_length) }
     {
         let reading = Reading::of(name)?;
         Some(Counted {
@@ -62,7 +64,8 @@ impl Counted {
         })
     }
 
-    /// The name of a base with a counter: without leading zeros, and without a DONE of 0.
+    /// The file name of a base with a counter, as the UAPI Boot Loader Specification writes it:
+    /// without leading zeros, and without a DONE of 0. Want of memory is its one fault.
     pub fn joined(
         alloc: Global,
         base: &str,
@@ -84,20 +87,25 @@ impl Counted {
         }
     }
 
-    /// The counter after a boot; None exactly where no boot is left. DONE stays at its greatest.
+    /// The counter after one more boot, with LEFT one lower and DONE one higher, which stays at
+    /// its greatest; None exactly where no boot is left. It takes no memory.
     pub fn booted(self) -> Option<Counted>
         requires { self.done ≤ MAX_COUNT }
         ensures none { IsNone result ↔ (self.left ≡ 0) }
-        ensures some { IfSome result (λ next. next ≡ record self { left = self.left - 1; done = min (self.done + 1) MAX_COUNT }) }
+        ensures some { IfSome result (λ next. next ≡ after_boot self) }
     {
         let left = self.left.checked_sub(1)?;
         let done = (self.done + 1).min(MAX_COUNT);
         Some(Counted { left, done, ..self })
     }
 
-    /// The name without its counter; None exactly where it has none.
+    /// The name without its counter, which a good boot gives it; None exactly where it has none.
+    /// Want of memory is its one fault.
     pub fn good_name(alloc: Global, name: &str) -> Result<Option<String>, AllocError>
-        ensures { IfOk result (λ found. MatchOption found (IsUncounted name.now) (λ good. IsGoodName name.now (string_bytes good))) }
+        ensures { IfOk result (λ found.
+            MatchOption found
+            (IsUncounted name.now)
+            (λ good. IsGoodName name.now (string_bytes good))) }
     {
         let Some(reading) = Reading::of(name) else {
             return Ok(None);
@@ -107,9 +115,13 @@ impl Counted {
         Ok(Some(good))
     }
 
-    /// The name with no boot left; None exactly where the name has no counter.
+    /// The name with no boot left, which a bad boot gives it; None exactly where the name has no
+    /// counter. Want of memory is its one fault.
     pub fn bad_name(alloc: Global, name: &str) -> Result<Option<String>, AllocError>
-        ensures { IfOk result (λ found. MatchOption found (IsUncounted name.now) (λ bad. IsBadName name.now (string_bytes bad))) }
+        ensures { IfOk result (λ found.
+            MatchOption found
+            (IsUncounted name.now)
+            (λ bad. IsBadName name.now (string_bytes bad))) }
     {
         let Some(reading) = Reading::of(name) else {
             return Ok(None);
@@ -131,7 +143,9 @@ struct Reading<'a> {
 impl<'a> Reading<'a> {
     /// The reading of a name; None exactly where it has no counter.
     fn of(name: &'a str) -> Option<Reading<'a>>
-        ensures { MatchOption result (IsUncounted name.now) (λ r. IsCounted name.now r.base.now r.left r.done r.suffix) }
+        ensures { MatchOption result
+            (IsUncounted name.now)
+            (λ r. IsCounted name.now r.base.now r.left r.done r.suffix) }
     {
         let (stem, suffix) = split_suffix(name)?;
         let (base, counter) = stem.rsplit_once('+')?;
@@ -150,7 +164,9 @@ impl<'a> Reading<'a> {
 
 /// A name's stem and its suffix; None exactly where it has no suffix.
 fn split_suffix(name: &str) -> Option<(&str, Suffix)>
-    ensures { MatchOption result ((stem : List ℕ) (suffix : Suffix) → name.now ≢ stem ++ suffix_text suffix) (λ split. name.now ≡ split.0.now ++ suffix_text split.1) }
+    ensures { MatchOption result
+        ((stem : List ℕ) (suffix : Suffix) → name.now ≢ stem ++ suffix_text suffix)
+        (λ split. name.now ≡ split.0.now ++ suffix_text split.1) }
 {
     if let Some(stem) = name.strip_suffix(".conf") {
         return Some((stem, Suffix::Conf));
@@ -161,7 +177,9 @@ fn split_suffix(name: &str) -> Option<(&str, Suffix)>
 
 /// LEFT and DONE of a counter; None exactly where the text is none.
 fn read_counter(text: &str) -> Option<(u32, u32)>
-    ensures { MatchOption result ((left done : ℕ) → IsCounter text.now left done → ⊥) (λ counter. IsCounter text.now counter.0 counter.1) }
+    ensures { MatchOption result
+        ((left done : ℕ) → IsCounter text.now left done → ⊥)
+        (λ counter. IsCounter text.now counter.0 counter.1) }
 {
     let Some((left, done)) = text.split_once('-') else {
         return Some((read_number(text)?, 0));

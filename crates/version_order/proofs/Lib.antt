@@ -1,4 +1,4 @@
 mod Fronts
 mod Runs
 mod Numbers
-mod Ties
+pub mod Ties

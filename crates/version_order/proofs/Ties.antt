@@ -1,5 +1,5 @@
 -- What is equal in the order of versions, and what decides it.
-use Rattle.std.proofs.Common.{◌≡◌, ◌≢◌, ℕ, cond, ◌==◌, List, [], ◌∷◌, ◌++◌, refl, ap, sym, ◌∙◌}
+use Rattle.std.proofs.Common.{◌≡◌, ◌≢◌, ◌↔◌, ℕ, cond, ◌==◌, List, [], ◌∷◌, ◌++◌, refl, ap, sym, ◌∙◌}
 use Rattle.std.proofs.lemmas.Cmp.{tied_itself, ranked}
 use Rattle.std.proofs.lemmas.List.{append_cancel_right}
 use Rattle.std.specs.Cmp.Lexicographic.{slice_cmp}
@@ -7,8 +7,8 @@ use Rattle.std.specs.Ordering.{nat_cmp, ordering_then}
 use Rattle.std.specs.declared.cmp.Ordering.{Ordering}
 use Rattle.std.specs.declared.cmp.Ordering.TheVariants.{Less, Equal, Greater}
 use Rattle.version_order.specs.Tokens.{Token, Tilde, End, Hyphen, Caret, Dot, Letters, Number, tokens_of}
-use Rattle.version_order.specs.Order.{rank_of, letters_of, number_of, token_cmp, to_end}
-use Rattle.version_order.specs.Laws.{EqualTokens, FirstDifference, token_cmp_total, version_cmp_total}
+use Rattle.version_order.specs.Order.{rank_of, letters_of, number_of, token_cmp, to_end, tokens_cmp}
+use Rattle.version_order.specs.Laws.{EqualTokens, FirstDifference, token_cmp_total, tokens_cmp_total}
 
 -- a token from its place, its letters and its number
 abbrev token_from : ℕ → List ℕ → ℕ → Token
@@ -58,11 +58,15 @@ token_cmp-Equal x y e =
     ∙ ap (λ n. token_from (rank_of y) (letters_of y) n) number
     ∙ token_from-parts y
 
-pub equal_tokens : EqualTokens
-equal_tokens a b = (
-  λ e. append_cancel_right (tokens_of a) (tokens_of b) (End ∷ []) (slice_cmp-Equal token_cmp token_cmp-Equal (to_end (tokens_of a)) (to_end (tokens_of b)) e),
-  λ same. ap (λ ts. slice_cmp token_cmp (to_end ts) (to_end (tokens_of b))) same ∙ tied_itself version_cmp_total b,
+-- lists of tokens are equal in the order where no token differs, and there alone
+pub tokens_cmp-Equal : (a b : List Token) → (tokens_cmp a b ≡ Equal) ↔ (a ≡ b)
+tokens_cmp-Equal a b = (
+  (λ e. append_cancel_right a b (End ∷ []) (slice_cmp-Equal token_cmp token_cmp-Equal (to_end a) (to_end b) e)),
+  λ same. ap (λ ts. tokens_cmp ts b) same ∙ tied_itself tokens_cmp_total b,
 )
+
+pub equal_tokens : EqualTokens
+equal_tokens a b = tokens_cmp-Equal (tokens_of a) (tokens_of b)
 
 -- a comparison that isn't equal decides
 then-decided : (o p : Ordering) → o ≢ Equal → ordering_then o p ≡ o

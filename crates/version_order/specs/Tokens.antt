@@ -29,7 +29,7 @@ abbrev pub runs_of : List ℕ → List (List ℕ)
 runs_of [] = []
 runs_of (b ∷ bs) = join_run b (runs_of bs)
 
--- the token of a run; bytes of no token only separate
+-- the token of a run, where 126 is `~`, 45 `-`, 94 `^` and 46 `.`; bytes of no token only separate
 abbrev pub run_token : List ℕ → Option Token
 run_token [] = None
 run_token (b ∷ bs) =

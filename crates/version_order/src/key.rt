@@ -24,7 +24,7 @@ impl Model for VersionKey {
 }
 
 impl VersionKey {
-    /// The key of a version, which keeps a copy of the text.
+    /// The key of a version, which keeps a copy of the text. Want of memory is its one fault.
     pub fn of(alloc: Global, text: &[u8]) -> Result<VersionKey, AllocError>
         ensures { IfOk result (λ key. key ≡ tokens_of text.now) }
     {

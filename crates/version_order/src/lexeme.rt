@@ -13,12 +13,19 @@ use std::cmp::Ordering;
 /// The bytes of a token as they stand in a version.
 #[derive(Clone, Copy)]
 pub enum Lexeme<'a> {
+    /// `~`, which is below the end.
     Tilde,
+    /// The end of the version.
     End,
+    /// `-`.
     Hyphen,
+    /// `^`.
     Caret,
+    /// `.`.
     Dot,
+    /// A run of ASCII letters.
     Letters(&'a [u8]),
+    /// A run of ASCII digits of any length, which may begin with zeros.
     Digits(&'a [u8]),
 }
 

@@ -17,7 +17,9 @@ pub use key::VersionKey;
 use lexeme::{Lexeme, first_lexeme};
 use std::cmp::Ordering;
 
-/// How two versions compare, in place and without memory.
+/// How two versions compare in the order of the UAPI Version Format: token by token, with the end
+/// of a text as a token of its own. Bytes of no token only separate. It takes no memory, and time
+/// in proportion to the two lengths.
 pub fn compare(a: &[u8], b: &[u8]) -> Ordering
     ensures order { result ≡ version_cmp a.now b.now }
 {
