@@ -1,0 +1,2 @@
+pub mod LeftoverLemmas
+pub mod StepLemmas

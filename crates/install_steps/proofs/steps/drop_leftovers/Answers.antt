@@ -1,0 +1,76 @@
+use Rattle.std.proofs.Common.{◌≡◌, ◌⊎◌, ⊎_elim, true, refl, sym, subst, rules, []}
+use Rattle.std.specs.FinMap as map
+use Rattle.boot_machine.specs.Disk.{State, has, view}
+use Rattle.boot_machine.specs.Rows.{unlinked}
+use Rattle.boot_machine.proofs.Views.{view-remove_temp}
+use Rattle.boot_machine.proofs.Soft.{now_sees, by_done_or_not}
+use Rattle.boot_machine.proofs.Going.{goes-unlink, goes-sync_names}
+use Rattle.install_steps.specs.Steps.{Keeps}
+use Rattle.install_steps.proofs.StepLemmas.{OldOrNext, begins, steps_to, is_done}
+use Rattle.install_steps.proofs.LeftoverLemmas.{lacks_none, lacks_more, still_there}
+use Rattle.install_steps.proofs.steps.drop_leftovers.Goals as goal
+
+pub loop-path-init : goal.loop-path-init
+loop-path-init g c = record {
+  going = λ told firm. begins g.M.Machine.clock g.M.Machine.since g.M.Machine.state (view (g.M.Machine.state c.args.machine.now).files) c.args.machine.now (λ m o. g.met.M.Machine.only_now c.args.machine.now m o told) (g.met.M.Machine.sound c.args.machine.now told) firm (c.requires.one told);
+  lacks = λ told. lacks_none (g.M.Machine.state c.args.machine.now).files;
+  keeps = λ told. record { printed = refl; input = refl };
+  counts = refl;
+}
+
+pub unlink_temp-requires : goal.unlink_temp-requires
+unlink_temp-requires g c told =
+    let s = g.M.Machine.state c.args.machine.now in
+    let there = subst (λ p. has s.files p ≡ true) (sym c.path-item.is) (c.requires.there told c.loop-path.path-index c.path-item.result c.loop-path-test.true) in
+    still_there c.args.paths.now c.loop-path.path-index c.path-item.result s.files (g.M.Machine.state c.loop-path.machine).files c.requires.distinct c.loop-path-test.true c.path-item.is there (c.loop-path.invariant.lacks told)
+
+pub returns-in_err-unlink_temp-clause-step : goal.returns-in_err-unlink_temp-clause-step
+returns-in_err-unlink_temp-clause-step g c told firm =
+    let s = g.M.Machine.state c.args.machine.now in
+    let now = g.M.Machine.state c.loop-path.machine in
+    let so_far = c.loop-path.invariant.going told firm in
+    let sees : OldOrNext s (view s.files) (view (map.remove now.files c.path-item.result)) = subst (OldOrNext s (view s.files)) (sym (view-remove_temp now.files c.path-item.result c.know.ensures)) (now_sees s _ now so_far.stands) in
+    let gone = goes-unlink _ _ _ _ _ _ _ c.unlink_temp.result so_far (c.unlink_temp.ensures.moments told) c.path-item.result sees (c.unlink_temp.ensures.row told) in
+    steps_to _ _ _ _ _ _ gone
+
+pub returns-in_err-unlink_temp-clause-keeps : goal.returns-in_err-unlink_temp-clause-keeps
+returns-in_err-unlink_temp-clause-keeps g c told =
+    let s = g.M.Machine.state c.args.machine.now in
+    let now = g.M.Machine.state c.loop-path.machine in
+    let kept = c.loop-path.invariant.keeps told in
+    by_done_or_not (Keeps s) now (unlinked c.path-item.result now) (g.M.Machine.state c.unlink_temp.new.self) c.unlink_temp.result kept (record { printed = kept.printed; input = kept.input }) (c.unlink_temp.ensures.row told)
+
+pub loop-path-preserved : goal.loop-path-preserved
+loop-path-preserved g c = record {
+  going = λ told firm.
+      let s = g.M.Machine.state c.args.machine.now in
+      let now = g.M.Machine.state c.loop-path.machine in
+      let so_far = c.loop-path.invariant.going told firm in
+      let sees : OldOrNext s (view s.files) (view (map.remove now.files c.path-item.result)) = subst (OldOrNext s (view s.files)) (sym (view-remove_temp now.files c.path-item.result c.know.ensures)) (now_sees s _ now so_far.stands) in
+      let gone = goes-unlink _ _ _ _ _ _ _ c.unlink_temp.result so_far (c.unlink_temp.ensures.moments told) c.path-item.result sees (c.unlink_temp.ensures.row told) in
+      gone;
+  lacks = λ told. rw (c.in_ok-unlink_temp.ensures.row told) (lacks_more c.args.paths.now c.loop-path.path-index c.path-item.result (g.M.Machine.state c.args.machine.now).files (g.M.Machine.state c.loop-path.machine).files c.loop-path-test.true c.path-item.is (c.loop-path.invariant.lacks told));
+  keeps = λ told. let kept = c.loop-path.invariant.keeps told in rw (c.in_ok-unlink_temp.ensures.row told) (record { printed = kept.printed; input = kept.input });
+  counts = search rules;
+}
+
+pub returns-in_err-sync_names-clause-step : goal.returns-in_err-sync_names-clause-step
+returns-in_err-sync_names-clause-step g c told firm =
+    let so_far = c.loop-path.invariant.going told firm in
+    let ended = goes-sync_names _ _ _ _ _ _ _ c.sync_names.result so_far (c.sync_names.ensures.moments told) (c.sync_names.ensures.row told) in
+    steps_to _ _ _ _ _ _ ended
+
+pub returns-clause-step : goal.returns-clause-step
+returns-clause-step g c told firm =
+    let so_far = c.loop-path.invariant.going told firm in
+    let ended = goes-sync_names _ _ _ _ _ _ _ c.sync_names.result so_far (c.sync_names.ensures.moments told) (c.sync_names.ensures.row told) in
+    steps_to _ _ _ _ _ _ ended
+
+pub returns-clause-done : goal.returns-clause-done
+returns-clause-done g c told firm =
+    let s = g.M.Machine.state c.args.machine.now in
+    let so_far = c.loop-path.invariant.going told firm in
+    let ended = goes-sync_names _ _ _ _ _ _ _ c.sync_names.result so_far (c.sync_names.ensures.moments told) (c.sync_names.ensures.row told) in
+    let one : (g.M.Machine.state c.sync_names.new.self).earlier ≡ [] = rw (c.in_ok-sync_names.ensures.row told) refl in
+    let is : view (g.M.Machine.state c.sync_names.new.self).files ≡ view s.files = ⊎_elim (λ e. e) (λ e. e) (now_sees s _ (g.M.Machine.state c.sync_names.new.self) ended.stands) in
+    is_done (g.M.Machine.state c.sync_names.new.self) (view s.files) ended.stands.temps one is
