@@ -1,0 +1,4 @@
+mod Asking
+mod KernelValue
+mod Pieces
+mod Printing

@@ -1,0 +1,6 @@
+pub mod Endings
+pub mod Hosts
+pub mod Measured
+pub mod Replies
+pub mod Runs
+pub mod Words

@@ -1,0 +1,50 @@
+//! `boot_tools`: builds unified kernel images, tells their PCR 11 values before they are booted, and
+//! changes a boot folder, as `ukify`, `bootctl`, `systemd-measure` and `systemd-bless-boot` do.
+//!
+//! `run` is the whole program over any machine, and carries the theorem; `main` calls it on the folder
+//! that the program starts in and its standard streams.
+#![tactic(auto)]
+
+mod calculate;
+mod ended;
+mod host;
+mod measure;
+mod reply;
+mod system;
+mod top;
+mod words;
+
+use ended::Ended;
+use host::HostMachine;
+use std::io::ErrorKind;
+use std::process::ExitCode;
+use std::rt::Env;
+use std::{env, io};
+use top::run;
+
+fn main(rt: HostRuntime) -> ExitCode {
+    let Ok(words) = given_words(&rt) else {
+        return ExitCode::from(Ended::Memory.status());
+    };
+    let mut machine = HostMachine::new(rt, rt.stderr());
+    ExitCode::from(run(rt.alloc(), &words, &mut machine))
+}
+
+// The words behind the program's name. Where one of them isn't UTF-8 they are a single word that is no
+// command.
+fn given_words<R: Env + AllocGlobal>(rt: &R) -> io::Result<Vec<String>> {
+    match env::args(rt) {
+        Ok(words) => Ok(words.skip(1).collect(rt.alloc())?),
+        Err(error) if error.kind() == ErrorKind::InvalidData => unreadable_words(rt),
+        Err(error) => Err(error),
+    }
+}
+
+fn unreadable_words<R: AllocGlobal>(rt: &R) -> io::Result<Vec<String>> {
+    let mut words = Vec::new(rt.alloc());
+    words.push(String::from_str(rt.alloc(), "\u{fffd}")?)?;
+    Ok(words)
+}
+
+#[cfg(test)]
+mod tests;
