@@ -9,6 +9,7 @@ mod calculate;
 mod ended;
 mod host;
 mod measure;
+mod named;
 mod reply;
 mod system;
 mod top;

@@ -4,6 +4,7 @@
 //! repeated.
 ghost use Rattle.std.specs.Prelude.{◌≤◌, length, IfOk};
 
+use crate::named::NamedFolders;
 use boot_base::{FileName, PathFault};
 use boot_machine::Channel;
 use std::alloc::Global;
@@ -12,27 +13,23 @@ use std::io::{ErrorKind, Read, Seek, SeekFrom, Write};
 use std::rt::{Files, Runtime};
 use std::{fs, io};
 
-/// The most components that a path may have, and so the most folders above a file.
-const DEPTH_LIMIT: usize = 1024;
-
 /// The files below the folder that the program starts in, and the standard streams.
 #[derive(Drop)]
 pub(crate) struct System<R: Runtime + AllocGlobal, E: Print + Drop> {
     rt: R,
     err: E,
-    // the folders that were looked at or changed
-    named: Vec<String>,
+    named: NamedFolders,
 }
 
 impl<R: Runtime + AllocGlobal, E: Print + Drop> System<R, E> {
     pub(crate) fn new(rt: R, err: E) -> Self {
-        let named = Vec::new(rt.alloc());
+        let named = NamedFolders::new(rt.alloc());
         System { rt, err, named }
     }
 
     // The length of a file, and None where none is there.
     pub(crate) fn size_of(&mut self, path: &str) -> io::Result<Option<u64>> {
-        name_folder_of(&mut self.named, path)?;
+        self.named.add_folder_of(path)?;
         let Some(metadata) = if_there(fs::metadata(&self.rt, path))? else {
             return Ok(None);
         };
@@ -47,7 +44,7 @@ impl<R: Runtime + AllocGlobal, E: Print + Drop> System<R, E> {
     pub(crate) fn read_some(&mut self, path: &str, at: u64, into: &mut [u8]) -> io::Result<usize>
         ensures { IfOk result (λ n. n ≤ length into.new) }
     {
-        name_folder_of(&mut self.named, path)?;
+        self.named.add_folder_of(path)?;
         let Some(mut file) = if_there(fs::open(&self.rt, path))? else {
             return Ok(0);
         };
@@ -57,7 +54,7 @@ impl<R: Runtime + AllocGlobal, E: Print + Drop> System<R, E> {
 
     // The names of the files directly in a folder. Names that are not UTF-8 are passed over.
     pub(crate) fn names_in(&mut self, alloc: Global, folder: &str) -> io::Result<Vec<FileName>> {
-        name_folder(&mut self.named, folder)?;
+        self.named.add(folder)?;
         let mut names = Vec::new(alloc);
         let Some(entries) = if_there(fs::read_dir(&self.rt, folder))? else {
             return Ok(names);
@@ -82,46 +79,49 @@ impl<R: Runtime + AllocGlobal, E: Print + Drop> System<R, E> {
 
     // Writes behind what the file has.
     pub(crate) fn append_bytes(&mut self, path: &str, bytes: &[u8]) -> io::Result<()> {
-        name_folder_of(&mut self.named, path)?;
+        self.named.add_folder_of(path)?;
         let mut file = OpenOptions::new().append(true).open(&self.rt, path)?;
         write_whole(&mut file, bytes)
     }
 
     // Syncs a file's contents.
     pub(crate) fn sync_contents(&mut self, path: &str) -> io::Result<()> {
-        name_folder_of(&mut self.named, path)?;
+        self.named.add_folder_of(path)?;
         sync_path(&self.rt, path)
     }
 
     // Renames a file, into folders that are made where they are missing.
     pub(crate) fn move_file(&mut self, from: &str, to: &str) -> io::Result<()> {
-        name_folder_of(&mut self.named, from)?;
+        self.named.add_folder_of(from)?;
         self.make_folders(to)?;
         fs::rename(&self.rt, from, to)
     }
 
     // Removes a file.
     pub(crate) fn remove_file(&mut self, path: &str) -> io::Result<()> {
-        name_folder_of(&mut self.named, path)?;
+        self.named.add_folder_of(path)?;
         fs::remove_file(&self.rt, path)
     }
 
     // Makes the folders above a file that aren't there. Then all of them count as named.
     fn make_folders(&mut self, path: &str) -> io::Result<()> {
-        name_folder_of(&mut self.named, path)?;
+        self.named.add_folder_of(path)?;
         let Some((folder, _)) = path.rsplit_once('/') else {
             return Ok(());
         };
         if if_there(fs::metadata(&self.rt, folder))?.is_some() {
             return Ok(());
         }
-        name_all_above(&mut self.named, folder)?;
+        self.named.add_all_above(folder)?;
         fs::create_dir_all(&self.rt, folder)
     }
 
     // Syncs each folder that was named and is still there.
     pub(crate) fn sync_folders(&self) -> io::Result<()> {
-        for folder in &self.named {
+        if self.named.has_root() {
+            sync_path(&self.rt, ".")?;
+        }
+        for folder in self.named.below() {
             if_there(sync_path(&self.rt, folder.as_str()))?;
         }
         Ok(())
@@ -209,34 +209,4 @@ fn add_name<R: Files>(
         Err(PathFault::BadPath) => Ok(()),
         Err(PathFault::Memory) => Err(io::Error::from(ErrorKind::OutOfMemory)),
     }
-}
-
-// Keeps a folder among the named ones.
-fn name_folder(named: &mut Vec<String>, folder: &str) -> io::Result<()> {
-    if !named.iter().any(|known| known.as_str() == folder) {
-        let folder = String::from_str(*named.allocator(), folder)?;
-        named.push(folder)?;
-    }
-    Ok(())
-}
-
-// Keeps the folder of a file among the named ones.
-fn name_folder_of(named: &mut Vec<String>, path: &str) -> io::Result<()> {
-    match path.rsplit_once('/') {
-        Some((folder, _)) => name_folder(named, folder),
-        None => name_folder(named, "."),
-    }
-}
-
-// Keeps each folder above a folder among the named ones.
-fn name_all_above(named: &mut Vec<String>, folder: &str) -> io::Result<()> {
-    let mut below = folder;
-    for _ in 0..DEPTH_LIMIT {
-        name_folder_of(named, below)?;
-        match below.rsplit_once('/') {
-            Some((above, _)) => below = above,
-            None => break,
-        }
-    }
-    Ok(())
 }
