@@ -1,9 +1,10 @@
--- Which bytes are a PE32+ file. The checks in their order, each with its reason and its place.
+-- Which bytes are a PE32+ file (Microsoft PE/COFF): the checks in their order, each with its reason and its place.
+-- They look at the file's size and at the bytes of the headers alone.
 use Rattle.std.specs.Prelude.{ℕ, zero, suc, ◌+◌, ◌*◌, Bool, ◌&&◌, ◌||◌, ◌==◌, nat_le, List, [], ◌∷◌, ◌++◌, length, take, drop, Result, Ok, Err, if◌then◌else◌}
 use Rattle.std.specs.List.{list_all}
 use Rattle.std.specs.Int.{is_power_of_two}
-use Rattle.pe_reader.specs.declared.fault.PeReason.{PeReason}
-use Rattle.pe_reader.specs.declared.fault.PeReason.TheVariants.{ShortFile, NoMz, PePlace, ShortHeaders, NoSignature, TooManySections, ShortOptional, Pe32, UnknownMagic, SectionAlignment, FileAlignment, Directories, HeaderSize, VirtualSize, Address, RawData, Overlap}
+use Rattle.pe_reader.specs.declared.reason.PeReason.{PeReason}
+use Rattle.pe_reader.specs.declared.reason.PeReason.TheVariants.{ShortFile, NoMz, PePlace, ShortHeaders, NoSignature, TooManySections, ShortOptional, Pe32, UnknownMagic, SectionAlignment, FileAlignment, Directories, HeaderSize, VirtualSize, Address, RawData, Overlap}
 use Rattle.pe_reader.specs.declared.fault.FailedCheck.{FailedCheck}
 use Rattle.pe_reader.specs.declared.head.Head.{Head}
 use Rattle.pe_reader.specs.declared.head.Coff.{Coff}
@@ -36,6 +37,10 @@ coff_of size place header =
 abbrev pub is_alignment : ℕ → ℕ → Bool
 is_alignment greatest n = is_power_of_two n && nat_le n greatest
 
+-- what is wrong with the magic of an optional header that isn't that of PE32+
+abbrev pub other_kind : ℕ → PeReason
+other_kind magic = if magic == 0x10B then Pe32 else UnknownMagic
+
 -- The optional header is as many bytes as the COFF header says, right after it.
 unfoldable pub optional_of : ℕ → ℕ → Coff → List ℕ → Result Head FailedCheck
 optional_of size place coff optional =
@@ -44,7 +49,7 @@ optional_of size place coff optional =
     let table_end = table + 40 * coff.section_count in
     let directories = u32_at optional 108 in
     let header_size = u32_at optional 60 in
-    demand (u16_at optional 0 == 0x20B) (if u16_at optional 0 == 0x10B then Pe32 else UnknownMagic) start (
+    demand (u16_at optional 0 == 0x20B) (other_kind (u16_at optional 0)) start (
     demand (is_alignment 65536 (u32_at optional 32)) SectionAlignment (start + 32) (
     demand (is_alignment (u32_at optional 32) (u32_at optional 36)) FileAlignment (start + 36) (
     demand (nat_le (112 + 8 * directories) coff.optional_size) Directories (start + 108) (

@@ -1,10 +1,10 @@
--- The bytes that a loader puts in memory for a section.
+-- The bytes that a loader puts in memory for a section (Microsoft PE/COFF; the first section of a name counts).
 use Rattle.std.specs.Prelude.{ℕ, ◌-◌, ◌==◌, Bool, List, [], ◌++◌, take, min, replicate, get_or, Option, Some, None, Result, Ok, Err, unwrap_or, position}
 use Rattle.std.specs.List.{find}
 use Rattle.std.specs.Str.{bytes_eq}
 use Rattle.pe_reader.specs.declared.fault.FailedCheck.{FailedCheck}
 use Rattle.pe_reader.specs.declared.section.Section.{Section}
-use Rattle.pe_reader.specs.declared.pe.LoadedRange.{LoadedRange}
+use Rattle.pe_reader.specs.declared.section.LoadedRange.{LoadedRange}
 use Rattle.pe_reader.specs.Fields.{part}
 use Rattle.pe_reader.specs.Grammar.{Headers, pe_of}
 

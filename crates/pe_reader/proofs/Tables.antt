@@ -8,8 +8,8 @@ use Rattle.std.proofs.lemmas.Bool.Decides.{nat_tests}
 use Rattle.pe_reader.specs.declared.fault.FailedCheck.{FailedCheck}
 use Rattle.pe_reader.specs.declared.section.Section.{Section}
 use Rattle.pe_reader.specs.Grammar.{◌>>=◌, checked, is_in_file, is_apart, section_at, sections_of}
-use Rattle.pe_reader.specs.Checks.{bind_ok}
-use Rattle.pe_reader.specs.Places.{u32_at-append}
+use Rattle.pe_reader.proofs.Checks.{bind_from, bind_ok}
+use Rattle.pe_reader.proofs.Places.{u32_at-append}
 
 -- a section that was checked
 pub checked_is : (n header_size : ℕ) (earlier : List Section) (place : ℕ) (s t : Section)
@@ -111,6 +111,10 @@ sections_of-rest n header_size (suc count) place earlier table out e =
           rw passes (next ∙ ap (λ (l : List Section). Ok l) (append_assoc other (s ∷ []) r.0)),
     )
 
+at_place : (n header_size k p q : ℕ) (earlier : List Section) (table : List ℕ) (r : Result (List Section) FailedCheck)
+    → p ≡ q → sections_of n header_size k q earlier table ≡ r → sections_of n header_size k p earlier table ≡ r
+at_place n header_size k p q earlier table r e h = rw e h
+
 -- the reading of a table in two parts
 pub sections_of-split : (n header_size k : ℕ) (count place : ℕ) (earlier : List Section) (table more : List ℕ) (out : List Section)
     → length table ≡ 40 * count
@@ -134,8 +138,8 @@ sections_of-split n header_size k (suc count) place earlier table more out l e =
     let d : place + 40 * suc count ≡ place + 40 + 40 * count = omega arith in (
       r.0,
       omega (arith, r.1, length-append earlier (s ∷ [])),
-      ap (λ (x : Result Section FailedCheck). x >>= λ y. sections_of n header_size count (place + 40) (earlier ++ y ∷ []) (drop 40 table)) b.1 ∙ r.2,
-      ap (λ (q : ℕ). sections_of n header_size k q r.0 more) d ∙ r.3,
+      bind_from (checked n header_size earlier place (section_at table)) _ s (Ok r.0) b.1 r.2,
+      at_place n header_size k (place + 40 * suc count) (place + 40 + 40 * count) r.0 more (Ok out) d r.3,
     )
 
 -- every two sections of a list lie apart

@@ -7,8 +7,8 @@ use Rattle.pe_reader.specs.declared.head.Coff.{Coff}
 use Rattle.pe_reader.specs.declared.section.Section.{Section}
 use Rattle.pe_reader.specs.Fields.{part}
 use Rattle.pe_reader.specs.Grammar.{Headers, pe_place_of, coff_of, optional_of, sections_of, head_of, pe_of, is_in_file}
-use Rattle.pe_reader.specs.Checks.{bind_ok}
-use Rattle.pe_reader.specs.Tables.{sections_of-in_file, sections_of-length}
+use Rattle.pe_reader.proofs.Checks.{bind_ok}
+use Rattle.pe_reader.proofs.Tables.{sections_of-in_file, sections_of-length}
 
 pub pe_place_of_is : (n : ℕ) (front : List ℕ) (p : ℕ) → pe_place_of n front ≡ Ok p → 64 ≤ p
 unfolding pe_place_of

@@ -8,14 +8,8 @@ use Rattle.pe_reader.specs.declared.head.Head.{Head}
 use Rattle.pe_reader.specs.declared.head.Coff.{Coff}
 use Rattle.pe_reader.specs.declared.pe.Pe.{Pe}
 use Rattle.pe_reader.specs.Grammar.{Headers, pe_of, optional_of, is_alignment}
-use Rattle.pe_reader.specs.Reads.{headers_of}
-use Rattle.pe_reader.specs.Shape.{pe_of-stages, stages-shape}
-
--- a `Pe` was read from a file of that size
-pub record ReadFrom (pe : Pe) (size : ℕ) : Type 0 where
-  pub bytes : List ℕ
-  pub length_is : length bytes ≡ size
-  pub reads : pe_of bytes ≡ Ok (headers_of pe)
+use Rattle.pe_reader.specs.Reads.{ReadFrom, headers_of}
+use Rattle.pe_reader.proofs.Shape.{pe_of-stages, stages-shape}
 
 pub record Bounds (h : Headers) (size : ℕ) : Type 0 where
   pub file_unit : 0 < h.head.file_alignment

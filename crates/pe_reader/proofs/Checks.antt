@@ -1,7 +1,7 @@
 -- What the checks show, and that they hold again where a file has grown.
 use Rattle.std.proofs.Common.{◌≡◌, ◌≤◌, ◌+◌, ◌*◌, ℕ, Bool, true, false, List, Ok, Err, Result, refl, arith}
 use Rattle.std.proofs.lemmas.Bool.Decides.{nat_tests}
-use Rattle.pe_reader.specs.declared.fault.PeReason.{PeReason}
+use Rattle.pe_reader.specs.declared.reason.PeReason.{PeReason}
 use Rattle.pe_reader.specs.declared.fault.FailedCheck.{FailedCheck}
 use Rattle.pe_reader.specs.declared.head.Head.{Head}
 use Rattle.pe_reader.specs.declared.head.Coff.{Coff}
@@ -22,6 +22,10 @@ pub bind_ok : {A B : Type 0} (r : Result A FailedCheck) (f : A → Result B Fail
     → (r >>= f) ≡ Ok y → (x : A) × (r ≡ Ok x) × (f x ≡ Ok y)
 bind_ok (Ok x) f y e = (x, refl, e)
 bind_ok (Err d) f y e = cc
+
+pub bind_from : {A B : Type 0} (r : Result A FailedCheck) (f : A → Result B FailedCheck) (x : A) (y : Result B FailedCheck)
+    → r ≡ Ok x → f x ≡ y → (r >>= f) ≡ y
+bind_from r f x y e g = rw e g
 
 -- the place of the PE header, in a longer file that begins alike
 pub pe_place_of-more : (n m : ℕ) (front : List ℕ) (p : ℕ) → n ≤ m
