@@ -1,23 +1,15 @@
 -- The grammar accepts exactly the bytes of which the nineteen facts hold, and gives the numbers at the fields' places.
-use Rattle.std.proofs.Common.{◌≡◌, ◌≢◌, ◌<◌, ◌≤◌, ◌+◌, ◌-◌, ◌*◌, ◌⊎◌, ℕ, zero, suc, Bool, true, false, ◌&&◌, ◌||◌, ◌==◌, nat_le, List, [], ◌∷◌, ◌++◌, length, take, drop, Ok, Err, Result, inl, inr, get_or, subst, refl, sym, ap, ◌∙◌, arith, cond}
-use Rattle.std.specs.Prelude.{IsOk, ◌↔◌, IsTrue, if◌then◌else◌}
-use Rattle.std.specs.List.{list_all}
-use Rattle.std.specs.Int.{is_power_of_two}
+use Rattle.std.proofs.Common.{◌≡◌, ◌<◌, ◌≤◌, ◌+◌, ◌*◌, ℕ, true, List, [], length, Ok, inl, inr, get_or, refl, sym, ap, ◌∙◌, arith}
 use Rattle.std.proofs.lemmas.Bool.{cases_lt}
 use Rattle.std.proofs.lemmas.Bool.Decides.{nat_tests}
-use Rattle.pe_reader.specs.declared.fault.FailedCheck.{FailedCheck}
-use Rattle.pe_reader.specs.declared.head.Head.{Head}
-use Rattle.pe_reader.specs.declared.head.Coff.{Coff}
 use Rattle.pe_reader.specs.declared.section.Section.{Section}
-use Rattle.pe_reader.specs.Fields.{u16_at, u32_at, part}
-use Rattle.pe_reader.specs.Grammar.{Headers, pe_of, pe_place_of, coff_of, optional_of, sections_of, is_in_file, is_apart, section_at}
+use Rattle.pe_reader.specs.Fields.{part}
+use Rattle.pe_reader.specs.Grammar.{sections_of, is_in_file, is_apart}
 use Rattle.pe_reader.specs.Loaded.{no_section}
-use Rattle.pe_reader.specs.Facts.{IsPe, Describes, IsInside, AreApart, signature_place, optional_place, section_count, optional_size, table_place, table_end, section_alignment, file_alignment, header_size, directory_count, section_from, section_in, head_in}
-use Rattle.pe_reader.proofs.Places.{u16_at-part, u32_at-part}
-use Rattle.pe_reader.proofs.Shape.{Stages, pe_of-stages, pe_of-from_stages}
+use Rattle.pe_reader.specs.Facts.{IsInside, AreApart, section_from}
 use Rattle.pe_reader.proofs.Tables.{AllApart, at_list_all, sections_of-apart}
 use Rattle.pe_reader.proofs.TableFacts.{passes, table_sections, length-table_sections, get_or-table_sections, list_all-from, sections_of-table, sections_of-from}
-use Rattle.pe_reader.proofs.FieldPlaces.{Front, front_facts, front_reads, CoffFacts, coff_facts, coff_reads, OptionalFacts, optional_facts, optional_head, optional_is, optional_reads, section_at-table}
+use Rattle.pe_reader.proofs.FieldPlaces.{section_at-table}
 
 -- tests of raw data as facts
 inside_fact : (headers size : ℕ) (s : Section) → is_in_file size headers s ≡ true → IsInside headers size s
@@ -63,11 +55,11 @@ apart_fact a b e some other = elim (cases_lt b.raw_place (a.raw_place + a.raw_si
 pub apart_test : (a b : Section) → AreApart a b → is_apart a b ≡ true
 apart_test a b h = elim (cases_lt 0 a.raw_size) [
   | inl some ↦ elim (cases_lt 0 b.raw_size) [
-      | inl other ↦ elim (h some other) [
-          | inl before ↦ apart_from_before a b before
-          | inr behind ↦ apart_from_behind a b behind
-      ]
-      | inr none ↦ apart_second_empty a b none
+    | inl other ↦ elim (h some other) [
+      | inl before ↦ apart_from_before a b before
+      | inr behind ↦ apart_from_behind a b behind
+    ]
+    | inr none ↦ apart_second_empty a b none
   ]
   | inr none ↦ apart_first_empty a b none
 ]

@@ -1,17 +1,15 @@
 -- The stages of the reading, by the numbers that stand at the fields' places.
-use Rattle.std.proofs.Common.{◌≡◌, ◌≢◌, ◌<◌, ◌≤◌, ◌+◌, ◌-◌, ◌*◌, ℕ, Bool, true, false, ◌&&◌, ◌==◌, nat_le, List, length, take, drop, Ok, Err, Result, refl, sym, ap, ◌∙◌, arith, cond}
-use Rattle.std.specs.Prelude.{IsTrue, if◌then◌else◌}
+use Rattle.std.proofs.Common.{◌≡◌, ◌<◌, ◌≤◌, ◌+◌, ◌-◌, ◌*◌, ℕ, true, nat_le, List, take, drop, Ok, refl, ap, ◌∙◌, arith}
+use Rattle.std.specs.Prelude.{if◌then◌else◌}
 use Rattle.std.specs.Int.{is_power_of_two}
 use Rattle.std.proofs.lemmas.Bool.Decides.{nat_tests}
 use Rattle.std.proofs.lemmas.List.{drop-drop, drop-take, take-take}
-use Rattle.pe_reader.specs.declared.fault.FailedCheck.{FailedCheck}
 use Rattle.pe_reader.specs.declared.head.Head.{Head}
 use Rattle.pe_reader.specs.declared.head.Coff.{Coff}
-use Rattle.pe_reader.specs.declared.section.Section.{Section}
 use Rattle.pe_reader.specs.Fields.{u16_at, u32_at, part}
-use Rattle.pe_reader.specs.Grammar.{pe_place_of, coff_of, optional_of, is_alignment, section_at}
+use Rattle.pe_reader.specs.Grammar.{pe_place_of, coff_of, optional_of, section_at}
 use Rattle.pe_reader.specs.Facts.{section_from}
-use Rattle.pe_reader.proofs.Places.{u16_at-part, u32_at-part}
+use Rattle.pe_reader.proofs.Places.{u32_at-part}
 
 -- the place of the PE header, by the two numbers that are looked at
 pub record Front (size magic place : ℕ) : Type 0 where
@@ -22,11 +20,14 @@ pub record Front (size magic place : ℕ) : Type 0 where
 pub front_facts : (size magic place p : ℕ) (front : List ℕ) → u16_at front 0 ≡ magic → u32_at front 60 ≡ place
     → pe_place_of size front ≡ Ok p → Front size magic place × (place ≡ p)
 unfolding pe_place_of
-front_facts size magic place p front a b e = (record {
-  long = grind (arith, nat_tests);
-  magic_is = grind (arith, nat_tests);
-  past_start = grind (arith, nat_tests);
-}, grind (arith, nat_tests))
+front_facts size magic place p front a b e = (
+  record {
+    long = grind (arith, nat_tests);
+    magic_is = grind (arith, nat_tests);
+    past_start = grind (arith, nat_tests);
+  },
+  grind (arith, nat_tests),
+)
 
 pub front_reads : (size magic place : ℕ) (front : List ℕ) → u16_at front 0 ≡ magic → u32_at front 60 ≡ place
     → Front size magic place → pe_place_of size front ≡ Ok place
@@ -50,13 +51,16 @@ pub coff_facts : (size place signature count optional : ℕ) (header : List ℕ)
     → coff_of size place header ≡ Ok c
     → CoffFacts size place signature count optional × (c ≡ record { section_count = count; optional_size = optional })
 unfolding coff_of
-coff_facts size place signature count optional header c a b d e = (record {
-  inside = grind (arith, nat_tests);
-  signature_is = grind (arith, nat_tests);
-  few = grind (arith, nat_tests);
-  long = grind (arith, nat_tests);
-  optional_inside = grind (arith, nat_tests);
-}, grind (arith, nat_tests))
+coff_facts size place signature count optional header c a b d e = (
+  record {
+    inside = grind (arith, nat_tests);
+    signature_is = grind (arith, nat_tests);
+    few = grind (arith, nat_tests);
+    long = grind (arith, nat_tests);
+    optional_inside = grind (arith, nat_tests);
+  },
+  grind (arith, nat_tests),
+)
 
 pub coff_reads : (size place signature count optional : ℕ) (header : List ℕ)
     → u32_at header 0 ≡ signature → u16_at header 6 ≡ count → u16_at header 20 ≡ optional

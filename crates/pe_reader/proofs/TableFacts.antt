@@ -1,15 +1,14 @@
 -- The section table is read exactly where each section passes and all of them lie apart.
-use Rattle.std.proofs.Common.{◌≡◌, ◌<◌, ◌≤◌, ◌+◌, ◌-◌, ◌*◌, ℕ, zero, suc, Bool, true, false, ◌&&◌, ◌||◌, ◌==◌, nat_le, List, [], ◌∷◌, ◌++◌, length, take, drop, Ok, Err, Result, inl, inr, get_or, subst, refl, sym, ap, ◌∙◌, arith, cond, length-append, append_assoc}
+use Rattle.std.proofs.Common.{◌≡◌, ◌<◌, ◌+◌, ◌*◌, ℕ, zero, suc, Bool, true, ◌&&◌, nat_le, List, [], ◌∷◌, ◌++◌, length, drop, Ok, get_or, subst, refl, sym, ap, ◌∙◌, arith, length-append, append_assoc}
 use Rattle.std.specs.List.{list_all}
-use Rattle.std.proofs.lemmas.List.{drop-drop, append-nil, get_or_append_left, get_or-append-add}
+use Rattle.std.proofs.lemmas.List.{drop-drop, append-nil, get_or_append_left}
 use Rattle.std.proofs.Math.Seq.{get_or-append_seam}
 use Rattle.std.proofs.lemmas.Bool.{and_from, and_parts}
 use Rattle.std.proofs.lemmas.Bool.Decides.{nat_tests}
-use Rattle.pe_reader.specs.declared.fault.FailedCheck.{FailedCheck}
 use Rattle.pe_reader.specs.declared.section.Section.{Section}
-use Rattle.pe_reader.specs.Grammar.{◌>>=◌, checked, is_in_file, is_apart, section_at, sections_of}
+use Rattle.pe_reader.specs.Grammar.{checked, is_in_file, is_apart, section_at, sections_of}
 use Rattle.pe_reader.proofs.Checks.{bind_ok}
-use Rattle.pe_reader.proofs.Tables.{AllApart, at_list_all, checked_is}
+use Rattle.pe_reader.proofs.Tables.{AllApart, checked_is}
 
 -- the headers of a table, one after the other
 pub table_sections : ℕ → List ℕ → List Section
@@ -73,9 +72,9 @@ sections_of-table size header_size (suc count) place earlier table out e =
 apart_from_earlier : (earlier rest : List Section) (s d : Section) → AllApart (earlier ++ s ∷ rest) d → list_all (is_apart s) earlier ≡ true
 apart_from_earlier earlier rest s d h =
     list_all-from (is_apart s) earlier d (λ i lt.
-        let l = length-append earlier (s ∷ rest) in
-        let a = h.apart i (length earlier) lt (omega arith) in
-        rw (get_or-append_seam earlier s rest d, get_or_append_left earlier (s ∷ rest) d i lt) at a)
+    let l = length-append earlier (s ∷ rest) in
+    let a = h.apart i (length earlier) lt (omega arith) in
+    rw (get_or-append_seam earlier s rest d, get_or_append_left earlier (s ∷ rest) d i lt) at a)
 
 -- a table whose sections pass and lie apart is read
 pub sections_of-from : (size header_size : ℕ) (count place : ℕ) (earlier : List Section) (table : List ℕ) (d : Section)
