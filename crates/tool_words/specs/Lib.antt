@@ -1,0 +1,11 @@
+pub mod Grammar
+pub mod Items
+pub mod Answers
+pub mod Shown
+pub mod Steps
+pub mod Meaning
+pub mod Holding
+pub mod Reading
+pub mod Reasons
+pub mod Line
+pub mod LineSteps

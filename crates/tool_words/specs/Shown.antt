@@ -1,0 +1,41 @@
+-- What the code holds, as the definitions see it.
+use Rattle.std.specs.Prelude.{List, map, string_bytes, String}
+use Rattle.std.specs.declared.alloc.Global.{Global}
+use Rattle.std.specs.Option.{option_copied}
+use Rattle.std.specs.Borrow.{Bor}
+use Rattle.tool_words.specs.declared.grammar.CommandName.{CommandName}
+use Rattle.tool_words.specs.declared.grammar.CommandRow.{CommandRow}
+use Rattle.tool_words.specs.declared.items.Said.{Said}
+use Rattle.tool_words.specs.declared.items.Said.TheVariants as word
+use Rattle.tool_words.specs.declared.items.Item.{Item}
+use Rattle.tool_words.specs.declared.items.Item.TheVariants as item
+use Rattle.tool_words.specs.declared.items.Next.{Next}
+use Rattle.tool_words.specs.Grammar.{Row, Word}
+use Rattle.tool_words.specs.Items as meant
+
+-- words as lists of bytes
+abbrev pub texts : List (String Global) → List Word
+texts words = map string_bytes words
+
+-- a line of the code's table
+abbrev pub row_shown : CommandRow → Row
+row_shown r = record { name = r.name.now; verb = option_copied r.verb; operands = r.operands; options = r.options.now }
+
+-- a command and the words after those that name it
+abbrev pub chosen_shown : CommandName × Bor (List (String Global)) → CommandName × List Word
+chosen_shown chosen = (chosen.0, texts chosen.1.now)
+
+-- what a word says
+abbrev pub said_shown : Said → meant.Said
+said_shown word.Ends = meant.Ends
+said_shown word.Plain = meant.Plain
+said_shown (word.Whole option value) = meant.Whole option value.now
+said_shown (word.Open option) = meant.Open option
+
+abbrev pub item_shown : Item → meant.Item
+item_shown (item.Value option value) = meant.Value option value.now
+item_shown (item.Operand word) = meant.Operand word.now
+
+-- an item and the words after it
+abbrev pub next_shown : Next → meant.Item × List Word
+next_shown next = (item_shown next.item, texts next.rest.now)

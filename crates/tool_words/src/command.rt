@@ -1,0 +1,143 @@
+//! What the words of a run come to.
+
+use boot_base::{Text, TextList};
+
+/// A command of the program with all that its words say. Texts are as given.
+#[derive(Debug, Drop)]
+pub enum Command {
+    /// `ukify build`: one image from a stub and its parts.
+    Build(BuildWords),
+    /// `measure calculate`: the predicted values of an image of these parts.
+    Calculate(CalculateWords),
+    /// `ukify inspect`: the sections of an image.
+    Inspect {
+        file: Text,
+    },
+    /// `measure image`: the values that a finished image will show.
+    Image {
+        file: Text,
+        banks: TextList,
+        phases: TextList,
+    },
+    /// `bootctl kernel-identify`: what kind of kernel a file is.
+    Identify {
+        file: Text,
+    },
+    /// `bootctl list`: the menu of the boot entries.
+    List {
+        esp: Text,
+    },
+    /// `tidy`: removes what interrupted runs left.
+    Tidy {
+        esp: Text,
+    },
+    /// `boot`: counts a boot of the first entry of the menu.
+    Boot {
+        esp: Text,
+    },
+    /// `bootctl unlink`: removes an entry.
+    Unlink {
+        name: Text,
+        esp: Text,
+    },
+    /// `install`: puts an image among the boot entries.
+    Install {
+        file: Text,
+        name: Text,
+        tries: Option<Text>,
+        esp: Text,
+    },
+    /// `bless`: marks a counted entry, or says how it is marked.
+    Bless {
+        verb: BlessWord,
+        path: Text,
+        esp: Text,
+    },
+    /// `script`: the commands that stand on the input, a line each.
+    Script,
+    /// `demo`: commands drawn by a seed, over a machine in memory.
+    Demo {
+        seed: Text,
+        count: Text,
+    },
+}
+
+/// The words of `ukify build`.
+#[derive(Debug, Drop)]
+pub struct BuildWords {
+    /// The path of the stub.
+    pub stub: Text,
+    /// The path of the kernel.
+    pub linux: Text,
+    /// The path that the image is written to.
+    pub output: Text,
+    /// The os-release text, or the file that holds it.
+    pub osrel: Option<Given>,
+    /// The kernel's command line, or the file that holds it.
+    pub cmdline: Option<Given>,
+    /// More SBAT lines, or the file that holds them.
+    pub sbat: Option<Given>,
+    /// The path of the device tree.
+    pub dtb: Option<Text>,
+    /// The kernel's release, as `uname -r` prints it.
+    pub uname: Option<Text>,
+    /// The path of the splash picture.
+    pub splash: Option<Text>,
+    /// The path of the public key for PCR signatures.
+    pub pcrpkey: Option<Text>,
+    /// The paths of the initrds, in order.
+    pub initrds: TextList,
+    /// The values of `--section`, in order and whole, as `NAME:TEXT` or `NAME:@PATH`.
+    pub sections: TextList,
+    /// Whether the predicted values are printed too.
+    pub measure: bool,
+}
+
+/// The words of `measure calculate`. Each part is the path of a file.
+#[derive(Debug, Drop)]
+pub struct CalculateWords {
+    /// The kernel.
+    pub linux: Text,
+    /// The os-release text.
+    pub osrel: Option<Text>,
+    /// The kernel's command line.
+    pub cmdline: Option<Text>,
+    /// The initrd.
+    pub initrd: Option<Text>,
+    /// The splash picture.
+    pub splash: Option<Text>,
+    /// The device tree.
+    pub dtb: Option<Text>,
+    /// The kernel's release.
+    pub uname: Option<Text>,
+    /// The SBAT text.
+    pub sbat: Option<Text>,
+    /// The public key for PCR signatures.
+    pub pcrpkey: Option<Text>,
+    /// The names of the banks, in order.
+    pub banks: TextList,
+    /// The phase paths, in order.
+    pub phases: TextList,
+}
+
+/// A text, or the path of the file that holds it.
+#[derive(Debug, Drop)]
+pub enum Given {
+    /// The text itself.
+    Inline(Text),
+    /// The path, which followed a leading `@`.
+    File(Text),
+}
+
+/// What `bless` is asked for.
+#[derive(Clone, Copy, Debug, PartialEq, Eq)]
+pub enum BlessWord {
+    /// The entry boots.
+    Good,
+    /// The entry does not boot.
+    Bad,
+    /// Nothing is known of the entry any more.
+    Indeterminate,
+    /// Only say which of these it is.
+    Status,
+}

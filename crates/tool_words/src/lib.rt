@@ -1,0 +1,21 @@
+//! Words become commands: the grammar of the command line, and the words of a line of a script.
+//! Nothing here touches a machine.
+#![tactic(auto)]
+
+mod command;
+mod fault;
+mod fill;
+mod found;
+mod grammar;
+mod items;
+mod line;
+mod read;
+mod reason;
+mod scan;
+
+pub use command::{BlessWord, BuildWords, CalculateWords, Command, Given};
+pub use fault::{LineFault, UsageReason, WordsFault};
+pub use line::split_line;
+
+#[cfg(test)]
+mod tests;
