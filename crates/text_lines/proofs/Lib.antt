@@ -1,0 +1,3 @@
+mod Pieces
+pub mod LastValue
+pub mod Fronts
