@@ -1,0 +1,3 @@
+mod Doubles
+mod Values
+mod Reading

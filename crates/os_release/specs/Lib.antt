@@ -1,0 +1,2 @@
+pub mod OsLines
+pub mod OsRelease
