@@ -2,6 +2,14 @@
 use crate::OsRelease;
 use std::test::Fail;
 
+// The text of a Fedora image.
+const FEDORA: &[u8] = b"NAME=\"Fedora Linux\"
+VERSION=\"40 (Workstation Edition)\"
+ID=fedora
+VERSION_ID=40
+PRETTY_NAME=\"Fedora Linux 40 (Workstation Edition)\"
+";
+
 #[test]
 fn values_of_id(rt: HostRuntime) -> Result<(), Fail> {
     let rows: [(&[u8], Option<&[u8]>); 22] = [
@@ -38,7 +46,7 @@ fn values_of_id(rt: HostRuntime) -> Result<(), Fail> {
 
 #[test]
 fn preferences(rt: HostRuntime) -> Result<(), Fail> {
-    let rows: [(&[u8], &[u8], &[u8], &[u8]); 5] = [
+    let rows: [(&[u8], &[u8], &[u8], &[u8]); 6] = [
         (b"ID=d\nBUILD_ID=4", b"d", b"4", b"d"),
         (b"ID=d\nNAME=c\nVERSION_ID=3\nBUILD_ID=4", b"c", b"3", b"d"),
         (
@@ -59,6 +67,12 @@ fn preferences(rt: HostRuntime) -> Result<(), Fail> {
             b"2",
             b"d",
         ),
+        (
+            FEDORA,
+            b"Fedora Linux 40 (Workstation Edition)",
+            b"40 (Workstation Edition)",
+            b"fedora",
+        ),
     ];
     for (text, title, version, sort_key) in rows {
         let release = OsRelease::read(rt.alloc(), text)?;
@@ -70,27 +84,6 @@ fn preferences(rt: HostRuntime) -> Result<(), Fail> {
     assert_eq!(rt; empty.sort_key(), None);
     assert_eq!(rt; empty.title(), None);
     assert_eq!(rt; empty.version(), None);
-    Ok(())
-}
-
-#[test]
-fn a_fedora_text(rt: HostRuntime) -> Result<(), Fail> {
-    let text = b"NAME=\"Fedora Linux\"
-VERSION=\"40 (Workstation Edition)\"
-ID=fedora
-VERSION_ID=40
-PRETTY_NAME=\"Fedora Linux 40 (Workstation Edition)\"
-";
-    let release = OsRelease::read(rt.alloc(), text)?;
-    assert_eq!(rt;
-        release.title(),
-        Some(b"Fedora Linux 40 (Workstation Edition)".as_slice())
-    );
-    assert_eq!(rt;
-        release.version(),
-        Some(b"40 (Workstation Edition)".as_slice())
-    );
-    assert_eq!(rt; release.sort_key(), Some(b"fedora".as_slice()));
     Ok(())
 }
 
