@@ -1,13 +1,8 @@
-pub mod Distinct
 pub mod Elapsing
-pub mod EntryLemmas
-pub mod EventLemmas
 pub mod FuseLemmas
 pub mod Going
-pub mod ListedLemmas
-pub mod NotedLemmas
+pub mod Listing
 pub mod Printing
-pub mod RedoneLemmas
 pub mod Seeing
 pub mod Settled
 pub mod Soft

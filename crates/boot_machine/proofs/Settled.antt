@@ -1,15 +1,12 @@
 -- Settled machines: they are firm, and a machine whose every file is synced is one.
-use Rattle.std.proofs.Common.{◌≡◌, inl, inr, ℕ, Bool, true, false, not, ◌&&◌, List, [], ◌∷◌, ◌++◌, length, length-append, Option, Some, None, is_some, unwrap_or, refl, sym, ap, ◌∙◌, arith, subst, ◌<◌, ◌%◌, get_or, zero, suc}
+use Rattle.std.proofs.Common.{◌≡◌, inl, inr, ℕ, Bool, true, false, not, ◌&&◌, List, [], ◌∷◌, ◌++◌, length, length-append, Option, Some, None, is_some, unwrap_or, refl, sym, ap, ◌∙◌, arith, subst}
 use Rattle.std.proofs.lemmas.Bool.{cases_Bool, and_parts}
-use Rattle.std.specs.Prelude.{if◌then◌else◌}
-use Rattle.std.specs.Option.{option_map}
 use Rattle.std.specs.FinMap as map
 use Rattle.std.specs.FinSet as set
 use Rattle.boot_base.specs.Paths.{Path, is_temp}
-use Rattle.boot_machine.specs.Disk.{Files, Paths, State, IsIn, IsCandidate, candidates, path_cmp, has, is_shown, matters, view}
+use Rattle.boot_machine.specs.Disk.{Files, Paths, State, IsIn, IsCandidate, path_cmp, has, is_shown, matters, view}
 use Rattle.boot_machine.specs.Images.{IsImageOf, IsImage, IsFirm, IsSettled}
 use Rattle.boot_machine.specs.Rows.{contents}
-use Rattle.boot_machine.specs.Stops.{chosen_of, IsLeft}
 use Rattle.boot_machine.specs.Maps.{cases_same, same_files, get-insert_here, get-insert_apart}
 use Rattle.boot_machine.proofs.Views.{get-view_shown}
 use Rattle.boot_machine.proofs.Seeing.{candidate_image}
@@ -70,24 +67,3 @@ settled_alone s one none = record { images = λ m image. ap view (same m image.o
         let at_one : IsIn c ([] ++ s.files ∷ []) = subst (λ (cs : List Files). IsIn c (cs ++ s.files ∷ [])) one candidate in
         let is : c ≡ s.files = elim at_one [ inl is ↦ is | inr none ↦ absurd none ] in
         same_again m c (subst (λ (soft : Paths). IsImageOf soft c m) none image) ∙ is
-
-nth_in : (cs : List Files) (k : ℕ) (d : Files) → k < length cs → IsIn (get_or cs k d) cs
-nth_in [] k d lt = absurd (omega arith)
-nth_in (c ∷ cs) zero d lt = inl refl
-nth_in (c ∷ cs) (suc k) d lt = inr (nth_in cs k d (omega arith))
-
--- what a chosen stop leaves is one of its images
-pub left_image : (s : State) (number : ℕ) (fill : List ℕ) (left : Files) → IsLeft s number fill left → IsImage s left
-left_image s number fill left is = record {
-  of = chosen_of s number;
-  candidate = nth_in (candidates s) (number % length (candidates s)) s.files (let some = length-append s.earlier (s.files ∷ []) in omega (arith, some));
-  image = record {
-    paths = λ q. ap is_some (is.files q) ∙ there (set.contains s.soft q) (map.get (chosen_of s number) q);
-    bytes = λ q synced. rw (is.files q, synced) refl;
-  };
-}
-  where
-    there : (soft : Bool) (o : Option (List ℕ)) → is_some (if soft then option_map (λ (b : List ℕ). fill) o else o) ≡ is_some o
-    there true None = refl
-    there true (Some b) = refl
-    there false o = refl

@@ -1,16 +1,9 @@
 pub mod Counts
 pub mod Disk
-pub mod Entries
-pub mod EventLaws
-pub mod Events
 pub mod Fuse
-pub mod Given
 pub mod Images
+pub mod Listed
 pub mod Maps
-pub mod Memory
 pub mod Moments
-pub mod Plan
-pub mod Redone
 pub mod Rows
 pub mod Sent
-pub mod Stops

@@ -1,4 +1,4 @@
-// A machine that stops after so many calls.
+//! A machine that stops after so many calls.
 ghost use Rattle.std.specs.Prelude.{◌≡◌, ◌≢◌, ◌<◌, ◌≤◌, ◌+◌, true, false, length, min, IsTrue, IsErrOf, IfOk};
 ghost use Rattle.boot_machine.specs.Disk.{HasOneCandidate, has};
 
@@ -6,7 +6,8 @@ use crate::{Channel, DiskFault, Machine, NamesFault, PipeFault};
 use boot_base::{BootPath, FileName, TempPath};
 use std::alloc::Global;
 
-/// A machine that passes so many calls on to another, and then fails every call without passing it on, as a machine does whose cable is pulled.
+/// A machine that passes so many calls on to another, and then fails every call without passing it on, as a
+/// machine does whose cable is pulled.
 #[derive(Drop)]
 pub struct Fuse<M> {
     inner: M,

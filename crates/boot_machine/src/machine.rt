@@ -1,3 +1,4 @@
+//! The machine that boot files are read and changed through, its channels and its faults.
 ghost use Rattle.std.specs.Prelude.{◌≡◌, ◌≢◌, ◌<◌, ◌≤◌, ℕ, Bool, true, List, length, map, IfOk, IsTrue, Vec};
 ghost use Rattle.boot_machine.specs.Disk.{Files, State, HasOneCandidate, IsSound, has};
 ghost use Rattle.boot_machine.specs.Images.{IsImage};
@@ -44,10 +45,11 @@ pub enum NamesFault {
 
 /// A disk with boot files, standard output, standard error and standard input.
 ///
-/// Each call may fail. A fault of the disk comes only where the count of disk faults rose in that call, and a fault of a pipe
-/// only where that of pipe faults did; with every other answer both counts stay. A count that is at its last value counts as risen.
-/// The clauses `row` say what a call does to the machine's state after Ok and after a fault, and `moments` what a stop in the
-/// middle of the call may leave. Paths are those of `boot_base`; lengths and places are bytes.
+/// Each call may fail. A fault of the disk comes only where the count of disk faults rose in that call, and
+/// a fault of a pipe only where that of pipe faults did; with every other answer both counts stay. A count
+/// that is at its last value counts as risen. The clauses `row` say what a call does to the machine's state
+/// after Ok and after a fault, and `moments` what a stop in the middle of the call may leave. Paths are
+/// those of `boot_base`; lengths and places are bytes.
 pub trait Machine {
     /// Machines of this type tell their state. Of the others no clause says what they hold.
     ghost tells: { Bool };
@@ -70,21 +72,24 @@ pub trait Machine {
         ensures moments { IsTrue tells → Elapses clock since state self.old self.new }
         ensures counts { CountsDisk result (counts self.old) (counts self.new) };
 
-    /// How many of the file's bytes from that place on it has put at the front of `into`: at least one where one is there and
-    /// `into` isn't empty, and 0 where no such file is there. After a fault `into` holds anything.
+    /// How many of the file's bytes from that place on it has put at the front of `into`: at least one
+    /// where one is there and `into` isn't empty, and 0 where no such file is there. After a fault `into`
+    /// holds anything.
     fn read_at(&mut self, path: &BootPath, at: u64, into: &mut [u8]) -> Result<usize, DiskFault>
         ensures row { IsTrue tells → ReadRow (state self.old) (state self.new) path.now at into.new result }
         ensures within { IfOk result (λ n. n ≤ length into.new) }
         ensures moments { IsTrue tells → Elapses clock since state self.old self.new }
         ensures counts { CountsDisk result (counts self.old) (counts self.new) };
 
-    /// The names of the files directly in a folder, each once, in any order: none where no such folder is there.
+    /// The names of the files directly in a folder, each once, in any order: none where no such folder is
+    /// there.
     fn names(&mut self, alloc: Global, folder: &BootPath) -> Result<Vec<FileName>, NamesFault>
         ensures row { IsTrue tells → NamesRow (state self.old) (state self.new) folder.now result }
         ensures moments { IsTrue tells → Elapses clock since state self.old self.new }
         ensures counts { CountsNames result (counts self.old) (counts self.new) };
 
-    /// Makes an empty file at this path, in place of one that is there. Neither its name nor its contents are synced.
+    /// Makes an empty file at this path, in place of one that is there. Neither its name nor its contents
+    /// are synced.
     fn create(&mut self, path: &TempPath) -> Result<(), DiskFault>
         requires { IsTrue tells → HasOneCandidate (state self.old) }
         ensures row { IsTrue tells → CreateRow (state self.old) (state self.new) path.now result }
@@ -105,7 +110,8 @@ pub trait Machine {
         ensures moments { IsTrue tells → Elapses clock since state self.old self.new }
         ensures counts { CountsDisk result (counts self.old) (counts self.new) };
 
-    /// Moves a temporary file to the path of a boot file, in place of one that is there. The names aren't synced.
+    /// Moves a temporary file to the path of a boot file, in place of one that is there. The names aren't
+    /// synced.
     fn rename_temp(&mut self, from: &TempPath, to: &BootPath) -> Result<(), DiskFault>
         requires there { IsTrue tells → has (state self.old).files from.now ≡ true }
         requires differ { IsTrue tells → from.now ≢ to.now }
@@ -135,7 +141,6 @@ pub trait Machine {
         ensures moments { IsTrue tells → Elapses clock since state self.old self.new }
         ensures counts { CountsDisk result (counts self.old) (counts self.new) };
 
-    /// After it, a stop leaves the names as they are.
     /// Syncs the names: after it a stop leaves the files that are there now, and no earlier ones.
     fn sync_names(&mut self) -> Result<(), DiskFault>
         ensures row { IsTrue tells → SyncNamesRow (state self.old) (state self.new) result }
@@ -148,8 +153,8 @@ pub trait Machine {
         ensures moments { IsTrue tells → Elapses clock since state self.old self.new }
         ensures counts { CountsPipe result (counts self.old) (counts self.new) };
 
-    /// How many of the next bytes of standard input it has taken and put at the front of `into`: at least one where one is left,
-    /// and 0 at the end. After a fault nothing is taken, and `into` holds anything.
+    /// How many of the next bytes of standard input it has taken and put at the front of `into`: at least
+    /// one where one is left, and 0 at the end. After a fault nothing is taken, and `into` holds anything.
     fn input(&mut self, into: &mut [u8]) -> Result<usize, PipeFault>
         requires { 0 < length into.old }
         ensures row { IsTrue tells → InputRow (state self.old) (state self.new) into.new result }
@@ -161,8 +166,10 @@ pub trait Machine {
     ghost sound: { (m : Self) → IsTrue tells → IsSound (state m) };
 
     /// This moment is one of those since an earlier one.
-    ghost counts_now: { (m : Self) (t : ℕ) (files : Files) → IsTrue tells → t ≤ clock m → IsImage (state m) files → since m t files (state m).printed };
+    ghost counts_now: { (m : Self) (t : ℕ) (files : Files) → IsTrue tells → t ≤ clock m → IsImage (state m) files
+        → since m t files (state m).printed };
 
     /// Since this moment there is no other.
-    ghost only_now: { (m : Self) (files : Files) (printed : List Printed) → IsTrue tells → since m (clock m) files printed → IsImage (state m) files × (printed ≡ (state m).printed) };
+    ghost only_now: { (m : Self) (files : Files) (printed : List Printed) → IsTrue tells → since m (clock m) files printed
+        → IsImage (state m) files × (printed ≡ (state m).printed) };
 }

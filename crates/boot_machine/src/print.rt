@@ -1,4 +1,4 @@
-// Printing, with what each moment shows of it.
+//! Printing, with what each moment shows of it.
 ghost use Rattle.std.specs.Prelude.{◌≡◌, ℕ, take, IsTrue, OnOk, OnErr};
 ghost use Rattle.boot_machine.specs.Counts.{CountsPipe};
 ghost use Rattle.boot_machine.specs.Moments.{EachSince};
@@ -11,8 +11,10 @@ use crate::{Channel, Machine, PipeFault};
 /// A fault of the pipe leaves the first so many of them printed.
 pub fn print_all<M: Machine>(to: Channel, bytes: &[u8], machine: &mut M) -> Result<(), PipeFault>
     ensures done { OnOk result (IsTrue M.tells → M.state machine.new ≡ with_printed to bytes.now (M.state machine.old)) }
-    ensures part { OnErr result (IsTrue M.tells → (k : ℕ) × (M.state machine.new ≡ with_printed to (take k bytes.now) (M.state machine.old))) }
-    ensures moments { IsTrue M.tells → EachSince M.clock M.since machine.old machine.new (PrintsPart (M.state machine.old) (tagged to bytes.now)) }
+    ensures part { OnErr result (IsTrue M.tells → (k : ℕ)
+        × (M.state machine.new ≡ with_printed to (take k bytes.now) (M.state machine.old))) }
+    ensures moments { IsTrue M.tells → EachSince M.clock M.since machine.old machine.new
+        (PrintsPart (M.state machine.old) (tagged to bytes.now)) }
     ensures counts { CountsPipe result (M.counts machine.old) (M.counts machine.new) }
 {
     machine.print(to, bytes)

@@ -2,7 +2,8 @@
 use crate::host::HostMachine;
 use crate::top::run;
 use boot_base::{BootPath, Target};
-use boot_machine::{Channel, FailMode, Machine, MemFile, MemMachine};
+use boot_machine::{Channel, Machine};
+use memory_machine::{FailMode, MemFile, MemMachine};
 use std::alloc::{AllocError, Global};
 use std::process::Abort;
 use std::test::Fail;

@@ -8,8 +8,8 @@ use Rattle.std.specs.FinMap as map
 use Rattle.boot_base.specs.Paths.{Path, is_temp}
 use Rattle.boot_machine.specs.Disk.{Files, has, same, view}
 use Rattle.boot_machine.specs.Maps.{get-remove}
-use Rattle.boot_machine.specs.Stops.{is_listed}
-use Rattle.boot_machine.proofs.RedoneLemmas.{listed-push, flipped}
+use Rattle.boot_machine.specs.Listed.{is_listed}
+use Rattle.boot_machine.proofs.Listing.{listed-push, flipped}
 use Rattle.install_steps.specs.Steps.{Lacks}
 
 pub lacks_none : (m : Files) → Lacks [] m m

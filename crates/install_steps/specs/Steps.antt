@@ -5,7 +5,7 @@ use Rattle.boot_base.specs.Paths.{Path, is_temp}
 use Rattle.boot_machine.specs.Disk.{Files, State, HasOneCandidate, has, view}
 use Rattle.boot_machine.specs.Images.{IsImage, IsFirm}
 use Rattle.boot_machine.specs.Moments.{EachSince}
-use Rattle.boot_machine.specs.Stops.{is_listed}
+use Rattle.boot_machine.specs.Listed.{is_listed}
 use Rattle.boot_machine.specs.Counts.{Counts, DiskFailed}
 use Rattle.install_steps.specs.declared.faults.MoveFault.{MoveFault}
 use Rattle.install_steps.specs.declared.faults.MoveFault.TheVariants.{Disk as MDisk, NotFound as MNotFound, TargetExists}

@@ -1,8 +1,9 @@
-//! The steps that change boot files. Whatever fails and wherever it is stopped, a step shows the files as they
-//! were before it or as they are after it.
+//! The steps that change boot files. Whatever fails and wherever it is stopped, a step shows the files as
+//! they were before it or as they are after it.
 //!
-//! A file is written under a temporary name, synced, renamed to its place, and the names are synced. Each step needs a machine
-//! on which no earlier change of names can be undone by a stop, which `settle` gives. No step takes memory.
+//! A file is written under a temporary name, synced, renamed to its place, and the names are synced. Each
+//! step needs a machine on which no earlier change of names can be undone by a stop, which `settle` gives.
+//! No step takes memory.
 #![tactic(auto)]
 
 mod faults;

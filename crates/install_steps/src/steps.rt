@@ -1,4 +1,4 @@
-// The steps.
+//! The steps: settling the names, and writing, moving and dropping files.
 ghost use Rattle.std.specs.Prelude.{◌≡◌, true, false, IsTrue, OnOk, OnErr, IsErrOf, All, bytes_eq};
 ghost use Rattle.std.specs.List.{IsDistinct};
 ghost use Rattle.std.specs.FinMap as map;
@@ -13,11 +13,12 @@ use crate::{MoveFault, StepFault};
 use boot_base::{BootPath, Target, TempPath};
 use boot_machine::{DiskFault, Machine};
 
-/// Syncs the names: after Ok a stop can undo no earlier change of names, and what boot sees is settled on a firm machine. After a
-/// fault of the disk nothing has changed.
+/// Syncs the names: after Ok a stop can undo no earlier change of names, and what boot sees is settled on a
+/// firm machine. After a fault of the disk nothing has changed.
 pub fn settle<M: Machine>(machine: &mut M) -> Result<(), DiskFault>
     ensures one { OnOk result (IsTrue M.tells → HasOneCandidate (M.state machine.new)) }
-    ensures settled { OnOk result (IsTrue M.tells → IsFirm (M.state machine.old) → IsSettled (M.state machine.new)) }
+    ensures settled { OnOk result (IsTrue M.tells → IsFirm (M.state machine.old)
+        → IsSettled (M.state machine.new)) }
     ensures firm { IsTrue M.tells → IsFirm (M.state machine.old) → IsFirm (M.state machine.new) }
     ensures files { IsTrue M.tells → (M.state machine.new).files ≡ (M.state machine.old).files }
     ensures same { OnErr result (IsTrue M.tells → M.state machine.new ≡ M.state machine.old) }
@@ -29,8 +30,9 @@ pub fn settle<M: Machine>(machine: &mut M) -> Result<(), DiskFault>
     machine.sync_names()
 }
 
-/// Writes these bytes at the target, in place of a file that is there. A stop at any moment leaves what boot saw before, or that
-/// with the whole new file. After a fault of the disk either stands, and a temporary file may be left.
+/// Writes these bytes at the target, in place of a file that is there. A stop at any moment leaves what
+/// boot saw before, or that with the whole new file. After a fault of the disk either stands, and a
+/// temporary file may be left.
 pub fn write_bytes<M: Machine>(
     machine: &mut M,
     target: &Target,
@@ -56,9 +58,10 @@ pub fn write_bytes<M: Machine>(
     machine.sync_names()
 }
 
-/// Moves a boot file to a path at which none is. A stop at any moment leaves what boot saw before, or the file at its new path alone.
-/// `NotFound` comes exactly where `from` isn't there, and is looked at first; `TargetExists` where both paths are. After both nothing
-/// has changed. After a fault of the disk the file is at one of the two paths.
+/// Moves a boot file to a path at which none is. A stop at any moment leaves what boot saw before, or the
+/// file at its new path alone. `NotFound` comes exactly where `from` isn't there, and is looked at first;
+/// `TargetExists` where both paths are. After both nothing has changed. After a fault of the disk the file
+/// is at one of the two paths.
 pub fn move_name<M: Machine>(
     machine: &mut M,
     from: &BootPath,
@@ -75,7 +78,8 @@ pub fn move_name<M: Machine>(
     ensures not_found { IsErrOf result MoveFault.NotFound → IsTrue M.tells
         → (has (view (M.state machine.old).files) from.now ≡ false) × (M.state machine.new ≡ M.state machine.old) }
     ensures exists { IsErrOf result MoveFault.TargetExists → IsTrue M.tells
-        → (has (view (M.state machine.old).files) from.now ≡ true) × (has (view (M.state machine.old).files) to.now ≡ true)
+        → (has (view (M.state machine.old).files) from.now ≡ true)
+        × (has (view (M.state machine.old).files) to.now ≡ true)
         × (M.state machine.new ≡ M.state machine.old) }
     ensures keeps { IsTrue M.tells → Keeps (M.state machine.old) (M.state machine.new) }
     ensures rests { OnOk result (IsTrue M.tells → IsRested (M.state machine.new)) }
@@ -95,8 +99,9 @@ pub fn move_name<M: Machine>(
     Ok(())
 }
 
-/// Takes a boot file away. A stop at any moment leaves what boot saw before, or that without the file. `NotFound` comes exactly where
-/// no such file is there, and nothing has changed then. After a fault of the disk the file may be there or not.
+/// Takes a boot file away. A stop at any moment leaves what boot saw before, or that without the file.
+/// `NotFound` comes exactly where no such file is there, and nothing has changed then. After a fault of the
+/// disk the file may be there or not.
 pub fn drop_name<M: Machine>(machine: &mut M, path: &BootPath) -> Result<(), StepFault>
     requires one { IsTrue M.tells → HasOneCandidate (M.state machine.old) }
     requires rested { IsTrue M.tells → IsRested (M.state machine.old) }
@@ -121,8 +126,8 @@ pub fn drop_name<M: Machine>(machine: &mut M, path: &BootPath) -> Result<(), Ste
     Ok(())
 }
 
-/// Takes these temporary files away, which differ and are there, and then syncs the names once. Boot sees the same all the while. After
-/// a fault of the disk some of them may be left.
+/// Takes these temporary files away, which differ and are there, and then syncs the names once. Boot sees
+/// the same all the while. After a fault of the disk some of them may be left.
 pub fn drop_leftovers<M: Machine>(machine: &mut M, paths: &[TempPath]) -> Result<(), DiskFault>
     requires one { IsTrue M.tells → HasOneCandidate (M.state machine.old) }
     requires rested { IsTrue M.tells → IsRested (M.state machine.old) }
@@ -132,7 +137,8 @@ pub fn drop_leftovers<M: Machine>(machine: &mut M, paths: &[TempPath]) -> Result
         → IsDone (M.state machine.new) (view (M.state machine.old).files)) }
     ensures step { IsTrue M.tells → IsFirm (M.state machine.old) → StepsTo M.clock M.since M.state
         (view (M.state machine.old).files) machine.old machine.new }
-    ensures gone { OnOk result (IsTrue M.tells → Lacks paths.now (M.state machine.old).files (M.state machine.new).files) }
+    ensures gone { OnOk result (IsTrue M.tells
+        → Lacks paths.now (M.state machine.old).files (M.state machine.new).files) }
     ensures keeps { IsTrue M.tells → Keeps (M.state machine.old) (M.state machine.new) }
     ensures rests { OnOk result (IsTrue M.tells → IsRested (M.state machine.new)) }
     ensures temps { OnOk result (IsTrue M.tells → NoNewTemp (M.state machine.old) (M.state machine.new)) }

@@ -1,7 +1,8 @@
-// Stops at every call of a step, and what they leave.
+//! Stops at every call of a step, and what they leave.
 use crate::{MoveFault, StepFault, drop_name, move_name, settle, write_bytes};
 use boot_base::{BootPath, Target};
-use boot_machine::{CrashChoice, Fuse, Machine, MemMachine};
+use boot_machine::{Fuse, Machine};
+use memory_machine::{CrashChoice, MemMachine};
 use std::alloc::Global;
 use std::test::Fail;
 

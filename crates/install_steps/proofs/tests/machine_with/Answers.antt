@@ -1,4 +1,4 @@
-use Rattle.boot_machine.proofs.Distinct.{no_files}
+use Rattle.memory_machine.proofs.Distinct.{no_files}
 use Rattle.install_steps.proofs.tests.machine_with.Goals as goal
 
 pub new-requires-2 : goal.new-requires-2

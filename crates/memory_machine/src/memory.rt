@@ -1,0 +1,635 @@
+//! A machine in memory. It keeps the files of its start and all that it did since, so that it can
+//! tell each moment.
+ghost use Rattle.std.specs.Prelude.{◌≡◌, ◌≢◌, ◌⊎◌, ◌∷◌, ◌++◌, [], ◌≤◌, ℕ, true, length, vec_len, map, drop, bytes_eq, Some, None, Ok, Err, IfOk, IfErr, OnOk, OnErr, MatchResult};
+ghost use Rattle.std.specs.List.{IsDistinct};
+ghost use Rattle.std.specs.FinMap as maps;
+ghost use Rattle.boot_machine.specs.Disk.{State, has, view};
+ghost use Rattle.memory_machine.specs.Events.{held, files_after, printed_after};
+ghost use Rattle.memory_machine.specs.Given.{given_files, given_paths};
+ghost use Rattle.boot_machine.specs.Images.{IsImage, IsSettled};
+ghost use Rattle.boot_machine.specs.Maps.{same_files_prop};
+ghost use Rattle.boot_machine.specs.Rows.{tagged};
+ghost use Rattle.memory_machine.specs.Stops.{IsLeft};
+ghost use Rattle.memory_machine.specs.Plan.{mode_of, one_more};
+
+use crate::disk::Disk;
+use crate::event::Event;
+use crate::files::{FileList, copy_some};
+use boot_base::{BootPath, FileName, TempPath, Text};
+use boot_machine::{Channel, DiskFault, Machine, NamesFault, PipeFault, Printed};
+use std::alloc::{AllocError, Global};
+
+/// A file that a machine in memory begins with.
+#[derive(Drop)]
+pub struct MemFile {
+    pub path: BootPath,
+    pub bytes: Vec<u8>,
+}
+
+/// How a call fails.
+#[derive(Clone, Copy, Debug, PartialEq, Eq)]
+pub enum FailMode {
+    /// Nothing has happened, but that a failed `append` leaves its path soft.
+    Before,
+    /// All of the call has happened, where its row allows that after a failure; else as `Before`.
+    After,
+}
+
+/// Which of the files that a stop may leave it leaves.
+#[derive(Drop)]
+pub struct CrashChoice {
+    /// The candidate of that number, counted from the earliest on and round again.
+    pub candidate: u64,
+    /// What each soft file has.
+    pub fill: Vec<u8>,
+}
+
+/// The call of that number, counted from 1, is to fail.
+#[derive(Clone, Copy)]
+struct Failure {
+    call: u64,
+    mode: FailMode,
+}
+
+/// A machine in memory, which tells all that it holds and each moment that there was.
+///
+/// It fails exactly where it was told to, and where it finds no memory for the record of a call; `starved`
+/// counts the latter. Its clock is the number of calls and stops that it has recorded: a call that found no
+/// memory for its record is the one that doesn't raise it.
+#[derive(Drop)]
+pub struct MemMachine {
+    alloc: Global,
+    start: FileList,
+    log: Vec<Event>,
+    files: FileList,
+    printed: Vec<Printed>,
+    given: Vec<u8>,
+    taken: usize,
+    failures: Vec<Failure>,
+    calls: u64,
+    disk_faults: u64,
+    pipe_faults: u64,
+    starved: u64,
+    ghost files_linked: { files ≡ (held start log.items).files } by { same_files_prop _ _ },
+    ghost printed_linked: { printed.items ≡ (held start log.items).printed },
+}
+
+// These bytes as they are printed there.
+fn tagged(alloc: Global, to: Channel, bytes: &[u8]) -> Result<Vec<Printed>, AllocError>
+    ensures { IfOk result (λ text. text.items ≡ tagged to bytes.now) }
+{
+    bytes
+        .iter()
+        .map(|byte| Printed { to, byte: *byte })
+        .collect(alloc)
+}
+
+// The path and the bytes of a write.
+fn path_and_bytes(alloc: Global, path: &str, bytes: &[u8]) -> Result<(Text, Vec<u8>), AllocError>
+    ensures { IfOk result (λ write. (write.0 ≡ path.now) × (write.1.items ≡ bytes.now)) }
+{
+    let path = Text::of(alloc, path)?;
+    let bytes = bytes.to_vec(alloc)?;
+    Ok((path, bytes))
+}
+
+// The two paths of a file that is moved.
+fn two_paths(alloc: Global, from: &str, to: &str) -> Result<(Text, Text), AllocError>
+    ensures { IfOk result (λ paths. (paths.0 ≡ from.now) × (paths.1 ≡ to.now)) }
+{
+    let from = Text::of(alloc, from)?;
+    let to = Text::of(alloc, to)?;
+    Ok((from, to))
+}
+
+// The event's effect on the files and on what is printed.
+fn apply(event: &Event, files: &mut FileList, printed: &mut Vec<Printed>) -> Result<(), AllocError>
+    ensures files { OnOk result (files.new ≡ files_after event.now files.old) }
+    ensures printed { OnOk result (printed.new.items ≡ printed_after event.now printed.old.items) }
+    ensures err { OnErr result ((files.new ≡ files.old) × (printed.new.items ≡ printed.old.items)) }
+{
+    match event {
+        Event::Print(text) => printed.extend_from_slice(text),
+        _ => files.apply(event),
+    }
+}
+
+// How the call of that number is to fail: of two modes for one number the later one counts.
+fn mode_at(failures: &[Failure], call: u64) -> Option<FailMode>
+    ensures { result ≡ mode_of failures.now call }
+{
+    for failure in failures {
+        if failure.call == call {
+            return Some(failure.mode);
+        }
+    }
+    None
+}
+
+impl MemMachine {
+    ghost use Rattle.memory_machine.specs.Memory.{mem_start, mem_events, mem_input, mem_state, mem_clock, mem_since, mem_counts, mem_starved, mem_calls, mem_plan, next_mode, SameOrders, TellsTheSame, TellsOneMore, IsNextCall, IsStarved, AsTold, NamesAsTold};
+    ghost use Rattle.memory_machine.specs.Events.{step, say, start_state, stopped};
+    ghost use Rattle.boot_machine.specs.Moments.{Elapses};
+    ghost use Rattle.boot_machine.specs.Rows.{DoneOrNot, SizeRow, ReadRow, NamesRow, CreateRow, AppendRow, SyncFileRow, RenameRow, UnlinkRow, SyncNamesRow, PrintRow, InputRow, created, appended, file_synced, renamed, unlinked, names_synced, with_printed, input_taken};
+    ghost use Rattle.boot_machine.specs.Counts.{CountsDisk, CountsPipe, CountsNames, DiskFailed, PipeFailed};
+    ghost use Rattle.memory_machine.specs.declared.event.Event.TheVariants.{Look as look};
+
+    /// A machine with these files and nothing else: all of them synced, nothing printed, no input, and no
+    /// call told to fail.
+    pub fn new(alloc: Global, files: Vec<MemFile>) -> Result<MemMachine, AllocError>
+        requires { IsDistinct bytes_eq (given_paths files.items) }
+        ensures state { IfOk result (λ machine. mem_state machine ≡ start_state (given_files files.items)) }
+        ensures settled { IfOk result (λ machine. IsSettled (mem_state machine)) }
+        ensures clock { IfOk result (λ machine. mem_clock machine ≡ 0) }
+        ensures counts { IfOk result (λ machine. mem_counts machine ≡ record { disk_faults = 0; pipe_faults = 0 }) }
+        ensures starved { IfOk result (λ machine. mem_starved machine ≡ 0) }
+        ensures calls { IfOk result (λ machine. mem_calls machine ≡ 0) }
+        ensures plan { IfOk result (λ machine. (call : ℕ) → mem_plan machine call ≡ None) }
+    {
+        let start = FileList::of(alloc, &files)?;
+        let now = start.copy()?;
+        Ok(MemMachine {
+            alloc,
+            start,
+            log: Vec::new(alloc),
+            files: now,
+            printed: Vec::new(alloc),
+            given: Vec::new(alloc),
+            taken: 0,
+            failures: Vec::new(alloc),
+            calls: 0,
+            disk_faults: 0,
+            pipe_faults: 0,
+            starved: 0,
+        })
+    }
+
+    /// From now on these bytes are its standard input.
+    pub fn set_input(&mut self, bytes: Vec<u8>)
+        ensures state { mem_state self.new ≡ record (mem_state self.old) { input = bytes.items } }
+        ensures moments { Elapses mem_clock mem_since mem_state self.old self.new }
+        ensures counts { mem_counts self.new ≡ mem_counts self.old }
+        ensures told { SameOrders self.old self.new }
+    {
+        self.given = bytes;
+        self.taken = 0;
+    }
+
+    /// What was printed, each byte with where it went.
+    pub fn printed(&self) -> &[Printed]
+        ensures { result.now ≡ (mem_state self.now).printed }
+    {
+        &self.printed
+    }
+
+    /// Lets the call of that number fail, counted from 1 over the machine's life. Of two modes for one
+    /// number the last counts. After want of memory nothing is told.
+    pub fn fail_at(&mut self, call: u64, mode: FailMode) -> Result<(), AllocError>
+        ensures told { OnOk result (mem_plan self.new call ≡ Some mode) }
+        ensures others { (other : ℕ) → other ≢ call → mem_plan self.new other ≡ mem_plan self.old other }
+        ensures err { OnErr result (mem_plan self.new ≡ mem_plan self.old) }
+        ensures state { mem_state self.new ≡ mem_state self.old }
+        ensures moments { Elapses mem_clock mem_since mem_state self.old self.new }
+        ensures counts { mem_counts self.new ≡ mem_counts self.old }
+        ensures calls { mem_calls self.new ≡ mem_calls self.old }
+        ensures starved { mem_starved self.new ≡ mem_starved self.old }
+    {
+        self.failures.insert(0, Failure { call, mode })?;
+        Ok(())
+    }
+
+    /// How many of its files have a path that doesn't end in `.tmp`. It takes no memory.
+    pub fn view_files(&self) -> u64
+        ensures { result ≡ maps.len (view (mem_state self.now).files) }
+    {
+        self.files.shown()
+    }
+
+    /// How many of its calls have failed because they found no memory, up to the last value.
+    pub fn starved(&self) -> u64
+        ensures { result ≡ mem_starved self.now }
+    {
+        self.starved
+    }
+
+    /// The machine after a stop: with the chosen files, all of them synced. What was printed, its input,
+    /// its counts and its orders stay.
+    pub fn crash(self, alloc: Global, choice: &CrashChoice) -> Result<MemMachine, AllocError>
+        ensures state { IfOk result (λ machine. mem_state machine ≡ stopped (mem_state machine).files (mem_state self)) }
+        ensures left { IfOk result (λ machine.
+            IsLeft (mem_state self) choice.now.candidate choice.now.fill.items (mem_state machine).files) }
+        ensures image { IfOk result (λ machine. IsImage (mem_state self) (mem_state machine).files) }
+        ensures settled { IfOk result (λ machine. IsSettled (mem_state machine)) }
+        ensures moments { IfOk result (λ machine. Elapses mem_clock mem_since mem_state self machine) }
+        ensures counts { IfOk result (λ machine. mem_counts machine ≡ mem_counts self) }
+        ensures told { IfOk result (λ machine. SameOrders self machine) }
+    {
+        let mut machine = self;
+        let disk = Disk::after(alloc, &machine.start, &machine.log)?;
+        let files = disk.left(choice)?;
+        machine.note(Event::Stop(files))?;
+        Ok(machine)
+    }
+
+    // Counts the call, and says how it is to fail, if it is to.
+    fn next_call(&mut self) -> Option<FailMode>
+        ensures mode { result ≡ next_mode self.old }
+        ensures calls { mem_calls self.new ≡ one_more (mem_calls self.old) }
+        ensures same { TellsTheSame self.old self.new }
+        ensures counts { mem_counts self.new ≡ mem_counts self.old }
+        ensures starved { mem_starved self.new ≡ mem_starved self.old }
+    {
+        self.calls = self.calls.saturating_add(1);
+        mode_at(&self.failures, self.calls)
+    }
+
+    // Does what the event says, and records it.
+    fn note(&mut self, event: Event) -> Result<(), AllocError>
+        ensures ok { OnOk result (TellsOneMore event self.old self.new) }
+        ensures err { OnErr result (TellsTheSame self.old self.new) }
+        ensures counts { mem_counts self.new ≡ mem_counts self.old }
+        ensures calls { mem_calls self.new ≡ mem_calls self.old }
+        ensures fed { OnOk result (mem_starved self.new ≡ mem_starved self.old) }
+        ensures starved { OnErr result (IsStarved self.old self.new) }
+    {
+        if self.log.reserve(1).is_err()
+            || apply(&event, &mut self.files, &mut self.printed).is_err()
+        {
+            self.starve();
+            return Err(AllocError);
+        }
+        self.log.push_reserved(event);
+        Ok(())
+    }
+
+    // Records that a call did nothing.
+    fn skip(&mut self)
+        ensures state { mem_state self.new ≡ mem_state self.old }
+        ensures plan { mem_plan self.new ≡ mem_plan self.old }
+        ensures moments { Elapses mem_clock mem_since mem_state self.old self.new }
+        ensures counts { mem_counts self.new ≡ mem_counts self.old }
+        ensures calls { mem_calls self.new ≡ mem_calls self.old }
+        ensures starved { (mem_starved self.new ≡ mem_starved self.old) ⊎ IsStarved self.old self.new }
+    {
+        let _ = self.note(Event::Look);
+    }
+
+    // Counts a call that found no memory.
+    fn starve(&mut self)
+        ensures same { TellsTheSame self.old self.new }
+        ensures counts { mem_counts self.new ≡ mem_counts self.old }
+        ensures calls { mem_calls self.new ≡ mem_calls self.old }
+        ensures starved { IsStarved self.old self.new }
+    {
+        self.starved = self.starved.saturating_add(1);
+    }
+
+    fn fail_disk(&mut self) -> DiskFault
+        ensures same { TellsTheSame self.old self.new }
+        ensures starved { mem_starved self.new ≡ mem_starved self.old }
+        ensures calls { mem_calls self.new ≡ mem_calls self.old }
+        ensures counts { DiskFailed (mem_counts self.old) (mem_counts self.new) }
+    {
+        self.disk_faults = self.disk_faults.saturating_add(1);
+        DiskFault
+    }
+
+    fn fail_pipe(&mut self) -> PipeFault
+        ensures same { TellsTheSame self.old self.new }
+        ensures starved { mem_starved self.new ≡ mem_starved self.old }
+        ensures calls { mem_calls self.new ≡ mem_calls self.old }
+        ensures counts { PipeFailed (mem_counts self.old) (mem_counts self.new) }
+    {
+        self.pipe_faults = self.pipe_faults.saturating_add(1);
+        PipeFault
+    }
+
+    // A call of the disk that found no memory for its words.
+    fn starve_disk(&mut self) -> DiskFault
+        ensures state { mem_state self.new ≡ mem_state self.old }
+        ensures next { IsNextCall self.old self.new }
+        ensures starved { IsStarved self.old self.new }
+        ensures moments { Elapses mem_clock mem_since mem_state self.old self.new }
+        ensures counts { DiskFailed (mem_counts self.old) (mem_counts self.new) }
+    {
+        self.next_call();
+        self.starve();
+        self.fail_disk()
+    }
+
+    // A call of a pipe that found no memory for its words.
+    fn starve_pipe(&mut self) -> PipeFault
+        ensures state { mem_state self.new ≡ mem_state self.old }
+        ensures next { IsNextCall self.old self.new }
+        ensures starved { IsStarved self.old self.new }
+        ensures moments { Elapses mem_clock mem_since mem_state self.old self.new }
+        ensures counts { PipeFailed (mem_counts self.old) (mem_counts self.new) }
+    {
+        self.next_call();
+        self.starve();
+        self.fail_pipe()
+    }
+
+    // Records an append that failed before it wrote anything: its path isn't synced.
+    fn skip_append(&mut self, path: Text)
+        requires { has (mem_state self.old).files path ≡ true }
+        ensures state { ((mem_state self.new ≡ appended path [] (mem_state self.old)) × (mem_starved self.new ≡ mem_starved self.old))
+            ⊎ ((mem_state self.new ≡ mem_state self.old) × IsStarved self.old self.new) }
+        ensures plan { mem_plan self.new ≡ mem_plan self.old }
+        ensures moments { Elapses mem_clock mem_since mem_state self.old self.new }
+        ensures counts { mem_counts self.new ≡ mem_counts self.old }
+        ensures calls { mem_calls self.new ≡ mem_calls self.old }
+    {
+        let nothing = Vec::new(self.alloc);
+        let _ = self.note(Event::Append(path, nothing));
+    }
+
+    // Does what the event says, unless the call is to fail before.
+    fn run_disk(&mut self, event: Event) -> Result<(), DiskFault>
+        ensures row { DoneOrNot (mem_state self.old) (step event (mem_state self.old)) (mem_state self.new) result }
+        ensures told { AsTold self.old self.new (mem_state self.old) (step event (mem_state self.old)) result }
+        ensures moments { Elapses mem_clock mem_since mem_state self.old self.new }
+        ensures counts { CountsDisk result (mem_counts self.old) (mem_counts self.new) }
+    {
+        let mode = self.next_call();
+        if mode == Some(FailMode::Before) {
+            self.skip();
+            return Err(self.fail_disk());
+        }
+        if self.note(event).is_err() {
+            return Err(self.fail_disk());
+        }
+        if mode.is_some() {
+            return Err(self.fail_disk());
+        }
+        Ok(())
+    }
+
+    // The same of an append.
+    fn run_append(&mut self, path: Text, bytes: Vec<u8>) -> Result<(), DiskFault>
+        requires { has (mem_state self.old).files path ≡ true }
+        ensures row { AppendRow (mem_state self.old) (mem_state self.new) path bytes.items result }
+        ensures told { AsTold self.old self.new
+            (appended path [] (mem_state self.old)) (appended path bytes.items (mem_state self.old)) result }
+        ensures moments { Elapses mem_clock mem_since mem_state self.old self.new }
+        ensures counts { CountsDisk result (mem_counts self.old) (mem_counts self.new) }
+    {
+        let mode = self.next_call();
+        if mode == Some(FailMode::Before) {
+            self.skip_append(path);
+            return Err(self.fail_disk());
+        }
+        if self.note(Event::Append(path, bytes)).is_err() {
+            return Err(self.fail_disk());
+        }
+        if mode.is_some() {
+            return Err(self.fail_disk());
+        }
+        Ok(())
+    }
+
+    // The same of a print.
+    fn run_print(&mut self, text: Vec<Printed>) -> Result<(), PipeFault>
+        ensures row { DoneOrNot (mem_state self.old) (say text.items (mem_state self.old)) (mem_state self.new) result }
+        ensures told { AsTold self.old self.new (mem_state self.old) (say text.items (mem_state self.old)) result }
+        ensures moments { Elapses mem_clock mem_since mem_state self.old self.new }
+        ensures counts { CountsPipe result (mem_counts self.old) (mem_counts self.new) }
+    {
+        let mode = self.next_call();
+        if mode == Some(FailMode::Before) {
+            self.skip();
+            return Err(self.fail_pipe());
+        }
+        if self.note(Event::Print(text)).is_err() {
+            return Err(self.fail_pipe());
+        }
+        if mode.is_some() {
+            return Err(self.fail_pipe());
+        }
+        Ok(())
+    }
+
+    // The same of a call that does nothing where it fails.
+    fn run_sync(&mut self, event: Event) -> Result<(), DiskFault>
+        ensures ok { OnOk result (mem_state self.new ≡ step event (mem_state self.old)) }
+        ensures err { OnErr result (mem_state self.new ≡ mem_state self.old) }
+        ensures told { AsTold self.old self.new (mem_state self.old) (mem_state self.old) result }
+        ensures moments { Elapses mem_clock mem_since mem_state self.old self.new }
+        ensures counts { CountsDisk result (mem_counts self.old) (mem_counts self.new) }
+    {
+        if self.next_call().is_some() {
+            self.skip();
+            return Err(self.fail_disk());
+        }
+        if self.note(event).is_err() {
+            return Err(self.fail_disk());
+        }
+        Ok(())
+    }
+
+    // The same of a pipe that is only read.
+    fn run_input(&mut self) -> Result<(), PipeFault>
+        ensures state { mem_state self.new ≡ mem_state self.old }
+        ensures noted { OnOk result (TellsOneMore look self.old self.new) }
+        ensures told { AsTold self.old self.new (mem_state self.old) (mem_state self.old) result }
+        ensures moments { Elapses mem_clock mem_since mem_state self.old self.new }
+        ensures counts { CountsPipe result (mem_counts self.old) (mem_counts self.new) }
+    {
+        if self.next_call().is_some() {
+            self.skip();
+            return Err(self.fail_pipe());
+        }
+        if self.note(Event::Look).is_err() {
+            return Err(self.fail_pipe());
+        }
+        Ok(())
+    }
+}
+
+impl Machine for MemMachine {
+    ghost use Rattle.memory_machine.specs.Memory.{mem_start, mem_events, mem_input, mem_state, mem_clock, mem_since, mem_counts, mem_starved, mem_calls, mem_plan, next_mode, TellsTheSame, TellsOneMore, IsNextCall, IsStarved, AsTold, NamesAsTold};
+    ghost use Rattle.memory_machine.specs.EventLaws.{now_counts, now_only, sound_held, sound-input, image-input, image_input};
+    ghost use Rattle.memory_machine.specs.Events.{step};
+    ghost use Rattle.boot_machine.specs.Moments.{Elapses};
+    ghost use Rattle.boot_machine.specs.Rows.{DoneOrNot, SizeRow, ReadRow, NamesRow, CreateRow, AppendRow, SyncFileRow, RenameRow, UnlinkRow, SyncNamesRow, PrintRow, InputRow, created, appended, file_synced, renamed, unlinked, names_synced, with_printed, input_taken};
+    ghost use Rattle.boot_machine.specs.Counts.{CountsDisk, CountsPipe, CountsNames};
+
+    ghost tells = { true };
+
+    ghost state = { mem_state };
+
+    ghost clock = { mem_clock };
+
+    ghost since = { mem_since };
+
+    ghost counts = { mem_counts };
+
+    ghost sound = { λ m told. sound-input _ _ (sound_held m.start (mem_events m)) };
+
+    ghost counts_now = { λ m t files told le image. now_counts (mem_start m) (mem_events m) t files (image_input _ (mem_input m) files image) };
+
+    ghost only_now = { λ m files printed told left. let now = now_only (mem_start m) (mem_events m) files printed left in
+        (image-input _ (mem_input m) files now.image, now.printed) };
+
+    fn size(&mut self, path: &BootPath) -> Result<Option<u64>, DiskFault>
+        ensures row { SizeRow (mem_state self.old) (mem_state self.new) path.now result }
+        ensures told { AsTold self.old self.new (mem_state self.old) (mem_state self.old) result }
+        ensures moments { Elapses mem_clock mem_since mem_state self.old self.new }
+        ensures counts { CountsDisk result (mem_counts self.old) (mem_counts self.new) }
+    {
+        let answer = self.files.size(path.as_str());
+        self.run_sync(Event::Look)?;
+        Ok(answer)
+    }
+
+    fn read_at(&mut self, path: &BootPath, at: u64, into: &mut [u8]) -> Result<usize, DiskFault>
+        ensures row { ReadRow (mem_state self.old) (mem_state self.new) path.now at into.new result }
+        ensures within { IfOk result (λ n. n ≤ length into.new) }
+        ensures told { AsTold self.old self.new (mem_state self.old) (mem_state self.old) result }
+        ensures moments { Elapses mem_clock mem_since mem_state self.old self.new }
+        ensures counts { CountsDisk result (mem_counts self.old) (mem_counts self.new) }
+    {
+        let count = self.files.read(path.as_str(), at as usize, into);
+        self.run_sync(Event::Look)?;
+        Ok(count)
+    }
+
+    fn names(&mut self, alloc: Global, folder: &BootPath) -> Result<Vec<FileName>, NamesFault>
+        ensures row { NamesRow (mem_state self.old) (mem_state self.new) folder.now result }
+        ensures told { NamesAsTold self.old self.new result }
+        ensures moments { Elapses mem_clock mem_since mem_state self.old self.new }
+        ensures counts { CountsNames result (mem_counts self.old) (mem_counts self.new) }
+    {
+        if self.run_sync(Event::Look).is_err() {
+            return Err(NamesFault::Disk);
+        }
+        match self.files.names(alloc, folder.as_str()) {
+            Ok(names) => Ok(names),
+            Err(_) => Err(NamesFault::Memory),
+        }
+    }
+
+    fn create(&mut self, path: &TempPath) -> Result<(), DiskFault>
+        ensures row { CreateRow (mem_state self.old) (mem_state self.new) path.now result }
+        ensures told { AsTold self.old self.new (mem_state self.old) (created path.now (mem_state self.old)) result }
+        ensures moments { Elapses mem_clock mem_since mem_state self.old self.new }
+        ensures counts { CountsDisk result (mem_counts self.old) (mem_counts self.new) }
+    {
+        match Text::of(self.alloc, path.as_str()) {
+            Ok(path) => self.run_disk(Event::Create(path)),
+            Err(_) => Err(self.starve_disk()),
+        }
+    }
+
+    fn append(&mut self, path: &TempPath, bytes: &[u8]) -> Result<(), DiskFault>
+        requires { has (mem_state self.old).files path.now ≡ true }
+        ensures row { AppendRow (mem_state self.old) (mem_state self.new) path.now bytes.now result }
+        ensures told { AsTold self.old self.new
+            (appended path.now [] (mem_state self.old)) (appended path.now bytes.now (mem_state self.old)) result }
+        ensures moments { Elapses mem_clock mem_since mem_state self.old self.new }
+        ensures counts { CountsDisk result (mem_counts self.old) (mem_counts self.new) }
+    {
+        match path_and_bytes(self.alloc, path.as_str(), bytes) {
+            Ok((path, bytes)) => self.run_append(path, bytes),
+            Err(_) => Err(self.starve_disk()),
+        }
+    }
+
+    fn sync_file(&mut self, path: &TempPath) -> Result<(), DiskFault>
+        ensures row { SyncFileRow (mem_state self.old) (mem_state self.new) path.now result }
+        ensures told { AsTold self.old self.new (mem_state self.old) (mem_state self.old) result }
+        ensures moments { Elapses mem_clock mem_since mem_state self.old self.new }
+        ensures counts { CountsDisk result (mem_counts self.old) (mem_counts self.new) }
+    {
+        match Text::of(self.alloc, path.as_str()) {
+            Ok(path) => self.run_sync(Event::SyncFile(path)),
+            Err(_) => Err(self.starve_disk()),
+        }
+    }
+
+    fn rename_temp(&mut self, from: &TempPath, to: &BootPath) -> Result<(), DiskFault>
+        requires there { has (mem_state self.old).files from.now ≡ true }
+        requires differ { from.now ≢ to.now }
+        ensures row { RenameRow (mem_state self.old) (mem_state self.new) from.now to.now result }
+        ensures told { AsTold self.old self.new (mem_state self.old) (renamed from.now to.now (mem_state self.old)) result }
+        ensures moments { Elapses mem_clock mem_since mem_state self.old self.new }
+        ensures counts { CountsDisk result (mem_counts self.old) (mem_counts self.new) }
+    {
+        match two_paths(self.alloc, from.as_str(), to.as_str()) {
+            Ok((from, to)) => self.run_disk(Event::Rename(from, to)),
+            Err(_) => Err(self.starve_disk()),
+        }
+    }
+
+    fn rename_name(&mut self, from: &BootPath, to: &BootPath) -> Result<(), DiskFault>
+        requires there { has (mem_state self.old).files from.now ≡ true }
+        requires differ { from.now ≢ to.now }
+        ensures row { RenameRow (mem_state self.old) (mem_state self.new) from.now to.now result }
+        ensures told { AsTold self.old self.new (mem_state self.old) (renamed from.now to.now (mem_state self.old)) result }
+        ensures moments { Elapses mem_clock mem_since mem_state self.old self.new }
+        ensures counts { CountsDisk result (mem_counts self.old) (mem_counts self.new) }
+    {
+        match two_paths(self.alloc, from.as_str(), to.as_str()) {
+            Ok((from, to)) => self.run_disk(Event::Rename(from, to)),
+            Err(_) => Err(self.starve_disk()),
+        }
+    }
+
+    fn unlink(&mut self, path: &BootPath) -> Result<(), DiskFault>
+        ensures row { UnlinkRow (mem_state self.old) (mem_state self.new) path.now result }
+        ensures told { AsTold self.old self.new (mem_state self.old) (unlinked path.now (mem_state self.old)) result }
+        ensures moments { Elapses mem_clock mem_since mem_state self.old self.new }
+        ensures counts { CountsDisk result (mem_counts self.old) (mem_counts self.new) }
+    {
+        match Text::of(self.alloc, path.as_str()) {
+            Ok(path) => self.run_disk(Event::Unlink(path)),
+            Err(_) => Err(self.starve_disk()),
+        }
+    }
+
+    fn unlink_temp(&mut self, path: &TempPath) -> Result<(), DiskFault>
+        ensures row { UnlinkRow (mem_state self.old) (mem_state self.new) path.now result }
+        ensures told { AsTold self.old self.new (mem_state self.old) (unlinked path.now (mem_state self.old)) result }
+        ensures moments { Elapses mem_clock mem_since mem_state self.old self.new }
+        ensures counts { CountsDisk result (mem_counts self.old) (mem_counts self.new) }
+    {
+        match Text::of(self.alloc, path.as_str()) {
+            Ok(path) => self.run_disk(Event::Unlink(path)),
+            Err(_) => Err(self.starve_disk()),
+        }
+    }
+
+    fn sync_names(&mut self) -> Result<(), DiskFault>
+        ensures row { SyncNamesRow (mem_state self.old) (mem_state self.new) result }
+        ensures told { AsTold self.old self.new (mem_state self.old) (mem_state self.old) result }
+        ensures moments { Elapses mem_clock mem_since mem_state self.old self.new }
+        ensures counts { CountsDisk result (mem_counts self.old) (mem_counts self.new) }
+    {
+        self.run_sync(Event::SyncNames)
+    }
+
+    fn print(&mut self, to: Channel, bytes: &[u8]) -> Result<(), PipeFault>
+        ensures row { PrintRow (mem_state self.old) (mem_state self.new) to bytes.now result }
+        ensures told { AsTold self.old self.new (mem_state self.old) (with_printed to bytes.now (mem_state self.old)) result }
+        ensures moments { Elapses mem_clock mem_since mem_state self.old self.new }
+        ensures counts { CountsPipe result (mem_counts self.old) (mem_counts self.new) }
+    {
+        match tagged(self.alloc, to, bytes) {
+            Ok(text) => self.run_print(text),
+            Err(_) => Err(self.starve_pipe()),
+        }
+    }
+
+    fn input(&mut self, into: &mut [u8]) -> Result<usize, PipeFault>
+        ensures row { InputRow (mem_state self.old) (mem_state self.new) into.new result }
+        ensures within { IfOk result (λ n. n ≤ length into.new) }
+        ensures told { AsTold self.old self.new (mem_state self.old) (mem_state self.old) result }
+        ensures moments { Elapses mem_clock mem_since mem_state self.old self.new }
+        ensures counts { CountsPipe result (mem_counts self.old) (mem_counts self.new) }
+    {
+        self.run_input()?;
+        let count = copy_some(&self.given, self.taken, into);
+        self.taken += count;
+        Ok(count)
+    }
+}
