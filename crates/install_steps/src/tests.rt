@@ -1,6 +1,6 @@
 //! Stops at every call of a step, and what they leave.
-use crate::{MoveFault, StepFault, drop_name, move_name, settle, write_bytes};
-use boot_base::{BootPath, Target};
+use crate::{MoveFault, StepFault, drop_leftovers, drop_name, move_name, settle, write_bytes};
+use boot_base::{BootPath, Target, TempPath};
 use boot_machine::{Fuse, Machine};
 use memory_machine::{CrashChoice, MemMachine};
 use std::alloc::Global;
@@ -159,5 +159,21 @@ fn each_step_answers(rt: HostRuntime) -> Result<(), Fail> {
     assert_eq!(rt; move_name(&mut machine, &to.path, &from.path), Ok(()));
     settle(&mut machine)?;
     assert_eq!(rt; drop_name(&mut machine, &from.path), Ok(()));
+    Ok(())
+}
+
+#[test]
+fn a_leftover_is_dropped(rt: HostRuntime) -> Result<(), Fail> {
+    let alloc = rt.alloc();
+    let folder = BootPath::read(alloc, "k")?;
+    let path = BootPath::read(alloc, "k/to")?;
+    let leftovers = [TempPath::of(alloc, &path)?];
+    let mut machine = MemMachine::new(alloc, Vec::new(alloc))?;
+    settle(&mut machine)?;
+    machine.create(&leftovers[0])?;
+    settle(&mut machine)?;
+    assert_eq!(rt; machine.names(alloc, &folder)?.len(), 1);
+    assert_eq!(rt; drop_leftovers(&mut machine, &leftovers), Ok(()));
+    assert_eq!(rt; machine.names(alloc, &folder)?.len(), 0);
     Ok(())
 }

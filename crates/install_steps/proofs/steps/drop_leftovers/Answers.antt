@@ -1,6 +1,6 @@
-use Rattle.std.proofs.Common.{◌≡◌, ◌⊎◌, ⊎_elim, true, refl, sym, subst, rules, []}
+use Rattle.std.proofs.Common.{◌≡◌, ⊎_elim, true, refl, sym, subst, rules, []}
 use Rattle.std.specs.FinMap as map
-use Rattle.boot_machine.specs.Disk.{State, has, view}
+use Rattle.boot_machine.specs.Disk.{has, view}
 use Rattle.boot_machine.specs.Rows.{unlinked}
 use Rattle.boot_machine.proofs.Views.{view-remove_temp}
 use Rattle.boot_machine.proofs.Soft.{now_sees, by_done_or_not}

@@ -1,4 +1,4 @@
-use Rattle.std.proofs.Common.{◌≡◌, ⊎_elim, sym, refl}
+use Rattle.std.proofs.Common.{◌≡◌, ⊎_elim, refl}
 use Rattle.boot_machine.specs.Disk.{State, Files}
 use Rattle.boot_machine.specs.Images.{IsImage, IsFirm}
 use Rattle.boot_machine.proofs.Soft.{by_sync_names, firm-names_synced, image-names_synced}
