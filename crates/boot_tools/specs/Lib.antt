@@ -1,5 +1,4 @@
 pub mod Endings
-pub mod Hosts
 pub mod Measured
 pub mod Replies
 pub mod Runs

@@ -7,16 +7,13 @@
 
 mod calculate;
 mod ended;
-mod host;
 mod measure;
-mod named;
 mod reply;
-mod system;
 mod top;
 mod words;
 
 use ended::Ended;
-use host::HostMachine;
+use host_machine::HostMachine;
 use std::io::ErrorKind;
 use std::process::ExitCode;
 use std::rt::Env;

@@ -1,8 +1,8 @@
 // The program over a machine in memory: what it prints, and how it ends.
-use crate::host::HostMachine;
 use crate::top::run;
-use boot_base::{BootPath, Target};
-use boot_machine::{Channel, Machine};
+use boot_base::BootPath;
+use boot_machine::Channel;
+use host_machine::HostMachine;
 use memory_machine::{FailMode, MemFile, MemMachine};
 use std::alloc::{AllocError, Global};
 use std::process::Abort;
@@ -176,29 +176,6 @@ fn remove_own_folder(rt: &HostRuntime) -> io::Result<()> {
     fs::remove_dir_all(rt, own_folder(rt)?.as_str())
 }
 
-type Host = HostMachine<HostRuntime, io::Stderr>;
-
-// Writes a file in folders that aren't there, by its temporary name.
-fn write_file(machine: &mut Host, target: &Target) -> Result<(), Fail> {
-    machine.create(&target.temp)?;
-    machine.append(&target.temp, b"ab")?;
-    machine.append(&target.temp, b"c")?;
-    machine.sync_file(&target.temp)?;
-    machine.rename_temp(&target.temp, &target.path)?;
-    machine.sync_names()?;
-    Ok(())
-}
-
-// Moves the file to another name, beside a temporary file, and takes both away.
-fn clear_files(machine: &mut Host, target: &Target, other: &Target) -> Result<(), Fail> {
-    machine.rename_name(&target.path, &other.path)?;
-    machine.create(&other.temp)?;
-    machine.unlink_temp(&other.temp)?;
-    machine.unlink(&other.path)?;
-    machine.sync_names()?;
-    Ok(())
-}
-
 #[test]
 fn host_folder(rt: HostRuntime) -> Result<(), Fail> {
     let alloc = rt.alloc();
@@ -206,17 +183,6 @@ fn host_folder(rt: HostRuntime) -> Result<(), Fail> {
     fs::write(&rt, "k", b"abc".as_slice())?;
     let mut machine = HostMachine::new(rt, rt.stderr());
     assert_eq!(rt; run(alloc, &words_of(alloc, &MAIN_JOB)?, &mut machine), 0);
-
-    let folder = BootPath::read(alloc, "efi/EFI/Linux")?;
-    let target = Target::of(alloc, BootPath::under(alloc, &folder, "a.efi")?)?;
-    let other = Target::of(alloc, target.path.sibling(alloc, "b.efi")?)?;
-    assert_eq!(rt; machine.names(alloc, &folder)?.len(), 0);
-    write_file(&mut machine, &target)?;
-    assert_eq!(rt; machine.size(&target.path)?, Some(3));
-    assert_eq!(rt; machine.size(&folder)?, None);
-    assert_eq!(rt; machine.names(alloc, &folder)?.len(), 1);
-    clear_files(&mut machine, &target, &other)?;
-    assert_eq!(rt; machine.names(alloc, &folder)?.len(), 0);
     remove_own_folder(&rt)?;
     Ok(())
 }

@@ -36,7 +36,7 @@ struct Faults {
 
 impl Faults {
     ghost use Rattle.boot_machine.specs.Counts.{CountsDisk, CountsPipe, DiskFailed};
-    ghost use Rattle.boot_tools.specs.Hosts.{counts_of};
+    ghost use Rattle.host_machine.specs.Hosts.{counts_of};
 
     // Counts a failure of the disk.
     fn disk_failed(&mut self)
@@ -76,7 +76,7 @@ impl Faults {
 
 impl<R: Runtime + AllocGlobal, E: Print + Drop> Machine for HostMachine<R, E> {
     ghost use Rattle.std.specs.Prelude.{false};
-    ghost use Rattle.boot_tools.specs.Hosts.{counts_of, no_state, silent};
+    ghost use Rattle.host_machine.specs.Hosts.{counts_of, no_state, silent};
 
     ghost tells = { false };
 

@@ -5,7 +5,7 @@ use Rattle.std.specs.FinMap as map
 use Rattle.std.specs.FinSet as set
 use Rattle.boot_machine.specs.Counts.{Counts}
 use Rattle.boot_machine.specs.Disk.{State}
-use Rattle.boot_tools.specs.declared.host.Faults.{Faults}
+use Rattle.host_machine.specs.declared.host.Faults.{Faults}
 
 abbrev pub counts_of : Faults → Counts
 counts_of faults = record { disk_faults = faults.disk; pipe_faults = faults.pipe }

@@ -1,0 +1,14 @@
+//! The machine on a real folder and the standard streams: the program's trusted edge.
+//!
+//! It tells nothing of what it holds, since no contract can say what a file system does. It is proved safe,
+//! and to count each failure once; what its calls do is shown by tests.
+#![tactic(auto)]
+
+mod host;
+mod named;
+mod system;
+
+pub use host::HostMachine;
+
+#[cfg(test)]
+mod tests;
