@@ -1,4 +1,4 @@
-mod Asking
-mod KernelValue
-mod Pieces
-mod Printing
+mod Acknowledging
+mod BehindSync
+mod Running
+mod Stepping

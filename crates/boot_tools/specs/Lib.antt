@@ -1,5 +1,7 @@
+pub mod Asked
 pub mod Endings
-pub mod Measured
-pub mod Replies
-pub mod Runs
-pub mod Words
+pub mod History
+pub mod Lines
+pub mod RunBy
+pub mod RunsTo
+pub mod Step

@@ -1,15 +1,15 @@
 //! How a run comes to its end.
 ghost use Rattle.std.specs.Prelude.{◌≡◌};
-ghost use Rattle.boot_tools.specs.Endings.{status_of};
+ghost use Rattle.boot_tools.specs.Endings.{ended_by, status_of};
 
-use crate::reply::{Outcome, Stop};
+use boot_commands::Stop;
 
 /// The end of a run.
 #[derive(Clone, Copy, Debug, PartialEq, Eq)]
 pub enum Ended {
-    /// All was done, and the whole reply is printed.
+    /// All was done, and no reply is a refusal.
     Done,
-    /// The command was refused, and the whole refusal is printed.
+    /// All was done, and some reply is a refusal.
     Refused,
     /// The words are no command, and the whole usage line is printed.
     Usage,
@@ -23,8 +23,8 @@ pub enum Ended {
 
 impl Ended {
     /// The status that the program ends with, from 0 to 5.
-    pub fn status(&self) -> u8
-        ensures { result ≡ status_of self.now }
+    pub fn status(self) -> u8
+        ensures { result ≡ status_of self }
     {
         match self {
             Ended::Done => 0,
@@ -35,18 +35,14 @@ impl Ended {
             Ended::Memory => 5,
         }
     }
-}
 
-impl From<Result<Outcome, Stop>> for Ended {
-    ghost use Rattle.std.specs.Prelude.{◌≡◌};
-    ghost use Rattle.boot_tools.specs.Endings.{end_of};
-
-    ghost from_gives = { λ answer ended. ended ≡ end_of answer };
-
-    fn from(answer: Result<Outcome, Stop>) -> Ended {
-        match answer {
-            Ok(Outcome::Done) => Ended::Done,
-            Ok(Outcome::Refused) => Ended::Refused,
+    /// The end of a run whose lines came to this: whether some reply is a refusal, or what stopped them.
+    pub fn of_lines(lines: Result<bool, Stop>) -> Ended
+        ensures { result ≡ ended_by lines }
+    {
+        match lines {
+            Ok(false) => Ended::Done,
+            Ok(true) => Ended::Refused,
             Err(Stop::Disk) => Ended::Disk,
             Err(Stop::Pipe) => Ended::Pipe,
             Err(Stop::Memory) => Ended::Memory,

@@ -5,12 +5,12 @@
 //! that the program starts in and its standard streams.
 #![tactic(auto)]
 
-mod calculate;
 mod ended;
-mod measure;
-mod reply;
+mod input;
+mod line;
+mod lines;
+mod script;
 mod top;
-mod words;
 
 use ended::Ended;
 use host_machine::HostMachine;

@@ -1,0 +1,51 @@
+-- What each command comes to on a view: the first refusal that holds, in the order of its row, or what it does.
+use Rattle.std.specs.Prelude.{ℕ, List}
+use Rattle.boot_base.specs.declared.refusal.Refusal.TheVariants as refusals
+use Rattle.boot_machine.specs.Disk.{Files}
+use Rattle.tool_words.specs.declared.command.Command.{Command}
+use Rattle.tool_words.specs.declared.command.Command.TheVariants as command
+use Rattle.boot_commands.specs.Answers.{Answer, refusal}
+use Rattle.boot_commands.specs.Deeds.{Deed, made}
+use Rattle.boot_commands.specs.Refusing.{unless_refused}
+use Rattle.boot_commands.specs.Calculating.{kernel_path, calculate_answer}
+use Rattle.boot_commands.specs.Unlinking.{entry_path, unlink_answer}
+use Rattle.boot_commands.specs.Folders.{folders_of}
+use Rattle.boot_commands.specs.Tidying.{tidy_answer, IsTidied}
+
+abbrev pub not_built : Files → Answer
+not_built view = refusal view refusals.NotBuilt
+
+abbrev pub answer_of : Files → Command → Answer
+answer_of view (command.Build words) = not_built view
+answer_of view (command.Calculate words) = unless_refused view (kernel_path words) (calculate_answer view)
+answer_of view (command.Inspect file) = not_built view
+answer_of view (command.Image file banks phases) = not_built view
+answer_of view (command.Identify file) = not_built view
+answer_of view (command.List esp) = not_built view
+answer_of view (command.Tidy esp) = unless_refused view (folders_of esp) (tidy_answer view)
+answer_of view (command.Boot esp) = not_built view
+answer_of view (command.Unlink name esp) = unless_refused view (entry_path name esp) (unlink_answer view)
+answer_of view (command.Install file name tries esp) = not_built view
+answer_of view (command.Bless verb path esp) = not_built view
+answer_of view command.Script = not_built view
+answer_of view (command.Demo seed count) = not_built view
+
+-- what a command does to the machine that shows this view
+abbrev pub deed_of : Files → Command → Deed
+deed_of view c = made (answer_of view c)
+
+-- what of the files a command leaves that the view doesn't show: after a tidying no temporary file is in its folders
+abbrev pub Tidied : Command → Files → Type 0
+Tidied (command.Build words) files = Unit {0}
+Tidied (command.Calculate words) files = Unit {0}
+Tidied (command.Inspect file) files = Unit {0}
+Tidied (command.Image file banks phases) files = Unit {0}
+Tidied (command.Identify file) files = Unit {0}
+Tidied (command.List esp) files = Unit {0}
+Tidied (command.Tidy esp) files = IsTidied esp files
+Tidied (command.Boot esp) files = Unit {0}
+Tidied (command.Unlink name esp) files = Unit {0}
+Tidied (command.Install file name tries esp) files = Unit {0}
+Tidied (command.Bless verb path esp) files = Unit {0}
+Tidied command.Script files = Unit {0}
+Tidied (command.Demo seed count) files = Unit {0}

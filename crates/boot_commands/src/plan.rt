@@ -1,0 +1,25 @@
+//! What a command is going to do, and say.
+
+use crate::outcome::Outcome;
+use boot_base::{BootPath, Bytes, TempPath};
+
+/// What a command changes.
+#[derive(Debug, Drop)]
+pub enum Change {
+    /// Nothing.
+    Nothing,
+    /// The boot file at `path` goes. `gone` is the line of the refusal that is printed instead where a
+    /// machine has no such file any more, though it has told of one.
+    Remove { path: BootPath, gone: Bytes },
+    /// These temporary files go.
+    Leftovers(Vec<TempPath>),
+}
+
+/// What a command is going to do, with all its texts and paths made.
+#[derive(Debug, Drop)]
+pub struct Plan {
+    pub change: Change,
+    pub outcome: Outcome,
+    /// The whole reply.
+    pub text: Bytes,
+}

@@ -1,0 +1,75 @@
+//! One command, from its reads to the end of its reply.
+ghost use Rattle.std.specs.Prelude.{◌≡◌, IfOk, OnOk, IsTrue};
+ghost use Rattle.boot_machine.specs.Disk.{Files, IsRested};
+ghost use Rattle.boot_machine.specs.Images.{IsFirm};
+ghost use Rattle.boot_machine.specs.Sent.{seen};
+ghost use Rattle.boot_commands.specs.Commands.{Tidied, answer_of, deed_of};
+ghost use Rattle.boot_commands.specs.Performs.{CountsStop, LeavesNoTemp, Performs, Reads, Syncs, end_of};
+ghost use Rattle.boot_commands.specs.Plans.{Drops, IsMakeable, Plans};
+
+use crate::calculate::plan_calculate;
+use crate::outcome::{Outcome, Stop};
+use crate::performing::perform;
+use crate::plan::Plan;
+use crate::refused::refused;
+use crate::tidy::plan_tidy;
+use crate::unlink::plan_unlink;
+use boot_base::Refusal;
+use boot_machine::Machine;
+use std::alloc::Global;
+use tool_words::Command;
+
+/// What a command is going to do and to say, made by reads alone.
+fn plan_of<M: Machine>(alloc: Global, command: &Command, machine: &mut M) -> Result<Plan, Stop>
+    ensures plans { IfOk result (λ plan. IsTrue M.tells → Plans (M.state machine.old) plan (answer_of (seen (M.state machine.old)) command.now)) }
+    ensures makeable { IfOk result (λ plan. IsMakeable plan.change) }
+    ensures tidies { IfOk result (λ plan. IsTrue M.tells → (files : Files) → Drops plan.change (M.state machine.old).files files → Tidied command.now files) }
+    ensures reads { IsTrue M.tells → Reads M.clock M.since M.state machine.old machine.new }
+    ensures counts { CountsStop result (M.counts machine.old) (M.counts machine.new) }
+{
+    match command {
+        Command::Calculate(words) => plan_calculate(alloc, words, machine),
+        Command::Unlink { name, esp } => plan_unlink(alloc, name.as_str(), esp.as_str(), machine),
+        Command::Tidy { esp } => plan_tidy(alloc, esp.as_str(), machine),
+        Command::Build(_)
+        | Command::Inspect { .. }
+        | Command::Image { .. }
+        | Command::Identify { .. }
+        | Command::List { .. }
+        | Command::Boot { .. }
+        | Command::Install { .. }
+        | Command::Bless { .. }
+        | Command::Script
+        | Command::Demo { .. } => Ok(refused(alloc, &Refusal::NotBuilt)?),
+    }
+}
+
+/// One command: its reads, its change and its reply, which goes to Out, or to Err where it is a refusal.
+/// A command that isn't built is refused.
+///
+/// On a machine on which no file that boot sees waits for a sync, a stop at any moment shows the boot files
+/// before the command or after it, and none of the reply is printed before the change can't be undone.
+///
+/// # Errors
+///
+/// `Disk` and `Pipe` only where the machine's own count of such faults rose; `Memory` only before anything
+/// is changed or printed.
+pub fn plain_step<M: Machine>(
+    alloc: Global,
+    command: &Command,
+    machine: &mut M,
+) -> Result<Outcome, Stop>
+    requires rested { IsTrue M.tells → IsRested (M.state machine.old) }
+    ensures performs { IsTrue M.tells → IsFirm (M.state machine.old) → Performs M.clock M.since M.state end_of machine.old machine.new
+        (deed_of (seen (M.state machine.old)) command.now) result }
+    // Once the names are synced, what a stop leaves began with the files as they were.
+    ensures syncs { IsTrue M.tells → IsFirm (M.state machine.old) → Syncs M.clock M.since M.state machine.old machine.new
+        (deed_of (seen (M.state machine.old)) command.now) result }
+    ensures tidies { OnOk result (IsTrue M.tells → Tidied command.now (M.state machine.new).files) }
+    ensures input { IsTrue M.tells → (M.state machine.new).input ≡ (M.state machine.old).input }
+    ensures temps { IsTrue M.tells → LeavesNoTemp result (M.state machine.old) (M.state machine.new) }
+    ensures counts { CountsStop result (M.counts machine.old) (M.counts machine.new) }
+{
+    let plan = plan_of(alloc, command, machine)?;
+    Ok(perform(&plan, machine)?)
+}

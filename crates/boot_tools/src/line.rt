@@ -1,0 +1,16 @@
+//! What a run does, one after the other.
+
+use tool_words::Command;
+
+/// A line of a run.
+#[derive(Debug, Drop)]
+pub enum Line {
+    /// A command on its own.
+    Plain(Command),
+    /// A command of a script, on its line of that number, counted from 1.
+    Numbered(u64, Command),
+    /// The script's line of that number, which is no command.
+    Unread(u64),
+    /// A script that is too long, which is refused whole.
+    TooLong,
+}
