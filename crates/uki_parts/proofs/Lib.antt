@@ -1,1 +1,7 @@
+mod Adding
+mod Entries
+mod Joined
+mod Kept
+mod Ordered
+mod Padded
 mod Padding
