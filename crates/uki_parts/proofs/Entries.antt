@@ -1,12 +1,11 @@
 -- The entries of SBAT metadata, as its first line is cut off, and as they are written.
-use Rattle.std.proofs.Common.{◌≡◌, ℕ, ◌+◌, ◌<◌, ◌≤◌, ◌⊎◌, inl, inr, Bool, true, false, cond, List, [], ◌∷◌, ◌++◌, length, filter, take, drop, nat_eq, nat_lt, codes, refl, sym, ◌∙◌, ap, subst, arith, append_assoc, length-append}
+use Rattle.std.proofs.Common.{◌≡◌, ℕ, ◌<◌, ◌≤◌, inl, inr, Bool, cond, List, [], ◌∷◌, ◌++◌, length, nat_eq, codes, refl, sym, ◌∙◌, ap, subst, arith, append_assoc, length-append}
 use Rattle.std.specs.Prelude.{◌==◌}
-use Rattle.std.specs.List.{All, slice_split, flat_map, before_first, after_first, starts_with, position_or_len}
-use Rattle.std.proofs.lemmas.Bool.Decides.{nat_tests}
+use Rattle.std.specs.List.{slice_split, before_first, after_first, starts_with, position_or_len}
 use Rattle.std.proofs.lemmas.Grind.{common_steps, flat_map-append}
-use Rattle.std.proofs.lemmas.List.Sums.{fails_before_first, prefix_len-le-length}
+use Rattle.std.proofs.lemmas.List.Sums.{fails_before_first}
 use Rattle.std.proofs.lemmas.List.Splits.{slice_split_first, slice_split_none}
-use Rattle.uki_parts.specs.Texts.{has_bytes}
+use Rattle.uki_parts.proofs.Cases.{lt_or_le}
 use Rattle.uki_parts.specs.Sbat.{is_newline, entries_of, sbat_entries, kept_lines, lines_text, merged_sbat, with_first_line, sbat_text}
 
 -- the entries by the first line and what is behind it
@@ -27,13 +26,6 @@ cut_none text none =
     ap entries_of (no_newline text none)
     ∙ ap (λ rest. entries_cut text rest) (sym empty)
     ∙ ap (λ first. entries_cut first (after_first is_newline text)) (sym whole)
-
-pub lt_or_le : (a b : ℕ) → (a < b) ⊎ (b ≤ a)
-lt_or_le a b =
-    elim (nat_lt a b) as (λ v. nat_lt a b ≡ v → (a < b) ⊎ (b ≤ a)) [
-      | true ↦ λ e. let below : a < b = grind (arith, nat_tests) in inl below
-      | false ↦ λ e. let above : b ≤ a = grind (arith, nat_tests) in inr above
-    ] refl
 
 pub entries_of-cut : (text : List ℕ) →
     entries_of (slice_split is_newline text) ≡ entries_cut (before_first is_newline text) (after_first is_newline text)

@@ -1,5 +1,5 @@
 -- The parts of one kind, as a part is added.
-use Rattle.std.proofs.Common.{◌≡◌, ℕ, ◌<◌, ◌≤◌, ◌⊎◌, inl, inr, Bool, true, false, cond, List, [], ◌∷◌, ◌++◌, filter, nat_le, nat_lt, refl, sym, ◌∙◌, ap, arith, append-nil}
+use Rattle.std.proofs.Common.{◌≡◌, ◌<◌, inl, inr, Bool, true, false, cond, List, [], ◌∷◌, ◌++◌, filter, refl, sym, ◌∙◌, ap, arith, append-nil}
 use Rattle.std.specs.Prelude.{◌==◌}
 use Rattle.std.proofs.lemmas.Bool.Decides.{nat_tests}
 use Rattle.std.proofs.lemmas.Grind.{common_steps}
@@ -8,7 +8,7 @@ use Rattle.uki_parts.specs.declared.kind.PartKind.{PartKind}
 use Rattle.uki_parts.specs.declared.part.Part.{Part}
 use Rattle.uki_parts.specs.Kinds.{append_place}
 use Rattle.std.proofs.Math.Nat.{eq-or-lt_of_le}
-use Rattle.uki_parts.proofs.Entries.{lt_or_le}
+use Rattle.uki_parts.proofs.Cases.{lt_or_le}
 use Rattle.uki_parts.specs.Parts.{part_place, is_up_to, is_after, with_part, parts_of_kind}
 
 -- where all that pass the one test pass the other, and where none does

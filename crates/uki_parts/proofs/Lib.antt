@@ -1,4 +1,5 @@
 mod Adding
+mod Cases
 mod Entries
 mod Joined
 mod Kept

@@ -1,11 +1,11 @@
 -- Joined initrds: what their pieces come to.
-use Rattle.std.proofs.Common.{◌≡◌, ℕ, ◌+◌, ◌-◌, ◌*◌, ◌%◌, ◌≤◌, ◌<◌, Bool, true, false, cond, List, [], ◌∷◌, ◌++◌, length, map, replicate, sum_by, Result, Ok, Err, IfOk, refl, sym, ◌∙◌, ap, arith, append-nil, zero-add, lit<, lit≤}
+use Rattle.std.proofs.Common.{◌≡◌, ℕ, ◌+◌, ◌-◌, ◌*◌, ◌%◌, ◌≤◌, ◌<◌, Bool, true, false, cond, List, [], ◌∷◌, ◌++◌, length, map, replicate, sum_by, refl, sym, ◌∙◌, ap, arith, append-nil, zero-add, lit<, lit≤}
 use Rattle.std.specs.Prelude.{◌==◌}
-use Rattle.std.specs.List.{All, flat_map}
+use Rattle.std.specs.List.{flat_map}
 use Rattle.std.specs.Int.{next_multiple_of}
 use Rattle.std.proofs.lemmas.Bool.Decides.{nat_tests}
 use Rattle.std.proofs.lemmas.Nat.{mod_below}
-use Rattle.std.proofs.lemmas.Grind.{common_steps, flat_map-append}
+use Rattle.std.proofs.lemmas.Grind.{flat_map-append}
 use Rattle.std.proofs.lemmas.List.Elements.{All-tail}
 use Rattle.std.proofs.lemmas.List.Sums.{sum_by-append, sum_by-cons}
 use Rattle.uki_parts.specs.declared.piece.Piece.{Piece}
@@ -93,7 +93,3 @@ pub bytes_of-joined : (files : Reading) (initrds : List Piece) → HasSizes file
 bytes_of-joined files [] sizes = refl
 bytes_of-joined files (only ∷ []) sizes = append-nil (piece_bytes files only)
 bytes_of-joined files (first ∷ second ∷ more) sizes = bytes_of-flat_map files (first ∷ second ∷ more) sizes
-
-pub if_ok : {T E : Type 0} (P Q : T → Type 0) → ((x : T) → P x → Q x) → (r : Result T E) → IfOk r P → IfOk r Q
-if_ok P Q f (Ok x) h = f x h
-if_ok P Q f (Err e) h = h

@@ -1,5 +1,5 @@
 -- Several initrds in one section (Linux, initramfs buffer format).
-use Rattle.std.specs.Prelude.{ℕ, ◌-◌, ◌%◌, ◌+◌, ◌==◌, List, [], ◌∷◌, ◌++◌, length, replicate, sum_by, if◌then◌else◌}
+use Rattle.std.specs.Prelude.{ℕ, ◌-◌, ◌%◌, ◌==◌, List, [], ◌∷◌, ◌++◌, length, replicate, sum_by, if◌then◌else◌}
 use Rattle.std.specs.List.{flat_map}
 use Rattle.std.specs.Int.{next_multiple_of}
 use Rattle.uki_parts.specs.declared.piece.Piece.{Piece}

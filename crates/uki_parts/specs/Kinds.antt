@@ -1,5 +1,5 @@
 -- The order in which parts are appended to an image.
-use Rattle.std.specs.Prelude.{ℕ, Bool, nat_eq}
+use Rattle.std.specs.Prelude.{ℕ}
 use Rattle.uki_parts.specs.declared.kind.PartKind.{PartKind}
 use Rattle.uki_parts.specs.declared.kind.PartKind.TheVariants as kinds
 

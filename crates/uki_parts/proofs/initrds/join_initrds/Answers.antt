@@ -2,7 +2,8 @@ use Rattle.std.proofs.Common.{◌≡◌, ◌≤◌, ◌+◌, ◌*◌, length, su
 use Rattle.std.specs.List.{flat_map}
 use Rattle.uki_parts.specs.Pieces.{piece_length, total_length}
 use Rattle.uki_parts.specs.Initrds.{padded_piece, joined_length}
-use Rattle.uki_parts.proofs.Padded.{joined_initrds-several, joined_initrds-one, total_length-joined, joined-bound, if_ok}
+use Rattle.uki_parts.proofs.Padded.{joined_initrds-several, joined_initrds-one, total_length-joined, joined-bound}
+use Rattle.uki_parts.proofs.Cases.{if_ok}
 use Rattle.uki_parts.proofs.initrds.join_initrds.Goals as goal
 
 pub returns-then-len-le1-clause-length : goal.returns-then-len-le1-clause-length

@@ -1,5 +1,5 @@
-use Rattle.std.proofs.Common.{◌≡◌, ◌++◌, true, false, cond, [], ap, sym, ◌∙◌, append-nil}
-use Rattle.uki_parts.specs.Sbat.{kept_lines, lines_text}
+use Rattle.std.proofs.Common.{◌++◌, true, false, ap, sym, ◌∙◌, append-nil}
+use Rattle.uki_parts.specs.Sbat.{lines_text}
 use Rattle.uki_parts.proofs.Entries.{sbat_entries-cut}
 use Rattle.uki_parts.proofs.sbat.append_entries.Goals as goal
 

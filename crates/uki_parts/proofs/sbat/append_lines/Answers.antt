@@ -1,4 +1,4 @@
-use Rattle.std.proofs.Common.{◌≡◌, ◌++◌, filter, ap, ◌∙◌, rules}
+use Rattle.std.proofs.Common.{◌++◌, filter, ap, ◌∙◌, rules}
 use Rattle.std.proofs.lemmas.Iterator.Consumers.{YieldsList-end}
 use Rattle.std.proofs.lemmas.Iterator.Splits.{YieldsList-from_slice_split}
 use Rattle.uki_parts.specs.Sbat.{is_newline, lines_text}

@@ -1,7 +1,7 @@
-use Rattle.std.proofs.Common.{◌≡◌, ap, sym, ◌∙◌, rules}
+use Rattle.std.proofs.Common.{◌≡◌, ap, ◌∙◌, rules}
 use Rattle.uki_parts.specs.Sbat.{with_first_line, merged_sbat}
 use Rattle.uki_parts.proofs.Entries.{all_lines, merged_none, merged_some}
-use Rattle.uki_parts.proofs.Padded.{if_ok}
+use Rattle.uki_parts.proofs.Cases.{if_ok}
 use Rattle.uki_parts.proofs.sbat.merge_sbat.Goals as goal
 
 pub returns-then-is_empty : goal.returns-then-is_empty
