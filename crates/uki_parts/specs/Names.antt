@@ -1,0 +1,45 @@
+-- The names of the sections of an image (Microsoft PE/COFF; the fixed names by the UAPI Unified Kernel Image specification).
+use Rattle.std.specs.Prelude.{ℕ, ◌==◌, ◌-◌, Bool, not, ◌&&◌, List, ◌++◌, length, replicate, nat_le, bytes_eq, codes, Option, Some, None, if◌then◌else◌}
+use Rattle.std.specs.List.{list_all}
+use Rattle.pe_reader.specs.Loaded.{short_name}
+use Rattle.uki_parts.specs.declared.kind.PartKind.{PartKind}
+use Rattle.uki_parts.specs.declared.kind.PartKind.TheVariants as kinds
+use Rattle.uki_parts.specs.declared.name.SectionName.{SectionName}
+
+-- the eight bytes of a section header that hold the name
+abbrev pub padded_bytes : SectionName → List ℕ
+padded_bytes name = name.padded
+
+-- the name itself: the bytes before the first NUL
+abbrev pub name_bytes : SectionName → List ℕ
+name_bytes name = short_name (padded_bytes name)
+
+-- the name with at most eight bytes, filled up with NUL
+abbrev pub named : List ℕ → SectionName
+named bytes = record { padded = bytes ++ replicate (8 - length bytes) 0 }
+
+-- a byte that a name may hold: printable ASCII but a space and `:`
+abbrev pub is_name_byte : ℕ → Bool
+is_name_byte byte = nat_le 0x21 byte && nat_le byte 0x7E && not (byte == 58)
+
+-- a name that a user may give: 1 to 8 such bytes, and not `.sbat`, whose part is merged from several sources
+abbrev pub is_section_name : List ℕ → Bool
+is_section_name text =
+    nat_le 1 (length text) && nat_le (length text) 8 && list_all is_name_byte text && not (bytes_eq text (codes ".sbat"))
+
+-- the name that a text is, where it is one
+abbrev pub read_name : List ℕ → Option SectionName
+read_name text = if is_section_name text then Some (named text) else None
+
+-- the name that all parts of a kind have, where they have one
+abbrev pub fixed_name : PartKind → Option SectionName
+fixed_name kinds.Osrel = Some (named (codes ".osrel"))
+fixed_name kinds.Cmdline = Some (named (codes ".cmdline"))
+fixed_name kinds.Dtb = Some (named (codes ".dtb"))
+fixed_name kinds.Uname = Some (named (codes ".uname"))
+fixed_name kinds.Splash = Some (named (codes ".splash"))
+fixed_name kinds.Pcrpkey = Some (named (codes ".pcrpkey"))
+fixed_name kinds.Initrd = Some (named (codes ".initrd"))
+fixed_name kinds.Extra = None
+fixed_name kinds.Sbat = Some (named (codes ".sbat"))
+fixed_name kinds.Linux = Some (named (codes ".linux"))
