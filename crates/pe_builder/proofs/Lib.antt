@@ -1,0 +1,16 @@
+pub mod Appending
+pub mod Finished
+pub mod Grown
+pub mod HeaderBytes
+pub mod Kept
+pub mod Pieces
+pub mod Placing
+pub mod PlannedIs
+pub mod Putting
+pub mod ReplacedLoads
+pub mod Replacing
+pub mod Rewriting
+pub mod Rounding
+pub mod Taking
+pub mod Totals
+pub mod Units

@@ -1,0 +1,24 @@
+-- What holds of every finished image.
+use Rattle.std.specs.Prelude.{◌≡◌, ℕ, List, length, map, option_map, Option, Some, None, Ok}
+use Rattle.std.specs.List.{AllByRecursion}
+use Rattle.pe_reader.specs.Grammar.{Headers, pe_of}
+use Rattle.pe_builder.specs.declared.size.WideSize.{WideSize}
+use Rattle.pe_builder.specs.Layout.{FitsPart}
+use Rattle.pe_builder.specs.Replaced.{MayReplace}
+use Rattle.pe_builder.specs.Refusals.{first_refusal}
+use Rattle.pe_builder.specs.Image.{finished, finished_headers}
+
+-- There is a finished image: the stub reads with these headers, nothing is refused, and the contents have the parts'
+-- lengths.
+pub record HasFinished (h : Headers) (sizes : List WideSize) (contents : List (List ℕ)) (sbat : Option (List ℕ)) (stub : List ℕ) : Type 0 where
+  pub reads : pe_of stub ≡ Ok h
+  pub fit : AllByRecursion FitsPart sizes
+  pub may_replace : MayReplace h (option_map length sbat)
+  pub not_refused : first_refusal h (length stub) sizes (option_map length sbat) ≡ None
+  pub lengths : map length contents ≡ map (λ p. p.length) sizes
+
+-- The finished image is again a PE32+ file, with the stub's sections and the new ones.
+abbrev pub ImageReads : Type 0
+ImageReads = (h : Headers) (sizes : List WideSize) (contents : List (List ℕ)) (sbat : Option (List ℕ)) (stub : List ℕ) →
+    HasFinished h sizes contents sbat stub →
+    pe_of (finished h sizes contents sbat stub) ≡ Ok (finished_headers h (length stub) sizes (option_map length sbat))

@@ -1,0 +1,7 @@
+pub mod Image
+pub mod Laws
+pub mod Layout
+pub mod Planned
+pub mod Puts
+pub mod Refusals
+pub mod Replaced
