@@ -174,7 +174,7 @@ writes place size table n count initialized image z hs stub tail r small_count s
     }
 
 -- what the parts' sizes say of the new sections
-small_of : (stub : List ℕ) (h : Headers) (parts : List WideSize) → HasImage h (length stub) parts
+pub small_of : (stub : List ℕ) (h : Headers) (parts : List WideSize) → HasImage h (length stub) parts
     → Small h.head (length stub) (end_after h.head.header_size h.sections) parts (length_after h.head (length stub) parts)
 small_of stub h parts has =
     let new = new_sections h (length stub) parts in

@@ -1,4 +1,5 @@
 pub mod Appending
+pub mod ByPlace
 pub mod Finished
 pub mod Grown
 pub mod HeaderBytes

@@ -1,12 +1,13 @@
 -- What holds of every finished image.
-use Rattle.std.specs.Prelude.{◌≡◌, ℕ, List, length, map, option_map, Option, Some, None, Ok}
+use Rattle.std.specs.Prelude.{◌≡◌, ℕ, List, length, map, get_or, option_map, Option, Some, None, Ok}
 use Rattle.std.specs.List.{AllByRecursion}
 use Rattle.pe_reader.specs.Grammar.{Headers, pe_of}
 use Rattle.pe_builder.specs.declared.size.WideSize.{WideSize}
-use Rattle.pe_builder.specs.Layout.{FitsPart}
+use Rattle.pe_builder.specs.Layout.{FitsPart, length_after}
 use Rattle.pe_builder.specs.Replaced.{MayReplace}
 use Rattle.pe_builder.specs.Refusals.{first_refusal}
 use Rattle.pe_builder.specs.Image.{finished, finished_headers}
+use Rattle.pe_builder.specs.Bytes.{finished_byte}
 
 -- There is a finished image: the stub reads with these headers, nothing is refused, and the contents have the parts'
 -- lengths.
@@ -22,3 +23,13 @@ abbrev pub ImageReads : Type 0
 ImageReads = (h : Headers) (sizes : List WideSize) (contents : List (List ℕ)) (sbat : Option (List ℕ)) (stub : List ℕ) →
     HasFinished h sizes contents sbat stub →
     pe_of (finished h sizes contents sbat stub) ≡ Ok (finished_headers h (length stub) sizes (option_map length sbat))
+
+-- The finished image, place by place.
+pub record IsByPlace (h : Headers) (sizes : List WideSize) (contents : List (List ℕ)) (sbat : Option (List ℕ)) (stub : List ℕ) : Type 0 where
+  pub length_is : length (finished h sizes contents sbat stub) ≡ length_after h.head (length stub) sizes
+  pub byte_is : (k : ℕ) → get_or (finished h sizes contents sbat stub) k 0 ≡ finished_byte h sizes contents sbat stub k
+
+-- The finished image has the stated length, and the stated byte at each place.
+abbrev pub ImageByPlace : Type 0
+ImageByPlace = (h : Headers) (sizes : List WideSize) (contents : List (List ℕ)) (sbat : Option (List ℕ)) (stub : List ℕ) →
+    HasFinished h sizes contents sbat stub → IsByPlace h sizes contents sbat stub

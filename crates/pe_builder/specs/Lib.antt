@@ -1,3 +1,4 @@
+pub mod Bytes
 pub mod Image
 pub mod Laws
 pub mod Layout
