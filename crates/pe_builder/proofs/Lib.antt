@@ -1,4 +1,5 @@
 pub mod Appending
+pub mod ByName
 pub mod ByPlace
 pub mod Finished
 pub mod Grown

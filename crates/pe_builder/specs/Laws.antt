@@ -1,12 +1,14 @@
 -- What holds of every finished image.
-use Rattle.std.specs.Prelude.{◌≡◌, ℕ, List, length, map, get_or, option_map, Option, Some, None, Ok}
-use Rattle.std.specs.List.{AllByRecursion}
+use Rattle.std.specs.Prelude.{◌≡◌, ℕ, List, length, map, get_or, option_map, Option, Some, None, Ok, if◌then◌else◌}
+use Rattle.std.specs.List.{find, AllByRecursion}
+use Rattle.std.specs.Str.{bytes_eq}
 use Rattle.pe_reader.specs.Grammar.{Headers, pe_of}
+use Rattle.pe_reader.specs.Loaded.{is_named, loaded}
 use Rattle.pe_builder.specs.declared.size.WideSize.{WideSize}
 use Rattle.pe_builder.specs.Layout.{FitsPart, length_after}
-use Rattle.pe_builder.specs.Replaced.{MayReplace}
+use Rattle.pe_builder.specs.Replaced.{sbat_name, MayReplace}
 use Rattle.pe_builder.specs.Refusals.{first_refusal}
-use Rattle.pe_builder.specs.Image.{finished, finished_headers}
+use Rattle.pe_builder.specs.Image.{content_named, loaded_or_part, finished, finished_headers}
 use Rattle.pe_builder.specs.Bytes.{finished_byte}
 
 -- There is a finished image: the stub reads with these headers, nothing is refused, and the contents have the parts'
@@ -33,3 +35,16 @@ pub record IsByPlace (h : Headers) (sizes : List WideSize) (contents : List (Lis
 abbrev pub ImageByPlace : Type 0
 ImageByPlace = (h : Headers) (sizes : List WideSize) (contents : List (List ℕ)) (sbat : Option (List ℕ)) (stub : List ℕ) →
     HasFinished h sizes contents sbat stub → IsByPlace h sizes contents sbat stub
+
+-- What the finished image has loaded of a name: the new `.sbat` of that name, else what the stub has by its first
+-- section of that name, else the first part of that name, and nothing where there is none.
+abbrev pub finished_loaded : Headers → List WideSize → List (List ℕ) → Option (List ℕ) → List ℕ → List ℕ → List ℕ
+finished_loaded h sizes contents None stub name =
+    loaded_or_part stub (find (is_named name) h.sections) (content_named name sizes contents)
+finished_loaded h sizes contents (Some sbat) stub name =
+    if bytes_eq sbat_name name then sbat else loaded_or_part stub (find (is_named name) h.sections) (content_named name sizes contents)
+
+abbrev pub ImageLoads : Type 0
+ImageLoads = (h : Headers) (sizes : List WideSize) (contents : List (List ℕ)) (sbat : Option (List ℕ)) (stub : List ℕ) →
+    HasFinished h sizes contents sbat stub → (name : List ℕ) →
+    loaded (finished h sizes contents sbat stub) name ≡ finished_loaded h sizes contents sbat stub name

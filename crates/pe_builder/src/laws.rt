@@ -1,6 +1,6 @@
 //! What holds of every finished image.
 
-ghost use Rattle.pe_builder.specs.Laws.{ImageReads, ImageByPlace};
+ghost use Rattle.pe_builder.specs.Laws.{ImageReads, ImageByPlace, ImageLoads};
 
 /// The finished image is again a PE32+ file, with the stub's sections and the new ones.
 pub fn image_reads()
@@ -11,4 +11,10 @@ pub fn image_reads()
 /// stub or of a part, or zero where none of them stands.
 pub fn image_by_place()
     ensures { ImageByPlace }
+{}
+
+/// The finished image has loaded of each name the new `.sbat` of that name, else what the stub has, else the first part
+/// of that name.
+pub fn image_loads()
+    ensures { ImageLoads }
 {}
