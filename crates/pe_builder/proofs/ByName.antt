@@ -1,28 +1,27 @@
 -- What the finished image has loaded, by name.
-use Rattle.std.proofs.Common.{◌≡◌, ◌≢◌, ◌<◌, ◌≤◌, ◌⊎◌, inl, inr, ℕ, Bool, true, false, List, [], ◌∷◌, length, set, get_or, position, map, Ok, refl, sym, ap, subst, ◌∙◌, arith}
-use Rattle.std.specs.Prelude.{Option, Some, None, option_map, unwrap_or, not, if◌then◌else◌}
-use Rattle.std.specs.List.{find, position_or_len, slice_get}
+use Rattle.std.proofs.Common.{◌≡◌, ◌≢◌, ◌<◌, ◌⊎◌, inl, inr, ℕ, Bool, true, false, List, length, set, position, Ok, refl, sym, ap, subst, ◌∙◌, arith}
+use Rattle.std.specs.Prelude.{Option, Some, None, unwrap_or, not, if◌then◌else◌}
+use Rattle.std.specs.List.{find, position_or_len}
 use Rattle.std.specs.Str.{bytes_eq}
 use Rattle.std.proofs.lemmas.Bool.{cases_lt, cases_Bool, false≢true}
 use Rattle.std.proofs.lemmas.Bool.Decides.{nat_tests}
 use Rattle.std.proofs.lemmas.Option.{slice_get_past, slice_get-get_or}
-use Rattle.std.proofs.lemmas.List.{get_or-set_same}
 use Rattle.std.proofs.lemmas.List.Folds.{find_at, find-set, find_past}
 use Rattle.std.proofs.lemmas.List.Sums.{passes_at_first, prefix_len-le-length}
 use Rattle.std.proofs.lemmas.Slice.Eq.{bytes_eq-Decides}
 use Rattle.pe_reader.specs.declared.section.Section.{Section}
 use Rattle.pe_reader.specs.Grammar.{Headers, pe_of}
-use Rattle.pe_reader.specs.Loaded.{short_name, is_named, section_at_index, no_section, loaded, loaded_by}
+use Rattle.pe_reader.specs.Loaded.{short_name, is_named, section_at_index, no_section, loaded}
 use Rattle.pe_reader.proofs.Shape.{stages-shape, pe_of-stages}
+use Rattle.pe_builder.proofs.Fits.{FitsSection, HasImage}
 use Rattle.pe_builder.specs.declared.size.WideSize.{WideSize}
-use Rattle.pe_builder.specs.Layout.{HasImage}
-use Rattle.pe_builder.specs.Replaced.{sbat_name, sbat_index, resized, with_sbat_size, with_content, FitsSection}
+use Rattle.pe_builder.specs.Replaced.{sbat_name, sbat_index, resized, with_sbat_size, with_content}
 use Rattle.pe_builder.specs.Image.{content_named, loaded_or_part, finished}
 use Rattle.pe_builder.specs.Laws.{HasFinished, finished_loaded}
 use Rattle.pe_builder.proofs.Replacing.{pe_of-with_content}
 use Rattle.pe_builder.proofs.ReplacedLoads.{loaded_by-replaced, loaded_by-others}
 use Rattle.pe_builder.proofs.PlannedIs.{stands, length-with_content}
-use Rattle.pe_builder.proofs.Totals.{sbat_none, fits_sbat}
+use Rattle.pe_builder.proofs.Totals.{buildable_sbat}
 use Rattle.pe_builder.proofs.Finished.{has_finished, fits_section}
 use Rattle.pe_builder.proofs.Kept.{loaded-image}
 
@@ -106,7 +105,7 @@ loaded-finished h sizes contents (Some sbat) stub f name =
     let fits = fits_section h sizes contents sbat stub f in
     let changed = with_sbat_size h (Some (length sbat)) in
     let new_stub = with_content h (sbat_index h) sbat stub in
-    let sbat_fits = fits_sbat h (Some (length sbat)) f.may_replace (sbat_none h (length stub) sizes (Some (length sbat)) f.not_refused) in
+    let sbat_fits = buildable_sbat h (length stub) sizes (Some (length sbat)) f.buildable in
     let len = length-with_content h sbat stub (stands h stub (length sbat) (stages-shape stub h (pe_of-stages stub h f.reads)) sbat_fits) in
     let H : ℕ → Type 0 = λ k. HasImage changed k sizes in
     loaded-image new_stub changed sizes contents name (pe_of-with_content stub sbat h (sbat_index h) f.reads fits) (subst H (sym len) (has_finished h sizes contents (Some sbat) stub f)) f.lengths

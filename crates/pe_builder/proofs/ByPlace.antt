@@ -1,33 +1,31 @@
 -- The finished image, place by place.
-use Rattle.std.proofs.Common.{◌≡◌, ◌<◌, ◌≤◌, ◌+◌, ◌-◌, ◌*◌, ◌%◌, ◌⊎◌, inl, inr, ℕ, zero, suc, Bool, true, false, nat_le, nat_lt, List, [], ◌∷◌, ◌++◌, length, take, drop, map, replicate, get_or, refl, sym, ap, subst, ◌∙◌, arith, length-append}
+use Rattle.std.proofs.Common.{◌≡◌, ◌<◌, ◌≤◌, ◌+◌, ◌-◌, ◌*◌, inl, inr, ℕ, true, false, nat_lt, List, [], ◌∷◌, ◌++◌, length, map, replicate, get_or, refl, sym, ap, subst, ◌∙◌, arith, length-append}
 use Rattle.std.specs.Prelude.{Option, Some, None, option_map, if◌then◌else◌}
 use Rattle.std.specs.Int.{next_multiple_of}
 use Rattle.std.specs.List.{AllByRecursion, flat_map}
 use Rattle.std.proofs.lemmas.Bool.{cases_lt}
 use Rattle.std.proofs.lemmas.Bool.Decides.{nat_tests}
 use Rattle.std.proofs.lemmas.List.{get_or_append_left, get_or-append_right, get_or-replicate, get_or_past, length-replicate}
-use Rattle.byteorder.specs.Endian.{little_bytes}
 use Rattle.pe_reader.specs.declared.head.Head.{Head}
 use Rattle.pe_reader.specs.declared.section.Section.{Section}
-use Rattle.pe_reader.specs.Grammar.{Headers, pe_of}
-use Rattle.pe_reader.specs.Loaded.{section_at_index}
+use Rattle.pe_reader.specs.Grammar.{Headers}
 use Rattle.pe_reader.proofs.Shape.{Shape, stages-shape, pe_of-stages}
+use Rattle.pe_builder.proofs.Fits.{FitsSbat, HasImage}
 use Rattle.pe_builder.specs.declared.size.WideSize.{WideSize}
 use Rattle.pe_builder.specs.Puts.{put, padded}
-use Rattle.pe_builder.specs.Layout.{end_of, raw_end, end_after, section_for, sections_for, length_after, new_sections, head_with, HasImage}
+use Rattle.pe_builder.specs.Layout.{end_of, raw_end, end_after, section_for, sections_for, length_after, new_sections, head_with}
 use Rattle.pe_builder.specs.Replaced.{sbat_index, with_sbat_size, with_content, with_sbat}
 use Rattle.pe_builder.specs.Refusals.{sbat_room}
 use Rattle.pe_builder.specs.Image.{section_header, with_headers, with_raw, finished}
-use Rattle.pe_builder.specs.Bytes.{Range, covers, byte_of, raw_data, rewritten_fields, rewritten_sbat, finished_byte}
+use Rattle.pe_builder.specs.Bytes.{Range, covers, byte_of, raw_data, rewritten_fields, rewritten_sbat}
 use Rattle.pe_builder.specs.Laws.{HasFinished, IsByPlace}
-use Rattle.pe_builder.specs.Planned.{FitsSbat}
 use Rattle.pe_builder.proofs.Appending.{with_raw-tail, length-with_raw, length-headers}
 use Rattle.pe_builder.proofs.Putting.{length-put}
 use Rattle.pe_builder.proofs.Pieces.{get_or-put_inside, get_or-put_before, get_or-put_behind}
 use Rattle.pe_builder.proofs.Rounding.{length-padded}
 use Rattle.pe_builder.proofs.Grown.{small_of}
-use Rattle.pe_builder.proofs.PlannedIs.{stands, length-with_content}
-use Rattle.pe_builder.proofs.Totals.{sbat_none, fits_sbat}
+use Rattle.pe_builder.proofs.PlannedIs.{stands}
+use Rattle.pe_builder.proofs.Totals.{buildable_sbat}
 use Rattle.pe_builder.proofs.Finished.{has_finished}
 
 -- where a range covers a place
@@ -234,7 +232,7 @@ by_place h sizes contents sbat stub f =
     let new = new_sections changed n sizes in
     let has = has_finished h sizes contents sbat stub f in
     let shape = stages-shape stub h (pe_of-stages stub h f.reads) in
-    let fits = fits_sbat h size f.may_replace (sbat_none h n sizes size f.not_refused) in
+    let fits = buildable_sbat h n sizes size f.buildable in
     let ranges = rewritten_fields h.head (head_with changed new) (flat_map section_header new) (rewritten_sbat h sbat) in
     let ok = fields_within stub h changed sizes (rewritten_sbat h sbat) shape refl has (sbat_within h sbat stub shape fits) in
     let same : finished h sizes contents sbat stub ≡ with_raw h.head.file_alignment (puts ranges stub) contents =

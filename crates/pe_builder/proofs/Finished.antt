@@ -1,20 +1,17 @@
 -- The finished image reads as PE.
-use Rattle.std.proofs.Common.{◌≡◌, ◌<◌, ◌≤◌, ◌+◌, ◌-◌, ◌*◌, ◌%◌, ◌^◌, ℕ, zero, suc, List, [], ◌∷◌, ◌++◌, length, take, drop, set, map, max, get_or, Ok, refl, sym, ap, subst, ◌∙◌, arith}
+use Rattle.std.proofs.Common.{◌≡◌, ◌<◌, ◌≤◌, ℕ, zero, suc, List, [], ◌∷◌, length, set, max, Ok, sym, ap, subst, ◌∙◌, arith}
 use Rattle.std.specs.Prelude.{Option, Some, None, option_map}
-use Rattle.std.specs.Int.{next_multiple_of}
 use Rattle.pe_reader.specs.declared.section.Section.{Section}
 use Rattle.pe_reader.specs.Grammar.{Headers, pe_of}
-use Rattle.pe_reader.specs.Loaded.{section_at_index, no_section}
-use Rattle.pe_reader.proofs.Shape.{Shape, stages-shape, pe_of-stages}
+use Rattle.pe_reader.proofs.Shape.{stages-shape, pe_of-stages}
+use Rattle.pe_builder.proofs.Fits.{FitsSection, HasImage}
 use Rattle.pe_builder.specs.declared.size.WideSize.{WideSize}
-use Rattle.pe_builder.specs.Layout.{end_of, end_after, head_with, headers_with, new_sections, HasImage}
-use Rattle.pe_builder.specs.Replaced.{sbat_index, resized, headers_resized, with_sbat_size, with_content, FitsSection}
-use Rattle.pe_builder.specs.Refusals.{sbat_room}
-use Rattle.pe_builder.specs.Planned.{FitsSbat}
-use Rattle.pe_builder.specs.Image.{image_of, finished, finished_headers}
+use Rattle.pe_builder.specs.Layout.{end_of, end_after, new_sections}
+use Rattle.pe_builder.specs.Replaced.{sbat_index, resized, with_sbat_size, with_content}
+use Rattle.pe_builder.specs.Image.{finished, finished_headers}
 use Rattle.pe_builder.specs.Laws.{HasFinished}
 use Rattle.pe_builder.proofs.Appending.{le-end_after, end_after-append, le-length_after}
-use Rattle.pe_builder.proofs.Totals.{has_image, size_none, sbat_none, fits_sbat}
+use Rattle.pe_builder.proofs.Totals.{buildable_image, buildable_sbat}
 use Rattle.pe_builder.proofs.Replacing.{pe_of-with_content}
 use Rattle.pe_builder.proofs.PlannedIs.{stands, length-with_content}
 use Rattle.pe_builder.proofs.Grown.{pe_of-image}
@@ -23,7 +20,7 @@ use Rattle.pe_builder.proofs.Grown.{pe_of-image}
 pub has_finished : (h : Headers) (sizes : List WideSize) (contents : List (List ℕ)) (sbat : Option (List ℕ)) (stub : List ℕ)
     → HasFinished h sizes contents sbat stub → HasImage (with_sbat_size h (option_map length sbat)) (length stub) sizes
 has_finished h sizes contents sbat stub f =
-    has_image (with_sbat_size h (option_map length sbat)) (length stub) sizes f.fit (size_none h (length stub) sizes (option_map length sbat) f.not_refused)
+    buildable_image h (length stub) sizes (option_map length sbat) f.buildable
 
 -- a section ends before the end of all
 end_before : (a : ℕ) (sections : List Section) (i : ℕ) (s : Section) → i < length sections → end_of s ≤ end_after a (set sections i s)
@@ -40,7 +37,7 @@ pub fits_section : (h : Headers) (sizes : List WideSize) (contents : List (List 
     → HasFinished h sizes contents (Some sbat) stub → FitsSection h (sbat_index h) sbat
 fits_section h sizes contents sbat stub f =
     let has = has_finished h sizes contents (Some sbat) stub f in
-    let fits = fits_sbat h (Some (length sbat)) f.may_replace (sbat_none h (length stub) sizes (Some (length sbat)) f.not_refused) in
+    let fits = buildable_sbat h (length stub) sizes (Some (length sbat)) f.buildable in
     let st = stands h stub (length sbat) (stages-shape stub h (pe_of-stages stub h f.reads)) fits in
     let changed = with_sbat_size h (Some (length sbat)) in
     let s = resized h (sbat_index h) (length sbat) in
@@ -69,7 +66,7 @@ pe_of-finished h sizes contents (Some sbat) stub f =
     let fits = fits_section h sizes contents sbat stub f in
     let changed = with_sbat_size h (Some (length sbat)) in
     let new_stub = with_content h (sbat_index h) sbat stub in
-    let sbat_fits = fits_sbat h (Some (length sbat)) f.may_replace (sbat_none h (length stub) sizes (Some (length sbat)) f.not_refused) in
+    let sbat_fits = buildable_sbat h (length stub) sizes (Some (length sbat)) f.buildable in
     let len = length-with_content h sbat stub (stands h stub (length sbat) (stages-shape stub h (pe_of-stages stub h f.reads)) sbat_fits) in
     let H : ℕ → Type 0 = λ k. HasImage changed k sizes in
     pe_of-image new_stub changed sizes contents (pe_of-with_content stub sbat h (sbat_index h) f.reads fits) (subst H (sym len) (has_finished h sizes contents (Some sbat) stub f)) f.lengths

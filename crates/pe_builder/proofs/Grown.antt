@@ -1,25 +1,24 @@
 -- The image reads as PE, with the sections of the stub and the new ones.
-use Rattle.std.proofs.Common.{◌≡◌, ◌<◌, ◌≤◌, ◌+◌, ◌-◌, ◌*◌, ◌^◌, ◌⊎◌, inl, inr, ℕ, Bool, true, List, [], ◌∷◌, ◌++◌, length, take, drop, map, max, Ok, Result, refl, sym, ap, subst, ◌∙◌, arith, length-append}
-use Rattle.std.specs.Int.{next_multiple_of}
-use Rattle.std.specs.List.{list_all, flat_map, sum_by}
+use Rattle.std.proofs.Common.{◌≡◌, ◌<◌, ◌≤◌, ◌+◌, ◌-◌, ◌*◌, ◌^◌, ◌⊎◌, inl, inr, ℕ, List, [], ◌++◌, length, take, drop, map, Ok, refl, sym, ap, subst, ◌∙◌, arith}
+use Rattle.std.specs.List.{flat_map}
 use Rattle.std.proofs.lemmas.List.{drop-append-le, take-append-le, length-drop, length-take-le}
 use Rattle.byteorder.specs.Endian.{little_bytes}
 use Rattle.pe_reader.specs.declared.head.Head.{Head}
 use Rattle.pe_reader.specs.declared.head.Coff.{Coff}
-use Rattle.pe_reader.specs.declared.section.Section.{Section}
 use Rattle.pe_reader.specs.Fields.{u16_at, u32_at, part}
 use Rattle.pe_reader.proofs.Places.{u32_at-part, u16_at-part, u32_at-append, u16_at-append}
-use Rattle.pe_reader.specs.Grammar.{Headers, pe_of, pe_place_of, coff_of, optional_of, sections_of, is_in_file}
+use Rattle.pe_reader.specs.Grammar.{Headers, pe_of, pe_place_of, sections_of}
 use Rattle.pe_reader.proofs.Checks.{pe_place_of-more, coff_of-more, optional_of-more, SameButSizes}
 use Rattle.pe_reader.proofs.Tables.{sections_of-more}
 use Rattle.pe_reader.proofs.Shape.{optional_of_is, Stages, Shape, pe_of-stages, pe_of-from_stages, stages-shape}
+use Rattle.pe_builder.proofs.Fits.{HasImage}
 use Rattle.pe_builder.specs.declared.size.WideSize.{WideSize}
 use Rattle.pe_builder.specs.Puts.{put}
 use Rattle.pe_builder.proofs.Putting.{length-put, u32_at-put, u16_at-put, u32_at-put_behind}
-use Rattle.pe_builder.specs.Layout.{end_after, sections_for, length_after, new_sections, head_with, headers_with, HasImage}
-use Rattle.pe_builder.specs.Image.{section_header, with_headers, with_raw, image_of}
+use Rattle.pe_builder.specs.Layout.{end_after, length_after, new_sections, head_with, headers_with}
+use Rattle.pe_builder.specs.Image.{section_header, with_headers, image_of}
 use Rattle.pe_builder.proofs.Rewriting.{part-put, part-put_end, u32_field, u16_field, u32_field_behind}
-use Rattle.pe_builder.proofs.Appending.{Small, with_raw-tail, length-with_raw, le-length_after, length-sections_for, end_after-append, le-end_after, sections_of-new, length-headers}
+use Rattle.pe_builder.proofs.Appending.{Small, with_raw-tail, length-with_raw, le-length_after, length-sections_for, end_after-append, sections_of-new, length-headers}
 
 -- five fields written over: where they stand, and that they lie one behind the other
 record Rewrite (place size table n : ℕ) (count initialized image checksum headers stub : List ℕ) : Type 0 where

@@ -1,8 +1,7 @@
 -- A section header reads as the section that it was written from.
-use Rattle.std.proofs.Common.{◌≡◌, ◌<◌, ◌≤◌, ◌+◌, ◌-◌, ◌*◌, ◌^◌, ℕ, List, [], ◌∷◌, ◌++◌, length, take, drop, replicate, refl, sym, ap, ◌∙◌, arith, length-append, append_assoc}
-use Rattle.std.proofs.lemmas.List.{take_at, drop_at, length-replicate}
+use Rattle.std.proofs.Common.{◌≡◌, ◌<◌, ◌+◌, ◌^◌, ℕ, List, ◌++◌, length, take, replicate, ap, ◌∙◌, arith, length-append, append_assoc}
+use Rattle.std.proofs.lemmas.List.{take_at}
 use Rattle.byteorder.specs.Endian.{little_bytes}
-use Rattle.byteorder.specs.Numbers.{length-bytes_low_first}
 use Rattle.pe_reader.specs.declared.section.Section.{Section}
 use Rattle.pe_reader.specs.Fields.{u32_at}
 use Rattle.pe_reader.specs.Grammar.{section_at}

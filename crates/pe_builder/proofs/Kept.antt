@@ -1,5 +1,5 @@
 -- What an image has loaded.
-use Rattle.std.proofs.Common.{◌≡◌, ◌<◌, ◌≤◌, ◌+◌, ◌-◌, ◌*◌, ◌%◌, ◌⊎◌, inl, inr, ℕ, Bool, true, false, List, [], ◌∷◌, ◌++◌, length, take, drop, replicate, map, min, max, cond, Option, Some, None, Ok, Result, refl, sym, ap, subst, ◌∙◌, arith, length-append, append_assoc}
+use Rattle.std.proofs.Common.{◌≡◌, ◌≤◌, ◌+◌, ◌-◌, ◌⊎◌, inl, inr, ℕ, Bool, true, false, List, [], ◌∷◌, ◌++◌, length, take, drop, replicate, map, min, cond, Option, Some, Ok, refl, sym, ap, ◌∙◌, arith, length-append, append_assoc}
 use Rattle.std.specs.Int.{next_multiple_of}
 use Rattle.std.specs.List.{list_all, find}
 use Rattle.std.specs.Str.{bytes_eq}
@@ -10,13 +10,14 @@ use Rattle.pe_reader.specs.declared.head.Head.{Head}
 use Rattle.pe_reader.specs.declared.section.Section.{Section}
 use Rattle.pe_reader.specs.Fields.{part}
 use Rattle.pe_reader.specs.Grammar.{Headers, pe_of, is_in_file}
-use Rattle.pe_reader.specs.Loaded.{is_named, loaded_by, loaded_of, loaded_in, loaded, range_of, bytes_in}
+use Rattle.pe_reader.specs.Loaded.{is_named, loaded_by, loaded_of, loaded_in, loaded}
 use Rattle.pe_reader.proofs.Shape.{Shape, pe_of-stages, stages-shape}
 use Rattle.uki_parts.specs.Names.{name_bytes}
+use Rattle.pe_builder.proofs.Fits.{HasImage}
 use Rattle.pe_builder.specs.declared.size.WideSize.{WideSize}
 use Rattle.pe_builder.specs.Puts.{padded}
 use Rattle.pe_builder.proofs.Rounding.{length-padded, padded-is}
-use Rattle.pe_builder.specs.Layout.{end_of, end_after, section_for, sections_for, raw_end, length_after, new_sections, headers_with, HasImage}
+use Rattle.pe_builder.specs.Layout.{end_of, end_after, section_for, sections_for, raw_end, new_sections}
 use Rattle.pe_builder.specs.Image.{with_headers, with_raw, image_of, content_named, loaded_or_part}
 use Rattle.pe_builder.proofs.Appending.{with_raw-tail}
 use Rattle.pe_builder.proofs.Grown.{pe_of-image, length-with_headers, part-with_headers}

@@ -2,6 +2,7 @@ pub mod Appending
 pub mod ByName
 pub mod ByPlace
 pub mod Finished
+pub mod Fits
 pub mod Grown
 pub mod HeaderBytes
 pub mod Kept

@@ -1,5 +1,5 @@
 -- A plan that was made is that of the image.
-use Rattle.std.proofs.Common.{◌≡◌, ◌<◌, ◌≤◌, ◌+◌, ◌-◌, ◌*◌, ℕ, List, [], ◌∷◌, ◌++◌, length, replicate, sum_by, Ok, refl, sym, ap, subst, ◌∙◌, arith, length-append}
+use Rattle.std.proofs.Common.{◌≡◌, ◌<◌, ◌≤◌, ◌+◌, ◌-◌, ◌*◌, ℕ, List, ◌++◌, length, map, replicate, Ok, refl, sym, ap, subst, ◌∙◌, arith, length-append}
 use Rattle.std.specs.Prelude.{Option, Some, None, option_map, Result, Err, IfOk}
 use Rattle.std.specs.List.{AllByRecursion, flat_map}
 use Rattle.std.specs.Int.{next_multiple_of}
@@ -11,6 +11,7 @@ use Rattle.pe_reader.specs.Grammar.{Headers, pe_of, is_in_file}
 use Rattle.pe_reader.specs.Loaded.{section_at_index, no_section}
 use Rattle.pe_reader.proofs.Shape.{Shape, stages-shape, pe_of-stages}
 use Rattle.pe_reader.proofs.Tables.{at_list_all}
+use Rattle.pe_builder.proofs.Fits.{FitsSbat}
 use Rattle.pe_builder.proofs.Units.{file_unit}
 use Rattle.pe_builder.specs.declared.size.WideSize.{WideSize}
 use Rattle.pe_builder.specs.declared.plan.Plan.{Plan}
@@ -18,13 +19,14 @@ use Rattle.pe_builder.specs.declared.plan.SbatPlace.{SbatPlace}
 use Rattle.pe_builder.specs.Puts.{put}
 use Rattle.pe_builder.specs.Layout.{end_after, sections_for, head_with, new_sections, length_after, FitsPart}
 use Rattle.pe_builder.specs.Replaced.{sbat_index, with_sbat_size, with_content, MayReplace}
-use Rattle.pe_builder.specs.Refusals.{first_refusal, sbat_room}
+use Rattle.pe_builder.specs.Refusals.{IsBuildable, first_refusal, sbat_room}
 use Rattle.pe_builder.specs.Image.{section_header, with_fields, with_headers, with_raw, image_of, finished}
-use Rattle.pe_builder.specs.Planned.{Plans, Fitting, FitsPlace, FitsSbat, IsPlanFor, image_by, replaced_by, given, head_after, sbat_place}
+use Rattle.pe_builder.specs.Laws.{HasFinished}
+use Rattle.pe_builder.specs.Planned.{Plans, Fitting, FitsPlace, IsPlanFor, image_by, replaced_by, given, head_after, sbat_place}
 use Rattle.pe_builder.proofs.Appending.{end_after-append, length-sections_for}
 use Rattle.pe_builder.proofs.Putting.{length-put}
 use Rattle.pe_builder.proofs.Replacing.{raw_inside}
-use Rattle.pe_builder.proofs.Totals.{has_image, end_after-sections_for, sum-sections_for, size_none, sbat_none, fits_sbat}
+use Rattle.pe_builder.proofs.Totals.{end_after-sections_for, sum-sections_for, buildable_image, buildable_sbat}
 
 -- what follows of the value of a result
 pub if_ok_more : {T E : Type 0} → (r : Result T E) (P Q : T → Type 0) → ((x : T) → P x → Q x) → IfOk r P → IfOk r Q
@@ -49,17 +51,17 @@ head_after-is h n parts =
 
 pub plans : (plan : Plan) (h : Headers) (n start : ℕ) (parts : List WideSize) (sbat : Option ℕ)
     → start ≡ end_after h.head.header_size (with_sbat_size h sbat).sections
-    → plan.before ≡ h.head → plan.sections.items ≡ sections_for h.head n start parts → plan.after ≡ head_after h.head start parts
+    → plan.stub_length ≡ n → plan.before ≡ h.head → plan.sections.items ≡ sections_for h.head n start parts → plan.after ≡ head_after h.head start parts
     → plan.sbat ≡ sbat_place h sbat → plan.image_length ≡ length_after h.head n parts
     → AllByRecursion FitsPart parts → MayReplace h sbat → first_refusal h n parts sbat ≡ None → Plans plan h n parts sbat
-plans plan h n start parts sbat at before sections after place total fit may none = record {
+plans plan h n start parts sbat at stub before sections after place total fit may none = record {
+  stub_length_is = stub;
   before = before;
   sections = sections ∙ ap (λ (k : ℕ). sections_for h.head n k parts) at;
   after = after ∙ ap (λ (k : ℕ). head_after h.head k parts) at ∙ head_after-is (with_sbat_size h sbat) n parts;
   sbat_is = place;
   image_length = total;
-  has = has_image (with_sbat_size h sbat) n parts fit (size_none h n parts sbat none);
-  fits = fits_sbat h sbat may (sbat_none h n parts sbat none);
+  buildable = record { fit = fit; may_replace = may; not_refused = none };
 }
 
 -- what a plan makes of headers with resized sections and of a stub that is changed accordingly
@@ -124,7 +126,7 @@ image_by-is plan h sizes contents (Some size) sbat stub e p g =
     let q = subst S (sym same) p in
     let changed = with_content h (sbat_index h) sbat stub in
     let R : Option SbatPlace → Type 0 = λ o. replaced_by o sbat stub ≡ changed in
-    let st = stands h stub (length sbat) (stages-shape stub h (pe_of-stages stub h e)) q.fits in
+    let st = stands h stub (length sbat) (stages-shape stub h (pe_of-stages stub h e)) (buildable_sbat _ _ _ _ q.buildable) in
     image_by_of plan (with_sbat_size h (Some (length sbat))) sizes contents sbat stub changed (length stub) q.before q.after q.sections
     (subst R (sym q.sbat_is) refl) (sym (length-with_content h sbat stub st))
 
@@ -144,7 +146,7 @@ fitting plan stub sbat contents is =
     let shape = stages-shape stub h (pe_of-stages stub h is.reads) in
     let F : Head → Type 0 = λ b. (0 < b.file_alignment) × (b.pe_place + 136 ≤ b.table_place) × (b.table_place + 40 * (b.section_count + length plan.sections.items) ≤ length stub) in
     let k : length plan.sections.items ≡ length is.sizes = ap length p.sections ∙ length-sections_for h.head (length stub) _ is.sizes in
-    let room = p.has.room in
+    let room = (buildable_image _ _ _ _ p.buildable).room in
     let inside = shape.inside in
     let table = shape.table_place in
     let large = shape.optional in
@@ -156,5 +158,13 @@ fitting plan stub sbat contents is =
       alignment = all.0;
       before = all.1;
       table = all.2;
-      sbat = subst O (sym p.sbat_is) (fits_place h stub sbat is.in_place shape p.fits is.sbat_length);
+      sbat = subst O (sym p.sbat_is) (fits_place h stub sbat is.in_place shape (buildable_sbat _ _ _ _ p.buildable) is.sbat_length);
     }
+
+-- what a plan was made for has a finished image
+pub has_finished_by : (plan : Plan) (h : Headers) (sizes : List WideSize) (contents : List (List ℕ)) (in_place : Option ℕ) (sbat stub : List ℕ)
+    → pe_of stub ≡ Ok h → Plans plan h (length stub) sizes in_place → map length contents ≡ map (λ p. p.length) sizes
+    → option_map length (given in_place sbat) ≡ in_place → HasFinished h sizes contents (given in_place sbat) stub
+has_finished_by plan h sizes contents in_place sbat stub e p l g =
+    let B : Option ℕ → Type 0 = λ o. IsBuildable h (length stub) sizes o in
+    record { reads = e; buildable = subst B (sym g) p.buildable; lengths = l }

@@ -1,8 +1,7 @@
 -- What a stub has loaded, whose section was replaced in place.
-use Rattle.std.proofs.Common.{◌≡◌, ◌≢◌, ◌<◌, ◌≤◌, ◌+◌, ◌-◌, ◌*◌, ◌^◌, ◌⊎◌, inl, inr, ℕ, Bool, true, false, ◌||◌, ◌==◌, nat_le, List, [], ◌∷◌, ◌++◌, length, take, drop, set, get_or, min, replicate, Option, Some, None, position, Ok, Result, refl, sym, ap, subst, ◌∙◌, arith, length-append, append_assoc}
-use Rattle.std.specs.List.{list_all}
-use Rattle.std.proofs.lemmas.List.{drop_at, take_at, length-take-le, length-replicate, append-nil, get_or-set_same, get_or-set_other}
-use Rattle.std.proofs.lemmas.Bool.{cases_lt, cases_eq}
+use Rattle.std.proofs.Common.{◌≡◌, ◌≢◌, ◌<◌, ◌≤◌, ◌+◌, ◌-◌, ◌*◌, ◌⊎◌, inl, inr, ℕ, true, List, [], ◌++◌, length, take, min, replicate, Ok, refl, ap, ◌∙◌, arith, length-append, append_assoc}
+use Rattle.std.proofs.lemmas.List.{drop_at, take_at, length-take-le, length-replicate, append-nil}
+use Rattle.std.proofs.lemmas.Bool.{cases_lt}
 use Rattle.std.proofs.lemmas.Bool.Decides.{nat_tests}
 use Rattle.byteorder.specs.Endian.{little_bytes}
 use Rattle.pe_reader.specs.declared.section.Section.{Section}
@@ -10,11 +9,12 @@ use Rattle.pe_reader.specs.Fields.{part}
 use Rattle.pe_reader.specs.Grammar.{Headers, pe_of, is_in_file, is_apart}
 use Rattle.pe_reader.specs.Loaded.{section_at_index, no_section, loaded_by}
 use Rattle.pe_reader.proofs.Tables.{AllApart, sections_of-apart, at_list_all}
-use Rattle.pe_reader.proofs.Shape.{Shape, Stages, pe_of-stages, stages-shape}
+use Rattle.pe_reader.proofs.Shape.{pe_of-stages, stages-shape}
+use Rattle.pe_builder.proofs.Fits.{FitsSection}
 use Rattle.pe_builder.specs.Puts.{put}
 use Rattle.pe_builder.proofs.Putting.{length-put}
-use Rattle.pe_builder.proofs.Rewriting.{part-put, part-put_end}
-use Rattle.pe_builder.specs.Replaced.{resized, headers_resized, with_content, FitsSection}
+use Rattle.pe_builder.proofs.Rewriting.{part-put}
+use Rattle.pe_builder.specs.Replaced.{resized, with_content}
 use Rattle.pe_builder.proofs.Replacing.{apart_two, writing_of, Writing}
 
 turned : {A B : Type 0} → A ⊎ B → B ⊎ A

@@ -1,9 +1,9 @@
 -- A stub whose section is replaced in place reads as PE again.
-use Rattle.std.proofs.Common.{◌≡◌, ◌<◌, ◌≤◌, ◌+◌, ◌-◌, ◌*◌, ◌^◌, ◌⊎◌, inl, inr, ℕ, zero, suc, Bool, true, false, ◌&&◌, List, [], ◌∷◌, ◌++◌, length, take, drop, set, get_or, replicate, Ok, Result, refl, sym, ap, subst, ◌∙◌, arith, length-append, append_assoc}
+use Rattle.std.proofs.Common.{◌≡◌, ◌<◌, ◌≤◌, ◌+◌, ◌-◌, ◌*◌, ◌^◌, ◌⊎◌, inl, inr, ℕ, zero, suc, Bool, true, List, [], ◌∷◌, ◌++◌, length, take, drop, set, get_or, replicate, Ok, Result, refl, sym, ap, subst, ◌∙◌, arith, length-append, append_assoc}
 use Rattle.std.specs.List.{list_all}
 use Rattle.std.proofs.Math.Seq.{take-add}
 use Rattle.pe_reader.specs.declared.fault.FailedCheck.{FailedCheck}
-use Rattle.std.proofs.lemmas.List.{drop-append-le, take-append-le, length-drop, length-take-le, length-replicate, take-take, drop-drop, set_at, get_or_at, drop_at}
+use Rattle.std.proofs.lemmas.List.{length-drop, length-take-le, length-replicate, take-take, drop-drop, set_at, get_or_at, drop_at}
 use Rattle.std.proofs.lemmas.List.Folds.{list_all-append}
 use Rattle.std.proofs.lemmas.Bool.{and_parts}
 use Rattle.std.proofs.lemmas.Bool.Decides.{nat_tests}
@@ -14,13 +14,14 @@ use Rattle.pe_reader.specs.Grammar.{◌>>=◌, Headers, pe_of, pe_place_of, coff
 use Rattle.pe_reader.specs.Loaded.{section_at_index, no_section}
 use Rattle.pe_reader.proofs.Checks.{bind_ok}
 use Rattle.pe_reader.proofs.Tables.{sections_of-more, sections_of-split, sections_of-rest, section_at-append, checked_is}
-use Rattle.pe_reader.proofs.Shape.{optional_of_is, Stages, Shape, pe_of-stages, pe_of-from_stages, stages-shape}
+use Rattle.pe_reader.proofs.Shape.{optional_of_is, Shape, pe_of-stages, pe_of-from_stages, stages-shape}
 use Rattle.pe_reader.proofs.Places.{u32_at-part}
+use Rattle.pe_builder.proofs.Fits.{FitsSection}
 use Rattle.pe_builder.specs.Puts.{put}
 use Rattle.pe_builder.proofs.Putting.{length-put, u32_at-put}
 use Rattle.pe_builder.proofs.Rewriting.{part-put, u32_field}
 use Rattle.pe_builder.proofs.HeaderBytes.{same_section}
-use Rattle.pe_builder.specs.Replaced.{resized, headers_resized, with_content, FitsSection}
+use Rattle.pe_builder.specs.Replaced.{headers_resized, with_content}
 
 -- a part in two
 part-split : (xs : List ℕ) (at m n : ℕ) → at + m ≤ length xs → part xs at (m + n) ≡ part xs at m ++ part xs (at + m) n

@@ -1,6 +1,7 @@
 -- The sums behind the new sections.
-use Rattle.std.proofs.Common.{◌≡◌, ◌<◌, ◌≤◌, ◌+◌, ◌-◌, ◌*◌, ◌%◌, ℕ, zero, suc, max, List, [], ◌∷◌, ◌++◌, length, take, drop, set, refl, sym, ap, subst, ◌∙◌, arith}
+use Rattle.std.proofs.Common.{◌≡◌, ◌<◌, ◌≤◌, ◌+◌, ◌*◌, ℕ, zero, suc, max, List, [], ◌∷◌, ◌++◌, length, take, drop, set, refl, sym, ap, subst, ◌∙◌, arith}
 use Rattle.std.specs.Prelude.{Bool, true, false, Option, Some, None, sum_by}
+use Rattle.pe_builder.proofs.Fits.{FitsSbat, HasImage}
 use Rattle.pe_builder.specs.declared.fault.PlanFault.{PlanFault}
 use Rattle.pe_builder.specs.declared.fault.PlanFault.TheVariants.{SignedStub}
 use Rattle.std.specs.List.{AllByRecursion}
@@ -14,11 +15,10 @@ use Rattle.pe_reader.proofs.Shape.{stages-shape, pe_of-stages}
 use Rattle.pe_reader.specs.declared.head.Head.{Head}
 use Rattle.pe_reader.specs.declared.section.Section.{Section}
 use Rattle.pe_builder.specs.declared.size.WideSize.{WideSize}
-use Rattle.pe_builder.specs.Layout.{end_of, end_after, section_for, sections_for, raw_end, length_after, address_after, new_sections, FitsPart, HasImage}
+use Rattle.pe_builder.specs.Layout.{end_of, end_after, section_for, sections_for, raw_end, length_after, address_after, new_sections, FitsPart}
 use Rattle.pe_builder.proofs.Appending.{end_after-append}
-use Rattle.pe_builder.specs.Refusals.{refuse, or_else, first_taken, first_refusal, sbat_room, sbat_refusal, image_size, initialized_size, size_refusal}
-use Rattle.pe_builder.specs.Replaced.{with_sbat_size, sbat_index, MayReplace}
-use Rattle.pe_builder.specs.Planned.{FitsSbat}
+use Rattle.pe_builder.specs.Refusals.{IsBuildable, refuse, or_else, first_taken, first_refusal, sbat_room, sbat_refusal, image_size, initialized_size, size_refusal}
+use Rattle.pe_builder.specs.Replaced.{with_sbat_size, MayReplace}
 
 -- the address behind the new sections
 pub end_after-sections_for : (h : Head) (r a : ℕ) (parts : List WideSize) → end_after a (sections_for h r a parts) ≡ address_after h a parts
@@ -103,6 +103,13 @@ sbat_room_is h size e = grind (arith, nat_tests)
 pub fits_sbat : (h : Headers) (sbat : Option ℕ) → MayReplace h sbat → sbat_refusal h sbat ≡ None → FitsSbat h sbat
 fits_sbat h None may e = tt
 fits_sbat h (Some size) may e = (may.0, sbat_room_is h size e, may.1)
+
+-- what it takes to be buildable, in numbers
+pub buildable_image : (h : Headers) (n : ℕ) (parts : List WideSize) (sbat : Option ℕ) → IsBuildable h n parts sbat → HasImage (with_sbat_size h sbat) n parts
+buildable_image h n parts sbat b = has_image (with_sbat_size h sbat) n parts b.fit (size_none h n parts sbat b.not_refused)
+
+pub buildable_sbat : (h : Headers) (n : ℕ) (parts : List WideSize) (sbat : Option ℕ) → IsBuildable h n parts sbat → FitsSbat h sbat
+buildable_sbat h n parts sbat b = fits_sbat h sbat b.may_replace (sbat_none h n parts sbat b.not_refused)
 
 -- the sizes by the address behind the stub's sections
 pub record Numbers (h : Headers) (n start : ℕ) (parts : List WideSize) : Type 0 where

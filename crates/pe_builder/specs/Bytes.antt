@@ -1,5 +1,5 @@
 -- The byte at each place of a finished image.
-use Rattle.std.specs.Prelude.{◌≡◌, ℕ, ◌+◌, ◌-◌, ◌*◌, ◌&&◌, Bool, nat_le, nat_lt, List, [], ◌∷◌, ◌++◌, length, replicate, get_or, option_map, Option, Some, None, if◌then◌else◌}
+use Rattle.std.specs.Prelude.{ℕ, ◌+◌, ◌-◌, ◌*◌, ◌&&◌, Bool, nat_le, nat_lt, List, [], ◌∷◌, ◌++◌, length, replicate, get_or, option_map, Option, Some, None, if◌then◌else◌}
 use Rattle.std.specs.List.{flat_map}
 use Rattle.byteorder.specs.Endian.{little_bytes}
 use Rattle.pe_reader.specs.declared.head.Head.{Head}
@@ -26,7 +26,8 @@ unfoldable pub byte_of : List Range → (ℕ → ℕ) → ℕ → ℕ
 byte_of [] elsewhere k = elsewhere k
 byte_of (r ∷ ranges) elsewhere k = if covers r k then get_or r.bytes (k - r.place) 0 else byte_of ranges elsewhere k
 
--- the header fields that are rewritten, and the new section headers behind those of the stub
+-- NumberOfSections, SizeOfInitializedData, SizeOfImage and CheckSum by their places in PE/COFF, and the new section
+-- headers behind those of the stub
 abbrev pub rewritten_fields : Head → Head → List ℕ → List Range → List Range
 rewritten_fields before after headers more =
     record { place = before.pe_place + 6; bytes = little_bytes 2 after.section_count }

@@ -6,20 +6,21 @@ use Rattle.byteorder.specs.Endian.{little_bytes}
 use Rattle.pe_reader.specs.declared.head.Head.{Head}
 use Rattle.pe_reader.specs.declared.section.Section.{Section}
 use Rattle.pe_reader.specs.Grammar.{Headers}
-use Rattle.pe_reader.specs.Loaded.{short_name, loaded_by}
+use Rattle.pe_reader.specs.Loaded.{loaded_by}
 use Rattle.uki_parts.specs.Names.{name_bytes}
 use Rattle.pe_builder.specs.declared.size.WideSize.{WideSize}
 use Rattle.pe_builder.specs.Puts.{put, padded}
 use Rattle.pe_builder.specs.Layout.{head_with, headers_with, new_sections}
 use Rattle.pe_builder.specs.Replaced.{with_sbat_size, with_sbat}
 
--- the 40 bytes of a section header
+-- the 40 bytes of a section header: relocations and line numbers are 0
 unfoldable pub section_header : Section → List ℕ
 section_header s =
     s.name ++ little_bytes 4 s.virtual_size ++ little_bytes 4 s.virtual_address ++ little_bytes 4 s.raw_size
     ++ little_bytes 4 s.raw_place ++ replicate 12 0 ++ little_bytes 4 s.flags
 
--- the stub with the fields of a head, and with section headers behind its own
+-- The stub with NumberOfSections, SizeOfInitializedData and SizeOfImage of a head, with no CheckSum, and with section
+-- headers behind its own.
 abbrev pub with_fields : Head → Head → List ℕ → List ℕ → List ℕ
 with_fields before after headers stub =
     put (before.pe_place + 6) (little_bytes 2 after.section_count) (

@@ -1,13 +1,13 @@
 -- What holds of every finished image.
 use Rattle.std.specs.Prelude.{◌≡◌, ℕ, List, length, map, get_or, option_map, Option, Some, None, Ok, if◌then◌else◌}
-use Rattle.std.specs.List.{find, AllByRecursion}
+use Rattle.std.specs.List.{find}
 use Rattle.std.specs.Str.{bytes_eq}
 use Rattle.pe_reader.specs.Grammar.{Headers, pe_of}
 use Rattle.pe_reader.specs.Loaded.{is_named, loaded}
 use Rattle.pe_builder.specs.declared.size.WideSize.{WideSize}
-use Rattle.pe_builder.specs.Layout.{FitsPart, length_after}
-use Rattle.pe_builder.specs.Replaced.{sbat_name, MayReplace}
-use Rattle.pe_builder.specs.Refusals.{first_refusal}
+use Rattle.pe_builder.specs.Layout.{length_after}
+use Rattle.pe_builder.specs.Replaced.{sbat_name}
+use Rattle.pe_builder.specs.Refusals.{IsBuildable}
 use Rattle.pe_builder.specs.Image.{content_named, loaded_or_part, finished, finished_headers}
 use Rattle.pe_builder.specs.Bytes.{finished_byte}
 
@@ -15,9 +15,7 @@ use Rattle.pe_builder.specs.Bytes.{finished_byte}
 -- lengths.
 pub record HasFinished (h : Headers) (sizes : List WideSize) (contents : List (List ℕ)) (sbat : Option (List ℕ)) (stub : List ℕ) : Type 0 where
   pub reads : pe_of stub ≡ Ok h
-  pub fit : AllByRecursion FitsPart sizes
-  pub may_replace : MayReplace h (option_map length sbat)
-  pub not_refused : first_refusal h (length stub) sizes (option_map length sbat) ≡ None
+  pub buildable : IsBuildable h (length stub) sizes (option_map length sbat)
   pub lengths : map length contents ≡ map (λ p. p.length) sizes
 
 -- The finished image is again a PE32+ file, with the stub's sections and the new ones.

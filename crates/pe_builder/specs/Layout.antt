@@ -1,7 +1,7 @@
--- Where the new sections of an image stand.
-use Rattle.std.specs.Prelude.{◌≡◌, ℕ, ◌+◌, ◌*◌, ◌^◌, ◌<◌, ◌≤◌, List, [], ◌∷◌, ◌++◌, length, max}
+-- Where the new sections of an image stand (Microsoft PE/COFF; the order and the flags are those of ukify).
+use Rattle.std.specs.Prelude.{◌≡◌, ℕ, ◌+◌, ◌^◌, ◌<◌, List, [], ◌∷◌, ◌++◌, length, max}
 use Rattle.std.specs.Int.{next_multiple_of}
-use Rattle.std.specs.List.{sum_by, fold, AllByRecursion}
+use Rattle.std.specs.List.{sum_by, fold}
 use Rattle.pe_reader.specs.declared.head.Head.{Head}
 use Rattle.pe_reader.specs.declared.section.Section.{Section}
 use Rattle.pe_reader.specs.Grammar.{Headers}
@@ -16,7 +16,8 @@ end_of s = s.virtual_address + s.virtual_size
 unfoldable pub end_after : ℕ → List Section → ℕ
 end_after address sections = fold (λ a s. max a (end_of s)) address sections
 
--- A part becomes a section: its raw data behind a file of that length, its address behind that one.
+-- A part becomes a section: VirtualAddress is an address rounded up to SectionAlignment, PointerToRawData the file's
+-- length rounded up to FileAlignment, SizeOfRawData the part's length rounded up to FileAlignment.
 abbrev pub section_for : Head → ℕ → ℕ → WideSize → Section
 section_for h file_length address p = record {
   name = padded_bytes p.name;
@@ -71,12 +72,3 @@ headers_with h new = record { head = head_with h new; sections = h.sections ++ n
 pub record FitsPart (p : WideSize) : Type 0 where
   pub name : length (padded_bytes p.name) ≡ 8
   pub flags : p.flags < 2 ^ 32
-
--- a stub of that length with these headers has an image with parts of these sizes
-pub record HasImage (h : Headers) (stub_length : ℕ) (parts : List WideSize) : Type 0 where
-  pub fit : AllByRecursion FitsPart parts
-  pub room : h.head.table_place + 40 * (h.head.section_count + length parts) ≤ h.head.header_size
-  pub few : h.head.section_count + length parts ≤ 96
-  pub image_size : (head_with h (new_sections h stub_length parts)).image_size < 2 ^ 32
-  pub initialized_size : (head_with h (new_sections h stub_length parts)).initialized_size < 2 ^ 32
-  pub file_length : length_after h.head stub_length parts ≤ 268435456

@@ -6,7 +6,6 @@ use Rattle.byteorder.specs.Endian.{little_bytes}
 use Rattle.pe_builder.specs.declared.fault.PlanFault.{PlanFault}
 use Rattle.pe_builder.specs.declared.fault.PlanFault.TheVariants.{Memory}
 use Rattle.pe_reader.specs.declared.head.Head.{Head}
-use Rattle.pe_reader.specs.declared.section.Section.{Section}
 use Rattle.pe_reader.specs.Grammar.{Headers, pe_of}
 use Rattle.pe_reader.specs.Loaded.{section_at_index}
 use Rattle.pe_builder.specs.declared.size.WideSize.{WideSize}
@@ -14,8 +13,8 @@ use Rattle.pe_builder.specs.declared.plan.Plan.{Plan}
 use Rattle.pe_builder.specs.declared.plan.SbatPlace.{SbatPlace}
 use Rattle.pe_builder.specs.Puts.{put}
 use Rattle.pe_builder.specs.Replaced.{sbat_index, with_sbat_size}
-use Rattle.pe_builder.specs.Refusals.{sbat_room}
-use Rattle.pe_builder.specs.Layout.{head_with, new_sections, address_after, length_after, HasImage}
+use Rattle.pe_builder.specs.Refusals.{sbat_room, IsBuildable}
+use Rattle.pe_builder.specs.Layout.{head_with, new_sections, address_after, length_after}
 use Rattle.pe_builder.specs.Image.{section_header, with_fields, with_raw, finished}
 
 -- where the stub's `.sbat` stands, that is replaced by one of that length
@@ -28,21 +27,16 @@ sbat_place h (Some size) = Some (record {
   length = size;
 })
 
--- a new `.sbat` of that length, where it is given, has room and a section
-abbrev pub FitsSbat : Headers → Option ℕ → Type 0
-FitsSbat h None = Unit {0}
-FitsSbat h (Some size) = (0 < size) × (size ≤ sbat_room h) × (sbat_index h < length h.sections)
-
 -- The plan of an image of a stub of that length with these headers, of parts of these sizes, and of a new `.sbat` of
 -- that length where the stub's is replaced in place.
 pub record Plans (plan : Plan) (h : Headers) (stub_length : ℕ) (sizes : List WideSize) (sbat : Option ℕ) : Type 0 where
+  pub stub_length_is : plan.stub_length ≡ stub_length
   pub before : plan.before ≡ h.head
   pub sections : plan.sections.items ≡ new_sections (with_sbat_size h sbat) stub_length sizes
   pub after : plan.after ≡ head_with (with_sbat_size h sbat) (new_sections (with_sbat_size h sbat) stub_length sizes)
   pub sbat_is : plan.sbat ≡ sbat_place h sbat
   pub image_length : plan.image_length ≡ length_after h.head stub_length sizes
-  pub has : HasImage (with_sbat_size h sbat) stub_length sizes
-  pub fits : FitsSbat h sbat
+  pub buildable : IsBuildable h stub_length sizes sbat
 
 -- the head of an image with new sections behind an address
 abbrev pub head_after : Head → ℕ → List WideSize → Head
@@ -51,6 +45,10 @@ head_after h start parts = record h {
   initialized_size = h.initialized_size + sum_by (λ p. p.length) parts;
   image_size = next_multiple_of (address_after h start parts) h.section_alignment;
 }
+
+-- how many bytes the image of a plan has
+abbrev pub planned_length : Plan → ℕ
+planned_length plan = plan.image_length
 
 -- A plan was made of which P holds exactly where nothing is refused, unless memory ran out.
 abbrev pub Makes : (Plan → Type 0) → Result Plan PlanFault → Option PlanFault → Type 0
@@ -79,6 +77,8 @@ IsFinished plan stub contents sbat image =
     (h : Headers) (sizes : List WideSize) (in_place : Option ℕ) →
     pe_of stub ≡ Ok h → Plans plan h (length stub) sizes in_place → option_map length (given in_place sbat) ≡ in_place →
     image ≡ finished h sizes contents (given in_place sbat) stub
+
+-- What follows is said of the private steps that make the bytes.
 
 -- the stub with a new `.sbat` at its place
 abbrev pub replaced_by : Option SbatPlace → List ℕ → List ℕ → List ℕ

@@ -1,7 +1,7 @@
--- Why there is no image of a stub and parts: the first refusal in this order.
-use Rattle.std.specs.Prelude.{Bool, ℕ, ◌+◌, ◌*◌, ◌||◌, ◌==◌, not, nat_lt, nat_le, min, List, [], ◌∷◌, ◌++◌, length, Option, Some, None, if◌then◌else◌, sum_by}
+-- Why there is no image of a stub and parts: the first refusal in this order (profile).
+use Rattle.std.specs.Prelude.{◌≡◌, Bool, ℕ, ◌+◌, ◌*◌, ◌||◌, ◌==◌, not, nat_lt, nat_le, min, List, [], ◌∷◌, ◌++◌, length, Option, Some, None, if◌then◌else◌, sum_by}
 use Rattle.std.specs.Int.{next_multiple_of}
-use Rattle.std.specs.List.{list_any}
+use Rattle.std.specs.List.{list_any, AllByRecursion}
 use Rattle.std.specs.Str.{bytes_eq}
 use Rattle.pe_reader.specs.declared.section.Section.{Section}
 use Rattle.pe_reader.specs.Loaded.{is_named, section_at_index}
@@ -11,8 +11,8 @@ use Rattle.uki_parts.specs.Names.{name_bytes}
 use Rattle.pe_builder.specs.declared.size.WideSize.{WideSize}
 use Rattle.pe_builder.specs.declared.fault.PlanFault.{PlanFault}
 use Rattle.pe_builder.specs.declared.fault.PlanFault.TheVariants.{SignedStub, SectionTwice, SbatDoesNotFit, NoHeaderSpace, AddressSpace, ImageTooLarge}
-use Rattle.pe_builder.specs.Layout.{end_after, length_after, address_after}
-use Rattle.pe_builder.specs.Replaced.{sbat_index, with_sbat_size}
+use Rattle.pe_builder.specs.Layout.{end_after, length_after, address_after, FitsPart}
+use Rattle.pe_builder.specs.Replaced.{sbat_index, with_sbat_size, MayReplace}
 
 -- the size of a part whose length may be any number
 abbrev pub wide : PartSize → WideSize
@@ -79,3 +79,10 @@ first_refusal h stub_length parts sbat =
     or_else (first_taken h.sections [] parts) (
     or_else (sbat_refusal h sbat) (
     size_refusal (with_sbat_size h sbat) stub_length parts)))
+
+-- A stub of that length with these headers has an image with parts of these sizes, and with a new `.sbat` of that
+-- length in place where it is given: nothing is refused.
+pub record IsBuildable (h : Headers) (stub_length : ℕ) (parts : List WideSize) (sbat : Option ℕ) : Type 0 where
+  pub fit : AllByRecursion FitsPart parts
+  pub may_replace : MayReplace h sbat
+  pub not_refused : first_refusal h stub_length parts sbat ≡ None

@@ -1,5 +1,5 @@
 -- A stub whose `.sbat` is replaced in place.
-use Rattle.std.specs.Prelude.{◌≡◌, ℕ, ◌+◌, ◌-◌, ◌*◌, ◌<◌, ◌≤◌, List, [], ◌∷◌, ◌++◌, length, set, replicate, position, unwrap_or, Option, Some, None}
+use Rattle.std.specs.Prelude.{ℕ, ◌+◌, ◌-◌, ◌*◌, ◌<◌, ◌≤◌, List, [], ◌∷◌, ◌++◌, length, set, replicate, position, unwrap_or, Option, Some, None}
 use Rattle.byteorder.specs.Endian.{little_bytes}
 use Rattle.pe_reader.specs.declared.section.Section.{Section}
 use Rattle.pe_reader.specs.Grammar.{Headers}
@@ -44,11 +44,3 @@ with_content h i content stub =
 abbrev pub with_sbat : Headers → Option (List ℕ) → List ℕ → List ℕ
 with_sbat h None stub = stub
 with_sbat h (Some sbat) stub = with_content h (sbat_index h) sbat stub
-
--- the content fits the section's raw data, and its addresses
-pub record FitsSection (h : Headers) (i : ℕ) (content : List ℕ) : Type 0 where
-  pub inside : i < length h.sections
-  pub some : 0 < length content
-  pub room : length content ≤ (section_at_index h.sections i).raw_size
-  pub size : length content ≤ 268435456
-  pub memory : (section_at_index h.sections i).virtual_address + length content ≤ 4294967296

@@ -23,3 +23,6 @@ pub use laws::{image_by_place, image_loads, image_reads};
 pub use plan::Plan;
 pub use refusal::plan_refusal;
 pub use size::{PartSize, WideSize};
+
+#[cfg(test)]
+mod tests;

@@ -8,7 +8,7 @@ ghost use Rattle.pe_reader.specs.Loaded.{section_at_index};
 ghost use Rattle.pe_builder.specs.Layout.{end_after, address_after, FitsPart};
 ghost use Rattle.pe_builder.specs.Replaced.{sbat_index, with_sbat_size, MayReplace};
 ghost use Rattle.pe_builder.specs.Refusals.{wide, first_refusal, size_refusal};
-ghost use Rattle.pe_builder.specs.Planned.{Plans, Makes, head_after, sbat_place, FitsSbat};
+ghost use Rattle.pe_builder.specs.Planned.{Plans, Makes, head_after, planned_length, sbat_place};
 
 use crate::fault::PlanFault;
 use crate::layout::sections_for;
@@ -21,6 +21,8 @@ use std::alloc::{AllocError, Global};
 /// its `.sbat` is replaced.
 #[derive(Debug, Drop)]
 pub struct Plan {
+    /// How many bytes the stub has.
+    pub(crate) stub_length: u32,
     /// What the stub's headers say.
     pub(crate) before: Head,
     /// What the image's headers say.
@@ -79,7 +81,7 @@ impl Plan {
 
     /// How many bytes the image has.
     pub fn image_length(&self) -> u64
-        ensures { result ≡ self.now.image_length }
+        ensures { result ≡ planned_length self.now }
     {
         self.image_length
     }
@@ -106,6 +108,7 @@ fn planned(
     let start = stub_end(stub, sbat_in_place) as u32;
     let sections = sections_for(alloc, head, stub_length, start, sizes)?;
     Ok(Plan {
+        stub_length,
         before: *head,
         after: head_after(head, start, sizes),
         sections,

@@ -1,4 +1,4 @@
-use Rattle.std.proofs.Common.{◌≡◌, ap, ◌∙◌, arith}
+use Rattle.std.proofs.Common.{refl, ap, ◌∙◌, arith}
 use Rattle.pe_reader.specs.declared.head.Head.{Head}
 use Rattle.pe_reader.specs.Reads.{headers_of}
 use Rattle.pe_builder.specs.Layout.{sections_for, length_after}
@@ -50,7 +50,7 @@ length_after-requires-clause-small_unit c = rw c.head-head.ensures (omega (arith
 pub returns : goal.returns
 returns c =
     plans _ (headers_of c.args.stub.now) c.args.stub_length c.stub_end-start.result c.args.sizes.now c.args.sbat_in_place
-    c.stub_end-start.ensures.exact c.head-head.ensures
+    c.stub_end-start.ensures.exact refl c.head-head.ensures
     (c.in_ok-sections.ensures ∙ ap (λ (h : Head). sections_for h c.args.stub_length c.stub_end-start.result c.args.sizes.now) c.head-head.ensures)
     (c.head_after.ensures ∙ ap (λ (h : Head). head_after h c.stub_end-start.result c.args.sizes.now) c.head-head.ensures)
     c.sbat_place.ensures

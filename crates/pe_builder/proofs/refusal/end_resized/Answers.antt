@@ -1,4 +1,4 @@
-use Rattle.std.proofs.Common.{◌≡◌, ◌+◌, sym, ◌∙◌, ℕ, List, max, take, length, drop, set, ap}
+use Rattle.std.proofs.Common.{◌+◌, sym, ◌∙◌, List, max, take, ap}
 use Rattle.std.proofs.lemmas.List.{take_rest}
 use Rattle.pe_reader.specs.declared.section.Section.{Section}
 use Rattle.pe_reader.specs.Loaded.{section_at_index}
