@@ -14,7 +14,11 @@ use pe_reader::Head;
 use std::alloc::{AllocError, Global};
 
 /// The finished image by a plan: the stub's bytes with the new headers, with `sbat` in the place of its `.sbat` where
-/// the plan says so, and behind them the parts' bytes.
+/// the plan says so, and behind them the parts' bytes. The plan was made for that stub and for these lengths.
+///
+/// # Errors
+///
+/// Only where there is no memory for the image.
 pub fn image_bytes(
     alloc: Global,
     plan: &Plan,

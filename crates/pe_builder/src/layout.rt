@@ -3,7 +3,7 @@
 ghost use Rattle.std.specs.Prelude.{◌≡◌, ◌+◌, ◌*◌, ◌<◌, ◌≤◌, ◌^◌, [], ◌∷◌, ◌++◌, length, IfOk};
 ghost use Rattle.pe_builder.specs.Layout.{section_for, sections_for, raw_end, end_of, length_after, address_after};
 
-use crate::refusal::up;
+use crate::extent::up;
 use crate::size::WideSize;
 use pe_reader::{Head, Section};
 use std::alloc::{AllocError, Global};

@@ -7,6 +7,7 @@
 //! behind it. All places and sizes are counted in bytes.
 #![tactic(auto)]
 
+mod extent;
 mod fault;
 mod headers;
 mod image;

@@ -10,9 +10,10 @@ ghost use Rattle.pe_builder.specs.Replaced.{sbat_index, with_sbat_size, MayRepla
 ghost use Rattle.pe_builder.specs.Refusals.{wide, first_refusal, size_refusal};
 ghost use Rattle.pe_builder.specs.Planned.{Plans, Makes, head_after, planned_length, sbat_place};
 
+use crate::extent::{address_after, length_after, sbat_index, stub_end, total, up};
 use crate::fault::PlanFault;
 use crate::layout::sections_for;
-use crate::refusal::{address_after, length_after, plan_refusal, sbat_index, stub_end, total, up};
+use crate::refusal::plan_refusal;
 use crate::size::{PartSize, WideSize, wide_sizes};
 use pe_reader::{Head, Pe, Section};
 use std::alloc::{AllocError, Global};
@@ -49,8 +50,8 @@ pub struct SbatPlace {
 }
 
 impl Plan {
-    /// The plan of an image of a stub of `stub_length` bytes and of parts of these sizes, none of which is empty, in the
-    /// order in which they are to stand. A new `.sbat` of `sbat_in_place` bytes takes the place of the stub's where
+    /// The plan of an image of a stub of `stub_length` bytes and of parts of these sizes, in the order in which they
+    /// are to stand. A new `.sbat` of `sbat_in_place` bytes takes the place of the stub's where
     /// that is given, which asks for a stub that has one.
     ///
     /// # Errors

@@ -35,7 +35,7 @@ impl WideSize {
     ghost use Rattle.pe_builder.specs.Refusals.{part_is_named};
 
     /// Whether the bytes of the part's name before its first NUL are these.
-    pub fn is_named(&self, name: &[u8]) -> bool
+    pub(crate) fn is_named(&self, name: &[u8]) -> bool
         ensures { result ≡ part_is_named name.now self.now }
     {
         self.name.bytes() == name

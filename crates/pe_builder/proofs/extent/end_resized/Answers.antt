@@ -4,7 +4,7 @@ use Rattle.pe_reader.specs.declared.section.Section.{Section}
 use Rattle.pe_reader.specs.Loaded.{section_at_index}
 use Rattle.pe_builder.specs.Layout.{end_after}
 use Rattle.pe_builder.proofs.Totals.{end_after-set}
-use Rattle.pe_builder.proofs.refusal.end_resized.Goals as goal
+use Rattle.pe_builder.proofs.extent.end_resized.Goals as goal
 
 pub returns-clause-exact : goal.returns-clause-exact
 returns-clause-exact c =
