@@ -1,0 +1,7 @@
+use Rattle.std.proofs.Common.{◌≡◌, ◌≤◌, ◌^◌, ◌+◌, ◌*◌, take, sum_by}
+use Rattle.std.specs.List.{fold}
+use Rattle.pe_builder.specs.Layout.{address_behind}
+use Rattle.pe_builder.proofs.extent.address_after.Given as goal
+
+abbrev pub invariant-loop-part : goal.invariant-loop-part
+invariant-loop-part l = (l.end ≡ fold (address_behind l.head) l.address (take l.part-index l.parts)) × (l.end ≤ 2 ^ 33 + sum_by (λ p. p.length) (take l.part-index l.parts) + 2 ^ 17 * l.part-index)

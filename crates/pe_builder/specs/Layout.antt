@@ -1,0 +1,74 @@
+-- Where the new sections of an image stand (Microsoft PE/COFF; the order and the flags are those of ukify).
+use Rattle.std.specs.Prelude.{◌≡◌, ℕ, ◌+◌, ◌^◌, ◌<◌, List, [], ◌∷◌, ◌++◌, length, max}
+use Rattle.std.specs.Int.{next_multiple_of}
+use Rattle.std.specs.List.{sum_by, fold}
+use Rattle.pe_reader.specs.declared.head.Head.{Head}
+use Rattle.pe_reader.specs.declared.section.Section.{Section}
+use Rattle.pe_reader.specs.Grammar.{Headers}
+use Rattle.uki_parts.specs.Names.{padded_bytes}
+use Rattle.pe_builder.specs.declared.size.WideSize.{WideSize}
+
+-- where a section ends in memory
+abbrev pub end_of : Section → ℕ
+end_of s = s.virtual_address + s.virtual_size
+
+-- the greatest of an address and the ends of sections
+unfoldable pub end_after : ℕ → List Section → ℕ
+end_after address sections = fold (λ a s. max a (end_of s)) address sections
+
+-- A part becomes a section: VirtualAddress is an address rounded up to SectionAlignment, PointerToRawData the file's
+-- length rounded up to FileAlignment, SizeOfRawData the part's length rounded up to FileAlignment.
+abbrev pub section_for : Head → ℕ → ℕ → WideSize → Section
+section_for h file_length address p = record {
+  name = padded_bytes p.name;
+  virtual_size = p.length;
+  virtual_address = next_multiple_of address h.section_alignment;
+  raw_size = next_multiple_of p.length h.file_alignment;
+  raw_place = next_multiple_of file_length h.file_alignment;
+  flags = p.flags;
+}
+
+-- the file's length and the address behind a section
+abbrev pub raw_end : Section → ℕ
+raw_end s = s.raw_place + s.raw_size
+
+-- the sections for parts, one behind the other
+unfoldable pub sections_for : Head → ℕ → ℕ → List WideSize → List Section
+sections_for h file_length address [] = []
+sections_for h file_length address (p ∷ parts) =
+    section_for h file_length address p
+    ∷ sections_for h (raw_end (section_for h file_length address p)) (end_of (section_for h file_length address p)) parts
+
+-- the file's length, and the address, behind one part more
+abbrev pub file_behind : Head → ℕ → WideSize → ℕ
+file_behind h file_length p = next_multiple_of file_length h.file_alignment + next_multiple_of p.length h.file_alignment
+
+abbrev pub address_behind : Head → ℕ → WideSize → ℕ
+address_behind h address p = next_multiple_of address h.section_alignment + p.length
+
+-- the file's length, and the address, behind parts
+unfoldable pub length_after : Head → ℕ → List WideSize → ℕ
+length_after h file_length parts = fold (file_behind h) file_length parts
+
+unfoldable pub address_after : Head → ℕ → List WideSize → ℕ
+address_after h address parts = fold (address_behind h) address parts
+
+-- the new sections of a stub of that length
+abbrev pub new_sections : Headers → ℕ → List WideSize → List Section
+new_sections h stub_length parts = sections_for h.head stub_length (end_after h.head.header_size h.sections) parts
+
+-- the headers with more sections
+abbrev pub head_with : Headers → List Section → Head
+head_with h new = record h.head {
+  section_count = h.head.section_count + length new;
+  initialized_size = h.head.initialized_size + sum_by (λ s. s.virtual_size) new;
+  image_size = next_multiple_of (end_after h.head.header_size (h.sections ++ new)) h.head.section_alignment;
+}
+
+abbrev pub headers_with : Headers → List Section → Headers
+headers_with h new = record { head = head_with h new; sections = h.sections ++ new }
+
+-- what may become a section
+pub record FitsPart (p : WideSize) : Type 0 where
+  pub name : length (padded_bytes p.name) ≡ 8
+  pub flags : p.flags < 2 ^ 32

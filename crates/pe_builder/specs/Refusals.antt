@@ -1,0 +1,88 @@
+-- Why there is no image of a stub and parts: the first refusal in this order (profile).
+use Rattle.std.specs.Prelude.{◌≡◌, Bool, ℕ, ◌+◌, ◌*◌, ◌||◌, ◌==◌, not, nat_lt, nat_le, min, List, [], ◌∷◌, ◌++◌, length, Option, Some, None, if◌then◌else◌, sum_by}
+use Rattle.std.specs.Int.{next_multiple_of}
+use Rattle.std.specs.List.{list_any, AllByRecursion}
+use Rattle.std.specs.Str.{bytes_eq}
+use Rattle.pe_reader.specs.declared.section.Section.{Section}
+use Rattle.pe_reader.specs.Loaded.{is_named, section_at_index}
+use Rattle.pe_reader.specs.Grammar.{Headers}
+use Rattle.pe_builder.specs.declared.size.PartSize.{PartSize}
+use Rattle.uki_parts.specs.Names.{name_bytes}
+use Rattle.pe_builder.specs.declared.size.WideSize.{WideSize}
+use Rattle.pe_builder.specs.declared.fault.PlanFault.{PlanFault}
+use Rattle.pe_builder.specs.declared.fault.PlanFault.TheVariants.{SignedStub, SectionTwice, SbatDoesNotFit, NoHeaderSpace, AddressSpace, ImageTooLarge}
+use Rattle.pe_builder.specs.Layout.{end_after, length_after, address_after, FitsPart}
+use Rattle.pe_builder.specs.Replaced.{sbat_index, with_sbat_size, MayReplace}
+
+-- the size of a part whose length may be any number
+abbrev pub wide : PartSize → WideSize
+wide p = record { name = p.name; length = p.length; flags = p.flags }
+
+-- a refusal where a test holds, else the rest
+abbrev pub refuse : Bool → PlanFault → Option PlanFault → Option PlanFault
+refuse holds fault rest = if holds then Some fault else rest
+
+-- the first of two refusals
+abbrev pub or_else : Option PlanFault → Option PlanFault → Option PlanFault
+or_else None rest = rest
+or_else (Some fault) rest = Some fault
+
+abbrev pub part_is_named : List ℕ → WideSize → Bool
+part_is_named name p = bytes_eq (name_bytes p.name) name
+
+-- whether a section or an earlier part has the name of a part
+abbrev pub is_taken : List Section → List WideSize → WideSize → Bool
+is_taken sections earlier p =
+    list_any (is_named (name_bytes p.name)) sections
+    || list_any (part_is_named (name_bytes p.name)) earlier
+
+-- the first part whose name is taken, after the earlier ones
+unfoldable pub first_taken : List Section → List WideSize → List WideSize → Option PlanFault
+first_taken sections earlier [] = None
+first_taken sections earlier (p ∷ parts) =
+    if is_taken sections earlier p then Some (SectionTwice p.name) else first_taken sections (earlier ++ p ∷ []) parts
+
+-- the bytes that a new `.sbat` may have: those of the old one's raw data
+abbrev pub sbat_room : Headers → ℕ
+sbat_room h = (section_at_index h.sections (sbat_index h)).raw_size
+
+abbrev pub sbat_refusal : Headers → Option ℕ → Option PlanFault
+sbat_refusal h None = None
+sbat_refusal h (Some length) = refuse (nat_lt (sbat_room h) length) (SbatDoesNotFit length (sbat_room h)) None
+
+-- the bytes that headers need, and have: up to SizeOfHeaders, and no more than 96 section headers
+abbrev pub need : Headers → List WideSize → ℕ
+need h parts = h.head.table_place + 40 * (h.head.section_count + length parts)
+
+abbrev pub have : Headers → ℕ
+have h = min h.head.header_size (h.head.table_place + 3840)
+
+-- SizeOfImage and SizeOfInitializedData of the image
+abbrev pub image_size : Headers → List WideSize → ℕ
+image_size h parts = next_multiple_of (address_after h.head (end_after h.head.header_size h.sections) parts) h.head.section_alignment
+
+abbrev pub initialized_size : Headers → List WideSize → ℕ
+initialized_size h parts = h.head.initialized_size + sum_by (λ p. p.length) parts
+
+unfoldable pub size_refusal : Headers → ℕ → List WideSize → Option PlanFault
+size_refusal h stub_length parts =
+    refuse (nat_lt (have h) (need h parts)) (NoHeaderSpace (need h parts) (have h)) (
+    refuse (nat_le 4294967296 (image_size h parts)) (AddressSpace (image_size h parts)) (
+    refuse (nat_le 4294967296 (initialized_size h parts)) (AddressSpace (initialized_size h parts)) (
+    refuse (nat_lt 268435456 (length_after h.head stub_length parts)) (ImageTooLarge (length_after h.head stub_length parts)) None)))
+
+-- The first refusal for a stub of that length with these headers, parts of these sizes, and a new `.sbat` of that
+-- length where the stub's is replaced in place.
+unfoldable pub first_refusal : Headers → ℕ → List WideSize → Option ℕ → Option PlanFault
+first_refusal h stub_length parts sbat =
+    refuse (not (h.head.certificate_size == 0)) SignedStub (
+    or_else (first_taken h.sections [] parts) (
+    or_else (sbat_refusal h sbat) (
+    size_refusal (with_sbat_size h sbat) stub_length parts)))
+
+-- A stub of that length with these headers has an image with parts of these sizes, and with a new `.sbat` of that
+-- length in place where it is given: nothing is refused.
+pub record IsBuildable (h : Headers) (stub_length : ℕ) (parts : List WideSize) (sbat : Option ℕ) : Type 0 where
+  pub fit : AllByRecursion FitsPart parts
+  pub may_replace : MayReplace h sbat
+  pub not_refused : first_refusal h stub_length parts sbat ≡ None

@@ -1,0 +1,162 @@
+//! The plan of an image.
+
+ghost use Rattle.std.specs.Prelude.{◌≡◌, ◌+◌, ◌*◌, ◌<◌, ◌≤◌, ◌^◌, length, map, Some, None, IfOk, IfSome, sum_by};
+ghost use Rattle.std.specs.Int.{next_multiple_of};
+ghost use Rattle.std.specs.List.{AllByRecursion};
+ghost use Rattle.pe_reader.specs.Reads.{ReadFrom, headers_of};
+ghost use Rattle.pe_reader.specs.Loaded.{section_at_index};
+ghost use Rattle.pe_builder.specs.Layout.{end_after, address_after, FitsPart};
+ghost use Rattle.pe_builder.specs.Replaced.{sbat_index, with_sbat_size, MayReplace};
+ghost use Rattle.pe_builder.specs.Refusals.{wide, first_refusal, size_refusal};
+ghost use Rattle.pe_builder.specs.Planned.{Plans, Makes, head_after, planned_length, sbat_place};
+
+use crate::extent::{address_after, length_after, sbat_index, stub_end, total, up};
+use crate::fault::PlanFault;
+use crate::layout::sections_for;
+use crate::refusal::plan_refusal;
+use crate::size::{PartSize, WideSize, wide_sizes};
+use pe_reader::{Head, Pe, Section};
+use std::alloc::{AllocError, Global};
+
+/// What an image is to be: which numbers of the stub's headers it has in place of theirs, its new sections, and where
+/// its `.sbat` is replaced.
+#[derive(Debug, Drop)]
+pub struct Plan {
+    /// How many bytes the stub has.
+    pub(crate) stub_length: u32,
+    /// What the stub's headers say.
+    pub(crate) before: Head,
+    /// What the image's headers say.
+    pub(crate) after: Head,
+    /// The new sections in the order of the parts.
+    pub(crate) sections: Vec<Section>,
+    /// Where the stub's `.sbat` stands, if it is replaced in place.
+    pub(crate) sbat: Option<SbatPlace>,
+    /// How many bytes the image has.
+    image_length: u64,
+}
+
+/// Where the stub's `.sbat` stands, and how many bytes the one in its place has.
+#[derive(Clone, Copy, Debug)]
+pub struct SbatPlace {
+    /// The place of VirtualSize in its section header.
+    pub size_place: u32,
+    /// Where its raw data stand.
+    pub raw_place: u32,
+    /// How many bytes its raw data have.
+    pub raw_size: u32,
+    /// How many bytes the new content has.
+    pub length: u32,
+}
+
+impl Plan {
+    /// The plan of an image of a stub of `stub_length` bytes and of parts of these sizes, in the order in which they
+    /// are to stand. A new `.sbat` of `sbat_in_place` bytes takes the place of the stub's where
+    /// that is given, which asks for a stub that has one.
+    ///
+    /// # Errors
+    ///
+    /// The first reason why there is no image, as `plan_refusal` has them, exactly where there is none; `Memory` where
+    /// there is no memory for the plan.
+    pub fn make(
+        alloc: Global,
+        stub: &Pe,
+        stub_length: u32,
+        sizes: &[PartSize],
+        sbat_in_place: Option<u32>,
+    ) -> Result<Plan, PlanFault>
+        requires read { ReadFrom stub.now stub_length }
+        requires small { stub_length ≤ 268435456 }
+        requires few { length sizes.now ≤ 16777216 }
+        requires sbat { MayReplace (headers_of stub.now) sbat_in_place }
+        ensures { Makes (λ plan. Plans plan (headers_of stub.now) stub_length (map wide sizes.now) sbat_in_place) result
+            (first_refusal (headers_of stub.now) stub_length (map wide sizes.now) sbat_in_place) }
+    {
+        let sizes = wide_sizes(alloc, sizes)?;
+        if let Some(fault) = plan_refusal(stub, stub_length, &sizes, sbat_in_place) {
+            return Err(fault);
+        }
+        let plan = planned(alloc, stub, stub_length, &sizes, sbat_in_place)?;
+        Ok(plan)
+    }
+
+    /// How many bytes the image has.
+    pub fn image_length(&self) -> u64
+        ensures { result ≡ planned_length self.now }
+    {
+        self.image_length
+    }
+}
+
+/// The plan where nothing is refused.
+fn planned(
+    alloc: Global,
+    stub: &Pe,
+    stub_length: u32,
+    sizes: &[WideSize],
+    sbat_in_place: Option<u32>,
+) -> Result<Plan, AllocError>
+    requires read { ReadFrom stub.now stub_length }
+    requires small { stub_length ≤ 268435456 }
+    requires few { length sizes.now ≤ 16777216 }
+    requires total { sum_by (λ p. p.length) sizes.now ≤ 2 ^ 62 }
+    requires sbat { MayReplace (headers_of stub.now) sbat_in_place }
+    requires fit { AllByRecursion FitsPart sizes.now }
+    requires none { first_refusal (headers_of stub.now) stub_length sizes.now sbat_in_place ≡ None }
+    ensures { IfOk result (λ plan. Plans plan (headers_of stub.now) stub_length sizes.now sbat_in_place) }
+{
+    let head = stub.head();
+    let start = stub_end(stub, sbat_in_place) as u32;
+    let sections = sections_for(alloc, head, stub_length, start, sizes)?;
+    Ok(Plan {
+        stub_length,
+        before: *head,
+        after: head_after(head, start, sizes),
+        sections,
+        sbat: sbat_place(stub, sbat_in_place),
+        image_length: length_after(head, stub_length, sizes),
+    })
+}
+
+/// The head of the image.
+fn head_after(head: &Head, start: u32, parts: &[WideSize]) -> Head
+    requires memory_unit { 0 < head.now.section_alignment }
+    requires small_unit { head.now.section_alignment ≤ 65536 }
+    requires few { head.now.section_count + length parts.now ≤ 96 }
+    requires total { sum_by (λ p. p.length) parts.now ≤ 2 ^ 62 }
+    requires image { next_multiple_of (address_after head.now start parts.now) head.now.section_alignment < 2 ^ 32 }
+    requires initialized { head.now.initialized_size + sum_by (λ p. p.length) parts.now < 2 ^ 32 }
+    ensures { result ≡ head_after head.now start parts.now }
+{
+    let end = address_after(head, start as u64, parts);
+    Head {
+        pe_place: head.pe_place,
+        section_count: head.section_count + parts.len() as u16,
+        optional_size: head.optional_size,
+        initialized_size: head.initialized_size + total(parts) as u32,
+        section_alignment: head.section_alignment,
+        file_alignment: head.file_alignment,
+        image_size: up(end, head.section_alignment) as u32,
+        header_size: head.header_size,
+        directory_count: head.directory_count,
+        certificate_size: head.certificate_size,
+        table_place: head.table_place,
+    }
+}
+
+/// Where the stub's `.sbat` stands, that is replaced by one of that length.
+fn sbat_place(stub: &Pe, sbat_in_place: Option<u32>) -> Option<SbatPlace>
+    requires sbat { MayReplace (headers_of stub.now) sbat_in_place }
+    requires small { (headers_of stub.now).head.table_place + 40 * length (headers_of stub.now).sections ≤ 268435456 }
+    ensures { result ≡ sbat_place (headers_of stub.now) sbat_in_place }
+{
+    let length = sbat_in_place?;
+    let index = sbat_index(stub);
+    let section = stub.sections()[index];
+    Some(SbatPlace {
+        size_place: stub.head().table_place + 40 * index as u32 + 8,
+        raw_place: section.raw_place,
+        raw_size: section.raw_size,
+        length,
+    })
+}

@@ -1,0 +1,70 @@
+//! What the builder knows of a part before its bytes are read.
+
+ghost use Rattle.std.specs.Prelude.{◌≡◌, ◌≤◌, ◌^◌, length, map, sum_by, IfOk};
+ghost use Rattle.std.specs.List.{AllByRecursion};
+ghost use Rattle.pe_builder.specs.Layout.{FitsPart};
+ghost use Rattle.pe_builder.specs.Refusals.{wide};
+
+use std::alloc::{AllocError, Global};
+use uki_parts::SectionName;
+
+/// What a part needs to become a section.
+#[derive(Clone, Copy, Debug, PartialEq, Eq)]
+pub struct PartSize {
+    /// The name of the section.
+    pub name: SectionName,
+    /// How many bytes the part has.
+    pub length: u32,
+    /// The Characteristics of the section.
+    pub flags: u32,
+}
+
+/// The same of a part that may have more bytes than an image can hold.
+#[derive(Clone, Copy, Debug, PartialEq, Eq)]
+pub struct WideSize {
+    /// The name of the section.
+    pub name: SectionName,
+    /// How many bytes the part has.
+    pub length: u64,
+    /// The Characteristics of the section.
+    pub flags: u32,
+}
+
+impl WideSize {
+    ghost use Rattle.std.specs.Prelude.{◌≡◌};
+    ghost use Rattle.pe_builder.specs.Refusals.{part_is_named};
+
+    /// Whether the bytes of the part's name before its first NUL are these.
+    pub(crate) fn is_named(&self, name: &[u8]) -> bool
+        ensures { result ≡ part_is_named name.now self.now }
+    {
+        self.name.bytes() == name
+    }
+}
+
+/// The same size without the bound on its length.
+fn widened(size: PartSize) -> WideSize
+    ensures exact { result ≡ wide size }
+    ensures fits { FitsPart result }
+    ensures small { result.length ≤ 2 ^ 32 }
+{
+    WideSize {
+        name: size.name,
+        length: size.length as u64,
+        flags: size.flags,
+    }
+}
+
+/// The same sizes without the bound on their lengths.
+pub fn wide_sizes(alloc: Global, sizes: &[PartSize]) -> Result<Vec<WideSize>, AllocError>
+    requires few { length sizes.now ≤ 16777216 }
+    ensures exact { IfOk result (λ wides. wides.items ≡ map wide sizes.now) }
+    ensures fit { IfOk result (λ wides. AllByRecursion FitsPart wides.items) }
+    ensures total { IfOk result (λ wides. sum_by (λ p. p.length) wides.items ≤ 2 ^ 62) }
+{
+    let mut wides = Vec::new(alloc);
+    for size in sizes {
+        wides.push(widened(*size))?;
+    }
+    Ok(wides)
+}
