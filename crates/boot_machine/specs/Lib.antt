@@ -7,3 +7,4 @@ pub mod Maps
 pub mod Moments
 pub mod Rows
 pub mod Sent
+pub mod Taken
