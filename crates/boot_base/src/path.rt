@@ -140,6 +140,14 @@ impl BootPath {
         }
     }
 
+    /// The same path once more.
+    pub fn copy(&self, alloc: Global) -> Result<BootPath, AllocError>
+        ensures { IfOk result (λ path. path ≡ self.now) }
+    {
+        let text = String::from_str(alloc, self.text.as_str())?;
+        Ok(BootPath { text })
+    }
+
     /// It says that the path isn't that of a temporary file, and does nothing.
     pub fn know(&self)
         ensures { is_temp self.now ≡ false }

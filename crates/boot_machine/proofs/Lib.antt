@@ -1,8 +1,10 @@
 pub mod Elapsing
+pub mod Filling
 pub mod FuseLemmas
 pub mod Going
 pub mod Listing
 pub mod Printing
+pub mod Reading
 pub mod Seeing
 pub mod Settled
 pub mod Soft

@@ -88,6 +88,8 @@ impl<R: Runtime + AllocGlobal, E: Print + Drop> Machine for HostMachine<R, E> {
 
     ghost counts = { λ m. counts_of m.faults };
 
+    ghost taken = { λ _. 0 };
+
     ghost sound = { λ m told. absurd (silent told) };
 
     ghost counts_now = { λ m t files told le image. absurd (silent told) };

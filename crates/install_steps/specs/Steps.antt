@@ -6,6 +6,7 @@ use Rattle.boot_machine.specs.Disk.{Files, State, HasOneCandidate, has, view}
 use Rattle.boot_machine.specs.Images.{IsImage, IsFirm}
 use Rattle.boot_machine.specs.Moments.{EachSince}
 use Rattle.boot_machine.specs.Listed.{is_listed}
+use Rattle.boot_machine.specs.Rows.{contents}
 use Rattle.boot_machine.specs.Counts.{Counts, DiskFailed}
 use Rattle.install_steps.specs.declared.faults.MoveFault.{MoveFault}
 use Rattle.install_steps.specs.declared.faults.MoveFault.TheVariants.{Disk as MDisk, NotFound as MNotFound, TargetExists}
@@ -34,6 +35,10 @@ pub record StepsTo {D : Type 0} (clock : D → ℕ) (since : D → ℕ → Files
   pub moments : EachSince clock since old new (Sees (state old) next)
   pub firm : IsFirm (state new)
   pub files : (view (state new).files ≡ view (state old).files) ⊎ (view (state new).files ≡ next)
+
+-- the files with the bytes of the file at `from` at `to` too
+abbrev pub copied : Path → Path → Files → Files
+copied from to files = map.insert files to (contents files from)
 
 -- no temporary file is there that wasn't
 abbrev pub NoNewTemp : State → State → Type 0

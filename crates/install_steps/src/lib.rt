@@ -8,9 +8,11 @@
 
 mod faults;
 mod steps;
+mod write;
 
 pub use faults::{MoveFault, StepFault};
-pub use steps::{drop_leftovers, drop_name, move_name, settle, write_bytes};
+pub use steps::{drop_leftovers, drop_name, move_name, settle};
+pub use write::{write_bytes, write_whole};
 
 #[cfg(test)]
 mod tests;

@@ -1,4 +1,4 @@
-//! The steps: settling the names, and writing, moving and dropping files.
+//! Settling the names, and moving and dropping files.
 ghost use Rattle.std.specs.Prelude.{◌≡◌, true, false, IsTrue, OnOk, OnErr, IsErrOf, All, bytes_eq};
 ghost use Rattle.std.specs.List.{IsDistinct};
 ghost use Rattle.std.specs.FinMap as map;
@@ -10,7 +10,7 @@ ghost use Rattle.boot_machine.specs.Counts.{CountsDisk};
 ghost use Rattle.install_steps.specs.Steps.{Keeps, StepsTo, IsDone, NoNewTemp, Lacks, CountsMove, CountsStep};
 
 use crate::{MoveFault, StepFault};
-use boot_base::{BootPath, Target, TempPath};
+use boot_base::{BootPath, TempPath};
 use boot_machine::{DiskFault, Machine};
 
 /// Syncs the names: after Ok a stop can undo no earlier change of names, and what boot sees is settled on a
@@ -27,34 +27,6 @@ pub fn settle<M: Machine>(machine: &mut M) -> Result<(), DiskFault>
         (λ m o. IsImage (M.state machine.old) m × (o ≡ (M.state machine.old).printed)) }
     ensures counts { CountsDisk result (M.counts machine.old) (M.counts machine.new) }
 {
-    machine.sync_names()
-}
-
-/// Writes these bytes at the target, in place of a file that is there. A stop at any moment leaves what
-/// boot saw before, or that with the whole new file. After a fault of the disk either stands, and a
-/// temporary file may be left.
-pub fn write_bytes<M: Machine>(
-    machine: &mut M,
-    target: &Target,
-    bytes: &[u8],
-) -> Result<(), DiskFault>
-    requires one { IsTrue M.tells → HasOneCandidate (M.state machine.old) }
-    requires rested { IsTrue M.tells → IsRested (M.state machine.old) }
-    ensures done { OnOk result (IsTrue M.tells → IsFirm (M.state machine.old)
-        → IsDone (M.state machine.new) (map.insert (view (M.state machine.old).files) target.now.path bytes.now)) }
-    ensures step { IsTrue M.tells → IsFirm (M.state machine.old) → StepsTo M.clock M.since M.state
-        (map.insert (view (M.state machine.old).files) target.now.path bytes.now) machine.old machine.new }
-    ensures keeps { IsTrue M.tells → Keeps (M.state machine.old) (M.state machine.new) }
-    ensures rests { OnOk result (IsTrue M.tells → IsRested (M.state machine.new)) }
-    ensures temps { OnOk result (IsTrue M.tells → NoNewTemp (M.state machine.old) (M.state machine.new)) }
-    ensures counts { CountsDisk result (M.counts machine.old) (M.counts machine.new) }
-{
-    target.path.know();
-    target.temp.know();
-    machine.create(&target.temp)?;
-    machine.append(&target.temp, bytes)?;
-    machine.sync_file(&target.temp)?;
-    machine.rename_temp(&target.temp, &target.path)?;
     machine.sync_names()
 }
 

@@ -26,6 +26,16 @@ pub struct MemFile {
     pub bytes: Vec<u8>,
 }
 
+/// A read that gave some bytes of a file.
+#[derive(Drop)]
+pub struct ReadSeen {
+    pub path: BootPath,
+    /// The place of the first byte given.
+    pub at: u64,
+    /// How many bytes were given.
+    pub length: u64,
+}
+
 /// How a call fails.
 #[derive(Clone, Copy, Debug, PartialEq, Eq)]
 pub enum FailMode {
@@ -54,8 +64,8 @@ struct Failure {
 /// A machine in memory, which tells all that it holds and each moment that there was.
 ///
 /// It fails exactly where it was told to, and where it finds no memory for the record of a call; `starved`
-/// counts the latter. Its clock is the number of calls and stops that it has recorded: a call that found no
-/// memory for its record is the one that doesn't raise it.
+/// counts the latter. Its clock is the number of calls and stops that it has recorded: it stands still only
+/// in a call that found no memory. Each read that gave bytes is kept besides.
 #[derive(Drop)]
 pub struct MemMachine {
     alloc: Global,
@@ -63,6 +73,7 @@ pub struct MemMachine {
     log: Vec<Event>,
     files: FileList,
     printed: Vec<Printed>,
+    reads: Vec<ReadSeen>,
     given: Vec<u8>,
     taken: usize,
     failures: Vec<Failure>,
@@ -127,7 +138,7 @@ fn mode_at(failures: &[Failure], call: u64) -> Option<FailMode>
 }
 
 impl MemMachine {
-    ghost use Rattle.memory_machine.specs.Memory.{mem_start, mem_events, mem_input, mem_state, mem_clock, mem_since, mem_counts, mem_starved, mem_calls, mem_plan, next_mode, SameOrders, TellsTheSame, TellsOneMore, IsNextCall, IsStarved, AsTold, NamesAsTold};
+    ghost use Rattle.memory_machine.specs.Memory.{mem_start, mem_events, mem_input, mem_state, mem_clock, mem_since, mem_counts, mem_reads, mem_starved, mem_calls, mem_plan, next_mode, SameOrders, TellsTheSame, TellsOneMore, IsNextCall, IsStarved, AsTold, NamesAsTold};
     ghost use Rattle.memory_machine.specs.Events.{step, say, start_state, stopped};
     ghost use Rattle.boot_machine.specs.Moments.{Elapses};
     ghost use Rattle.boot_machine.specs.Rows.{DoneOrNot, SizeRow, ReadRow, NamesRow, CreateRow, AppendRow, SyncFileRow, RenameRow, UnlinkRow, SyncNamesRow, PrintRow, InputRow, created, appended, file_synced, renamed, unlinked, names_synced, with_printed, input_taken};
@@ -142,6 +153,7 @@ impl MemMachine {
         ensures settled { IfOk result (λ machine. IsSettled (mem_state machine)) }
         ensures clock { IfOk result (λ machine. mem_clock machine ≡ 0) }
         ensures counts { IfOk result (λ machine. mem_counts machine ≡ record { disk_faults = 0; pipe_faults = 0 }) }
+        ensures reads { IfOk result (λ machine. mem_reads machine ≡ []) }
         ensures starved { IfOk result (λ machine. mem_starved machine ≡ 0) }
         ensures calls { IfOk result (λ machine. mem_calls machine ≡ 0) }
         ensures plan { IfOk result (λ machine. (call : ℕ) → mem_plan machine call ≡ None) }
@@ -154,6 +166,7 @@ impl MemMachine {
             log: Vec::new(alloc),
             files: now,
             printed: Vec::new(alloc),
+            reads: Vec::new(alloc),
             given: Vec::new(alloc),
             taken: 0,
             failures: Vec::new(alloc),
@@ -169,6 +182,7 @@ impl MemMachine {
         ensures state { mem_state self.new ≡ record (mem_state self.old) { input = bytes.items } }
         ensures moments { Elapses mem_clock mem_since mem_state self.old self.new }
         ensures counts { mem_counts self.new ≡ mem_counts self.old }
+        ensures reads { mem_reads self.new ≡ mem_reads self.old }
         ensures told { SameOrders self.old self.new }
     {
         self.given = bytes;
@@ -182,6 +196,14 @@ impl MemMachine {
         &self.printed
     }
 
+    /// Each of its reads that gave at least one byte, in the order in which they were made: the file, the
+    /// place, and how many bytes were given. It takes no memory.
+    pub fn reads(&self) -> &[ReadSeen]
+        ensures { result.now ≡ mem_reads self.now }
+    {
+        &self.reads
+    }
+
     /// Lets the call of that number fail, counted from 1 over the machine's life. Of two modes for one
     /// number the last counts. After want of memory nothing is told.
     pub fn fail_at(&mut self, call: u64, mode: FailMode) -> Result<(), AllocError>
@@ -191,6 +213,7 @@ impl MemMachine {
         ensures state { mem_state self.new ≡ mem_state self.old }
         ensures moments { Elapses mem_clock mem_since mem_state self.old self.new }
         ensures counts { mem_counts self.new ≡ mem_counts self.old }
+        ensures reads { mem_reads self.new ≡ mem_reads self.old }
         ensures calls { mem_calls self.new ≡ mem_calls self.old }
         ensures starved { mem_starved self.new ≡ mem_starved self.old }
     {
@@ -213,7 +236,7 @@ impl MemMachine {
     }
 
     /// The machine after a stop: with the chosen files, all of them synced. What was printed, its input,
-    /// its counts and its orders stay.
+    /// its counts, its reads and its orders stay.
     pub fn crash(self, alloc: Global, choice: &CrashChoice) -> Result<MemMachine, AllocError>
         ensures state { IfOk result (λ machine. mem_state machine ≡ stopped (mem_state machine).files (mem_state self)) }
         ensures left { IfOk result (λ machine.
@@ -222,6 +245,7 @@ impl MemMachine {
         ensures settled { IfOk result (λ machine. IsSettled (mem_state machine)) }
         ensures moments { IfOk result (λ machine. Elapses mem_clock mem_since mem_state self machine) }
         ensures counts { IfOk result (λ machine. mem_counts machine ≡ mem_counts self) }
+        ensures reads { IfOk result (λ machine. mem_reads machine ≡ mem_reads self) }
         ensures told { IfOk result (λ machine. SameOrders self machine) }
     {
         let mut machine = self;
@@ -268,10 +292,27 @@ impl MemMachine {
         ensures plan { mem_plan self.new ≡ mem_plan self.old }
         ensures moments { Elapses mem_clock mem_since mem_state self.old self.new }
         ensures counts { mem_counts self.new ≡ mem_counts self.old }
+        ensures reads { mem_reads self.new ≡ mem_reads self.old }
         ensures calls { mem_calls self.new ≡ mem_calls self.old }
         ensures starved { (mem_starved self.new ≡ mem_starved self.old) ⊎ IsStarved self.old self.new }
     {
         let _ = self.note(Event::Look);
+    }
+
+    // Keeps a read of that place that gave so many bytes.
+    fn keep_read(&mut self, path: &BootPath, at: u64, count: usize) -> Result<(), AllocError>
+        ensures ok { OnOk result (mem_reads self.new ≡ mem_reads self.old ++ record { path = path.now; at = at; length = count } ∷ []) }
+        ensures err { OnErr result (mem_reads self.new ≡ mem_reads self.old) }
+        ensures start { mem_start self.new ≡ mem_start self.old }
+        ensures events { mem_events self.new ≡ mem_events self.old }
+        ensures input { mem_input self.new ≡ mem_input self.old }
+        ensures told { SameOrders self.old self.new }
+        ensures counts { mem_counts self.new ≡ mem_counts self.old }
+    {
+        let path = path.copy(self.alloc)?;
+        let length = count as u64;
+        self.reads.push(ReadSeen { path, at, length })?;
+        Ok(())
     }
 
     // Counts a call that found no memory.
@@ -311,6 +352,7 @@ impl MemMachine {
         ensures starved { IsStarved self.old self.new }
         ensures moments { Elapses mem_clock mem_since mem_state self.old self.new }
         ensures counts { DiskFailed (mem_counts self.old) (mem_counts self.new) }
+        ensures reads { mem_reads self.new ≡ mem_reads self.old }
     {
         self.next_call();
         self.starve();
@@ -324,6 +366,7 @@ impl MemMachine {
         ensures starved { IsStarved self.old self.new }
         ensures moments { Elapses mem_clock mem_since mem_state self.old self.new }
         ensures counts { PipeFailed (mem_counts self.old) (mem_counts self.new) }
+        ensures reads { mem_reads self.new ≡ mem_reads self.old }
     {
         self.next_call();
         self.starve();
@@ -338,6 +381,7 @@ impl MemMachine {
         ensures plan { mem_plan self.new ≡ mem_plan self.old }
         ensures moments { Elapses mem_clock mem_since mem_state self.old self.new }
         ensures counts { mem_counts self.new ≡ mem_counts self.old }
+        ensures reads { mem_reads self.new ≡ mem_reads self.old }
         ensures calls { mem_calls self.new ≡ mem_calls self.old }
     {
         let nothing = Vec::new(self.alloc);
@@ -350,6 +394,7 @@ impl MemMachine {
         ensures told { AsTold self.old self.new (mem_state self.old) (step event (mem_state self.old)) result }
         ensures moments { Elapses mem_clock mem_since mem_state self.old self.new }
         ensures counts { CountsDisk result (mem_counts self.old) (mem_counts self.new) }
+        ensures reads { mem_reads self.new ≡ mem_reads self.old }
     {
         let mode = self.next_call();
         if mode == Some(FailMode::Before) {
@@ -373,6 +418,7 @@ impl MemMachine {
             (appended path [] (mem_state self.old)) (appended path bytes.items (mem_state self.old)) result }
         ensures moments { Elapses mem_clock mem_since mem_state self.old self.new }
         ensures counts { CountsDisk result (mem_counts self.old) (mem_counts self.new) }
+        ensures reads { mem_reads self.new ≡ mem_reads self.old }
     {
         let mode = self.next_call();
         if mode == Some(FailMode::Before) {
@@ -394,6 +440,7 @@ impl MemMachine {
         ensures told { AsTold self.old self.new (mem_state self.old) (say text.items (mem_state self.old)) result }
         ensures moments { Elapses mem_clock mem_since mem_state self.old self.new }
         ensures counts { CountsPipe result (mem_counts self.old) (mem_counts self.new) }
+        ensures reads { mem_reads self.new ≡ mem_reads self.old }
     {
         let mode = self.next_call();
         if mode == Some(FailMode::Before) {
@@ -416,6 +463,7 @@ impl MemMachine {
         ensures told { AsTold self.old self.new (mem_state self.old) (mem_state self.old) result }
         ensures moments { Elapses mem_clock mem_since mem_state self.old self.new }
         ensures counts { CountsDisk result (mem_counts self.old) (mem_counts self.new) }
+        ensures reads { mem_reads self.new ≡ mem_reads self.old }
     {
         if self.next_call().is_some() {
             self.skip();
@@ -434,6 +482,7 @@ impl MemMachine {
         ensures told { AsTold self.old self.new (mem_state self.old) (mem_state self.old) result }
         ensures moments { Elapses mem_clock mem_since mem_state self.old self.new }
         ensures counts { CountsPipe result (mem_counts self.old) (mem_counts self.new) }
+        ensures reads { mem_reads self.new ≡ mem_reads self.old }
     {
         if self.next_call().is_some() {
             self.skip();
@@ -447,12 +496,13 @@ impl MemMachine {
 }
 
 impl Machine for MemMachine {
-    ghost use Rattle.memory_machine.specs.Memory.{mem_start, mem_events, mem_input, mem_state, mem_clock, mem_since, mem_counts, mem_starved, mem_calls, mem_plan, next_mode, TellsTheSame, TellsOneMore, IsNextCall, IsStarved, AsTold, NamesAsTold};
+    ghost use Rattle.memory_machine.specs.Memory.{mem_start, mem_events, mem_input, mem_state, mem_clock, mem_since, mem_counts, mem_reads, mem_taken, KeepsRead, mem_starved, mem_calls, mem_plan, next_mode, TellsTheSame, TellsOneMore, IsNextCall, IsStarved, AsTold, NamesAsTold};
     ghost use Rattle.memory_machine.specs.EventLaws.{now_counts, now_only, sound_held, sound-input, image-input, image_input};
     ghost use Rattle.memory_machine.specs.Events.{step};
     ghost use Rattle.boot_machine.specs.Moments.{Elapses};
     ghost use Rattle.boot_machine.specs.Rows.{DoneOrNot, SizeRow, ReadRow, NamesRow, CreateRow, AppendRow, SyncFileRow, RenameRow, UnlinkRow, SyncNamesRow, PrintRow, InputRow, created, appended, file_synced, renamed, unlinked, names_synced, with_printed, input_taken};
     ghost use Rattle.boot_machine.specs.Counts.{CountsDisk, CountsPipe, CountsNames};
+    ghost use Rattle.boot_machine.specs.Taken.{TakesNone, TakesRead};
 
     ghost tells = { true };
 
@@ -463,6 +513,8 @@ impl Machine for MemMachine {
     ghost since = { mem_since };
 
     ghost counts = { mem_counts };
+
+    ghost taken = { mem_taken };
 
     ghost sound = { λ m told. sound-input _ _ (sound_held m.start (mem_events m)) };
 
@@ -476,6 +528,8 @@ impl Machine for MemMachine {
         ensures told { AsTold self.old self.new (mem_state self.old) (mem_state self.old) result }
         ensures moments { Elapses mem_clock mem_since mem_state self.old self.new }
         ensures counts { CountsDisk result (mem_counts self.old) (mem_counts self.new) }
+        ensures taken { TakesNone (mem_taken self.old) (mem_taken self.new) }
+        ensures reads { mem_reads self.new ≡ mem_reads self.old }
     {
         let answer = self.files.size(path.as_str());
         self.run_sync(Event::Look)?;
@@ -488,9 +542,15 @@ impl Machine for MemMachine {
         ensures told { AsTold self.old self.new (mem_state self.old) (mem_state self.old) result }
         ensures moments { Elapses mem_clock mem_since mem_state self.old self.new }
         ensures counts { CountsDisk result (mem_counts self.old) (mem_counts self.new) }
+        ensures taken { TakesRead result (mem_taken self.old) (mem_taken self.new) }
+        ensures reads { KeepsRead path.now at result (mem_reads self.old) (mem_reads self.new) }
     {
         let count = self.files.read(path.as_str(), at as usize, into);
         self.run_sync(Event::Look)?;
+        if count > 0 && self.keep_read(path, at, count).is_err() {
+            self.starve();
+            return Err(self.fail_disk());
+        }
         Ok(count)
     }
 
@@ -499,6 +559,8 @@ impl Machine for MemMachine {
         ensures told { NamesAsTold self.old self.new result }
         ensures moments { Elapses mem_clock mem_since mem_state self.old self.new }
         ensures counts { CountsNames result (mem_counts self.old) (mem_counts self.new) }
+        ensures taken { TakesNone (mem_taken self.old) (mem_taken self.new) }
+        ensures reads { mem_reads self.new ≡ mem_reads self.old }
     {
         if self.run_sync(Event::Look).is_err() {
             return Err(NamesFault::Disk);
@@ -514,6 +576,8 @@ impl Machine for MemMachine {
         ensures told { AsTold self.old self.new (mem_state self.old) (created path.now (mem_state self.old)) result }
         ensures moments { Elapses mem_clock mem_since mem_state self.old self.new }
         ensures counts { CountsDisk result (mem_counts self.old) (mem_counts self.new) }
+        ensures taken { TakesNone (mem_taken self.old) (mem_taken self.new) }
+        ensures reads { mem_reads self.new ≡ mem_reads self.old }
     {
         match Text::of(self.alloc, path.as_str()) {
             Ok(path) => self.run_disk(Event::Create(path)),
@@ -528,6 +592,8 @@ impl Machine for MemMachine {
             (appended path.now [] (mem_state self.old)) (appended path.now bytes.now (mem_state self.old)) result }
         ensures moments { Elapses mem_clock mem_since mem_state self.old self.new }
         ensures counts { CountsDisk result (mem_counts self.old) (mem_counts self.new) }
+        ensures taken { TakesNone (mem_taken self.old) (mem_taken self.new) }
+        ensures reads { mem_reads self.new ≡ mem_reads self.old }
     {
         match path_and_bytes(self.alloc, path.as_str(), bytes) {
             Ok((path, bytes)) => self.run_append(path, bytes),
@@ -540,6 +606,8 @@ impl Machine for MemMachine {
         ensures told { AsTold self.old self.new (mem_state self.old) (mem_state self.old) result }
         ensures moments { Elapses mem_clock mem_since mem_state self.old self.new }
         ensures counts { CountsDisk result (mem_counts self.old) (mem_counts self.new) }
+        ensures taken { TakesNone (mem_taken self.old) (mem_taken self.new) }
+        ensures reads { mem_reads self.new ≡ mem_reads self.old }
     {
         match Text::of(self.alloc, path.as_str()) {
             Ok(path) => self.run_sync(Event::SyncFile(path)),
@@ -554,6 +622,8 @@ impl Machine for MemMachine {
         ensures told { AsTold self.old self.new (mem_state self.old) (renamed from.now to.now (mem_state self.old)) result }
         ensures moments { Elapses mem_clock mem_since mem_state self.old self.new }
         ensures counts { CountsDisk result (mem_counts self.old) (mem_counts self.new) }
+        ensures taken { TakesNone (mem_taken self.old) (mem_taken self.new) }
+        ensures reads { mem_reads self.new ≡ mem_reads self.old }
     {
         match two_paths(self.alloc, from.as_str(), to.as_str()) {
             Ok((from, to)) => self.run_disk(Event::Rename(from, to)),
@@ -568,6 +638,8 @@ impl Machine for MemMachine {
         ensures told { AsTold self.old self.new (mem_state self.old) (renamed from.now to.now (mem_state self.old)) result }
         ensures moments { Elapses mem_clock mem_since mem_state self.old self.new }
         ensures counts { CountsDisk result (mem_counts self.old) (mem_counts self.new) }
+        ensures taken { TakesNone (mem_taken self.old) (mem_taken self.new) }
+        ensures reads { mem_reads self.new ≡ mem_reads self.old }
     {
         match two_paths(self.alloc, from.as_str(), to.as_str()) {
             Ok((from, to)) => self.run_disk(Event::Rename(from, to)),
@@ -580,6 +652,8 @@ impl Machine for MemMachine {
         ensures told { AsTold self.old self.new (mem_state self.old) (unlinked path.now (mem_state self.old)) result }
         ensures moments { Elapses mem_clock mem_since mem_state self.old self.new }
         ensures counts { CountsDisk result (mem_counts self.old) (mem_counts self.new) }
+        ensures taken { TakesNone (mem_taken self.old) (mem_taken self.new) }
+        ensures reads { mem_reads self.new ≡ mem_reads self.old }
     {
         match Text::of(self.alloc, path.as_str()) {
             Ok(path) => self.run_disk(Event::Unlink(path)),
@@ -592,6 +666,8 @@ impl Machine for MemMachine {
         ensures told { AsTold self.old self.new (mem_state self.old) (unlinked path.now (mem_state self.old)) result }
         ensures moments { Elapses mem_clock mem_since mem_state self.old self.new }
         ensures counts { CountsDisk result (mem_counts self.old) (mem_counts self.new) }
+        ensures taken { TakesNone (mem_taken self.old) (mem_taken self.new) }
+        ensures reads { mem_reads self.new ≡ mem_reads self.old }
     {
         match Text::of(self.alloc, path.as_str()) {
             Ok(path) => self.run_disk(Event::Unlink(path)),
@@ -604,6 +680,8 @@ impl Machine for MemMachine {
         ensures told { AsTold self.old self.new (mem_state self.old) (mem_state self.old) result }
         ensures moments { Elapses mem_clock mem_since mem_state self.old self.new }
         ensures counts { CountsDisk result (mem_counts self.old) (mem_counts self.new) }
+        ensures taken { TakesNone (mem_taken self.old) (mem_taken self.new) }
+        ensures reads { mem_reads self.new ≡ mem_reads self.old }
     {
         self.run_sync(Event::SyncNames)
     }
@@ -613,6 +691,8 @@ impl Machine for MemMachine {
         ensures told { AsTold self.old self.new (mem_state self.old) (with_printed to bytes.now (mem_state self.old)) result }
         ensures moments { Elapses mem_clock mem_since mem_state self.old self.new }
         ensures counts { CountsPipe result (mem_counts self.old) (mem_counts self.new) }
+        ensures taken { TakesNone (mem_taken self.old) (mem_taken self.new) }
+        ensures reads { mem_reads self.new ≡ mem_reads self.old }
     {
         match tagged(self.alloc, to, bytes) {
             Ok(text) => self.run_print(text),
@@ -626,6 +706,8 @@ impl Machine for MemMachine {
         ensures told { AsTold self.old self.new (mem_state self.old) (mem_state self.old) result }
         ensures moments { Elapses mem_clock mem_since mem_state self.old self.new }
         ensures counts { CountsPipe result (mem_counts self.old) (mem_counts self.new) }
+        ensures taken { TakesNone (mem_taken self.old) (mem_taken self.new) }
+        ensures reads { mem_reads self.new ≡ mem_reads self.old }
     {
         self.run_input()?;
         let count = copy_some(&self.given, self.taken, into);

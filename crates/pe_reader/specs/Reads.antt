@@ -1,8 +1,11 @@
 -- What a reading function returned, unless memory ran out, and what a `Pe` was read from.
-use Rattle.std.specs.Prelude.{◌≡◌, ℕ, List, length, Result, Ok, Err}
+use Rattle.std.specs.Prelude.{◌≡◌, ℕ, List, length, Result, Ok, Err, MatchResult}
+use Rattle.boot_machine.specs.Counts.{Counts, DiskFailed}
 use Rattle.pe_reader.specs.declared.fault.FailedCheck.{FailedCheck}
 use Rattle.pe_reader.specs.declared.fault.PeFault.{PeFault}
 use Rattle.pe_reader.specs.declared.fault.PeFault.TheVariants.{Memory, NotPe}
+use Rattle.pe_reader.specs.declared.fault.HeadFault.{HeadFault}
+use Rattle.pe_reader.specs.declared.fault.HeadFault.TheVariants as heads
 use Rattle.pe_reader.specs.declared.pe.Pe.{Pe}
 use Rattle.pe_reader.specs.Grammar.{Headers, pe_of}
 
@@ -15,6 +18,30 @@ Fails (NotPe reason offset) read = read ≡ Err (record { reason = reason; offse
 abbrev pub Gives : {X Y : Type 0} → (X → Y) → Result X PeFault → Result Y FailedCheck → Type 0
 Gives view (Ok x) read = read ≡ Ok (view x)
 Gives view (Err e) read = Fails e read
+
+-- the same fault, of a machine's file
+abbrev pub head_fault : PeFault → HeadFault
+head_fault Memory = heads.Memory
+head_fault (NotPe reason offset) = heads.NotPe reason offset
+
+-- the same of a machine's file, unless memory ran out or the disk failed
+abbrev pub FailsFrom : {Y : Type 0} → HeadFault → Result Y FailedCheck → Type 0
+FailsFrom heads.Memory read = Unit {0}
+FailsFrom heads.Disk read = Unit {0}
+FailsFrom (heads.NotPe reason offset) read = read ≡ Err (record { reason = reason; offset = offset })
+
+abbrev pub GivesFrom : {X Y : Type 0} → (X → Y) → Result X HeadFault → Result Y FailedCheck → Type 0
+GivesFrom view (Ok x) read = read ≡ Ok (view x)
+GivesFrom view (Err e) read = FailsFrom e read
+
+-- a fault of the disk has its cause, and every other answer leaves the counts
+abbrev pub head_counts : HeadFault → Counts → Counts → Type 0
+head_counts heads.Memory old new = new ≡ old
+head_counts (heads.NotPe reason offset) old new = new ≡ old
+head_counts heads.Disk old new = DiskFailed old new
+
+abbrev pub CountsHead : {X : Type 0} → Result X HeadFault → Counts → Counts → Type 0
+CountsHead result old new = MatchResult result (λ _. new ≡ old) (λ fault. head_counts fault old new)
 
 -- a `Pe` without where it lies in memory
 abbrev pub headers_of : Pe → Headers

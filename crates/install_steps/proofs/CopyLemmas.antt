@@ -1,0 +1,95 @@
+-- A file that is copied in pieces, under a temporary name and then in its place.
+use Rattle.std.proofs.Common.{◌≡◌, ◌≤◌, ◌+◌, inl, inr, ℕ, true, false, List, [], ◌++◌, length, take, drop, Option, Some, None, is_some, unwrap_or, refl, sym, ap, ◌∙◌, arith, length-drop}
+use Rattle.std.proofs.Math.Seq.{take-add}
+use Rattle.std.proofs.lemmas.List.{take_all}
+use Rattle.std.specs.Option.{option_map}
+use Rattle.std.specs.FinMap as map
+use Rattle.boot_base.specs.Paths.{Path, is_temp}
+use Rattle.boot_machine.specs.Disk.{Files, has, view, same}
+use Rattle.boot_machine.specs.Reading.{zero_filled}
+use Rattle.boot_machine.specs.Rows.{contents, append_to, move_in}
+use Rattle.boot_machine.specs.Maps.{cases_same, same_self, same_files, get-insert_here, get-insert_apart}
+use Rattle.boot_machine.proofs.Filling.{zero_filled-inside}
+use Rattle.boot_machine.proofs.Views.{get-append_to, get-view_shown}
+use Rattle.boot_machine.proofs.Written.{view-written}
+use Rattle.install_steps.specs.Steps.{copied}
+
+-- a new file with these bytes
+abbrev pub with_file : Path → List ℕ → Files → Files
+with_file p bytes m = append_to p bytes (map.insert m p [])
+
+with_file_here : (m : Files) (p : Path) (bytes : List ℕ) → map.get (with_file p bytes m) p ≡ Some bytes
+with_file_here m p bytes = rw (get-append_to (map.insert m p []) p bytes p, same_self p, get-insert_here m p []) refl
+
+with_file_apart : (m : Files) (p : Path) (bytes : List ℕ) (q : Path) → same q p ≡ false → map.get (with_file p bytes m) q ≡ map.get m q
+with_file_apart m p bytes q apart = rw (get-append_to (map.insert m p []) p bytes q, apart) (get-insert_apart m p [] q apart)
+
+-- a file that is made is empty
+pub with_none : (m : Files) (p : Path) → map.insert m p [] ≡ with_file p [] m
+with_none m p = same_files _ _ (λ q. elim (cases_same q p) [
+  | inl is ↦ rw is (get-insert_here m p [] ∙ sym (with_file_here m p []))
+  | inr apart ↦ get-insert_apart m p [] q apart ∙ sym (with_file_apart m p [] q apart)
+])
+
+-- more bytes are written behind
+with_more : (m : Files) (p : Path) (a b : List ℕ) → append_to p b (with_file p a m) ≡ with_file p (a ++ b) m
+with_more m p a b =
+    let here : map.get (append_to p b (with_file p a m)) p ≡ Some (a ++ b) = rw (get-append_to (with_file p a m) p b p, same_self p, with_file_here m p a) refl in
+    same_files _ _ (λ q. elim (cases_same q p) [
+      | inl is ↦ rw is (here ∙ sym (with_file_here m p (a ++ b)))
+      | inr apart ↦ rw (get-append_to (with_file p a m) p b q, apart) (with_file_apart m p a q apart ∙ sym (with_file_apart m p (a ++ b) q apart))
+    ])
+
+clash : (q p : Path) → is_temp p ≡ true → is_temp q ≡ false → q ≡ p → ⊥
+clash q p temp shown is = cc (temp, shown, ap is_temp is)
+
+-- the file that is copied stays
+source_stays : (m : Files) (temp from : Path) (bytes : List ℕ) → is_temp temp ≡ true → is_temp from ≡ false → contents (with_file temp bytes m) from ≡ contents m from
+source_stays m temp from bytes is_temporary shown = elim (cases_same from temp) [
+  | inl is ↦ absurd (clash from temp is_temporary shown is)
+  | inr apart ↦ ap (λ (o : Option (List ℕ)). unwrap_or o []) (with_file_apart m temp bytes from apart)
+]
+
+-- one piece more
+pub copies_piece : (m now : Files) (temp from : Path) (size at count : ℕ) (piece : List ℕ) → is_temp temp ≡ true → is_temp from ≡ false → size ≡ length (contents m from) → at + count ≤ size
+    → now ≡ with_file temp (take at (contents m from)) m → piece ≡ zero_filled (drop at (contents now from)) count → append_to temp piece now ≡ with_file temp (take (at + count) (contents m from)) m
+copies_piece m now temp from size at count piece is_temporary shown long inside so_far is =
+    let file = contents m from in
+    let source : contents now from ≡ file = ap (λ (n : Files). contents n from) so_far ∙ source_stays m temp from (take at file) is_temporary shown in
+    let bytes : piece ≡ take count (drop at file) = is ∙ ap (λ (l : List ℕ). zero_filled (drop at l) count) source ∙ zero_filled-inside (drop at file) count (omega (arith, long, inside, length-drop at file)) in
+    ap (λ (n : Files). append_to temp piece n) so_far ∙ ap (λ (l : List ℕ). append_to temp l (with_file temp (take at file) m)) bytes ∙ with_more m temp (take at file) (take count (drop at file))
+    ∙ ap (λ (l : List ℕ). with_file temp l m) (sym (take-add at count file))
+
+-- all of it is written
+pub copies_all : (m now : Files) (temp from : Path) (size at : ℕ) → size ≡ length (contents m from) → size ≤ at → now ≡ with_file temp (take at (contents m from)) m → now ≡ with_file temp (contents m from) m
+copies_all m now temp from size at long end so_far = so_far ∙ ap (λ (l : List ℕ). with_file temp l m) (take_all at (contents m from) (omega (arith, long, end)))
+
+pub contents-view : (m : Files) (q : Path) → is_temp q ≡ false → contents (view m) q ≡ contents m q
+contents-view m q shown = ap (λ (o : Option (List ℕ)). unwrap_or o []) (get-view_shown m q shown)
+
+-- boot sees the copy in its place
+pub sees_copy : (m now : Files) (temp from to : Path) → is_temp temp ≡ true → is_temp from ≡ false → is_temp to ≡ false → now ≡ with_file temp (contents m from) m → view (move_in temp to now) ≡ copied from to (view m)
+sees_copy m now temp from to is_temporary from_shown to_shown is =
+    ap (λ (n : Files). view (move_in temp to n)) is ∙ view-written m temp to (contents m from) is_temporary to_shown ∙ ap (λ (l : List ℕ). map.insert (view m) to l) (sym (contents-view m from from_shown))
+
+size_at : (o : Option (List ℕ)) (size : ℕ) → option_map length o ≡ Some size → (size ≡ length (unwrap_or o [])) × (is_some o ≡ true)
+size_at None size is = cc
+size_at (Some bytes) size is = (cc, refl)
+
+-- a file with a size is there
+pub size_there : (m : Files) (q : Path) (found : Option ℕ) (size : ℕ) → found ≡ option_map length (map.get m q) → found ≡ Some size → (size ≡ length (contents m q)) × (has m q ≡ true)
+size_there m q found size row is = size_at (map.get m q) size (sym row ∙ is)
+
+-- its size is within the limit
+pub size_within : (m : Files) (q : Path) (found : Option ℕ) (size limited : ℕ) → is_temp q ≡ false → length (contents (view m) q) ≤ 268435456 → found ≡ option_map length (map.get m q) → found ≡ Some size → (size ≤ 268435456 → limited ≡ size) → limited ≡ length (contents m q)
+size_within m q found size limited shown small row is within =
+    let long = (size_there m q found size row is).0 in
+    within (omega (arith, long, small, ap length (contents-view m q shown))) ∙ long
+
+length_or_none : (o : Option (List ℕ)) → unwrap_or (option_map length o) 0 ≡ length (unwrap_or o [])
+length_or_none None = refl
+length_or_none (Some bytes) = refl
+
+-- the size of a file that may be there
+pub size_or_none : (m : Files) (q : Path) (found : Option ℕ) → is_temp q ≡ false → found ≡ option_map length (map.get m q) → unwrap_or found 0 ≡ length (contents (view m) q)
+size_or_none m q found shown row = ap (λ (o : Option ℕ). unwrap_or o 0) row ∙ length_or_none (map.get m q) ∙ ap length (sym (contents-view m q shown))

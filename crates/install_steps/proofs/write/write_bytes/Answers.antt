@@ -1,0 +1,58 @@
+use Rattle.std.proofs.Common.{◌≡◌, subst}
+use Rattle.std.specs.FinMap as map
+use Rattle.boot_machine.specs.Disk.{Files, view}
+use Rattle.boot_machine.specs.Rows.{move_in}
+use Rattle.boot_machine.proofs.Going.{goes-create, goes-append}
+use Rattle.boot_machine.proofs.Written.{has-created, has-appended, view-written, temps-written}
+use Rattle.install_steps.specs.Steps.{StepsTo, IsDone}
+use Rattle.install_steps.proofs.StepLemmas.{begins_same, firm_so_far, settled_so_far, steps_same, steps_on, ok_then}
+use Rattle.install_steps.proofs.write.write_bytes.Goals as goal
+
+pub returns-in_err-create-clause-step : goal.returns-in_err-create-clause-step
+returns-in_err-create-clause-step g c told firm =
+    let s = g.M.Machine.state c.args.machine.now in
+    let start = begins_same g.M.Machine.clock g.M.Machine.since g.M.Machine.state c.args.machine.now (λ m o. g.met.M.Machine.only_now c.args.machine.now m o told) (g.met.M.Machine.sound c.args.machine.now told) firm (c.requires.one told) in
+    let made = goes-create _ _ _ _ _ _ _ c.create.result start (c.create.ensures.moments told) c.args.target.now.temp c.know-2.ensures (c.create.ensures.row told) in
+    steps_same _ _ _ _ _ _ made
+
+pub append-requires : goal.append-requires
+append-requires g c told = rw (c.in_ok-create.ensures.row told) (has-created (g.M.Machine.state c.args.machine.now).files c.args.target.now.temp)
+
+pub returns-in_err-append-clause-step : goal.returns-in_err-append-clause-step
+returns-in_err-append-clause-step g c told firm =
+    let s = g.M.Machine.state c.args.machine.now in
+    let start = begins_same g.M.Machine.clock g.M.Machine.since g.M.Machine.state c.args.machine.now (λ m o. g.met.M.Machine.only_now c.args.machine.now m o told) (g.met.M.Machine.sound c.args.machine.now told) firm (c.requires.one told) in
+    let made = goes-create _ _ _ _ _ _ _ c.create.result start (c.create.ensures.moments told) c.args.target.now.temp c.know-2.ensures (c.create.ensures.row told) in
+    let written = goes-append _ _ _ _ _ _ _ c.append.result made (c.append.ensures.moments told) c.args.target.now.temp c.args.bytes.now c.know-2.ensures (c.append.ensures.row told) in
+    steps_same _ _ _ _ _ _ written
+
+pub finish-requires : goal.finish-requires
+finish-requires g c = record {
+  there = λ told. rw (c.in_ok-append.ensures.row told, c.in_ok-create.ensures.row told) (has-appended (g.M.Machine.state c.args.machine.now).files c.args.target.now.temp c.args.bytes.now);
+}
+
+pub returns-clause-step : goal.returns-clause-step
+returns-clause-step g c told firm =
+    let s = g.M.Machine.state c.args.machine.now in
+    let start = begins_same g.M.Machine.clock g.M.Machine.since g.M.Machine.state c.args.machine.now (λ m o. g.met.M.Machine.only_now c.args.machine.now m o told) (g.met.M.Machine.sound c.args.machine.now told) firm (c.requires.one told) in
+    let made = goes-create _ _ _ _ _ _ _ c.create.result start (c.create.ensures.moments told) c.args.target.now.temp c.know-2.ensures (c.create.ensures.row told) in
+    let written = goes-append _ _ _ _ _ _ _ c.append.result made (c.append.ensures.moments told) c.args.target.now.temp c.args.bytes.now c.know-2.ensures (c.append.ensures.row told) in
+    let next = map.insert (view s.files) c.args.target.now.path c.args.bytes.now in
+    let is : view (move_in c.args.target.now.temp c.args.target.now.path (g.M.Machine.state c.append.new.self).files) ≡ next = rw (c.in_ok-append.ensures.row told, c.in_ok-create.ensures.row told) (view-written s.files c.args.target.now.temp c.args.target.now.path c.args.bytes.now c.know-2.ensures c.know.ensures) in
+    let finished = c.finish.ensures.step told (firm_so_far _ _ _ _ _ _ written) (settled_so_far _ _ _ _ _ written) in
+    steps_on _ _ _ _ _ _ _ written (subst (λ (v : Files). StepsTo g.M.Machine.clock g.M.Machine.since g.M.Machine.state v c.append.new.self c.finish.new.machine) is finished)
+
+pub returns-clause-done : goal.returns-clause-done
+returns-clause-done g c = ok_then c.finish.result c.finish.ensures.done (λ done told firm.
+    let s = g.M.Machine.state c.args.machine.now in
+    let start = begins_same g.M.Machine.clock g.M.Machine.since g.M.Machine.state c.args.machine.now (λ m o. g.met.M.Machine.only_now c.args.machine.now m o told) (g.met.M.Machine.sound c.args.machine.now told) firm (c.requires.one told) in
+    let made = goes-create _ _ _ _ _ _ _ c.create.result start (c.create.ensures.moments told) c.args.target.now.temp c.know-2.ensures (c.create.ensures.row told) in
+    let written = goes-append _ _ _ _ _ _ _ c.append.result made (c.append.ensures.moments told) c.args.target.now.temp c.args.bytes.now c.know-2.ensures (c.append.ensures.row told) in
+    let next = map.insert (view s.files) c.args.target.now.path c.args.bytes.now in
+    let is : view (move_in c.args.target.now.temp c.args.target.now.path (g.M.Machine.state c.append.new.self).files) ≡ next = rw (c.in_ok-append.ensures.row told, c.in_ok-create.ensures.row told) (view-written s.files c.args.target.now.temp c.args.target.now.path c.args.bytes.now c.know-2.ensures c.know.ensures) in
+    subst (IsDone (g.M.Machine.state c.finish.new.machine)) is (done told (firm_so_far _ _ _ _ _ _ written) (settled_so_far _ _ _ _ _ written)))
+
+pub returns-clause-temps : goal.returns-clause-temps
+returns-clause-temps g c = ok_then c.finish.result c.finish.ensures.files (λ files told q temp there.
+    temps-written (g.M.Machine.state c.args.machine.now).files c.args.target.now.temp c.args.target.now.path c.args.bytes.now c.know-2.ensures c.know.ensures q temp
+    (rw (files told, c.in_ok-append.ensures.row told, c.in_ok-create.ensures.row told) at there))

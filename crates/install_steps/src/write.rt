@@ -1,0 +1,110 @@
+//! Writing files: bytes at hand, and copies of whole files.
+ghost use Rattle.std.specs.Prelude.{◌≡◌, ◌≤◌, true, false, length, IsTrue, OnOk, IsErrOf};
+ghost use Rattle.std.specs.FinMap as map;
+ghost use Rattle.boot_machine.specs.Disk.{HasOneCandidate, IsRested, has, view};
+ghost use Rattle.boot_machine.specs.Images.{IsFirm, IsSettled};
+ghost use Rattle.boot_machine.specs.Rows.{contents, move_in};
+ghost use Rattle.boot_machine.specs.Counts.{CountsDisk};
+ghost use Rattle.install_steps.specs.Steps.{Keeps, StepsTo, IsDone, NoNewTemp, CountsStep, copied};
+
+use crate::StepFault;
+use boot_base::{BootPath, Target};
+use boot_machine::{DiskFault, Machine, read_part};
+
+/// The most bytes that a file has.
+const FILE_LIMIT: u64 = 268_435_456;
+
+/// How many bytes of a file are held at a time.
+const PIECE: u64 = 65_536;
+
+/// Writes these bytes at the target, in place of a file that is there. A stop at any moment leaves what
+/// boot saw before, or that with the whole new file. After a fault of the disk either stands, and a
+/// temporary file may be left.
+pub fn write_bytes<M: Machine>(
+    machine: &mut M,
+    target: &Target,
+    bytes: &[u8],
+) -> Result<(), DiskFault>
+    requires one { IsTrue M.tells → HasOneCandidate (M.state machine.old) }
+    requires rested { IsTrue M.tells → IsRested (M.state machine.old) }
+    ensures done { OnOk result (IsTrue M.tells → IsFirm (M.state machine.old)
+        → IsDone (M.state machine.new) (map.insert (view (M.state machine.old).files) target.now.path bytes.now)) }
+    ensures step { IsTrue M.tells → IsFirm (M.state machine.old) → StepsTo M.clock M.since M.state
+        (map.insert (view (M.state machine.old).files) target.now.path bytes.now) machine.old machine.new }
+    ensures keeps { IsTrue M.tells → Keeps (M.state machine.old) (M.state machine.new) }
+    ensures rests { OnOk result (IsTrue M.tells → IsRested (M.state machine.new)) }
+    ensures temps { OnOk result (IsTrue M.tells → NoNewTemp (M.state machine.old) (M.state machine.new)) }
+    ensures counts { CountsDisk result (M.counts machine.old) (M.counts machine.new) }
+{
+    target.path.know();
+    target.temp.know();
+    machine.create(&target.temp)?;
+    machine.append(&target.temp, bytes)?;
+    finish(machine, target)
+}
+
+/// Writes the bytes of the file `from` at the target, in place of a file that is there, which may be `from`
+/// itself. They go through the buffer in pieces, and no memory is taken. A stop at any moment leaves what boot
+/// saw before, or that with the whole copy. `NotFound` comes exactly where `from` isn't there, and nothing has
+/// changed then. After a fault of the disk either stands, and a temporary file may be left. Zeros stand for
+/// bytes that the machine doesn't give.
+pub fn write_whole<M: Machine>(
+    machine: &mut M,
+    from: &BootPath,
+    target: &Target,
+    buffer: &mut [u8; 65536],
+) -> Result<(), StepFault>
+    requires one { IsTrue M.tells → HasOneCandidate (M.state machine.old) }
+    requires rested { IsTrue M.tells → IsRested (M.state machine.old) }
+    requires small { IsTrue M.tells → length (contents (view (M.state machine.old).files) from.now) ≤ 268435456 }
+    ensures done { OnOk result (IsTrue M.tells → IsFirm (M.state machine.old)
+        → IsDone (M.state machine.new) (copied from.now target.now.path (view (M.state machine.old).files))) }
+    ensures step { IsTrue M.tells → IsFirm (M.state machine.old) → StepsTo M.clock M.since M.state
+        (copied from.now target.now.path (view (M.state machine.old).files)) machine.old machine.new }
+    ensures found { OnOk result (IsTrue M.tells → has (view (M.state machine.old).files) from.now ≡ true) }
+    ensures not_found { IsErrOf result StepFault.NotFound → IsTrue M.tells
+        → (has (view (M.state machine.old).files) from.now ≡ false) × (M.state machine.new ≡ M.state machine.old) }
+    ensures keeps { IsTrue M.tells → Keeps (M.state machine.old) (M.state machine.new) }
+    ensures rests { OnOk result (IsTrue M.tells → IsRested (M.state machine.new)) }
+    ensures temps { OnOk result (IsTrue M.tells → NoNewTemp (M.state machine.old) (M.state machine.new)) }
+    ensures counts { CountsStep result (M.counts machine.old) (M.counts machine.new) }
+{
+    from.know();
+    target.path.know();
+    target.temp.know();
+    let Some(size) = machine.size(from)? else {
+        return Err(StepFault::NotFound);
+    };
+    let size = size.min(FILE_LIMIT);
+    machine.create(&target.temp)?;
+    let mut at = 0;
+    while at < size {
+        let count = (size - at).min(PIECE);
+        let piece = &mut buffer[..count as usize];
+        read_part(machine, from, at, piece)?;
+        machine.append(&target.temp, piece)?;
+        at += count;
+    }
+    finish(machine, target)?;
+    Ok(())
+}
+
+// Puts a temporary file that is written in its place: syncs it, renames it, and syncs the names.
+fn finish<M: Machine>(machine: &mut M, target: &Target) -> Result<(), DiskFault>
+    requires there { IsTrue M.tells → has (M.state machine.old).files target.now.temp ≡ true }
+    ensures done { OnOk result (IsTrue M.tells → IsFirm (M.state machine.old) → IsSettled (M.state machine.old)
+        → IsDone (M.state machine.new) (view (move_in target.now.temp target.now.path (M.state machine.old).files))) }
+    ensures step { IsTrue M.tells → IsFirm (M.state machine.old) → IsSettled (M.state machine.old)
+        → StepsTo M.clock M.since M.state
+        (view (move_in target.now.temp target.now.path (M.state machine.old).files)) machine.old machine.new }
+    ensures files { OnOk result (IsTrue M.tells
+        → (M.state machine.new).files ≡ move_in target.now.temp target.now.path (M.state machine.old).files) }
+    ensures keeps { IsTrue M.tells → Keeps (M.state machine.old) (M.state machine.new) }
+    ensures counts { CountsDisk result (M.counts machine.old) (M.counts machine.new) }
+{
+    target.path.know();
+    target.temp.know();
+    machine.sync_file(&target.temp)?;
+    machine.rename_temp(&target.temp, &target.path)?;
+    machine.sync_names()
+}
