@@ -1,5 +1,5 @@
 -- The clauses of every command.
-use Rattle.std.specs.Prelude.{◌≡◌, ◌⊎◌, ◌≤◌, ℕ, true, [], ◌∷◌, ◌++◌, Result, Ok, Err, MatchResult, IfOk, IfErr, OnOk, OnErr}
+use Rattle.std.specs.Prelude.{◌≡◌, ◌⊎◌, ◌≤◌, ℕ, true, [], ◌∷◌, ◌++◌, Result, MatchResult, IfOk, IfErr, OnOk, OnErr}
 use Rattle.boot_machine.specs.Disk.{Files, State, view}
 use Rattle.boot_machine.specs.Images.{IsImage, IsFirm}
 use Rattle.boot_machine.specs.Moments.{EachSince}
@@ -68,13 +68,14 @@ abbrev pub CountsFault : {T : Type 0} → Result T MachineFault → Counts → C
 CountsFault result old new = MatchResult result (λ _. new ≡ old) (λ fault. stop_counts (stop_of fault) old new)
 
 -- no temporary file is left that wasn't there, but after a fault of the disk
-abbrev pub LeavesNoTemp : {T : Type 0} → Result T Stop → State → State → Type 0
-LeavesNoTemp (Ok value) old new = NoNewTemp old new
-LeavesNoTemp (Err stops.Disk) old new = Unit {0}
-LeavesNoTemp (Err stops.Pipe) old new = NoNewTemp old new
-LeavesNoTemp (Err stops.Memory) old new = NoNewTemp old new
+abbrev pub stop_temps : Stop → State → State → Type 0
+stop_temps stops.Disk old new = Unit {0}
+stop_temps stops.Pipe old new = NoNewTemp old new
+stop_temps stops.Memory old new = NoNewTemp old new
 
+abbrev pub LeavesNoTemp : {T : Type 0} → Result T Stop → State → State → Type 0
+LeavesNoTemp result old new = MatchResult result (λ _. NoNewTemp old new) (λ stop. stop_temps stop old new)
+
+-- the same of the machine's faults
 abbrev pub LeavesNoTempBy : {T : Type 0} → Result T MachineFault → State → State → Type 0
-LeavesNoTempBy (Ok value) old new = NoNewTemp old new
-LeavesNoTempBy (Err faults.Disk) old new = Unit {0}
-LeavesNoTempBy (Err faults.Pipe) old new = NoNewTemp old new
+LeavesNoTempBy result old new = MatchResult result (λ _. NoNewTemp old new) (λ fault. stop_temps (stop_of fault) old new)

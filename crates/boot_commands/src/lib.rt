@@ -20,4 +20,5 @@ mod tidy;
 mod unlink;
 
 pub use outcome::{MachineFault, Outcome, Stop};
+pub use refused::refusal_line;
 pub use stepping::plain_step;

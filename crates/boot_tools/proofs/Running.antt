@@ -217,7 +217,7 @@ module _ {D : Type 0} (clock : D → ℕ) (since : D → ℕ → Files → Sent 
     -- what breaks off in the line, of the run from one view
     late_breaks : (here : List Files) → states start (take i lines) ≡ here → (left : List Files) (printed part : Sent) → printed ≡ (state mid).printed ++ part → Breaks (line_deed (latest here) line) here left part Stopped
         → Adds (state old).printed printed (λ sent. Runs start lines left sent Stopped)
-    late_breaks here here_is left printed part is broke = (
+    late_breaks from here_is left printed part is broke = (
       said start (take i lines) ++ part,
       is ∙ ap (λ (l : Sent). l ++ part) (so_far.all.printed ∙ ap (λ (l : Sent). (state old).printed ++ l) (sym said_alike)) ∙ append_assoc (state old).printed (said start (take i lines)) part,
       runs_break start lines i line within line_is left part Stopped (subst (λ (s : List Files). Breaks (line_deed (latest s) line) s left part Stopped) (sym here_is) broke),
@@ -235,7 +235,7 @@ module _ {D : Type 0} (clock : D → ℕ) (since : D → ℕ → Files → Sent 
         (moments.before late.t image printed late.until left)
 
     -- one line more
-    pub synced_more : (outcome : Outcome) → Performs clock since state end_of mid new (line_deed (seen (state mid)) line) (Ok outcome) → Syncs clock since state mid new (line_deed (seen (state mid)) line) (Ok outcome)
+    pub synced_more : (outcome : Outcome) → Performs clock since state end_of mid new (line_deed (seen (state mid)) line) (Ok outcome) → Syncs {E = Stop} clock since state mid new (line_deed (seen (state mid)) line) (Ok outcome)
         → Synced old mid lines (take i lines) → Synced old new lines (take (i + 1) lines)
     synced_more outcome performs syncs (inr late) = inr (record {
       t = late.t;

@@ -16,8 +16,8 @@ ghost use Rattle.boot_tools.specs.RunsTo.{IsSyncedBy, RunsTo};
 
 use crate::input::SCRIPT_LIMIT;
 use crate::line::Line;
-use boot_base::{Refusal, Text};
-use boot_commands::{Outcome, Stop, plain_step};
+use boot_base::{Bytes, Refusal, Text};
+use boot_commands::{Outcome, Stop, plain_step, refusal_line};
 use boot_machine::{Channel, Machine, PipeFault, print_all};
 use std::alloc::{AllocError, Global};
 use tool_words::Command;
@@ -25,8 +25,8 @@ use tool_words::Command;
 /// The two lines that may stand behind a reply.
 #[derive(Debug, Drop)]
 struct Acknowledgements {
-    ok: Text,
-    refused: Text,
+    ok: Bytes,
+    refused: Bytes,
 }
 
 impl Acknowledgements {
@@ -34,9 +34,12 @@ impl Acknowledgements {
     fn of(alloc: Global, number: u64) -> Result<Acknowledgements, AllocError>
         ensures { IfOk result (λ texts. (outcome : Outcome) → acknowledgement_in texts outcome ≡ acknowledgement outcome number) }
     {
-        let ok = Text::from(format!(in alloc; "ok {number}\n")?);
-        let refused = Text::from(format!(in alloc; "refused {number}\n")?);
-        Ok(Acknowledgements { ok, refused })
+        let ok = format!(in alloc; "ok {number}\n")?;
+        let refused = format!(in alloc; "refused {number}\n")?;
+        Ok(Acknowledgements {
+            ok: Bytes::from(ok.into_bytes()),
+            refused: Bytes::from(refused.into_bytes()),
+        })
     }
 }
 
@@ -53,21 +56,19 @@ fn acknowledge<M: Machine>(
     ensures counts { CountsPipe result (M.counts machine.old) (M.counts machine.new) }
 {
     match outcome {
-        Outcome::Done => print_all(Channel::Out, texts.ok.as_str().as_bytes(), machine),
-        Outcome::Refused { .. } => {
-            print_all(Channel::Out, texts.refused.as_str().as_bytes(), machine)
-        }
+        Outcome::Done => print_all(Channel::Out, texts.ok.as_slice(), machine),
+        Outcome::Refused { .. } => print_all(Channel::Out, texts.refused.as_slice(), machine),
     }
 }
 
 // Prints the refusal of what is no command.
-fn refuse_unread<M: Machine>(number: u8, text: &Text, machine: &mut M) -> Result<Outcome, Stop>
+fn refuse_unread<M: Machine>(number: u8, text: &Bytes, machine: &mut M) -> Result<Outcome, Stop>
     ensures performs { IsTrue M.tells → IsFirm (M.state machine.old) → Performs M.clock M.since M.state end_of machine.old machine.new
         (unread number text.now (seen (M.state machine.old))) result }
     ensures stays { IsTrue M.tells → Prints (M.state machine.old) (M.state machine.new) }
     ensures counts { CountsStop result (M.counts machine.old) (M.counts machine.new) }
 {
-    print_all(Channel::Err, text.as_str().as_bytes(), machine)?;
+    print_all(Channel::Err, text.as_slice(), machine)?;
     Ok(Outcome::Refused { number })
 }
 
@@ -93,10 +94,10 @@ fn numbered<M: Machine>(
     Ok(outcome)
 }
 
-fn no_command(alloc: Global, number: u64) -> Result<Text, AllocError>
+fn no_command(alloc: Global, number: u64) -> Result<Bytes, AllocError>
     ensures { IfOk result (λ text. text ≡ no_command_text number) }
 {
-    Refusal::BadScript { line: number }.line(alloc)
+    refusal_line(alloc, &Refusal::BadScript { line: number })
 }
 
 // A line of a script that is no command.
@@ -113,12 +114,12 @@ fn unread_line<M: Machine>(alloc: Global, number: u64, machine: &mut M) -> Resul
     Ok(outcome)
 }
 
-fn too_long_refusal(alloc: Global) -> Result<Text, AllocError>
+fn too_long_refusal(alloc: Global) -> Result<Bytes, AllocError>
     ensures { IfOk result (λ text. text ≡ too_long_text) }
 {
     let path = Text::of(alloc, "standard input")?;
     let size = SCRIPT_LIMIT as u64 + 1;
-    Refusal::TooLarge { path, size }.line(alloc)
+    refusal_line(alloc, &Refusal::TooLarge { path, size })
 }
 
 // A script that is too long.

@@ -2,7 +2,8 @@
 ghost use Rattle.std.specs.Prelude.{◌≡◌, ◌≤◌, length, IfOk};
 ghost use Rattle.tool_words.specs.Meaning.{meaning};
 ghost use Rattle.tool_words.specs.Shown.{texts};
-ghost use Rattle.boot_tools.specs.Asked.{command_in, in_script, is_demo, is_passed_over, is_script, line_at, lines_in, script_lines};
+ghost use Rattle.boot_tools.specs.Lines.{script_limit};
+ghost use Rattle.boot_tools.specs.Asked.{command_in, in_script, is_demo, is_newline, is_passed_over, is_script, line_at, lines_in, script_lines};
 
 use crate::input::SCRIPT_LIMIT;
 use crate::line::Line;
@@ -71,15 +72,21 @@ fn is_passed_over(piece: &[u8]) -> bool
     }
 }
 
+fn is_newline(byte: u8) -> bool
+    ensures { result ≡ is_newline byte }
+{
+    byte == b'\n'
+}
+
 // The lines of a script's bytes.
 fn script_lines(alloc: Global, bytes: &[u8]) -> Result<Vec<Line>, AllocError>
-    requires { length bytes.now ≤ 1048576 }
+    requires { length bytes.now ≤ script_limit }
     ensures { IfOk result (λ lines. lines.items ≡ script_lines bytes.now) }
 {
     let mut lines = Vec::new(alloc);
     let mut number = 0u64;
-    for piece in bytes.split(|byte| *byte == b'\n') {
-        number += 1;
+    for piece in bytes.split(|byte| is_newline(*byte)) {
+        number = number.saturating_add(1);
         if !is_passed_over(piece) {
             lines.push(line_at(alloc, number, piece)?)?;
         }

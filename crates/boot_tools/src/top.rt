@@ -45,11 +45,7 @@ fn read_script<M: Machine>(alloc: Global, machine: &mut M) -> Result<Vec<Line>, 
 }
 
 // What a command comes to: its own line, or those of the script.
-fn run_command<M: Machine>(
-    alloc: Global,
-    command: Command,
-    machine: &mut M,
-) -> Result<bool, Stop>
+fn run_command<M: Machine>(alloc: Global, command: Command, machine: &mut M) -> Result<bool, Stop>
     ensures runs { IsTrue M.tells → IsFirm (M.state machine.old) → RunsTo M.clock M.since M.state machine.old machine.new
         (lines_for (M.state machine.old).input command) result }
     ensures synced { IsTrue M.tells → IsFirm (M.state machine.old) → IsSyncedBy M.clock M.since M.state machine.old machine.new

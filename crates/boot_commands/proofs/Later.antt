@@ -1,0 +1,40 @@
+-- What stays of a command once it is done.
+use Rattle.std.proofs.Common.{◌≡◌, inl, inr, ℕ, ◌∷◌, ◌++◌, true, false, [], Result, Ok, Err}
+use Rattle.std.proofs.lemmas.Bool.{cases_Bool}
+use Rattle.boot_base.specs.Paths.{Path, is_file_name, is_temp, under}
+use Rattle.boot_base.specs.declared.refusal.Refusal.{Refusal}
+use Rattle.boot_base.proofs.Temp.{is_temp-behind}
+use Rattle.boot_machine.specs.Disk.{Files, State, has}
+use Rattle.install_steps.specs.Steps.{NoNewTemp}
+use Rattle.tool_words.specs.declared.command.Command.{Command}
+use Rattle.tool_words.specs.declared.command.Command.TheVariants as command
+use Rattle.boot_commands.specs.Commands.{Tidied}
+use Rattle.boot_commands.specs.Folders.{folders_of}
+use Rattle.boot_commands.specs.Tidying.{CleanAt, IsClean}
+use Rattle.boot_commands.specs.declared.folders.Folders.{Folders}
+
+-- a folder stays clean where no temporary file comes
+clean_later : (s now : State) (folder : Path) → NoNewTemp s now → IsClean s.files folder → IsClean now.files folder
+clean_later s now folder none clean name is_name temp = elim (cases_Bool (has now.files (under folder name))) [
+  | inl there ↦ absurd (cc (none (under folder name) (is_temp-behind folder (47 ∷ name) (is_temp-behind (47 ∷ []) name temp)) there, clean name is_name temp))
+  | inr gone ↦ gone
+]
+
+pub tidied_later : (s now : State) (c : Command) → NoNewTemp s now → Tidied c s.files → Tidied c now.files
+tidied_later s now (command.Build words) none tidied = tt
+tidied_later s now (command.Calculate words) none tidied = tt
+tidied_later s now (command.Inspect file) none tidied = tt
+tidied_later s now (command.Image file banks phases) none tidied = tt
+tidied_later s now (command.Identify file) none tidied = tt
+tidied_later s now (command.List esp) none tidied = tt
+tidied_later s now (command.Tidy esp) none tidied = by_folders (folders_of esp) tidied
+  where
+    by_folders : (read : Result Folders Refusal) → CleanAt s.files read → CleanAt now.files read
+    by_folders (Err why) clean = tt
+    by_folders (Ok folders) clean = (clean_later s now folders.entries none clean.0, clean_later s now folders.images none clean.1)
+tidied_later s now (command.Boot esp) none tidied = tt
+tidied_later s now (command.Unlink name esp) none tidied = tt
+tidied_later s now (command.Install file name tries esp) none tidied = tt
+tidied_later s now (command.Bless verb path esp) none tidied = tt
+tidied_later s now command.Script none tidied = tt
+tidied_later s now (command.Demo seed count) none tidied = tt
