@@ -2,15 +2,15 @@
 use Rattle.std.proofs.Common.{◌≡◌, ℕ, ◌≤◌, zero, suc, cond, List, [], length, Ok, ap, sym, ◌∙◌, arith, get_or}
 use Rattle.std.proofs.Math.Path.{fun_ext}
 use Rattle.std.proofs.lemmas.Bool.Decides.{nat_tests}
-use Rattle.tool_words.specs.declared.grammar.CommandName.{CommandName}
-use Rattle.tool_words.specs.declared.grammar.CommandName.TheVariants as name
+use Rattle.word_grammar.specs.declared.grammar.CommandName.{CommandName}
+use Rattle.word_grammar.specs.declared.grammar.CommandName.TheVariants as name
 use Rattle.tool_words.specs.declared.command.Command.{Command}
 use Rattle.tool_words.specs.declared.fault.WordsFault.{WordsFault}
 use Rattle.tool_words.specs.declared.fault.WordsFault.TheVariants.{Memory, Usage}
 use Rattle.tool_words.specs.declared.found.Found.{Found}
 use Rattle.tool_words.specs.declared.found.Operands.{Operands}
 use Rattle.tool_words.specs.declared.found.Operands.TheVariants.{Zero, One, Two, More}
-use Rattle.tool_words.specs.Grammar.{Word, row}
+use Rattle.word_grammar.specs.Grammar.{Word, row}
 use Rattle.tool_words.specs.Items.{Item, items, operands, ◌>>=◌}
 use Rattle.tool_words.specs.Answers.{FaultIs}
 use Rattle.tool_words.specs.Meaning.{gathered, counted, all_required, filled, command_with, meant, repeats}

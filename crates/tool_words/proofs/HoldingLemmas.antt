@@ -4,10 +4,10 @@ use Rattle.std.specs.Option.{option_copied}
 use Rattle.std.proofs.lemmas.List.{get_or-set_same, get_or-set_other, append-nil, length-set}
 use Rattle.std.proofs.lemmas.List.Sums.{fold-append}
 use Rattle.std.proofs.lemmas.Bool.Decides.{nat_tests}
-use Rattle.tool_words.specs.declared.grammar.OptionName.{OptionName}
+use Rattle.word_grammar.specs.declared.grammar.OptionName.{OptionName}
 use Rattle.tool_words.specs.declared.found.Found.{Found}
 use Rattle.tool_words.specs.declared.found.Operands.{Operands}
-use Rattle.tool_words.specs.Grammar.{Word, place}
+use Rattle.word_grammar.specs.Grammar.{Word, place}
 use Rattle.tool_words.specs.Items.{Item, Value, Operand, all_values, last_of, last_value, operands}
 use Rattle.tool_words.specs.Holding.{Holds, AreOperands}
 

@@ -1,11 +1,11 @@
 -- What the items of a list of words begin with, by what its first word says.
 use Rattle.std.proofs.Common.{◌≡◌, List, [], ◌∷◌, map, Result, Ok, Err, ap, ◌∙◌, refl}
-use Rattle.tool_words.specs.declared.grammar.CommandName.{CommandName}
-use Rattle.tool_words.specs.declared.grammar.OptionName.{OptionName}
+use Rattle.word_grammar.specs.declared.grammar.CommandName.{CommandName}
+use Rattle.word_grammar.specs.declared.grammar.OptionName.{OptionName}
 use Rattle.tool_words.specs.declared.fault.UsageReason.{UsageReason}
 use Rattle.tool_words.specs.declared.fault.WordsFault.{WordsFault}
 use Rattle.tool_words.specs.declared.fault.WordsFault.TheVariants.{Memory, Usage}
-use Rattle.tool_words.specs.Grammar.{Word}
+use Rattle.word_grammar.specs.Grammar.{Word}
 use Rattle.tool_words.specs.Items.{Item, Value, Operand, Ends, Plain, Whole, Open, items, onto, valued, said, last_items, more_items, ◌>>=◌}
 use Rattle.tool_words.specs.Answers.{FaultIs}
 use Rattle.tool_words.specs.Steps.{opened}

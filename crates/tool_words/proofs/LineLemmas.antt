@@ -6,7 +6,7 @@ use Rattle.std.specs.List.{slice_split, onto_first}
 use Rattle.std.specs.declared.alloc.Global.{Global}
 use Rattle.std.proofs.lemmas.Bool.{cases_Bool}
 use Rattle.std.proofs.lemmas.List.{append-nil, drop_more}
-use Rattle.tool_words.specs.Grammar.{Word}
+use Rattle.word_grammar.specs.Grammar.{Word}
 use Rattle.tool_words.specs.Line.{Mark, Quote, Itself, is_quote, is_gap, mark, marks, text, words_between}
 use Rattle.tool_words.specs.LineSteps.{words_on}
 

@@ -3,12 +3,12 @@ use Rattle.std.proofs.Common.{arith, length, string_bytes, String, Some, None, �
 use Rattle.std.proofs.lemmas.List.{append-nil}
 use Rattle.std.specs.List.{list_any}
 use Rattle.std.specs.Prelude.{◌||◌}
-use Rattle.tool_words.specs.declared.grammar.CommandName.{CommandName}
+use Rattle.word_grammar.specs.declared.grammar.CommandName.{CommandName}
 use Rattle.tool_words.specs.declared.fault.UsageReason.{UsageReason}
 use Rattle.tool_words.specs.declared.fault.WordsFault.{WordsFault}
 use Rattle.tool_words.specs.declared.fault.WordsFault.TheVariants.{Memory, Usage}
-use Rattle.tool_words.specs.Grammar.{Word}
-use Rattle.tool_words.specs.declared.grammar.OptionName.{OptionName}
+use Rattle.word_grammar.specs.Grammar.{Word}
+use Rattle.word_grammar.specs.declared.grammar.OptionName.{OptionName}
 use Rattle.tool_words.specs.Items.{Item, Operand, items, onto, all_values, ◌>>=◌}
 use Rattle.tool_words.specs.Reading.{values_in, values_of}
 use Rattle.tool_words.proofs.HoldingLemmas.{all_values-append}

@@ -1,11 +1,11 @@
 -- What the code keeps of the items that it has read.
 use Rattle.std.specs.Prelude.{◌≡◌, ℕ, ◌<◌, zero, suc, List, [], ◌∷◌, length, Option, None, slice_index_or}
 use Rattle.std.specs.Option.{option_copied}
-use Rattle.tool_words.specs.declared.grammar.OptionName.{OptionName}
+use Rattle.word_grammar.specs.declared.grammar.OptionName.{OptionName}
 use Rattle.tool_words.specs.declared.found.Operands.{Operands}
 use Rattle.tool_words.specs.declared.found.Operands.TheVariants.{Zero, One, Two, More}
 use Rattle.tool_words.specs.declared.found.Found.{Found}
-use Rattle.tool_words.specs.Grammar.{Word, place}
+use Rattle.word_grammar.specs.Grammar.{Word, place}
 use Rattle.tool_words.specs.Items.{Item, last_value, operands}
 
 -- these are the operands; past two it is only known that there are more

@@ -2,15 +2,15 @@
 use Rattle.std.specs.Prelude.{ℕ, ◌==◌, Bool, true, false, not, ◌&&◌, List, [], ◌∷◌, length, map, fold, Option, Some, None, Result, Ok, Err, nat_eq, nat_lt, find, codes, if◌then◌else◌}
 use Rattle.std.specs.List.{starts_with, before_first, after_first, position_or_len, list_any}
 use Rattle.std.specs.Str.{bytes_eq}
-use Rattle.tool_words.specs.declared.grammar.CommandName.{CommandName}
-use Rattle.tool_words.specs.declared.grammar.OptionName.{OptionName}
-use Rattle.tool_words.specs.declared.grammar.OptionName.TheVariants.{Bank}
-use Rattle.tool_words.specs.declared.grammar.Takes.{Takes}
-use Rattle.tool_words.specs.declared.grammar.Takes.TheVariants.{Required, Once, Repeated, Flag}
-use Rattle.tool_words.specs.declared.grammar.OptionRow.{OptionRow}
+use Rattle.word_grammar.specs.declared.grammar.CommandName.{CommandName}
+use Rattle.word_grammar.specs.declared.grammar.OptionName.{OptionName}
+use Rattle.word_grammar.specs.declared.grammar.OptionName.TheVariants.{Bank}
+use Rattle.word_grammar.specs.declared.grammar.Takes.{Takes}
+use Rattle.word_grammar.specs.declared.grammar.Takes.TheVariants.{Required, Once, Repeated, Flag}
+use Rattle.word_grammar.specs.declared.grammar.OptionRow.{OptionRow}
 use Rattle.tool_words.specs.declared.fault.UsageReason.{UsageReason}
 use Rattle.tool_words.specs.declared.fault.UsageReason.TheVariants.{UnknownOption, NeedsValue, TakesNoValue, UnknownBank}
-use Rattle.tool_words.specs.Grammar.{Word, row, banks, place, is_text_of}
+use Rattle.word_grammar.specs.Grammar.{Word, row, banks, place, is_text_of}
 
 -- the value goes on where there is one, the first reason stays
 infixl 10 ◌>>=◌

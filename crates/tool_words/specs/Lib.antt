@@ -1,4 +1,4 @@
-pub mod Grammar
+pub use Rattle.word_grammar.specs.Grammar
 pub mod Items
 pub mod Answers
 pub mod Shown

@@ -1,13 +1,13 @@
 -- What the words of a run mean: the command with all its fields, or the first reason why there is none.
 use Rattle.std.specs.Prelude.{ℕ, ◌==◌, Bool, true, false, ◌||◌, ◌&&◌, List, [], ◌∷◌, length, Option, Some, None, Result, Ok, Err, is_some, is_none, unwrap_or, option_map, nat_lt, find, codes, slice_index_or, if◌then◌else◌}
 use Rattle.std.specs.List.{list_any}
-use Rattle.tool_words.specs.declared.grammar.CommandName.{CommandName}
-use Rattle.tool_words.specs.declared.grammar.CommandName.TheVariants as name
-use Rattle.tool_words.specs.declared.grammar.OptionName.{OptionName}
-use Rattle.tool_words.specs.declared.grammar.OptionName.TheVariants as option
-use Rattle.tool_words.specs.declared.grammar.Takes.{Takes}
-use Rattle.tool_words.specs.declared.grammar.Takes.TheVariants.{Required, Once, Repeated, Flag}
-use Rattle.tool_words.specs.declared.grammar.OptionRow.{OptionRow}
+use Rattle.word_grammar.specs.declared.grammar.CommandName.{CommandName}
+use Rattle.word_grammar.specs.declared.grammar.CommandName.TheVariants as name
+use Rattle.word_grammar.specs.declared.grammar.OptionName.{OptionName}
+use Rattle.word_grammar.specs.declared.grammar.OptionName.TheVariants as option
+use Rattle.word_grammar.specs.declared.grammar.Takes.{Takes}
+use Rattle.word_grammar.specs.declared.grammar.Takes.TheVariants.{Required, Once, Repeated, Flag}
+use Rattle.word_grammar.specs.declared.grammar.OptionRow.{OptionRow}
 use Rattle.tool_words.specs.declared.command.Command.{Command}
 use Rattle.tool_words.specs.declared.command.Command.TheVariants as command
 use Rattle.tool_words.specs.declared.command.BuildWords.{BuildWords}
@@ -18,7 +18,7 @@ use Rattle.tool_words.specs.declared.command.BlessWord.{BlessWord}
 use Rattle.tool_words.specs.declared.command.BlessWord.TheVariants as bless
 use Rattle.tool_words.specs.declared.fault.UsageReason.{UsageReason}
 use Rattle.tool_words.specs.declared.fault.UsageReason.TheVariants as reason
-use Rattle.tool_words.specs.Grammar.{Word, row, place, commands, is_named, is_verbed, option_text}
+use Rattle.word_grammar.specs.Grammar.{Word, row, place, commands, is_named, is_verbed, option_text}
 use Rattle.tool_words.specs.Items.{Item, items, all_values, last_value, operands, ◌>>=◌}
 
 -- words over their limits: 16,777,216 words, 1,048,576 bytes of one

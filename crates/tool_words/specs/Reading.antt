@@ -1,10 +1,10 @@
 -- How the reader comes from the items that it keeps to a command.
 use Rattle.std.specs.Prelude.{◌≡◌, List, [], Result, Ok, Err, if◌then◌else◌}
-use Rattle.tool_words.specs.declared.grammar.CommandName.{CommandName}
-use Rattle.tool_words.specs.declared.grammar.OptionName.{OptionName}
+use Rattle.word_grammar.specs.declared.grammar.CommandName.{CommandName}
+use Rattle.word_grammar.specs.declared.grammar.OptionName.{OptionName}
 use Rattle.tool_words.specs.declared.fault.UsageReason.{UsageReason}
 use Rattle.tool_words.specs.declared.found.Found.{Found}
-use Rattle.tool_words.specs.Grammar.{Word}
+use Rattle.word_grammar.specs.Grammar.{Word}
 use Rattle.tool_words.specs.Items.{Item, items, all_values}
 use Rattle.tool_words.specs.Holding.{Holds, slot, operand_at}
 use Rattle.tool_words.specs.Meaning.{Gathered, repeats}

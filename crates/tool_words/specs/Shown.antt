@@ -1,25 +1,19 @@
 -- What the code holds, as the definitions see it.
 use Rattle.std.specs.Prelude.{List, map, string_bytes, String}
 use Rattle.std.specs.declared.alloc.Global.{Global}
-use Rattle.std.specs.Option.{option_copied}
 use Rattle.std.specs.Borrow.{Bor}
-use Rattle.tool_words.specs.declared.grammar.CommandName.{CommandName}
-use Rattle.tool_words.specs.declared.grammar.CommandRow.{CommandRow}
+use Rattle.word_grammar.specs.declared.grammar.CommandName.{CommandName}
 use Rattle.tool_words.specs.declared.items.Said.{Said}
 use Rattle.tool_words.specs.declared.items.Said.TheVariants as word
 use Rattle.tool_words.specs.declared.items.Item.{Item}
 use Rattle.tool_words.specs.declared.items.Item.TheVariants as item
 use Rattle.tool_words.specs.declared.items.Next.{Next}
-use Rattle.tool_words.specs.Grammar.{Row, Word}
+use Rattle.word_grammar.specs.Grammar.{Word}
 use Rattle.tool_words.specs.Items as meant
 
 -- words as lists of bytes
 abbrev pub texts : List (String Global) → List Word
 texts words = map string_bytes words
-
--- a line of the code's table
-abbrev pub row_shown : CommandRow → Row
-row_shown r = record { name = r.name.now; verb = option_copied r.verb; operands = r.operands; options = r.options.now }
 
 -- a command and the words after those that name it
 abbrev pub chosen_shown : CommandName × Bor (List (String Global)) → CommandName × List Word

@@ -7,16 +7,16 @@ ghost use Rattle.tool_words.specs.Answers.{FaultIs};
 ghost use Rattle.tool_words.specs.Shown.{texts};
 ghost use Rattle.tool_words.specs.Holding.{slot, operand_at};
 ghost use Rattle.tool_words.specs.Reading.{found_shown};
-ghost use Rattle.tool_words.specs.declared.grammar.CommandName.TheVariants.{Build, Calculate, Image};
-ghost use Rattle.tool_words.specs.declared.grammar.OptionName.TheVariants.{EspPath};
+ghost use Rattle.word_grammar.specs.declared.grammar.CommandName.TheVariants.{Build, Calculate, Image};
+ghost use Rattle.word_grammar.specs.declared.grammar.OptionName.TheVariants.{EspPath};
 
 use crate::command::{BlessWord, BuildWords, CalculateWords, Command, Given};
 use crate::fault::WordsFault;
 use crate::found::Found;
-use crate::grammar::{CommandName, OptionName};
 use crate::scan::collect;
 use boot_base::Text;
 use std::alloc::{AllocError, Global};
+use word_grammar::{CommandName, OptionName};
 
 /// The text, or this one where it is absent.
 fn text(alloc: Global, value: Option<&str>, absent: &str) -> Result<Text, AllocError>

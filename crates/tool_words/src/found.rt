@@ -3,12 +3,12 @@ ghost use Rattle.std.specs.Prelude.{◌≡◌, ◌≤◌, ◌∷◌, [], ◌++�
 ghost use Rattle.std.specs.Option.{option_copied};
 ghost use Rattle.tool_words.specs.Items.{Value, Operand};
 ghost use Rattle.tool_words.specs.Items as meant;
-ghost use Rattle.tool_words.specs.Grammar.{Word};
+ghost use Rattle.word_grammar.specs.Grammar.{Word};
 ghost use Rattle.tool_words.specs.Shown.{texts, item_shown};
 ghost use Rattle.tool_words.specs.Holding.{Holds, AreOperands, slot, operand_at};
 
-use crate::grammar::{OPTIONS, OptionName};
 use crate::items::Item;
+use word_grammar::{OPTIONS, OptionName};
 
 /// The operands, as far as some command takes so many.
 #[derive(Clone, Copy)]

@@ -2,7 +2,7 @@
 ghost use Rattle.std.specs.Prelude.{◌≡◌, ◌≤◌, length, IfOk, IfSome};
 ghost use Rattle.std.specs.List.{list_any};
 ghost use Rattle.std.specs.Str.{bytes_eq};
-ghost use Rattle.tool_words.specs.Grammar.{banks};
+ghost use Rattle.word_grammar.specs.Grammar.{banks};
 ghost use Rattle.tool_words.specs.Items.{said, option_said, valued, option_of, without_value as value_missing, is_flag, is_bank_option};
 ghost use Rattle.tool_words.specs.Answers.{Gives, IsReason};
 ghost use Rattle.tool_words.specs.Shown.{said_shown, next_shown, texts};
@@ -10,9 +10,9 @@ ghost use Rattle.tool_words.specs.Steps.{opened, Steps};
 ghost use Rattle.tool_words.specs.declared.fault.UsageReason.TheVariants.{UnknownOption};
 
 use crate::fault::{UsageReason, WordsFault};
-use crate::grammar::{CommandName, OptionName, OptionRow, Takes};
 use boot_base::Text;
 use std::alloc::Global;
+use word_grammar::{CommandName, OptionName, OptionRow, Takes};
 
 /// What a word says before a word `--`.
 #[derive(Clone, Copy)]

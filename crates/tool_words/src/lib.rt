@@ -6,7 +6,6 @@ mod command;
 mod fault;
 mod fill;
 mod found;
-mod grammar;
 mod items;
 mod line;
 mod read;

@@ -1,7 +1,7 @@
 //! Words become a command.
 ghost use Rattle.std.specs.Prelude.{◌≡◌, ◌≤◌, find, List, MatchResult, length};
 ghost use Rattle.std.specs.List.{list_any};
-ghost use Rattle.tool_words.specs.Grammar.{Word, row};
+ghost use Rattle.word_grammar.specs.Grammar.{Word, row};
 ghost use Rattle.tool_words.specs.Meaning.{command_of, with_verb, are_too_long, is_long, is_missing, counted, all_required, meant, read_words, meaning};
 ghost use Rattle.tool_words.specs.Answers.{Gives, FaultIs};
 ghost use Rattle.tool_words.specs.Shown.{texts, chosen_shown};
@@ -11,10 +11,10 @@ use crate::command::Command;
 use crate::fault::{UsageReason, WordsFault};
 use crate::fill::fill;
 use crate::found::{Found, Operands};
-use crate::grammar::{CommandName, OptionRow, Takes};
 use crate::scan::scan_words;
 use boot_base::Text;
 use std::alloc::Global;
+use word_grammar::{CommandName, OptionRow, Takes};
 
 /// How many words there may be.
 const MAX_WORDS: usize = 16_777_216;

@@ -7,10 +7,10 @@ ghost use Rattle.tool_words.specs.Reading.{Finds, values_in};
 
 use crate::fault::WordsFault;
 use crate::found::Found;
-use crate::grammar::{CommandName, OptionName};
 use crate::items::{Item, next_item};
 use boot_base::{Text, TextList};
 use std::alloc::{AllocError, Global};
+use word_grammar::{CommandName, OptionName};
 
 /// Reads all the words after a command, from the left, and keeps what they give. It takes memory
 /// for a reason only.

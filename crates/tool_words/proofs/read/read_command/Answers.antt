@@ -1,6 +1,6 @@
 use Rattle.std.proofs.Common.{◌≡◌, List, length, Ok, ap, sym, ◌∙◌}
 use Rattle.std.proofs.lemmas.Result.{MatchResult-from_both, IfOk-weaker, IfErr-weaker}
-use Rattle.tool_words.specs.Grammar.{Word, Row, row}
+use Rattle.word_grammar.specs.Grammar.{Word, Row, row}
 use Rattle.tool_words.specs.Meaning.{counted, meant}
 use Rattle.tool_words.specs.Answers.{FaultIs}
 use Rattle.tool_words.specs.Shown.{texts}

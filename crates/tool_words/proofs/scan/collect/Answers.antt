@@ -1,6 +1,6 @@
 use Rattle.std.proofs.Common.{◌≡◌, List}
-use Rattle.tool_words.specs.declared.grammar.OptionName.{OptionName}
-use Rattle.tool_words.specs.Grammar.{Word}
+use Rattle.word_grammar.specs.declared.grammar.OptionName.{OptionName}
+use Rattle.word_grammar.specs.Grammar.{Word}
 use Rattle.tool_words.specs.Items.{Item, all_values}
 use Rattle.tool_words.specs.Shown.{texts, item_shown}
 use Rattle.tool_words.proofs.Scans.{Reads-next, Reads-all, Reads-last, values-keep_operands, values-put, values-found}

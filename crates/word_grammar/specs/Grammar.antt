@@ -1,13 +1,13 @@
 -- The commands of the program and their options, as data: a line for each.
 use Rattle.std.specs.Prelude.{ℕ, Bool, false, ◌&&◌, List, [], ◌∷◌, Option, Some, None, codes}
 use Rattle.std.specs.Str.{bytes_eq}
-use Rattle.tool_words.specs.declared.grammar.CommandName.{CommandName}
-use Rattle.tool_words.specs.declared.grammar.CommandName.TheVariants as command
-use Rattle.tool_words.specs.declared.grammar.OptionName.{OptionName}
-use Rattle.tool_words.specs.declared.grammar.OptionName.TheVariants as option
-use Rattle.tool_words.specs.declared.grammar.Takes.{Takes}
-use Rattle.tool_words.specs.declared.grammar.Takes.TheVariants.{Required, Once, Repeated, Flag}
-use Rattle.tool_words.specs.declared.grammar.OptionRow.{OptionRow}
+use Rattle.word_grammar.specs.declared.grammar.CommandName.{CommandName}
+use Rattle.word_grammar.specs.declared.grammar.CommandName.TheVariants as command
+use Rattle.word_grammar.specs.declared.grammar.OptionName.{OptionName}
+use Rattle.word_grammar.specs.declared.grammar.OptionName.TheVariants as option
+use Rattle.word_grammar.specs.declared.grammar.Takes.{Takes}
+use Rattle.word_grammar.specs.declared.grammar.Takes.TheVariants.{Required, Once, Repeated, Flag}
+use Rattle.word_grammar.specs.declared.grammar.OptionRow.{OptionRow}
 
 -- a text is the list of its bytes
 abbrev pub Word : Type 0

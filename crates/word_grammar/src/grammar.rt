@@ -1,57 +1,92 @@
 //! The table of the commands and their options.
 ghost use Rattle.std.specs.Prelude.{◌≡◌, ◌<◌, find};
 ghost use Rattle.std.specs.Option.{option_copied};
-ghost use Rattle.tool_words.specs.Grammar.{option_text, place, is_text_of, is_named, is_verbed, commands, row, verbed as verbed_row, alone as alone_row};
-ghost use Rattle.tool_words.specs.Shown.{row_shown};
+ghost use Rattle.word_grammar.specs.Grammar.{option_text, place, is_text_of, is_named, is_verbed, commands, row, verbed as verbed_row, alone as alone_row};
+ghost use Rattle.word_grammar.specs.Shown.{row_shown};
 
 /// A command, with its verb where it has one.
 #[derive(Clone, Copy)]
-pub(crate) enum CommandName {
+pub enum CommandName {
+    /// `ukify build`.
     Build,
+    /// `ukify inspect`.
     Inspect,
+    /// `measure calculate`.
     Calculate,
+    /// `measure image`.
     Image,
+    /// `bootctl list`.
     ListEntries,
+    /// `bootctl unlink`.
     Unlink,
+    /// `bootctl kernel-identify`.
     Identify,
+    /// `tidy`.
     Tidy,
+    /// `install`.
     Install,
+    /// `boot`.
     Boot,
+    /// `bless good`.
     BlessGood,
+    /// `bless bad`.
     BlessBad,
+    /// `bless indeterminate`.
     BlessIndeterminate,
+    /// `bless status`.
     BlessStatus,
+    /// `script`.
     Script,
+    /// `demo`.
     Demo,
 }
 
 /// An option of some command.
 #[derive(Clone, Copy)]
-pub(crate) enum OptionName {
+pub enum OptionName {
+    /// `--stub`.
     Stub,
+    /// `--linux`.
     Linux,
+    /// `--output`.
     Output,
+    /// `--os-release`.
     OsRelease,
+    /// `--cmdline`.
     Cmdline,
+    /// `--devicetree`.
     Devicetree,
+    /// `--uname`.
     Uname,
+    /// `--splash`.
     Splash,
+    /// `--pcrpkey`.
     Pcrpkey,
+    /// `--initrd`.
     Initrd,
+    /// `--section`.
     Section,
+    /// `--sbat`.
     Sbat,
+    /// `--measure`.
     Measure,
+    /// `--osrel`.
     Osrel,
+    /// `--dtb`.
     Dtb,
+    /// `--bank`.
     Bank,
+    /// `--phase`.
     Phase,
+    /// `--esp-path`.
     EspPath,
+    /// `--tries`.
     Tries,
 }
 
 /// How a command takes an option.
 #[derive(Clone, Copy)]
-pub(crate) enum Takes {
+pub enum Takes {
     /// With a value, and it must be there. The last value counts.
     Required,
     /// With a value. The last one counts.
@@ -64,19 +99,19 @@ pub(crate) enum Takes {
 
 /// An option of a command.
 #[derive(Clone, Copy)]
-pub(crate) struct OptionRow(pub(crate) OptionName, pub(crate) Takes);
+pub struct OptionRow(pub OptionName, pub Takes);
 
 /// What a command is called and what it takes.
 #[derive(Clone, Copy)]
-pub(crate) struct CommandRow {
+pub struct CommandRow {
     /// The first word.
-    pub(crate) name: &'static str,
+    pub name: &'static str,
     /// The second word, where the command has a verb.
-    pub(crate) verb: Option<&'static str>,
+    pub verb: Option<&'static str>,
     /// How many operands it takes.
-    pub(crate) operands: usize,
+    pub operands: usize,
     /// The options that it takes. Required ones are looked for in this order.
-    pub(crate) options: &'static [OptionRow],
+    pub options: &'static [OptionRow],
 }
 
 static BUILD: [OptionRow; 13] = [
@@ -154,7 +189,7 @@ fn alone(name: &'static str, operands: usize, options: &'static [OptionRow]) -> 
 
 impl CommandName {
     /// The table of the commands.
-    pub(crate) fn row(self) -> CommandRow
+    pub fn row(self) -> CommandRow
         ensures { row_shown result ≡ row self }
     {
         match self {
@@ -199,7 +234,7 @@ static COMMANDS: [CommandName; 16] = [
 
 impl CommandName {
     /// The first command of the table that the word names.
-    pub(crate) fn named(word: &str) -> Option<CommandName>
+    pub fn named(word: &str) -> Option<CommandName>
         ensures { result ≡ find (is_named word.now) commands }
     {
         COMMANDS
@@ -209,7 +244,7 @@ impl CommandName {
     }
 
     /// The command with this name and verb.
-    pub(crate) fn verbed(name: &str, verb: &str) -> Option<CommandName>
+    pub fn verbed(name: &str, verb: &str) -> Option<CommandName>
         ensures { result ≡ find (is_verbed name.now verb.now) commands }
     {
         COMMANDS
@@ -230,7 +265,7 @@ impl CommandName {
     }
 
     /// The option of the command that is written so.
-    pub(crate) fn option(self, text: &str) -> Option<OptionRow>
+    pub fn option(self, text: &str) -> Option<OptionRow>
         ensures { result ≡ find (is_text_of text.now) (row self).options }
     {
         self.row()
@@ -243,7 +278,7 @@ impl CommandName {
 
 impl OptionName {
     /// The option as it is written.
-    pub(crate) fn text(self) -> &'static str
+    pub fn text(self) -> &'static str
         ensures { result.now ≡ option_text self }
     {
         match self {
@@ -270,7 +305,7 @@ impl OptionName {
     }
 
     /// The option's number among all options.
-    pub(crate) fn place(self) -> usize
+    pub fn place(self) -> usize
         ensures value { result ≡ place self }
         ensures small { result < 19 }
     {
@@ -279,4 +314,4 @@ impl OptionName {
 }
 
 /// How many options there are.
-pub(crate) const OPTIONS: usize = 19;
+pub const OPTIONS: usize = 19;
