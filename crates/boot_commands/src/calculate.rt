@@ -94,11 +94,7 @@ fn kernel_path(alloc: Global, words: &CalculateWords) -> Result<BootPath, Declin
     path_in(alloc, words.linux.as_str())
 }
 
-fn read_kernel<M: Machine>(
-    alloc: Global,
-    path: &BootPath,
-    machine: &mut M,
-) -> Result<Kernel, Stop>
+fn read_kernel<M: Machine>(alloc: Global, path: &BootPath, machine: &mut M) -> Result<Kernel, Stop>
     ensures read { IfOk result (λ kernel. IsTrue M.tells → IsKernelRead (get (seen (M.state machine.old)) path.now) kernel) }
     ensures reads { IsTrue M.tells → Reads M.clock M.since M.state machine.old machine.new }
     ensures counts { CountsStop result (M.counts machine.old) (M.counts machine.new) }

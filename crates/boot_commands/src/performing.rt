@@ -16,10 +16,7 @@ use install_steps::{StepFault, drop_leftovers, drop_name, settle};
 
 /// Makes a change on a settled machine. Where the file to be removed is gone, which no machine comes to that
 /// tells its files, it gives the line to print, and nothing is changed.
-fn apply<'a, M: Machine>(
-    change: &'a Change,
-    machine: &mut M,
-) -> Result<Option<&'a [u8]>, DiskFault>
+fn apply<'a, M: Machine>(change: &'a Change, machine: &mut M) -> Result<Option<&'a [u8]>, DiskFault>
     requires one { IsTrue M.tells → HasOneCandidate (M.state machine.old) }
     requires rested { IsTrue M.tells → IsRested (M.state machine.old) }
     requires distinct { IsMakeable change.now }

@@ -61,7 +61,9 @@ pub fn path_under(alloc: Global, folder: &BootPath, below: &str) -> Result<BootP
         Err(PathFault::BadPath) => {
             let folder = folder.as_str();
             let joined = format!(in alloc; "{folder}/{below}")?;
-            Err(Declined::Refused(Refusal::BadPath { text: Text::from(joined) }))
+            Err(Declined::Refused(Refusal::BadPath {
+                text: Text::from(joined),
+            }))
         }
     }
 }

@@ -23,8 +23,7 @@ returns-clause-read g c told =
     let path = c.args.path.now in
     let there = some_of (get (seen s) path) c.in-Some.size (c.in_ok-seen_size.ensures.size told ∙ c.in-Some.is) in
     let held : contents (g.M.Machine.state c.seen_size.new.machine).files path ≡ there.0 = ap (λ (t : State). contents t.files path) (c.seen_size.ensures.reads told).same ∙ contents_seen s path there.0 c.know.ensures there.1 in
-    let small : length there.0 ≤ file_limit = omega (arith, there.2, c.if-size-gt-FILE_LIMIT.false, c.in-Some.size-is) in
-    (
+    let small : length there.0 ≤ file_limit = omega (arith, there.2, c.if-size-gt-FILE_LIMIT.false, c.in-Some.size-is) in (
       there.0,
       there.1,
       small,

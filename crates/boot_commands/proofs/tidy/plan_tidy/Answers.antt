@@ -19,8 +19,7 @@ returns-in_ok-tidy_plan-in-Ok-clause-tidies g c told files dropped =
     let old = (g.M.Machine.state c.args.machine.now).files in
     let temps = c.in_ok-temps-in-Ok.temps.items in
     let lacks : Lacks temps old files = subst (λ change. Drops change old files) c.in_ok-tidy_plan-in-Ok.ensures.0 dropped in
-    subst (CleanAt files) (sym c.in-Ok.ensures)
-    (
+    subst (CleanAt files) (sym c.in-Ok.ensures) (
       clean_after old files c.in-Ok.folders.entries temps (c.in_ok-temps-in-Ok.ensures.entries told) lacks,
       clean_after old files c.in-Ok.folders.images temps (c.in_ok-temps-in-Ok.ensures.images told) lacks,
     )

@@ -17,12 +17,11 @@ loop-piece-preserved-in_ok-push c bound =
     let longer = length-append yielded (c.in-Some.piece ∷ []) in
     let before = c.loop-piece.invariant (omega (arith, bound, longer)) in
     let number : c.saturating_add-number.result ≡ length yielded + 1 = omega (arith, c.saturating_add-number.ensures, before.0, bound, longer) in
-    let counts : is_passed_over c.in-Some.piece.now ≡ false = search rules in
-    (
+    let counts : is_passed_over c.in-Some.piece.now ≡ false = search rules in (
       omega (arith, number, longer),
       c.in_ok-push.ensures.items
-      ∙ with_piece pieces c.in-Some.piece.now c.saturating_add-number.result c.loop-piece.lines.items c.in_ok-line_at.field-0 (omega (arith, number, length-map yielded (λ (piece : Bor (List ℕ)). piece.now))) counts c.in_ok-line_at.ensures before.1
-      ∙ ap (lines_from 1) (sym (map-append (λ (piece : Bor (List ℕ)). piece.now) yielded (c.in-Some.piece ∷ []))),
+          ∙ with_piece pieces c.in-Some.piece.now c.saturating_add-number.result c.loop-piece.lines.items c.in_ok-line_at.field-0 (omega (arith, number, length-map yielded (λ (piece : Bor (List ℕ)). piece.now))) counts c.in_ok-line_at.ensures before.1
+          ∙ ap (lines_from 1) (sym (map-append (λ (piece : Bor (List ℕ)). piece.now) yielded (c.in-Some.piece ∷ []))),
     )
 
 pub loop-piece-preserved : goal.loop-piece-preserved
@@ -31,8 +30,7 @@ loop-piece-preserved c bound =
     let pieces = map (λ (piece : Bor (List ℕ)). piece.now) yielded in
     let longer = length-append yielded (c.in-Some.piece ∷ []) in
     let before = c.loop-piece.invariant (omega (arith, bound, longer)) in
-    let passed : is_passed_over c.in-Some.piece.now ≡ true = search rules in
-    (
+    let passed : is_passed_over c.in-Some.piece.now ≡ true = search rules in (
       omega (arith, c.saturating_add-number.ensures, before.0, bound, longer),
       without_piece pieces c.in-Some.piece.now c.loop-piece.lines.items passed before.1 ∙ ap (lines_from 1) (sym (map-append (λ (piece : Bor (List ℕ)). piece.now) yielded (c.in-Some.piece ∷ []))),
     )
