@@ -1,5 +1,5 @@
 -- Words that are declined, step by step.
-use Rattle.std.proofs.Common.{◌≡◌, Result, Ok, Err, ap, ◌∙◌, sym, subst}
+use Rattle.std.proofs.Common.{◌≡◌, Result, Ok, Err, ap, sym, subst}
 use Rattle.boot_base.specs.declared.refusal.Refusal.{Refusal}
 use Rattle.std.specs.Prelude.{IsErr, IsErrAnd}
 use Rattle.boot_commands.specs.Refusing.{◌>>=◌, DeclinedFor, Means}

@@ -1,10 +1,10 @@
 -- What stays of a command once it is done.
-use Rattle.std.proofs.Common.{◌≡◌, inl, inr, ℕ, ◌∷◌, ◌++◌, true, false, [], Result, Ok, Err}
+use Rattle.std.proofs.Common.{inl, inr, ◌∷◌, [], Result, Ok, Err}
 use Rattle.std.proofs.lemmas.Bool.{cases_Bool}
-use Rattle.boot_base.specs.Paths.{Path, is_file_name, is_temp, under}
+use Rattle.boot_base.specs.Paths.{Path, under}
 use Rattle.boot_base.specs.declared.refusal.Refusal.{Refusal}
 use Rattle.boot_base.proofs.Temp.{is_temp-behind}
-use Rattle.boot_machine.specs.Disk.{Files, State, has}
+use Rattle.boot_machine.specs.Disk.{State, has}
 use Rattle.install_steps.specs.Steps.{NoNewTemp}
 use Rattle.tool_words.specs.declared.command.Command.{Command}
 use Rattle.tool_words.specs.declared.command.Command.TheVariants as command

@@ -1,5 +1,5 @@
 -- Temporary files that are found, and that are gone.
-use Rattle.std.proofs.Common.{◌≡◌, inl, inr, ℕ, Bool, true, false, List, [], ◌∷◌, map, filter, arith, refl, sym, ap, ◌∙◌, subst, Option, None, is_some}
+use Rattle.std.proofs.Common.{◌≡◌, inl, inr, ℕ, Bool, true, false, List, [], ◌∷◌, arith, refl, sym, ap, ◌∙◌, subst, is_some}
 use Rattle.std.proofs.lemmas.Bool.{cases_Bool}
 use Rattle.std.proofs.lemmas.Cmp.{nat_list_cmp_total, eq_by_cmp_equiv, nat_list_eq_equiv}
 use Rattle.std.proofs.lemmas.List.Elements.{All-contains, All-weaker, All-contains_itself, All-cons, All-nil, All-tail, All-head, Contains-append_right}
@@ -8,14 +8,13 @@ use Rattle.std.proofs.lemmas.List.Kept.{Contains-dedup, Contains-from_dedup, IsS
 use Rattle.std.proofs.lemmas.List.Sorted.{Contains-permutation, IsPermutation-sym}
 use Rattle.std.proofs.lemmas.Map.Keys.{IsDistinct-from_sorted}
 use Rattle.std.proofs.lemmas.Map.Text.{is_eq-slice_cmp}
-use Rattle.std.specs.Prelude.{All, Contains, bytes_eq, if◌then◌else◌}
-use Rattle.std.specs.List.{IsDistinct, dedup, list_any}
+use Rattle.std.specs.Prelude.{All, Contains, bytes_eq}
+use Rattle.std.specs.List.{IsDistinct, dedup}
 use Rattle.std.specs.List.Retain.{IsFiltered, DiffersFromLast}
 use Rattle.std.specs.List.Sorted.{IsPermutation, IsSorted}
-use Rattle.std.specs.FinMap as maps
 use Rattle.std.specs.Ordering.{nat_cmp, eq_by_cmp}
 use Rattle.std.specs.Cmp.Lexicographic.{slice_cmp}
-use Rattle.boot_base.specs.Paths.{Path, is_file_name, is_temp, under}
+use Rattle.boot_base.specs.Paths.{Path, is_temp, under}
 use Rattle.boot_machine.specs.Disk.{Files, has}
 use Rattle.boot_machine.specs.Listed.{is_listed}
 use Rattle.boot_machine.specs.Maps.{same-true}

@@ -12,7 +12,7 @@ use Rattle.boot_machine.proofs.Elapsing.{weaken, joined}
 use Rattle.boot_machine.proofs.Printing.{tagged_part}
 use Rattle.boot_machine.proofs.Seeing.{latest-views, one_view, seen_in, from_views, candidate_image}
 use Rattle.install_steps.specs.Steps.{Keeps, Sees, IsDone as IsInstalled}
-use Rattle.boot_commands.specs.Deeds.{Deed, End, Stopped, Stays, Breaks}
+use Rattle.boot_commands.specs.Deeds.{Deed, Stopped, Stays, Breaks}
 use Rattle.boot_commands.specs.Performs.{Performs, IsDone, Reads, end_by, end_of, stop_of}
 use Rattle.boot_commands.specs.declared.outcome.Outcome.{Outcome}
 use Rattle.boot_commands.specs.declared.outcome.Stop.{Stop}

@@ -1,8 +1,8 @@
 -- The moments from a sync of names on.
 use Rattle.std.proofs.Common.{◌≡◌, inl, inr, ⊎_elim, ℕ, ◌≤◌, true, List, [], ◌∷◌, ◌++◌, refl, sym, ap, ◌∙◌, subst, arith, Result, Ok, Err}
 use Rattle.std.proofs.lemmas.List.{append-nil}
-use Rattle.std.specs.Prelude.{IsErr, IsErrAnd}
-use Rattle.boot_machine.specs.Disk.{Files, State, IsIn, view}
+use Rattle.std.specs.Prelude.{IsErr}
+use Rattle.boot_machine.specs.Disk.{Files, State, view}
 use Rattle.boot_machine.specs.Moments.{EachSince}
 use Rattle.boot_machine.specs.Rows.{tagged}
 use Rattle.boot_machine.specs.Sent.{Sent, Adds, PrintsPart, latest, views}

@@ -1,6 +1,6 @@
 -- `measure calculate`: the predicted PCR 11 of an image's parts. What is built of it is the kernel alone, in the
 -- SHA-256 bank, before any boot phase.
-use Rattle.std.specs.Prelude.{◌≡◌, ◌<◌, ◌≤◌, ℕ, Bool, not, ◌&&◌, ◌==◌, List, [], ◌∷◌, ◌++◌, codes, length, nat_lt, bytes_eq, Option, Some, None, is_none, Result, Err, if◌then◌else◌}
+use Rattle.std.specs.Prelude.{◌≡◌, ◌<◌, ◌≤◌, ℕ, Bool, not, ◌&&◌, ◌==◌, List, [], ◌∷◌, codes, length, nat_lt, bytes_eq, Option, Some, None, is_none, Result, Err, if◌then◌else◌}
 use Rattle.std.specs.List.{list_all}
 use Rattle.std.specs.FinMap.{get}
 use Rattle.boot_base.specs.Paths.{Path}

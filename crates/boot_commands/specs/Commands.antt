@@ -1,5 +1,4 @@
 -- What each command comes to on a view: the first refusal that holds, in the order of its row, or what it does.
-use Rattle.std.specs.Prelude.{ℕ, List}
 use Rattle.boot_base.specs.declared.refusal.Refusal.TheVariants as refusals
 use Rattle.boot_machine.specs.Disk.{Files}
 use Rattle.tool_words.specs.declared.command.Command.{Command}

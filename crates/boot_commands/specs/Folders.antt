@@ -1,6 +1,5 @@
 -- The two folders of boot entries in an EFI system partition (UAPI Boot Loader Specification).
 use Rattle.std.specs.Prelude.{ℕ, List, codes, Result, Ok}
-use Rattle.boot_base.specs.Paths.{Path}
 use Rattle.boot_base.specs.declared.refusal.Refusal.{Refusal}
 use Rattle.boot_commands.specs.Refusing.{◌>>=◌, path_in, path_under}
 use Rattle.boot_commands.specs.declared.folders.Folders.{Folders}

@@ -1,5 +1,5 @@
 -- `tidy`: no temporary file is left directly in the folders of boot entries.
-use Rattle.std.specs.Prelude.{◌≡◌, ◌++◌, ℕ, true, false, List, codes, Result, Ok, Err, Contains, map, filter}
+use Rattle.std.specs.Prelude.{◌≡◌, ℕ, true, false, List, codes, Result, Ok, Err, Contains, map, filter}
 use Rattle.boot_base.specs.Paths.{Path, under, is_file_name, is_temp}
 use Rattle.boot_base.specs.declared.refusal.Refusal.{Refusal}
 use Rattle.boot_machine.specs.Disk.{Files, has}

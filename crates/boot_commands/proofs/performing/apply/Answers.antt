@@ -2,7 +2,7 @@ use Rattle.std.proofs.Common.{refl, inl, sym, subst}
 use Rattle.boot_machine.specs.Sent.{seen}
 use Rattle.boot_machine.proofs.Elapsing.{at_once}
 use Rattle.boot_machine.proofs.Seeing.{sees, only_view}
-use Rattle.install_steps.specs.Steps.{IsDone, StepsTo}
+use Rattle.install_steps.specs.Steps.{IsDone}
 use Rattle.boot_commands.specs.Plans.{effect}
 use Rattle.boot_commands.specs.declared.plan.Change.TheVariants.{Nothing}
 use Rattle.boot_commands.proofs.performing.apply.Goals as goal

@@ -1,8 +1,8 @@
-use Rattle.std.proofs.Common.{◌≡◌, inl, inr, ℕ, take, ap, subst}
+use Rattle.std.proofs.Common.{◌≡◌, inr, ℕ, take, ap, subst}
 use Rattle.boot_machine.specs.Disk.{view}
 use Rattle.boot_machine.specs.Moments.{EachSince}
 use Rattle.boot_machine.specs.Rows.{tagged, with_printed}
-use Rattle.boot_machine.specs.Sent.{PrintsPart, seen, views}
+use Rattle.boot_machine.specs.Sent.{PrintsPart, seen}
 use Rattle.boot_machine.proofs.Seeing.{sees}
 use Rattle.install_steps.specs.Steps.{Sees, IsDone}
 use Rattle.boot_commands.specs.Answers.{channel_of}

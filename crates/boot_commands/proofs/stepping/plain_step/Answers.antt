@@ -1,13 +1,12 @@
-use Rattle.std.proofs.Common.{inl, sym, ap, ◌∙◌, subst, Err, Ok}
+use Rattle.std.proofs.Common.{sym, ap, ◌∙◌, subst, Err, Ok}
 use Rattle.boot_machine.specs.Images.{IsFirm}
-use Rattle.boot_machine.specs.Sent.{seen, views}
+use Rattle.boot_machine.specs.Sent.{seen}
 use Rattle.boot_machine.proofs.Seeing.{sees}
 use Rattle.boot_commands.specs.Commands.{deed_of}
 use Rattle.boot_commands.specs.Deeds.{made}
-use Rattle.boot_commands.specs.Performs.{Performs, Syncs, end_by, stop_of}
+use Rattle.boot_commands.specs.Performs.{Performs, Syncs, end_by}
 use Rattle.boot_commands.specs.Plans.{planned}
 use Rattle.boot_commands.specs.declared.outcome.MachineFault.{MachineFault}
-use Rattle.boot_commands.proofs.Exits.{on_err, not_ok}
 use Rattle.boot_commands.proofs.Performed.{plan_failed, after_reads, stopped_by, done_by}
 use Rattle.boot_commands.proofs.Syncing.{syncs_after_reads, syncs_stopped, syncs_done}
 use Rattle.boot_commands.proofs.stepping.plain_step.Goals as goal

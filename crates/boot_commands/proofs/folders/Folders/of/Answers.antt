@@ -1,4 +1,4 @@
-use Rattle.std.proofs.Common.{ap, ◌∙◌}
+use Rattle.std.proofs.Common.{◌∙◌}
 use Rattle.boot_commands.specs.Folders.{entries_below, images_below}
 use Rattle.boot_commands.specs.Refusing.{path_under}
 use Rattle.boot_commands.proofs.Declining.{declined_first, declined_next, done_next, means_declined}
