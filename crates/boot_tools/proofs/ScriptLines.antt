@@ -1,5 +1,5 @@
 -- The lines of a script, one after the other.
-use Rattle.std.proofs.Common.{◌≡◌, inl, inr, ℕ, suc, ◌+◌, ◌<◌, ◌≤◌, ◌^◌, Bool, true, false, cond, List, [], ◌∷◌, ◌++◌, length, take, map, refl, sym, ap, ◌∙◌, arith, append_assoc, append-nil, length-append, Result, Ok, Err, Option, Some, None}
+use Rattle.std.proofs.Common.{◌≡◌, inl, inr, ℕ, suc, ◌+◌, Bool, true, false, cond, List, [], ◌∷◌, ◌++◌, length, take, refl, sym, ap, ◌∙◌, arith, append_assoc, append-nil, Result, Ok, Err, None}
 use Rattle.std.proofs.lemmas.Bool.{cases_Bool}
 use Rattle.std.proofs.lemmas.Str.{IsUtf8-from_is_utf8}
 use Rattle.std.specs.Str.{chars, is_utf8, IsUtf8}
@@ -7,7 +7,6 @@ use Rattle.std.specs.Prelude.{not, ◌&&◌, if◌then◌else◌}
 use Rattle.tool_words.specs.Line.{is_open, line_words}
 use Rattle.tool_words.specs.Meaning.{meaning}
 use Rattle.tool_words.specs.declared.command.Command.{Command}
-use Rattle.tool_words.specs.declared.fault.UsageReason.{UsageReason}
 use Rattle.tool_words.specs.declared.fault.LineFault.{LineFault}
 use Rattle.tool_words.specs.declared.fault.LineFault.TheVariants.{OpenQuote}
 use Rattle.boot_tools.specs.Asked.{command_in, in_script, is_passed_over, is_script, line_at, lines_for, lines_from, lines_in}

@@ -1,29 +1,17 @@
 -- What stays while lines are printed and commands are carried out.
-use Rattle.std.proofs.Common.{◌≡◌, inl, inr, ℕ, ◌∷◌, ◌++◌, Bool, true, false, List, [], take, refl, sym, ap, ◌∙◌, subst, Result, Ok, Err}
-use Rattle.std.proofs.lemmas.Bool.{cases_Bool}
+use Rattle.std.proofs.Common.{◌≡◌, ℕ, Bool, true, false, List, take, refl, sym, ap, ◌∙◌, subst, Result, Ok, Err}
 use Rattle.std.proofs.lemmas.List.Elements.{All-weaker}
-use Rattle.std.specs.Prelude.{All, OnOk, OnErr, IsErr, IsErrAnd}
-use Rattle.boot_base.specs.Paths.{Path, is_file_name, is_temp, under}
-use Rattle.boot_base.proofs.Temp.{is_temp-behind}
-use Rattle.boot_base.specs.declared.refusal.Refusal.{Refusal}
+use Rattle.std.specs.Prelude.{OnOk, OnErr, IsErr, IsErrAnd}
 use Rattle.boot_machine.specs.Disk.{Files, State, has}
 use Rattle.boot_machine.specs.Rows.{with_printed}
 use Rattle.boot_machine.specs.declared.machine.Channel.{Channel}
 use Rattle.install_steps.specs.Steps.{NoNewTemp}
-use Rattle.tool_words.specs.declared.command.Command.{Command}
-use Rattle.tool_words.specs.declared.command.Command.TheVariants as command
-use Rattle.boot_commands.specs.Commands.{Tidied}
-use Rattle.boot_commands.specs.Folders.{folders_of}
 use Rattle.boot_commands.specs.Performs.{LeavesNoTemp, stop_temps}
 use Rattle.boot_commands.proofs.Later.{tidied_later}
-use Rattle.boot_commands.specs.Tidying.{CleanAt, IsClean}
-use Rattle.boot_commands.specs.declared.folders.Folders.{Folders}
 use Rattle.boot_commands.specs.declared.outcome.Stop.{Stop}
 use Rattle.boot_commands.specs.declared.outcome.Stop.TheVariants as stops
 use Rattle.boot_tools.specs.Endings.{AllTidied, UnlessDisk, ended_by}
 use Rattle.boot_tools.specs.Lines.{Prints, TidiedBy}
-use Rattle.boot_tools.specs.declared.ended.Ended.{Ended}
-use Rattle.boot_tools.specs.declared.ended.Ended.TheVariants.{Done, Refused, Usage, Disk, Pipe, Memory}
 use Rattle.boot_tools.specs.declared.line.Line.{Line}
 use Rattle.boot_tools.specs.declared.line.Line.TheVariants.{Plain, Numbered, Unread, TooLong}
 

@@ -1,6 +1,6 @@
 -- The clauses of the top call.
-use Rattle.std.proofs.Common.{◌≡◌, ◌≢◌, cond, inl, ℕ, ◌<◌, Bool, true, false, List, [], ◌∷◌, ◌++◌, length, take, refl, sym, ap, ◌∙◌, subst, arith, Option, Some, None, Result, Ok, Err, ◌⊎◌, ◌≤◌, inr, ⊎_elim}
-use Rattle.std.specs.Prelude.{IfOk, IfErr, IsErr, IsErrAnd, nat_lt, ◌||◌}
+use Rattle.std.proofs.Common.{◌≡◌, ◌≢◌, inl, ℕ, ◌<◌, Bool, true, false, List, [], ◌∷◌, ◌++◌, length, take, refl, sym, ap, ◌∙◌, subst, arith, Result, Ok, Err, ◌⊎◌, ◌≤◌, inr, ⊎_elim}
+use Rattle.std.specs.Prelude.{IfOk, IfErr, IsErr, IsErrAnd, ◌||◌}
 use Rattle.std.proofs.lemmas.List.{append-nil, take_all, drop_all}
 use Rattle.boot_machine.specs.Disk.{Files, State, IsIn, IsSound, candidates, view}
 use Rattle.boot_machine.specs.Images.{IsImage, IsFirm, IsSettled}

@@ -2,7 +2,6 @@
 use Rattle.std.specs.Prelude.{ℕ, suc, ◌+◌, ◌==◌, Bool, true, false, not, ◌&&◌, ◌||◌, List, [], ◌∷◌, ◌++◌, codes, length, take, nat_lt, Option, Some, None, Result, Ok, Err, if◌then◌else◌}
 use Rattle.std.specs.List.{slice_split}
 use Rattle.std.specs.Str.{chars, is_utf8}
-use Rattle.boot_machine.specs.Disk.{State}
 use Rattle.tool_words.specs.Grammar.{Word}
 use Rattle.tool_words.specs.Line.{is_open, line_words}
 use Rattle.tool_words.specs.Meaning.{meaning}

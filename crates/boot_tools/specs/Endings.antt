@@ -1,9 +1,8 @@
 -- The ends of a run, the program's statuses, and what a status tells of.
-use Rattle.std.specs.Prelude.{◌≡◌, ◌≢◌, ◌≤◌, ⊤, ℕ, zero, suc, Bool, true, false, List, [], ◌++◌, drop, All, Result, Ok, Err}
+use Rattle.std.specs.Prelude.{◌≡◌, ◌≢◌, ◌≤◌, ⊤, ℕ, zero, suc, Bool, true, false, List, [], drop, All, Result, Ok, Err}
 use Rattle.boot_machine.specs.Counts.{Counts, DiskFailed, PipeFailed}
 use Rattle.boot_machine.specs.Disk.{State}
 use Rattle.boot_machine.specs.Sent.{Sent, IsPrefix}
-use Rattle.install_steps.specs.Steps.{NoNewTemp}
 use Rattle.boot_commands.specs.Deeds.{End, Finished, NoMemory, DiskFails, PipeFails}
 use Rattle.boot_commands.specs.declared.outcome.Stop.{Stop}
 use Rattle.boot_commands.specs.declared.outcome.Stop.TheVariants as stops

@@ -1,5 +1,5 @@
 -- The clauses of the top call.
-use Rattle.std.specs.Prelude.{◌≡◌, ◌≢◌, ◌⊎◌, ◌≤◌, ℕ, List, ◌++◌, Result, Ok, Err}
+use Rattle.std.specs.Prelude.{◌≡◌, ◌⊎◌, ◌≤◌, ℕ, List, ◌++◌, Result, Ok, Err}
 use Rattle.boot_machine.specs.Disk.{Files, State, view}
 use Rattle.boot_machine.specs.Images.{IsImage, IsFirm, IsSettled}
 use Rattle.boot_machine.specs.Moments.{EachSince}
