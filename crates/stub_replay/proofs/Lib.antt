@@ -1,2 +1,4 @@
+pub mod Hashing
 pub mod Predicting
+pub mod Ranges
 pub mod Turns

@@ -1,6 +1,6 @@
 -- What a stub measures of an image, and the value of PCR 11 that it comes to (UAPI Unified Kernel Image; systemd's
 -- TPM2 PCR document, PCR 11).
-use Rattle.std.specs.Prelude.{◌≡◌, ℕ, List, [], ◌∷◌, ◌++◌, codes, IsOk}
+use Rattle.std.specs.Prelude.{◌≡◌, ℕ, List, [], ◌∷◌, ◌++◌, codes, length, sum_by, IsOk}
 use Rattle.std.specs.List.{flat_map, AllByRecursion}
 use Rattle.pe_reader.specs.Grammar.{pe_of}
 use Rattle.pe_reader.specs.Loaded.{loaded}
@@ -25,6 +25,10 @@ measured_by parts = flat_map (λ name. section_items name (parts name)) measured
 -- what a stub measures of an image: of each measured name the loaded bytes of its first section
 abbrev pub measured_list : List ℕ → List (List ℕ)
 measured_list image = measured_by (loaded image)
+
+-- how many bytes the measured sections of an image have loaded
+unfoldable pub measured_length : List ℕ → ℕ
+measured_length image = sum_by (λ name. length (loaded image name)) measured_names
 
 -- PCR 11 after a stub has measured an image, and then the words of a phase path
 abbrev pub stub_pcr : List ℕ → Bank → List (List ℕ) → List ℕ

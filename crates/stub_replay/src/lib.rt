@@ -8,8 +8,10 @@
 #![tactic(auto)]
 
 mod bytes;
+mod file;
 mod laws;
 mod measured;
 
 pub use bytes::replay_bytes;
+pub use file::replay;
 pub use laws::{image_shows_its_parts, prediction_is_replay, prediction_of_parts_is_replay};

@@ -1,15 +1,12 @@
-use Rattle.std.proofs.Common.{◌∙◌, arith}
-use Rattle.pe_reader.specs.Loaded.{loaded}
-use Rattle.pcr_fold.specs.Banks.{extended, zero_of}
-use Rattle.stub_replay.specs.Measured.{section_items, measured_names}
-use Rattle.stub_replay.proofs.Turns.{fold-more}
+use Rattle.std.proofs.Common.{◌∙◌, arith, refl}
+use Rattle.stub_replay.proofs.Turns.{value_more}
 use Rattle.stub_replay.proofs.bytes.replay_bytes.Goals as goal
 
 pub loop-index-preserved : goal.loop-index-preserved
 loop-index-preserved c =
-    let h = c.loop-index.invariant in
-    let more = fold-more (extended c.args.bank) (zero_of c.args.bank) (λ name. section_items name (loaded c.args.bytes.now name)) measured_names c.loop-index.index (omega arith) in
+    let before = c.loop-index.invariant in
     record {
-      bank = c.in_ok-pcr.ensures.bank ∙ h.bank;
-      value = rw more (rw (← h.value, ← h.bank, ← c.measured_name.ensures) c.in_ok-pcr.ensures.value);
+      bank = c.in_ok-pcr.ensures.bank ∙ before.bank;
+      value = value_more c.args.bank _ c.args.bytes.now c.args.bytes.now c.measured_name.result.now _ _ c.loop-index.index before.bank refl
+          c.measured_name.ensures (omega arith) before.value c.in_ok-pcr.ensures.value;
     }
