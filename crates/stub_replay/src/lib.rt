@@ -15,3 +15,6 @@ mod measured;
 pub use bytes::replay_bytes;
 pub use file::replay;
 pub use laws::{image_shows_its_parts, prediction_is_replay, prediction_of_parts_is_replay};
+
+#[cfg(test)]
+mod tests;
