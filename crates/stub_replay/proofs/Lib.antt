@@ -1,3 +1,4 @@
+pub mod GivenParts
 pub mod Hashing
 pub mod Predicting
 pub mod Ranges

@@ -1,5 +1,5 @@
 -- What is predicted from parts is what a stub measures of an image that shows them.
-use Rattle.std.proofs.Common.{◌≡◌, ℕ, List, [], ◌∷◌, ◌++◌, refl, sym, ap}
+use Rattle.std.proofs.Common.{◌≡◌, ℕ, List, [], ◌∷◌, ◌++◌, refl, sym, ap, ◌∙◌}
 use Rattle.std.specs.Prelude.{Option}
 use Rattle.std.specs.List.{flat_map, AllByRecursion}
 use Rattle.pe_reader.specs.Grammar.{Headers}
@@ -8,9 +8,11 @@ use Rattle.pcr_fold.specs.declared.bank.Bank.{Bank}
 use Rattle.pcr_fold.specs.Banks.{fold_of}
 use Rattle.pe_builder.specs.declared.size.WideSize.{WideSize}
 use Rattle.pe_builder.specs.Image.{finished}
-use Rattle.pe_builder.specs.Laws.{HasFinished, finished_loaded}
+use Rattle.pe_builder.specs.Laws.{HasFinished}
 use Rattle.pe_builder.proofs.Finished.{pe_of-finished}
 use Rattle.pe_builder.proofs.ByName.{loaded-finished}
+use Rattle.stub_replay.specs.Laws.{given_parts}
+use Rattle.stub_replay.proofs.GivenParts.{given_loaded}
 use Rattle.stub_replay.specs.Measured.{measured_names, section_items, measured_by, stub_pcr, predicted_pcr, Shows}
 
 same_items : (a b : List ℕ → List ℕ) (names : List (List ℕ)) → AllByRecursion (λ name. a name ≡ b name) names
@@ -29,14 +31,14 @@ predicted_is_replayed image parts bank path shows =
     ap (λ (l : List (List ℕ)). fold_of bank (l ++ path)) (sym (same_items (loaded image) parts measured_names shows.same))
 
 pub image_shows : (h : Headers) (sizes : List WideSize) (contents : List (List ℕ)) (sbat : Option (List ℕ)) (stub : List ℕ)
-    → HasFinished h sizes contents sbat stub → Shows (finished h sizes contents sbat stub) (finished_loaded h sizes contents sbat stub)
+    → HasFinished h sizes contents sbat stub → Shows (finished h sizes contents sbat stub) (given_parts sizes contents sbat stub)
 image_shows h sizes contents sbat stub has = record {
   reads = rw (pe_of-finished h sizes contents sbat stub has) refl;
-  same = all_names _ (loaded-finished h sizes contents sbat stub has) measured_names;
+  same = all_names _ (λ name. loaded-finished h sizes contents sbat stub has name ∙ given_loaded h sizes contents sbat stub has name) measured_names;
 }
 
 pub predicted_of_parts : (h : Headers) (sizes : List WideSize) (contents : List (List ℕ)) (sbat : Option (List ℕ)) (stub : List ℕ) (bank : Bank) (path : List (List ℕ))
     → HasFinished h sizes contents sbat stub
-    → predicted_pcr (finished_loaded h sizes contents sbat stub) bank path ≡ stub_pcr (finished h sizes contents sbat stub) bank path
+    → predicted_pcr (given_parts sizes contents sbat stub) bank path ≡ stub_pcr (finished h sizes contents sbat stub) bank path
 predicted_of_parts h sizes contents sbat stub bank path has =
-    predicted_is_replayed (finished h sizes contents sbat stub) (finished_loaded h sizes contents sbat stub) bank path (image_shows h sizes contents sbat stub has)
+    predicted_is_replayed (finished h sizes contents sbat stub) (given_parts sizes contents sbat stub) bank path (image_shows h sizes contents sbat stub has)
