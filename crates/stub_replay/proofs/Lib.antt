@@ -1,0 +1,5 @@
+pub mod GivenParts
+pub mod Hashing
+pub mod Predicting
+pub mod Ranges
+pub mod Turns
