@@ -1,3 +1,4 @@
 pub mod CopyLemmas
 pub mod LeftoverLemmas
+pub mod PlannedLemmas
 pub mod StepLemmas

@@ -12,7 +12,7 @@ mod write;
 
 pub use faults::{MoveFault, StepFault};
 pub use steps::{drop_leftovers, drop_name, move_name, settle};
-pub use write::{write_bytes, write_whole};
+pub use write::{write_bytes, write_planned, write_whole};
 
 #[cfg(test)]
 mod tests;

@@ -1,8 +1,10 @@
 pub mod Bytes
 pub mod Image
+pub mod Known
 pub mod Laws
 pub mod Layout
 pub mod Planned
 pub mod Puts
 pub mod Refusals
 pub mod Replaced
+pub mod Sizes

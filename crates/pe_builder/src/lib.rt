@@ -21,7 +21,7 @@ mod size;
 pub use fault::PlanFault;
 pub use image::image_bytes;
 pub use laws::{image_by_place, image_loads, image_reads};
-pub use plan::Plan;
+pub use plan::{Plan, SbatPlace};
 pub use refusal::plan_refusal;
 pub use size::{PartSize, WideSize};
 

@@ -9,6 +9,7 @@ ghost use Rattle.pe_builder.specs.Layout.{end_after, address_after, FitsPart};
 ghost use Rattle.pe_builder.specs.Replaced.{sbat_index, with_sbat_size, MayReplace};
 ghost use Rattle.pe_builder.specs.Refusals.{wide, first_refusal, size_refusal};
 ghost use Rattle.pe_builder.specs.Planned.{Plans, Makes, head_after, planned_length, sbat_place};
+ghost use Rattle.pe_builder.specs.Known.{planned_stub_length, planned_before, planned_after, planned_sections, planned_sbat};
 
 use crate::extent::{address_after, length_after, sbat_index, stub_end, total, up};
 use crate::fault::PlanFault;
@@ -85,6 +86,41 @@ impl Plan {
         ensures { result ≡ planned_length self.now }
     {
         self.image_length
+    }
+
+    /// How many bytes the stub has that the plan was made for.
+    pub fn stub_length(&self) -> u32
+        ensures { result ≡ planned_stub_length self.now }
+    {
+        self.stub_length
+    }
+
+    /// What that stub's headers say.
+    pub fn stub_head(&self) -> &Head
+        ensures { result.now ≡ planned_before self.now }
+    {
+        &self.before
+    }
+
+    /// What the image's headers say.
+    pub fn image_head(&self) -> &Head
+        ensures { result.now ≡ planned_after self.now }
+    {
+        &self.after
+    }
+
+    /// The image's new sections in the order of the parts, which is that of their headers and of their raw data.
+    pub fn new_sections(&self) -> &[Section]
+        ensures { result.now ≡ planned_sections self.now }
+    {
+        &self.sections
+    }
+
+    /// Where the stub's `.sbat` stands, if it is replaced in place.
+    pub fn sbat_place(&self) -> Option<SbatPlace>
+        ensures { result ≡ planned_sbat self.now }
+    {
+        self.sbat
     }
 }
 

@@ -4,9 +4,10 @@ ghost use Rattle.std.specs.Prelude.{◌≡◌, ◌≤◌, ◌^◌, length, map, 
 ghost use Rattle.std.specs.List.{AllByRecursion};
 ghost use Rattle.pe_builder.specs.Layout.{FitsPart};
 ghost use Rattle.pe_builder.specs.Refusals.{wide};
+ghost use Rattle.pe_builder.specs.Sizes.{part_flags, size_of};
 
 use std::alloc::{AllocError, Global};
-use uki_parts::SectionName;
+use uki_parts::{Part, SectionName};
 
 /// What a part needs to become a section.
 #[derive(Clone, Copy, Debug, PartialEq, Eq)]
@@ -17,6 +18,36 @@ pub struct PartSize {
     pub length: u32,
     /// The Characteristics of the section.
     pub flags: u32,
+}
+
+impl PartSize {
+    ghost use Rattle.std.specs.Prelude.{◌≡◌, ◌≤◌};
+    ghost use Rattle.pe_builder.specs.Sizes.{size_of};
+
+    /// The size of a part of at most 268,435,456 bytes. By its name alone a part is the kernel, whose section is
+    /// flagged as code that is read, as ukify does; the sections of all others are flagged as initialized data that
+    /// are read (Microsoft PE/COFF).
+    pub fn of(part: &Part) -> PartSize
+        requires { part.now.length ≤ 268435456 }
+        ensures { result ≡ size_of part.now }
+    {
+        PartSize {
+            name: part.name,
+            length: part.length as u32,
+            flags: part_flags(&part.name),
+        }
+    }
+}
+
+/// The Characteristics of the section of a part with that name.
+pub(crate) fn part_flags(name: &SectionName) -> u32
+    ensures { result ≡ part_flags name.now }
+{
+    if name.bytes() == b".linux".as_slice() {
+        0x40000020
+    } else {
+        0x40000040
+    }
 }
 
 /// The same of a part that may have more bytes than an image can hold.

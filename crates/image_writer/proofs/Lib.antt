@@ -1,0 +1,5 @@
+pub mod Appending
+pub mod Assembled
+pub mod Filled
+pub mod Padded
+pub mod Rising

@@ -1,0 +1,39 @@
+use Rattle.std.proofs.Common.{ℕ, refl, subst, rules, arith}
+use Rattle.std.specs.Prelude.{replicate}
+use Rattle.image_writer.specs.Appends.{Grown}
+use Rattle.image_writer.proofs.Appending.{appends_none, appends_on, appends-there, grown_none, grown_on, grown_as}
+use Rattle.image_writer.proofs.Filled.{zeros_more}
+use Rattle.image_writer.proofs.append.append_zeros.Goals as goal
+
+pub loop-done-init : goal.loop-done-init
+loop-done-init g c = record {
+  within = omega arith;
+  appends = λ told. appends_none g.M.Machine.clock g.M.Machine.since g.M.Machine.state c.args.temp.now c.args.machine.now (λ m o left. g.met.M.Machine.only_now c.args.machine.now m o told left);
+  grown = λ told. grown_none c.args.temp.now (g.M.Machine.state c.args.machine.now);
+  counts = refl;
+}
+
+pub append-requires : goal.append-requires
+append-requires g c = record {
+  there = λ told. appends-there g.M.Machine.clock g.M.Machine.since g.M.Machine.state c.args.temp.now c.args.machine.now c.loop-done.machine (c.loop-done.invariant.appends told) (c.requires.there told);
+}
+
+pub returns-in_err-append-clause-appends : goal.returns-in_err-append-clause-appends
+returns-in_err-append-clause-appends g c told =
+    appends_on g.M.Machine.clock g.M.Machine.since g.M.Machine.state c.args.temp.now _ _ _ (c.loop-done.invariant.appends told) (c.append.ensures.appends told)
+
+pub loop-done-preserved : goal.loop-done-preserved
+loop-done-preserved g c = record {
+  within = search rules;
+  appends = λ told. appends_on g.M.Machine.clock g.M.Machine.since g.M.Machine.state c.args.temp.now _ _ _ (c.loop-done.invariant.appends told) (c.append.ensures.appends told);
+  grown = λ told.
+      grown_as _ _ _ _ _
+      (zeros_more c.args.zeros.now c.loop-done.done c.min-room.result c.requires.zeros (omega arith))
+      (grown_on c.args.temp.now _ _ _ _ _ (c.loop-done.invariant.grown told) (c.in_ok-append.ensures.grows told));
+  counts = search rules;
+}
+
+pub returns-clause-grows : goal.returns-clause-grows
+returns-clause-grows g c told =
+    subst (λ (n : ℕ). Grown c.args.temp.now (replicate n 0) (g.M.Machine.state c.args.machine.now) (g.M.Machine.state c.loop-done.machine))
+    (omega arith) (c.loop-done.invariant.grown told)

@@ -1,0 +1,20 @@
+use Rattle.std.proofs.Common.{◌++◌, ℕ, List, ap, ◌∙◌}
+use Rattle.std.specs.Prelude.{replicate}
+use Rattle.std.specs.List.{flat_map}
+use Rattle.uki_parts.specs.declared.piece.Piece.{Piece}
+use Rattle.image_writer.specs.Chunks.{given_bytes}
+use Rattle.image_writer.proofs.Appending.{appends_on, appends-there, grown_on, grown_as, ok_then}
+use Rattle.image_writer.proofs.part.write_part.Goals as goal
+
+pub write_zeros-requires-clause-there : goal.write_zeros-requires-clause-there
+write_zeros-requires-clause-there g c told = appends-there g.M.Machine.clock g.M.Machine.since g.M.Machine.state c.args.temp.now c.args.machine.now c.write_pieces.new.machine (c.write_pieces.ensures.appends told) (c.requires.there told)
+
+pub returns-clause-appends : goal.returns-clause-appends
+returns-clause-appends g c told = appends_on g.M.Machine.clock g.M.Machine.since g.M.Machine.state c.args.temp.now _ _ _ (c.write_pieces.ensures.appends told) (c.write_zeros.ensures.appends told)
+
+pub returns-clause-grows : goal.returns-clause-grows
+returns-clause-grows g c = ok_then c.write_zeros.result c.write_zeros.ensures.grows (λ zeros told unit files agrees.
+    grown_as _ _ _ _ _
+    (ap (λ (ps : List Piece). flat_map (given_bytes files) ps ++ replicate c.gap.result 0) c.deref.ensures.value
+    ∙ ap (λ (n : ℕ). flat_map (given_bytes files) c.args.part.now.pieces.items ++ replicate n 0) (c.gap.ensures unit))
+    (grown_on _ _ _ _ _ _ (c.in_ok-write_pieces.ensures.grows told files agrees) (zeros told)))

@@ -1,0 +1,3 @@
+pub mod Appends
+pub mod Chunks
+pub mod Sourced

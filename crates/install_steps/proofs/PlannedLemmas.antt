@@ -1,0 +1,75 @@
+-- A file that is appended to under a temporary name.
+use Rattle.std.proofs.Common.{◌≡◌, inl, inr, ℕ, true, false, List, [], ◌++◌, Option, unwrap_or, sym, ap, ◌∙◌, subst}
+use Rattle.std.specs.FinMap as map
+use Rattle.boot_base.specs.Paths.{Path, is_temp}
+use Rattle.boot_machine.specs.Disk.{Files, State, has, view}
+use Rattle.boot_machine.specs.Maps.{get-insert_here}
+use Rattle.boot_machine.specs.Reading.{Stays}
+use Rattle.boot_machine.specs.Rows.{contents, append_to, move_in}
+use Rattle.boot_machine.specs.declared.machine.Printed.{Printed}
+use Rattle.boot_machine.proofs.Elapsing.{joined, weaken}
+use Rattle.boot_machine.proofs.Going.{During, Seen, image_sees}
+use Rattle.boot_machine.proofs.Soft.{Stands, stands-appended}
+use Rattle.boot_machine.proofs.Written.{has-created, view-written, temps-written}
+use Rattle.image_writer.specs.Appends.{softened, HasAppended, AppendsOnly}
+use Rattle.image_writer.proofs.Appending.{contents-append_to}
+use Rattle.install_steps.specs.Steps.{Keeps}
+use Rattle.install_steps.proofs.CopyLemmas.{with_file, with_none}
+
+stands-softened : (old : State) (P : Files → Type 0) (s : State) → Stands old P s → (p : Path) → is_temp p ≡ true → Stands old P (softened p s)
+stands-softened old P s so_far p temp = record {
+  temps = (stands-appended old P s so_far p [] temp).temps;
+  views = so_far.views;
+  printed = so_far.printed;
+  input = so_far.input;
+}
+
+stands-more : (old : State) (P : Files → Type 0) (s t : State) → Stands old P s → (p : Path) → is_temp p ≡ true → HasAppended p s t → Stands old P t
+stands-more old P s t so_far p temp (inl is) = subst (λ (v : State). Stands old P v) (sym is) so_far
+stands-more old P s t so_far p temp (inr more) = subst (λ (v : State). Stands old P v) (sym more.1) (stands-appended old P s so_far p more.0 temp)
+
+-- a temporary file is appended to
+pub goes-appends : {D : Type 0} (clock : D → ℕ) (since : D → ℕ → Files → List Printed → Type 0) (state : D → State) (P : Files → Type 0) (old mid new : D)
+    → During clock since state P old mid → (p : Path) → is_temp p ≡ true → AppendsOnly clock since state p mid new → During clock since state P old new
+goes-appends clock since state P old mid new so_far p temp appends = record {
+  moments = joined clock since state (Seen (state old) P) old mid new so_far.moments
+      (weaken clock since state (Stays (softened p (state mid))) (Seen (state old) P) mid new
+      (λ m o stays. (image_sees (state old) P (softened p (state mid)) (stands-softened (state old) P (state mid) so_far.stands p temp) m stays.0, stays.1 ∙ so_far.stands.printed)) appends.moments);
+  stands = stands-more (state old) P (state mid) (state new) so_far.stands p temp appends.left;
+}
+
+-- a new file is empty
+pub contents-created : (m : Files) (p : Path) → contents (map.insert m p []) p ≡ []
+contents-created m p = ap (λ (o : Option (List ℕ)). unwrap_or o []) (get-insert_here m p [])
+
+-- the files with what was appended to a new one
+pub written_file : (m : Files) (p : Path) (mid new : State) → mid.files ≡ map.insert m p [] → HasAppended p mid new → new.files ≡ with_file p (contents new.files p) m
+written_file m p mid new e (inl is) =
+    let files : new.files ≡ map.insert m p [] = ap (λ (s : State). s.files) is ∙ e in
+    let none : contents new.files p ≡ [] = ap (λ (n : Files). contents n p) files ∙ contents-created m p in
+    files ∙ with_none m p ∙ ap (λ (l : List ℕ). with_file p l m) (sym none)
+written_file m p mid new e (inr more) =
+    let files : new.files ≡ append_to p more.0 (map.insert m p []) = ap (λ (s : State). s.files) more.1 ∙ ap (append_to p more.0) e in
+    let is : contents new.files p ≡ more.0 =
+    ap (λ (n : Files). contents n p) files ∙ contents-append_to (map.insert m p []) p more.0 (has-created m p) ∙ ap (λ (l : List ℕ). l ++ more.0) (contents-created m p) in
+    files ∙ ap (λ (l : List ℕ). with_file p l m) (sym is)
+
+-- boot sees it in its place
+pub sees_written : (m : Files) (p to : Path) (mid new : State) (image : List ℕ) → is_temp p ≡ true → is_temp to ≡ false → mid.files ≡ map.insert m p [] → HasAppended p mid new
+    → contents new.files p ≡ image → view (move_in p to new.files) ≡ map.insert (view m) to image
+sees_written m p to mid new image temp shown e left is =
+    ap (λ (n : Files). view (move_in p to n)) (written_file m p mid new e left) ∙ view-written m p to (contents new.files p) temp shown
+    ∙ ap (λ (l : List ℕ). map.insert (view m) to l) is
+
+-- and no other temporary file
+pub temps_left : (m : Files) (p to : Path) (mid new : State) → is_temp p ≡ true → is_temp to ≡ false → mid.files ≡ map.insert m p [] → HasAppended p mid new
+    → (q : Path) → is_temp q ≡ true → has (move_in p to new.files) q ≡ true → has m q ≡ true
+temps_left m p to mid new temp shown e left q q_temp there =
+    temps-written m p to (contents new.files p) temp shown q q_temp (subst (λ (n : Files). has (move_in p to n) q ≡ true) (written_file m p mid new e left) there)
+
+pub keeps_more : (p : Path) (old mid new : State) → Keeps old mid → HasAppended p mid new → Keeps old new
+keeps_more p old mid new keeps (inl is) = subst (λ (v : State). Keeps old v) (sym is) keeps
+keeps_more p old mid new keeps (inr more) = record {
+  printed = ap (λ (v : State). v.printed) more.1 ∙ keeps.printed;
+  input = ap (λ (v : State). v.input) more.1 ∙ keeps.input;
+}

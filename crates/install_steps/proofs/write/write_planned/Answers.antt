@@ -1,0 +1,86 @@
+use Rattle.std.proofs.Common.{◌≡◌, true, [], refl, sym, ap, ◌∙◌, subst}
+use Rattle.std.specs.FinMap as map
+use Rattle.boot_machine.specs.Disk.{Files, has, view}
+use Rattle.boot_machine.specs.Rows.{contents, move_in}
+use Rattle.boot_machine.proofs.Going.{goes-create}
+use Rattle.boot_machine.proofs.Views.{view-insert_temp}
+use Rattle.boot_machine.proofs.Written.{has-created}
+use Rattle.image_writer.specs.Sourced.{IsSourced, IsPlannedImage, new_sbat, part_list, parts_bytes, stub_path}
+use Rattle.image_writer.proofs.Appending.{appends-there}
+use Rattle.image_writer.proofs.Assembled.{one_image}
+use Rattle.install_steps.specs.Steps.{StepsTo, IsDone}
+use Rattle.install_steps.proofs.PlannedLemmas.{goes-appends, contents-created, sees_written, temps_left}
+use Rattle.install_steps.proofs.StepLemmas.{begins_same, firm_so_far, settled_so_far, steps_same, steps_on, ok_then}
+use Rattle.install_steps.proofs.write.write_planned.Goals as goal
+
+pub returns-in_err-create-clause-step : goal.returns-in_err-create-clause-step
+returns-in_err-create-clause-step g c told firm image finished =
+    let start = begins_same g.M.Machine.clock g.M.Machine.since g.M.Machine.state c.args.machine.now (λ m o. g.met.M.Machine.only_now c.args.machine.now m o told) (g.met.M.Machine.sound c.args.machine.now told) firm (c.requires.one told) in
+    let made = goes-create _ _ _ _ _ _ _ c.create.result start (c.create.ensures.moments told) c.args.target.now.temp c.know-2.ensures (c.create.ensures.row told) in
+    steps_same _ _ _ _ _ _ made
+
+pub write_image-requires-clause-sourced : goal.write_image-requires-clause-sourced
+write_image-requires-clause-sourced g c told =
+    let created : (g.M.Machine.state c.create.new.self).files ≡ map.insert (g.M.Machine.state c.args.machine.now).files c.args.target.now.temp [] = rw (c.in_ok-create.ensures.row told) refl in
+    let seen : view (g.M.Machine.state c.create.new.self).files ≡ view (g.M.Machine.state c.args.machine.now).files = ap view created ∙ view-insert_temp (g.M.Machine.state c.args.machine.now).files c.args.target.now.temp [] c.know-2.ensures in
+    subst (λ (v : Files). IsSourced c.args.plan.now c.args.sources.now v) (sym seen) (c.requires.sourced told)
+
+pub write_image-requires-clause-there : goal.write_image-requires-clause-there
+write_image-requires-clause-there g c told = rw (c.in_ok-create.ensures.row told) (has-created (g.M.Machine.state c.args.machine.now).files c.args.target.now.temp)
+
+pub write_image-requires-clause-empty : goal.write_image-requires-clause-empty
+write_image-requires-clause-empty g c told = rw (c.in_ok-create.ensures.row told) (contents-created (g.M.Machine.state c.args.machine.now).files c.args.target.now.temp)
+
+pub returns-in_err-write_image-clause-step : goal.returns-in_err-write_image-clause-step
+returns-in_err-write_image-clause-step g c told firm image finished =
+    let start = begins_same g.M.Machine.clock g.M.Machine.since g.M.Machine.state c.args.machine.now (λ m o. g.met.M.Machine.only_now c.args.machine.now m o told) (g.met.M.Machine.sound c.args.machine.now told) firm (c.requires.one told) in
+    let made = goes-create _ _ _ _ _ _ _ c.create.result start (c.create.ensures.moments told) c.args.target.now.temp c.know-2.ensures (c.create.ensures.row told) in
+    let written = goes-appends _ _ _ _ _ _ _ made c.args.target.now.temp c.know-2.ensures (c.write_image.ensures.appends told) in
+    steps_same _ _ _ _ _ _ written
+
+pub finish-requires : goal.finish-requires
+finish-requires g c = record {
+  there = λ told.
+      let there : has (g.M.Machine.state c.create.new.self).files c.args.target.now.temp ≡ true = rw (c.in_ok-create.ensures.row told) (has-created (g.M.Machine.state c.args.machine.now).files c.args.target.now.temp) in
+      appends-there g.M.Machine.clock g.M.Machine.since g.M.Machine.state c.args.target.now.temp c.create.new.self c.write_image.new.machine (c.write_image.ensures.appends told) there;
+}
+
+pub returns-clause-step : goal.returns-clause-step
+returns-clause-step g c told firm image finished =
+    let start = begins_same g.M.Machine.clock g.M.Machine.since g.M.Machine.state c.args.machine.now (λ m o. g.met.M.Machine.only_now c.args.machine.now m o told) (g.met.M.Machine.sound c.args.machine.now told) firm (c.requires.one told) in
+    let made = goes-create _ _ _ _ _ _ _ c.create.result start (c.create.ensures.moments told) c.args.target.now.temp c.know-2.ensures (c.create.ensures.row told) in
+    let written = goes-appends _ _ _ _ _ _ _ made c.args.target.now.temp c.know-2.ensures (c.write_image.ensures.appends told) in
+    let created : (g.M.Machine.state c.create.new.self).files ≡ map.insert (g.M.Machine.state c.args.machine.now).files c.args.target.now.temp [] = rw (c.in_ok-create.ensures.row told) refl in
+    let seen : view (g.M.Machine.state c.create.new.self).files ≡ view (g.M.Machine.state c.args.machine.now).files = ap view created ∙ view-insert_temp (g.M.Machine.state c.args.machine.now).files c.args.target.now.temp [] c.know-2.ensures in
+    let files = view (g.M.Machine.state c.args.machine.now).files in
+    let bytes = contents (g.M.Machine.state c.write_image.new.machine).files c.args.target.now.temp in
+    let stub = contents files (stub_path c.args.sources.now) in
+    let is_image = subst (λ (v : Files). IsPlannedImage c.args.plan.now c.args.sources.now v bytes) seen (c.in_ok-write_image.ensures.image told) in
+    let same : bytes ≡ image =
+    one_image c.args.plan.now stub (new_sbat c.args.sources.now) (parts_bytes (contents files) (part_list c.args.sources.now)) bytes image (c.requires.sourced told).plan_is is_image finished in
+    let is : view (move_in c.args.target.now.temp c.args.target.now.path (g.M.Machine.state c.write_image.new.machine).files) ≡ map.insert files c.args.target.now.path image =
+    sees_written (g.M.Machine.state c.args.machine.now).files c.args.target.now.temp c.args.target.now.path (g.M.Machine.state c.create.new.self) (g.M.Machine.state c.write_image.new.machine) image c.know-2.ensures c.know.ensures created (c.write_image.ensures.appends told).left same in
+    let finishes = c.finish.ensures.step told (firm_so_far _ _ _ _ _ _ written) (settled_so_far _ _ _ _ _ written) in
+    steps_on _ _ _ _ _ _ _ written (subst (λ (v : Files). StepsTo g.M.Machine.clock g.M.Machine.since g.M.Machine.state v c.write_image.new.machine c.finish.new.machine) is finishes)
+
+pub returns-clause-done : goal.returns-clause-done
+returns-clause-done g c = ok_then c.finish.result c.finish.ensures.done (λ done told firm image finished.
+    let start = begins_same g.M.Machine.clock g.M.Machine.since g.M.Machine.state c.args.machine.now (λ m o. g.met.M.Machine.only_now c.args.machine.now m o told) (g.met.M.Machine.sound c.args.machine.now told) firm (c.requires.one told) in
+    let made = goes-create _ _ _ _ _ _ _ c.create.result start (c.create.ensures.moments told) c.args.target.now.temp c.know-2.ensures (c.create.ensures.row told) in
+    let written = goes-appends _ _ _ _ _ _ _ made c.args.target.now.temp c.know-2.ensures (c.write_image.ensures.appends told) in
+    let created : (g.M.Machine.state c.create.new.self).files ≡ map.insert (g.M.Machine.state c.args.machine.now).files c.args.target.now.temp [] = rw (c.in_ok-create.ensures.row told) refl in
+    let seen : view (g.M.Machine.state c.create.new.self).files ≡ view (g.M.Machine.state c.args.machine.now).files = ap view created ∙ view-insert_temp (g.M.Machine.state c.args.machine.now).files c.args.target.now.temp [] c.know-2.ensures in
+    let files = view (g.M.Machine.state c.args.machine.now).files in
+    let bytes = contents (g.M.Machine.state c.write_image.new.machine).files c.args.target.now.temp in
+    let stub = contents files (stub_path c.args.sources.now) in
+    let is_image = subst (λ (v : Files). IsPlannedImage c.args.plan.now c.args.sources.now v bytes) seen (c.in_ok-write_image.ensures.image told) in
+    let same : bytes ≡ image =
+    one_image c.args.plan.now stub (new_sbat c.args.sources.now) (parts_bytes (contents files) (part_list c.args.sources.now)) bytes image (c.requires.sourced told).plan_is is_image finished in
+    let is : view (move_in c.args.target.now.temp c.args.target.now.path (g.M.Machine.state c.write_image.new.machine).files) ≡ map.insert files c.args.target.now.path image =
+    sees_written (g.M.Machine.state c.args.machine.now).files c.args.target.now.temp c.args.target.now.path (g.M.Machine.state c.create.new.self) (g.M.Machine.state c.write_image.new.machine) image c.know-2.ensures c.know.ensures created (c.write_image.ensures.appends told).left same in
+    subst (IsDone (g.M.Machine.state c.finish.new.machine)) is (done told (firm_so_far _ _ _ _ _ _ written) (settled_so_far _ _ _ _ _ written)))
+
+pub returns-clause-temps : goal.returns-clause-temps
+returns-clause-temps g c = ok_then c.finish.result c.finish.ensures.files (λ files told q temp there.
+    let created : (g.M.Machine.state c.create.new.self).files ≡ map.insert (g.M.Machine.state c.args.machine.now).files c.args.target.now.temp [] = rw (c.in_ok-create.ensures.row told) refl in
+    temps_left (g.M.Machine.state c.args.machine.now).files c.args.target.now.temp c.args.target.now.path (g.M.Machine.state c.create.new.self) (g.M.Machine.state c.write_image.new.machine) c.know-2.ensures c.know.ensures created (c.write_image.ensures.appends told).left q temp (rw (files told) at there))
