@@ -15,7 +15,7 @@ use Rattle.stub_replay.specs.Laws.{given_parts}
 use Rattle.stub_replay.proofs.GivenParts.{given_loaded}
 use Rattle.stub_replay.specs.Measured.{measured_names, section_items, measured_by, stub_pcr, predicted_pcr, Shows}
 
-same_items : (a b : List ℕ → List ℕ) (names : List (List ℕ)) → AllByRecursion (λ name. a name ≡ b name) names
+pub same_items : (a b : List ℕ → List ℕ) (names : List (List ℕ)) → AllByRecursion (λ name. a name ≡ b name) names
     → flat_map (λ name. section_items name (a name)) names ≡ flat_map (λ name. section_items name (b name)) names
 same_items a b [] h = refl
 same_items a b (x ∷ xs) h = rw (h.0, same_items a b xs h.1) refl

@@ -105,8 +105,13 @@ fn after_range<M: Machine>(
     Ok(after_name(pcr, name).extend_digest(&digest))
 }
 
-// The digest of the bytes of a range of the file, with its zeros.
-fn range_digest<M: Machine>(
+/// The digest of a range of the file with its zeros, as they are loaded. The file is read through the buffer,
+/// and each of its bytes once; afterwards the buffer holds anything.
+///
+/// # Errors
+///
+/// Only where the machine has counted a fault of the disk.
+pub fn range_digest<M: Machine>(
     bank: Bank,
     machine: &mut M,
     path: &BootPath,

@@ -27,7 +27,8 @@ pub fn measured_name(index: usize) -> &'static [u8]
     }
 }
 
-/// The register after a section's name with one NUL has extended it.
+/// The register after a section's name with one NUL has extended it, as a stub measures the name before the
+/// section's bytes (systemd's TPM2 PCR document, PCR 11). It takes no memory.
 pub fn after_name(pcr: Pcr, name: &[u8]) -> Pcr
     ensures bank { pcr_bank result ≡ pcr_bank pcr }
     ensures bytes { pcr_bytes result ≡ extended (pcr_bank pcr) (pcr_bytes pcr) (name.now ++ 0 ∷ []) }

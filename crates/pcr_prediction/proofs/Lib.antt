@@ -1,0 +1,4 @@
+pub mod Measuring
+pub mod Ordered
+pub mod Taking
+pub mod Zips

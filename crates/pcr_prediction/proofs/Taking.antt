@@ -1,0 +1,105 @@
+-- Bytes that registers take one behind the other.
+use Rattle.std.proofs.Common.{◌≡◌, ◌<◌, ◌≤◌, ◌+◌, ℕ, Bool, List, [], ◌∷◌, ◌++◌, length, take, drop, get_or, refl, sym, ap, subst, ◌∙◌, arith, IsTrue, append_assoc, append-nil, length-append, length-drop}
+use Rattle.std.specs.Prelude.{replicate}
+use Rattle.std.specs.List.{AllZip}
+use Rattle.std.proofs.Math.Seq.{take-add}
+use Rattle.std.proofs.lemmas.Grind.{flat_map-append}
+use Rattle.std.proofs.lemmas.List.{take_more, replicate-append-replicate}
+use Rattle.std.proofs.lemmas.List.Elements.{All-tail}
+use Rattle.std.proofs.lemmas.List.Sums.{sum_by-cons}
+use Rattle.uki_parts.specs.declared.piece.Piece.{Piece}
+use Rattle.uki_parts.specs.Pieces.{Reading, HasSizes, piece_length, total_length, piece_bytes, bytes_of}
+use Rattle.pcr_fold.specs.declared.bank.Bank.{Bank}
+use Rattle.pcr_prediction.specs.declared.register.Register.{Register}
+use Rattle.pcr_prediction.specs.Registers.{Holds, AreHeld, Takes}
+use Rattle.pcr_prediction.specs.Taking.{TakesWhere, AreBetween}
+use Rattle.pcr_prediction.proofs.Zips.{zip_same, zip_joined, zip_moved}
+
+-- nothing is taken
+pub takes_none : (xs : List Register) → AllZip (Takes []) xs xs
+takes_none xs = zip_same (Takes []) xs (λ x bank items taken holds. let P = λ (l : List ℕ). Holds x bank items l in subst P (sym (append-nil taken)) holds)
+
+-- more is taken
+pub takes_more : (a b : List ℕ) (xs ys zs : List Register) → AllZip (Takes a) xs ys → AllZip (Takes b) ys zs → AllZip (Takes (a ++ b)) xs zs
+takes_more a b xs ys zs first second =
+    zip_joined (Takes a) (Takes b) (Takes (a ++ b)) xs ys zs
+    (λ x y z r s bank items taken holds.
+    let P = λ (l : List ℕ). Holds z bank items l in
+    subst P (append_assoc taken a b) (s bank items (taken ++ a) (r bank items taken holds)))
+    first second
+
+-- zeros behind zeros
+pub zeros_more : (done count : ℕ) (zeros : List ℕ) (xs ys zs : List Register) → zeros ≡ replicate count 0 → AllZip (Takes (replicate done 0)) xs ys
+    → AllZip (Takes zeros) ys zs → AllZip (Takes (replicate (done + count) 0)) xs zs
+zeros_more done count zeros xs ys zs all_zero first second =
+    let P = λ (l : List ℕ). AllZip (Takes l) xs zs in
+    subst P (ap (λ (l : List ℕ). replicate done 0 ++ l) all_zero ∙ replicate-append-replicate done count 0) (takes_more (replicate done 0) zeros xs ys zs first second)
+
+where_more : (P Q S : Type 0) (a b c : List ℕ) (xs ys zs : List Register) → (S → P) → (S → Q) → (S → a ++ b ≡ c)
+    → TakesWhere P a xs ys → TakesWhere Q b ys zs → TakesWhere S c xs zs
+where_more P Q S a b c xs ys zs to_first to_second joined first second = (
+  first.0 ++ second.0,
+  takes_more first.0 second.0 xs ys zs first.1 second.1,
+  λ told. ap (λ (l : List ℕ). l ++ second.0) (first.2 (to_first told)) ∙ ap (λ (l : List ℕ). a ++ l) (second.2 (to_second told)) ∙ joined told,
+)
+
+-- nothing is taken of what is empty
+pub where_none : (P : Type 0) (xs : List Register) → TakesWhere P [] xs xs
+where_none P xs = ([], takes_none xs, λ told. refl)
+
+-- the next bytes of a file
+pub file_more : (tells : Bool) (file seen : List ℕ) (done count : ℕ) (xs ys zs : List Register) → (IsTrue tells → seen ≡ file)
+    → TakesWhere (IsTrue tells × (done ≤ length file)) (take done file) xs ys
+    → TakesWhere (IsTrue tells × (count ≤ length (drop done seen))) (take count (drop done seen)) ys zs
+    → TakesWhere (IsTrue tells × (done + count ≤ length file)) (take (done + count) file) xs zs
+file_more tells file seen done count xs ys zs same first second =
+    where_more _ _ _ (take done file) (take count (drop done seen)) (take (done + count) file) xs ys zs
+    (λ told. (told.0, omega (arith, told.1)))
+    (λ told. (told.0, omega (arith, told.1, length-drop done seen, ap length (same told.0))))
+    (λ told. ap (λ (f : List ℕ). take done file ++ take count (drop done f)) (same told.0) ∙ sym (take-add done count file))
+    first second
+
+bytes_more : (files : Reading) (pieces : List Piece) (i : ℕ) (d : Piece) → i < length pieces
+    → bytes_of files (take i pieces) ++ piece_bytes files (get_or pieces i d) ≡ bytes_of files (take (i + 1) pieces)
+bytes_more files pieces i d inside =
+    ap (λ (l : List ℕ). bytes_of files (take i pieces) ++ l) (sym (append-nil (piece_bytes files (get_or pieces i d))))
+    ∙ sym (flat_map-append (piece_bytes files) (take i pieces) (get_or pieces i d ∷ []))
+    ∙ ap (bytes_of files) (sym (take_more pieces i d inside))
+
+-- the next piece
+pub pieces_more : (tells : Bool) (files seen : Reading) (pieces : List Piece) (i : ℕ) (piece : Piece) (xs ys zs : List Register) → (IsTrue tells → seen ≡ files)
+    → i < length pieces → piece ≡ get_or pieces i piece
+    → TakesWhere (IsTrue tells × HasSizes files pieces) (bytes_of files (take i pieces)) xs ys
+    → TakesWhere (IsTrue tells × (length (piece_bytes seen piece) ≡ piece_length piece)) (piece_bytes seen piece) ys zs
+    → TakesWhere (IsTrue tells × HasSizes files pieces) (bytes_of files (take (i + 1) pieces)) xs zs
+pieces_more tells files seen pieces i piece xs ys zs same inside at first second =
+    where_more _ _ _ (bytes_of files (take i pieces)) (piece_bytes seen piece) (bytes_of files (take (i + 1) pieces)) xs ys zs
+    (λ told. told)
+    (λ told. (
+      told.0,
+      ap (λ (f : Reading). length (piece_bytes f piece)) (same told.0) ∙ ap (λ (p : Piece). length (piece_bytes files p)) at ∙ told.1 i piece inside
+          ∙ ap piece_length (sym at),
+    ))
+    (λ told.
+    ap (λ (f : Reading). bytes_of files (take i pieces) ++ piece_bytes f piece) (same told.0)
+    ∙ ap (λ (p : Piece). bytes_of files (take i pieces) ++ piece_bytes files p) at
+    ∙ bytes_more files pieces i piece inside)
+    first second
+
+-- pieces stand for as many bytes as they say
+pub length-bytes_of : (files : Reading) (pieces : List Piece) → HasSizes files pieces → length (bytes_of files pieces) ≡ total_length pieces
+length-bytes_of files [] sizes = refl
+length-bytes_of files (piece ∷ pieces) sizes =
+    let rest = length-bytes_of files pieces (All-tail (λ (p : Piece). length (piece_bytes files p) ≡ piece_length p) piece pieces sizes) in
+    omega (arith, length-append (piece_bytes files piece) (bytes_of files pieces), sum_by-cons piece_length piece pieces, sizes 0 piece (omega arith), rest)
+
+-- the registers hold what they have taken
+pub held_after : (taken : List ℕ) (xs ys : List Register) → AreBetween xs → AllZip (Takes taken) xs ys → AreHeld ys
+held_after taken xs ys between takes =
+    let items = between.1 in (
+      between.0,
+      items,
+      taken,
+      zip_moved (Takes taken) (λ (r : Register) (b : Bank). Holds r b items []) (λ (r : Register) (b : Bank). Holds r b items taken) xs ys between.0
+          (λ x y bank r holds. r bank items [] holds) takes between.2,
+    )

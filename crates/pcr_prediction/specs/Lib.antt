@@ -1,0 +1,5 @@
+pub mod Registers
+pub mod Taking
+pub mod Parts
+pub mod Ordered
+pub mod Faults
