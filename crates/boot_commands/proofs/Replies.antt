@@ -1,6 +1,5 @@
 -- No command's reply is empty.
-use Rattle.std.proofs.Common.{ℕ, ◌<◌, Bool, true, false, cond, List, length, arith, Option, Some, None, Result, Ok, Err}
-use Rattle.std.specs.Prelude.{nat_lt}
+use Rattle.std.proofs.Common.{ℕ, ◌<◌, ◌&&◌, ◌∷◌, [], codes, Bool, true, false, cond, List, length, arith, Option, Some, None, Result, Ok, Err}
 use Rattle.std.specs.FinMap.{get}
 use Rattle.boot_base.specs.Paths.{Path}
 use Rattle.boot_base.specs.Refusals.{line_of}
@@ -10,13 +9,19 @@ use Rattle.boot_machine.specs.Disk.{Files}
 use Rattle.boot_phases.specs.Lines.{heading_of}
 use Rattle.tool_words.specs.declared.command.Command.{Command}
 use Rattle.tool_words.specs.declared.command.Command.TheVariants as command
-use Rattle.boot_commands.specs.Answers.{Answer, refusal, done}
-use Rattle.boot_commands.specs.Calculating.{file_limit, kernel_path, kernel_answer, kernel_text, calculate_answer}
+use Rattle.command_plans.specs.Answers.{Answer, said}
+use Rattle.pcr_fold.specs.declared.bank.Bank.{Bank}
+use Rattle.pe_reader.specs.declared.fault.FailedCheck.{FailedCheck}
+use Rattle.pe_reader.specs.Grammar.{Headers, pe_of}
+use Rattle.image_commands.specs.Calculating.{calculate_said, if_given, part_words}
+use Rattle.image_commands.specs.Files.{bytes_at, each, image_at}
+use Rattle.image_commands.specs.Said.{has_loaded, identify_said, image_said, inspect_said, inspection_at, kind_at, kind_of, values_at}
+use Rattle.image_commands.specs.Values.{banks_of, once, paths_of, value_lines}
 use Rattle.boot_commands.specs.Commands.{answer_of}
 use Rattle.boot_commands.specs.Folders.{folders_of}
-use Rattle.boot_commands.specs.Refusing.{unless_refused}
+use Rattle.command_plans.specs.Refusing.{◌>>=◌, path_in, printed_path, unless_refused}
 use Rattle.boot_commands.specs.Tidying.{tidy_answer}
-use Rattle.boot_commands.specs.Unlinking.{entry_path, printed_path, removal, unlink_answer}
+use Rattle.boot_commands.specs.Unlinking.{entry_path, removal, unlink_answer}
 
 some_line : (why : Refusal) → 0 < length (line_of why)
 some_line why = omega arith
@@ -26,14 +31,40 @@ some_unless : {X : Type 0} (view : Files) (read : Result X Refusal) (next : X �
 some_unless view (Err why) next some = some_line why
 some_unless view (Ok x) next some = some x
 
-some_kernel : (view : Files) (path : Path) (found : Option (List ℕ)) → 0 < length (kernel_answer view path found).text
+-- what is said has a text
+abbrev HasText : Result (List ℕ) Refusal → Type 0
+HasText (Ok text) = 0 < length text
+HasText (Err why) = Unit {0}
+
+text_next : {X : Type 0} (first : Result X Refusal) (next : X → Result (List ℕ) Refusal) → ((x : X) → HasText (next x)) → HasText (first >>= next)
+text_next (Ok x) next some = some x
+text_next (Err why) next some = tt
+
+some_said : (view : Files) (found : Result (List ℕ) Refusal) → HasText found → 0 < length (said view found).text
+some_said view (Ok text) some = some
+some_said view (Err why) some = some_line why
+
+some_heading : (value : Bank → List (List ℕ) → List ℕ) (banks : List Bank) (path : List (List ℕ)) (paths : List (List (List ℕ))) → 0 < length (value_lines value banks (path ∷ paths))
 unfolding heading_of
-some_kernel view path None = some_line (refusals.NotFound (printed_path path))
-some_kernel view path (Some bytes) = by_size (nat_lt file_limit (length bytes))
+some_heading value banks path paths = omega arith
+
+some_lines : (value : Bank → List (List ℕ) → List ℕ) (banks : List Bank) (paths : List (List (List ℕ))) → 0 < length paths → 0 < length (value_lines value banks paths)
+some_lines value banks [] some = absurd (omega (arith, some))
+some_lines value banks (path ∷ paths) some = some_heading value banks path paths
+
+-- the lines of values aren't empty, since some path is always predicted for
+some_values : (value : Bank → List (List ℕ) → List ℕ) (banks : List Bank) (texts : List (List ℕ)) → 0 < length (value_lines value banks (paths_of texts))
+unfolding once
+some_values value banks [] = some_lines value banks (paths_of []) (omega arith)
+some_values value banks (first ∷ more) = some_lines value banks (paths_of (first ∷ more)) (omega arith)
+
+some_kind : (bytes : List ℕ) (read : Result Headers FailedCheck) → 0 < length (kind_of bytes read)
+some_kind bytes (Ok headers) = by_sections (has_loaded bytes (codes ".linux") && has_loaded bytes (codes ".osrel"))
   where
-    by_size : (big : Bool) → 0 < length (cond big (refusal view (refusals.TooLarge (printed_path path) (length bytes))) (done view (kernel_text bytes))).text
-    by_size true = some_line (refusals.TooLarge (printed_path path) (length bytes))
-    by_size false = omega arith
+    by_sections : (unified : Bool) → 0 < length (cond unified (codes "uki\n") (codes "pe\n"))
+    by_sections true = omega arith
+    by_sections false = omega arith
+some_kind bytes (Err check) = omega arith
 
 some_removal : (view : Files) (path : Path) (found : Option (List ℕ)) → 0 < length (removal view path found).text
 some_removal view path None = some_line (refusals.NotFound (printed_path path))
@@ -42,10 +73,16 @@ some_removal view path (Some bytes) = omega arith
 -- no command's reply is empty: a case for each command
 pub some_text : (view : Files) (c : Command) → 0 < length (answer_of view c).text
 some_text view (command.Build words) = some_line refusals.NotBuilt
-some_text view (command.Calculate words) = some_unless view (kernel_path words) (calculate_answer view) (λ path. some_kernel view path (get view path))
-some_text view (command.Inspect file) = some_line refusals.NotBuilt
-some_text view (command.Image file banks phases) = some_line refusals.NotBuilt
-some_text view (command.Identify file) = some_line refusals.NotBuilt
+some_text view (command.Calculate words) =
+    some_said view (calculate_said view words)
+    (text_next (each (if_given path_in) (part_words words)) _ (λ paths. text_next (each (if_given (bytes_at view)) paths) _ (λ parts. some_values _ (banks_of words.banks) words.phases)))
+some_text view (command.Inspect file) =
+    some_said view (inspect_said view file) (text_next (path_in file) (inspection_at view) (λ path. text_next (image_at view path) _ (λ image. omega arith)))
+some_text view (command.Image file banks phases) =
+    some_said view (image_said view file banks phases)
+    (text_next (path_in file) (values_at view banks phases) (λ path. text_next (image_at view path) _ (λ image. some_values _ (banks_of banks) phases)))
+some_text view (command.Identify file) =
+    some_said view (identify_said view file) (text_next (path_in file) (kind_at view) (λ path. text_next (bytes_at view path) _ (λ bytes. some_kind bytes (pe_of bytes))))
 some_text view (command.List esp) = some_line refusals.NotBuilt
 some_text view (command.Tidy esp) = some_unless view (folders_of esp) (tidy_answer view) (λ folders. omega arith)
 some_text view (command.Boot esp) = some_line refusals.NotBuilt

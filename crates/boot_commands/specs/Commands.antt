@@ -3,10 +3,11 @@ use Rattle.boot_base.specs.declared.refusal.Refusal.TheVariants as refusals
 use Rattle.boot_machine.specs.Disk.{Files}
 use Rattle.tool_words.specs.declared.command.Command.{Command}
 use Rattle.tool_words.specs.declared.command.Command.TheVariants as command
-use Rattle.boot_commands.specs.Answers.{Answer, refusal}
-use Rattle.boot_commands.specs.Deeds.{Deed, made}
-use Rattle.boot_commands.specs.Refusing.{unless_refused}
-use Rattle.boot_commands.specs.Calculating.{kernel_path, calculate_answer}
+use Rattle.command_plans.specs.Answers.{Answer, refusal, said}
+use Rattle.command_plans.specs.Deeds.{Deed, made}
+use Rattle.command_plans.specs.Refusing.{unless_refused}
+use Rattle.image_commands.specs.Calculating.{calculate_said}
+use Rattle.image_commands.specs.Said.{identify_said, image_said, inspect_said}
 use Rattle.boot_commands.specs.Unlinking.{entry_path, unlink_answer}
 use Rattle.boot_commands.specs.Folders.{folders_of}
 use Rattle.boot_commands.specs.Tidying.{tidy_answer, IsTidied}
@@ -16,10 +17,10 @@ not_built view = refusal view refusals.NotBuilt
 
 abbrev pub answer_of : Files → Command → Answer
 answer_of view (command.Build words) = not_built view
-answer_of view (command.Calculate words) = unless_refused view (kernel_path words) (calculate_answer view)
-answer_of view (command.Inspect file) = not_built view
-answer_of view (command.Image file banks phases) = not_built view
-answer_of view (command.Identify file) = not_built view
+answer_of view (command.Calculate words) = said view (calculate_said view words)
+answer_of view (command.Inspect file) = said view (inspect_said view file)
+answer_of view (command.Image file banks phases) = said view (image_said view file banks phases)
+answer_of view (command.Identify file) = said view (identify_said view file)
 answer_of view (command.List esp) = not_built view
 answer_of view (command.Tidy esp) = unless_refused view (folders_of esp) (tidy_answer view)
 answer_of view (command.Boot esp) = not_built view

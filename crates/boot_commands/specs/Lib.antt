@@ -1,11 +1,4 @@
-pub mod Answers
-pub mod Calculating
 pub mod Commands
-pub mod Deeds
 pub mod Folders
-pub mod Measured
-pub mod Performs
-pub mod Plans
-pub mod Refusing
 pub mod Tidying
 pub mod Unlinking

@@ -3,13 +3,9 @@ use Rattle.std.specs.Prelude.{◌≡◌, ℕ, true, false, List, codes, Result, 
 use Rattle.boot_base.specs.Paths.{Path, under, is_file_name, is_temp}
 use Rattle.boot_base.specs.declared.refusal.Refusal.{Refusal}
 use Rattle.boot_machine.specs.Disk.{Files, has}
-use Rattle.boot_machine.specs.declared.machine.NamesFault.{NamesFault}
-use Rattle.boot_machine.specs.declared.machine.NamesFault.TheVariants as names
-use Rattle.boot_commands.specs.Answers.{Answer, done}
+use Rattle.command_plans.specs.Answers.{Answer, done}
 use Rattle.boot_commands.specs.Folders.{folders_of}
 use Rattle.boot_commands.specs.declared.folders.Folders.{Folders}
-use Rattle.boot_commands.specs.declared.outcome.Stop.{Stop}
-use Rattle.boot_commands.specs.declared.outcome.Stop.TheVariants as stops
 
 -- the view stays
 abbrev pub tidy_answer : Files → Folders → Answer
@@ -38,8 +34,3 @@ leftovers_among folder listed = map (under folder) (filter is_temp listed)
 -- every temporary file directly in the folder is among these
 abbrev pub HasLeftovers : Files → Path → List Path → Type 0
 HasLeftovers files folder temps = (name : List ℕ) → is_file_name name ≡ true → is_temp name ≡ true → has files (under folder name) ≡ true → Contains temps (under folder name)
-
--- a failure to list names, as a stop
-abbrev pub names_stop : NamesFault → Stop
-names_stop names.Memory = stops.Memory
-names_stop names.Disk = stops.Disk

@@ -1,17 +1,13 @@
 -- `bootctl unlink`: an entry's own file goes.
-use Rattle.std.specs.Prelude.{ℕ, Bool, ◌&&◌, ◌||◌, List, ◌∷◌, ◌++◌, codes, nat_eq, Option, Some, None, Result, Err, if◌then◌else◌}
+use Rattle.std.specs.Prelude.{ℕ, Bool, ◌&&◌, ◌||◌, List, ◌++◌, codes, nat_eq, Option, Some, None, Result, Err, if◌then◌else◌}
 use Rattle.std.specs.List.{ends_with}
 use Rattle.std.specs.FinMap.{get, remove}
 use Rattle.boot_base.specs.Paths.{Path, is_file_name}
 use Rattle.boot_base.specs.declared.refusal.Refusal.{Refusal}
 use Rattle.boot_base.specs.declared.refusal.Refusal.TheVariants as refusals
 use Rattle.boot_machine.specs.Disk.{Files}
-use Rattle.boot_commands.specs.Answers.{Answer, refusal, done}
-use Rattle.boot_commands.specs.Refusing.{◌>>=◌, path_in, path_under}
-
--- a path as it is printed, with a leading slash
-abbrev pub printed_path : Path → List ℕ
-printed_path path = 47 ∷ path
+use Rattle.command_plans.specs.Answers.{Answer, refusal, done}
+use Rattle.command_plans.specs.Refusing.{◌>>=◌, path_in, path_under, printed_path}
 
 -- an entry of type 1 (UAPI Boot Loader Specification)
 abbrev pub is_type1_name : List ℕ → Bool

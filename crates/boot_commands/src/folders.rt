@@ -1,10 +1,10 @@
 //! The two folders of boot entries in an EFI system partition.
 ghost use Rattle.std.specs.Prelude.{◌≡◌};
 ghost use Rattle.boot_commands.specs.Folders.{folders_of};
-ghost use Rattle.boot_commands.specs.Refusing.{Means};
+ghost use Rattle.command_plans.specs.Refusing.{Means};
 
-use crate::refused::{Declined, path_in, path_under};
 use boot_base::BootPath;
+use command_plans::{Declined, path_in, path_under};
 use std::alloc::Global;
 
 /// Where boot entries stand (UAPI Boot Loader Specification).

@@ -4,18 +4,16 @@ ghost use Rattle.boot_machine.specs.Disk.{Files, IsRested};
 ghost use Rattle.boot_machine.specs.Images.{IsFirm};
 ghost use Rattle.boot_machine.specs.Sent.{seen};
 ghost use Rattle.boot_commands.specs.Commands.{Tidied, answer_of, deed_of};
-ghost use Rattle.boot_commands.specs.Performs.{CountsStop, LeavesNoTemp, Performs, Reads, Syncs, end_of};
-ghost use Rattle.boot_commands.specs.Plans.{Drops, IsMakeable, Plans};
+ghost use Rattle.boot_machine.specs.Reading.{OnlyReads};
+ghost use Rattle.command_plans.specs.Performs.{CountsStop, LeavesNoTemp, Performs, Syncs, end_of};
+ghost use Rattle.command_plans.specs.Plans.{Drops, IsMakeable, Plans};
 
-use crate::calculate::plan_calculate;
-use crate::outcome::{Outcome, Stop};
-use crate::performing::perform;
-use crate::plan::Plan;
-use crate::refused::refused;
 use crate::tidy::plan_tidy;
 use crate::unlink::plan_unlink;
 use boot_base::Refusal;
 use boot_machine::Machine;
+use command_plans::{Outcome, Plan, Stop, perform, refused};
+use image_commands::{plan_calculate, plan_identify, plan_image, plan_inspect};
 use std::alloc::Global;
 use tool_words::Command;
 
@@ -24,17 +22,24 @@ fn plan_of<M: Machine>(alloc: Global, command: &Command, machine: &mut M) -> Res
     ensures plans { IfOk result (λ plan. IsTrue M.tells → Plans (M.state machine.old) plan (answer_of (seen (M.state machine.old)) command.now)) }
     ensures makeable { IfOk result (λ plan. IsMakeable plan.change) }
     ensures tidies { IfOk result (λ plan. IsTrue M.tells → (files : Files) → Drops plan.change (M.state machine.old).files files → Tidied command.now files) }
-    ensures reads { IsTrue M.tells → Reads M.clock M.since M.state machine.old machine.new }
+    ensures reads { IsTrue M.tells → OnlyReads M.clock M.since M.state machine.old machine.new }
     ensures counts { CountsStop result (M.counts machine.old) (M.counts machine.new) }
 {
     match command {
         Command::Calculate(words) => plan_calculate(alloc, words, machine),
+        Command::Inspect { file } => plan_inspect(alloc, file.as_str(), machine),
+        Command::Image {
+            file,
+            banks,
+            phases,
+        } => {
+            let banks = banks.as_slice();
+            plan_image(alloc, file.as_str(), banks, phases.as_slice(), machine)
+        }
+        Command::Identify { file } => plan_identify(alloc, file.as_str(), machine),
         Command::Unlink { name, esp } => plan_unlink(alloc, name.as_str(), esp.as_str(), machine),
         Command::Tidy { esp } => plan_tidy(alloc, esp.as_str(), machine),
         Command::Build(_)
-        | Command::Inspect { .. }
-        | Command::Image { .. }
-        | Command::Identify { .. }
         | Command::List { .. }
         | Command::Boot { .. }
         | Command::Install { .. }

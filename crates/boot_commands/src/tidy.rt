@@ -5,16 +5,16 @@ ghost use Rattle.boot_base.specs.Paths.{Path};
 ghost use Rattle.boot_machine.specs.Disk.{State, has, Files};
 ghost use Rattle.boot_machine.specs.Sent.{seen};
 ghost use Rattle.boot_commands.specs.Folders.{folders_of};
-ghost use Rattle.boot_commands.specs.Performs.{CountsStop, Reads};
-ghost use Rattle.boot_commands.specs.Plans.{Drops, IsMakeable, Plans};
-ghost use Rattle.boot_commands.specs.Refusing.{unless_refused};
+ghost use Rattle.boot_machine.specs.Reading.{OnlyReads};
+ghost use Rattle.command_plans.specs.Performs.{CountsStop};
+ghost use Rattle.command_plans.specs.Plans.{Drops, IsMakeable, Plans};
+ghost use Rattle.command_plans.specs.Refusing.{unless_refused};
 ghost use Rattle.boot_commands.specs.Tidying.{HasLeftovers, IsTidied, leftovers_among, tidy_answer};
 
 use crate::folders::Folders;
-use crate::outcome::{Outcome, Stop};
-use crate::plan::{Change, Plan};
 use boot_base::{BootPath, Bytes, FileName, TempPath};
 use boot_machine::Machine;
+use command_plans::{Change, Outcome, Plan, Stop};
 use std::alloc::{AllocError, Global};
 
 // The paths of the temporary files among these names of a folder.
@@ -42,7 +42,7 @@ fn leftovers_in<M: Machine>(
 ) -> Result<Vec<TempPath>, Stop>
     ensures there { IfOk result (λ temps. IsTrue M.tells → All (λ temp. has (M.state machine.old).files temp ≡ true) temps.items) }
     ensures all { IfOk result (λ temps. IsTrue M.tells → HasLeftovers (M.state machine.old).files folder.now temps.items) }
-    ensures reads { IsTrue M.tells → Reads M.clock M.since M.state machine.old machine.new }
+    ensures reads { IsTrue M.tells → OnlyReads M.clock M.since M.state machine.old machine.new }
     ensures counts { CountsStop result (M.counts machine.old) (M.counts machine.new) }
 {
     let names = machine.names(alloc, folder)?;
@@ -70,7 +70,7 @@ fn leftovers<M: Machine>(
     ensures there { IfOk result (λ temps. IsTrue M.tells → All (λ temp. has (M.state machine.old).files temp ≡ true) temps.items) }
     ensures entries { IfOk result (λ temps. IsTrue M.tells → HasLeftovers (M.state machine.old).files folders.now.entries temps.items) }
     ensures images { IfOk result (λ temps. IsTrue M.tells → HasLeftovers (M.state machine.old).files folders.now.images temps.items) }
-    ensures reads { IsTrue M.tells → Reads M.clock M.since M.state machine.old machine.new }
+    ensures reads { IsTrue M.tells → OnlyReads M.clock M.since M.state machine.old machine.new }
     ensures counts { CountsStop result (M.counts machine.old) (M.counts machine.new) }
 {
     let mut temps = leftovers_in(alloc, &folders.entries, machine)?;
@@ -95,7 +95,7 @@ pub fn plan_tidy<M: Machine>(alloc: Global, esp: &str, machine: &mut M) -> Resul
         (unless_refused (seen (M.state machine.old)) (folders_of esp.now) (tidy_answer (seen (M.state machine.old))))) }
     ensures makeable { IfOk result (λ plan. IsMakeable plan.change) }
     ensures tidies { IfOk result (λ plan. IsTrue M.tells → (files : Files) → Drops plan.change (M.state machine.old).files files → IsTidied esp.now files) }
-    ensures reads { IsTrue M.tells → Reads M.clock M.since M.state machine.old machine.new }
+    ensures reads { IsTrue M.tells → OnlyReads M.clock M.since M.state machine.old machine.new }
     ensures counts { CountsStop result (M.counts machine.old) (M.counts machine.new) }
 {
     match Folders::of(alloc, esp) {

@@ -4,17 +4,18 @@ ghost use Rattle.std.specs.Option.{option_map};
 ghost use Rattle.std.specs.FinMap.{get};
 ghost use Rattle.boot_machine.specs.Disk.{State};
 ghost use Rattle.boot_machine.specs.Sent.{seen};
-ghost use Rattle.boot_commands.specs.Performs.{CountsStop, Reads};
-ghost use Rattle.boot_commands.specs.Plans.{IsMakeable, Plans};
-ghost use Rattle.boot_commands.specs.Refusing.{Means, unless_refused};
+ghost use Rattle.boot_machine.specs.Reading.{OnlyReads};
+ghost use Rattle.command_plans.specs.Performs.{CountsStop};
+ghost use Rattle.command_plans.specs.Plans.{IsMakeable, Plans};
+ghost use Rattle.command_plans.specs.Refusing.{Means, unless_refused};
 ghost use Rattle.boot_commands.specs.Unlinking.{entry_below, entry_path, entry_under, is_entry_name, is_type1_name, unlink_answer};
 
-use crate::outcome::{Outcome, Stop};
-use crate::plan::{Change, Plan};
-use crate::reading::seen_size;
-use crate::refused::{Declined, not_there, path_in, path_under, refusal_line, refused};
 use boot_base::{BootPath, Bytes, FileName, PathFault, Refusal, Text};
 use boot_machine::Machine;
+use command_plans::{
+    Change, Declined, Outcome, Plan, Stop, not_there, path_in, path_under, refusal_line, refused,
+    seen_size,
+};
 use std::alloc::{AllocError, Global};
 
 fn is_type1_name(name: &str) -> bool
@@ -90,7 +91,7 @@ pub fn plan_unlink<M: Machine>(
     ensures plans { IfOk result (λ plan. IsTrue M.tells → Plans (M.state machine.old) plan
         (unless_refused (seen (M.state machine.old)) (entry_path name.now esp.now) (unlink_answer (seen (M.state machine.old))))) }
     ensures makeable { IfOk result (λ plan. IsMakeable plan.change) }
-    ensures reads { IsTrue M.tells → Reads M.clock M.since M.state machine.old machine.new }
+    ensures reads { IsTrue M.tells → OnlyReads M.clock M.since M.state machine.old machine.new }
     ensures counts { CountsStop result (M.counts machine.old) (M.counts machine.new) }
 {
     match entry_path(alloc, name, esp) {

@@ -10,13 +10,13 @@ use Rattle.boot_machine.specs.Sent.{Sent, Adds, PrintsPart, views, seen}
 use Rattle.boot_machine.specs.declared.machine.Channel.TheVariants.{Out, Err as ErrChannel}
 use Rattle.boot_machine.proofs.Elapsing.{weaken, joined, at_once}
 use Rattle.boot_machine.proofs.Printing.{prefix_more, prefix_behind, tagged_part}
-use Rattle.boot_commands.specs.Deeds.{Deed, End, Stopped, Finished, NoMemory as WithoutMemory, DiskFails, PipeFails, Breaks}
-use Rattle.boot_commands.specs.Performs.{Performs, end_of}
-use Rattle.boot_commands.specs.declared.outcome.Outcome.{Outcome}
-use Rattle.boot_commands.specs.declared.outcome.Outcome.TheVariants.{Refused}
-use Rattle.boot_commands.specs.declared.outcome.Stop.{Stop}
-use Rattle.boot_commands.specs.declared.outcome.Stop.TheVariants.{Pipe, Memory}
-use Rattle.boot_commands.proofs.Exits.{if_ok, if_err}
+use Rattle.command_plans.specs.Deeds.{Deed, End, Stopped, Finished, NoMemory as WithoutMemory, DiskFails, PipeFails, Breaks}
+use Rattle.command_plans.specs.Performs.{Performs, end_of}
+use Rattle.command_plans.specs.declared.outcome.Outcome.{Outcome}
+use Rattle.command_plans.specs.declared.outcome.Outcome.TheVariants.{Refused}
+use Rattle.command_plans.specs.declared.outcome.Stop.{Stop}
+use Rattle.command_plans.specs.declared.outcome.Stop.TheVariants.{Pipe, Memory}
+use Rattle.command_plans.proofs.Exits.{if_ok, if_err}
 use Rattle.boot_tools.specs.Lines.{unread}
 
 -- a deed that says this behind its reply

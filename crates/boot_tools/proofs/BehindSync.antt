@@ -7,10 +7,10 @@ use Rattle.boot_machine.specs.Rows.{tagged}
 use Rattle.boot_machine.specs.Sent.{Sent, PrintsPart, latest, views}
 use Rattle.boot_machine.specs.declared.machine.Channel.TheVariants.{Out}
 use Rattle.boot_machine.proofs.Printing.{prefix_behind}
-use Rattle.boot_commands.specs.Deeds.{Deed, Stopped, left_by}
-use Rattle.boot_commands.specs.Performs.{LateFrom, Performs, Syncs, end_of}
-use Rattle.boot_commands.specs.declared.outcome.Outcome.{Outcome}
-use Rattle.boot_commands.specs.declared.outcome.Stop.{Stop}
+use Rattle.command_plans.specs.Deeds.{Deed, Stopped, left_by}
+use Rattle.command_plans.specs.Performs.{LateFrom, Performs, Syncs, end_of}
+use Rattle.command_plans.specs.declared.outcome.Outcome.{Outcome}
+use Rattle.command_plans.specs.declared.outcome.Stop.{Stop}
 use Rattle.boot_tools.proofs.Acknowledging.{behind, breaks_more}
 
 left_settled : (deed : Deed) (a b : List Files) → deed.settles ≡ true → left_by deed a ≡ left_by deed b

@@ -8,12 +8,12 @@ use Rattle.boot_machine.specs.Moments.{EachSince}
 use Rattle.boot_machine.specs.Sent.{Sent, Adds, latest, views, seen}
 use Rattle.boot_machine.proofs.Elapsing.{weaken, joined, at_once}
 use Rattle.boot_machine.proofs.Seeing.{latest-views}
-use Rattle.boot_commands.specs.Answers.{is_refusal}
-use Rattle.boot_commands.specs.Deeds.{Deed, End, Stopped, left_by, Breaks}
-use Rattle.boot_commands.specs.Performs.{Performs, end_of, LateFrom, Syncs}
-use Rattle.boot_commands.specs.declared.outcome.Outcome.{Outcome}
-use Rattle.boot_commands.specs.declared.outcome.Stop.{Stop}
-use Rattle.boot_commands.proofs.Exits.{if_ok, if_err}
+use Rattle.command_plans.specs.Answers.{is_refusal}
+use Rattle.command_plans.specs.Deeds.{Deed, End, Stopped, left_by, Breaks}
+use Rattle.command_plans.specs.Performs.{Performs, end_of, LateFrom, Syncs}
+use Rattle.command_plans.specs.declared.outcome.Outcome.{Outcome}
+use Rattle.command_plans.specs.declared.outcome.Stop.{Stop}
+use Rattle.command_plans.proofs.Exits.{if_ok, if_err}
 use Rattle.boot_tools.specs.History.{states, said, any_refused, EndsBefore, Runs}
 use Rattle.boot_tools.specs.Lines.{line_deed, is_unread}
 use Rattle.boot_tools.specs.RunsTo.{RunsTo, AllDone, IsSyncedBy}

@@ -6,10 +6,10 @@ use Rattle.boot_machine.specs.Disk.{Files, State, has}
 use Rattle.boot_machine.specs.Rows.{with_printed}
 use Rattle.boot_machine.specs.declared.machine.Channel.{Channel}
 use Rattle.install_steps.specs.Steps.{NoNewTemp}
-use Rattle.boot_commands.specs.Performs.{LeavesNoTemp, stop_temps}
+use Rattle.command_plans.specs.Performs.{LeavesNoTemp, stop_temps}
 use Rattle.boot_commands.proofs.Later.{tidied_later}
-use Rattle.boot_commands.specs.declared.outcome.Stop.{Stop}
-use Rattle.boot_commands.specs.declared.outcome.Stop.TheVariants as stops
+use Rattle.command_plans.specs.declared.outcome.Stop.{Stop}
+use Rattle.command_plans.specs.declared.outcome.Stop.TheVariants as stops
 use Rattle.boot_tools.specs.Endings.{AllTidied, UnlessDisk, ended_by}
 use Rattle.boot_tools.specs.Lines.{Prints, TidiedBy}
 use Rattle.boot_tools.specs.declared.line.Line.{Line}

@@ -4,7 +4,7 @@ use Rattle.std.proofs.lemmas.List.{append-nil, append_cancel_left}
 use Rattle.boot_machine.specs.Disk.{Files, IsIn}
 use Rattle.boot_machine.specs.Sent.{Sent, IsPrefix, latest}
 use Rattle.boot_machine.proofs.Printing.{prefix_behind}
-use Rattle.boot_commands.specs.Deeds.{End, Stopped, Finished, NoMemory, DiskFails, PipeFails, left_by, Stays, Breaks}
+use Rattle.command_plans.specs.Deeds.{End, Stopped, Finished, NoMemory, DiskFails, PipeFails, left_by, Stays, Breaks}
 use Rattle.boot_tools.specs.History.{states, said, EndsBefore, Runs}
 use Rattle.boot_tools.specs.Lines.{line_deed, is_unread}
 use Rattle.boot_tools.specs.Step.{replies, view_after, joined, Acknowledges, AllUnread, Keeps, Early, Late, Step, NoneEmpty, IsOneView, SeesBegun, Leaves}

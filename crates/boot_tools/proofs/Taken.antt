@@ -3,8 +3,8 @@ use Rattle.std.proofs.Common.{◌≡◌, ◌≢◌, ◌≤◌, ℕ, Bool, true, 
 use Rattle.std.specs.Prelude.{OnOk}
 use Rattle.tool_words.specs.declared.command.Command.{Command}
 use Rattle.tool_words.specs.declared.fault.UsageReason.{UsageReason}
-use Rattle.boot_commands.specs.declared.outcome.Stop.{Stop}
-use Rattle.boot_commands.specs.declared.outcome.Stop.TheVariants.{Disk as DiskStop, Pipe as PipeStop, Memory as MemoryStop}
+use Rattle.command_plans.specs.declared.outcome.Stop.{Stop}
+use Rattle.command_plans.specs.declared.outcome.Stop.TheVariants.{Disk as DiskStop, Pipe as PipeStop, Memory as MemoryStop}
 use Rattle.boot_tools.specs.Asked.{is_script, lines_for, lines_of, taken_by}
 use Rattle.boot_tools.specs.Endings.{AtEnd, FitsWords, TakesInput, UnlessDisk, ended_by, ended_of, status_of}
 use Rattle.boot_tools.specs.declared.ended.Ended.{Ended}

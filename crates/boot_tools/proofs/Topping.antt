@@ -14,12 +14,12 @@ use Rattle.boot_machine.proofs.Printing.{tagged_part}
 use Rattle.boot_machine.proofs.Settled.{firm_of_settled}
 use Rattle.boot_machine.proofs.Seeing.{sees, seen_in, latest-views, from_views, candidate_image}
 use Rattle.tool_words.specs.declared.fault.UsageReason.{UsageReason}
-use Rattle.boot_commands.specs.Answers.{is_refusal}
-use Rattle.boot_commands.specs.Deeds.{End, left_by, Stopped, Finished, NoMemory, DiskFails, PipeFails, Stays}
-use Rattle.boot_commands.specs.Performs.{end_of}
-use Rattle.boot_commands.specs.declared.outcome.Stop.{Stop}
-use Rattle.boot_commands.specs.declared.outcome.Stop.TheVariants.{Disk as DiskStop, Pipe as PipeStop, Memory as MemoryStop}
-use Rattle.boot_commands.proofs.Exits.{if_ok, if_err, if_ok_by}
+use Rattle.command_plans.specs.Answers.{is_refusal}
+use Rattle.command_plans.specs.Deeds.{End, left_by, Stopped, Finished, NoMemory, DiskFails, PipeFails, Stays}
+use Rattle.command_plans.specs.Performs.{end_of}
+use Rattle.command_plans.specs.declared.outcome.Stop.{Stop}
+use Rattle.command_plans.specs.declared.outcome.Stop.TheVariants.{Disk as DiskStop, Pipe as PipeStop, Memory as MemoryStop}
+use Rattle.command_plans.proofs.Exits.{if_ok, if_err, if_ok_by}
 use Rattle.boot_commands.proofs.Replies.{some_text}
 use Rattle.boot_tools.specs.Asked.{usage_line}
 use Rattle.boot_tools.specs.Endings.{AnswersRefusals, AtEnd, UnlessDisk, end_at, ended_by}

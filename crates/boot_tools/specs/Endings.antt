@@ -3,9 +3,9 @@ use Rattle.std.specs.Prelude.{◌≡◌, ◌≢◌, ◌≤◌, ⊤, ℕ, zero, s
 use Rattle.boot_machine.specs.Counts.{Counts, DiskFailed, PipeFailed}
 use Rattle.boot_machine.specs.Disk.{State}
 use Rattle.boot_machine.specs.Sent.{Sent, IsPrefix}
-use Rattle.boot_commands.specs.Deeds.{End, Finished, NoMemory, DiskFails, PipeFails}
-use Rattle.boot_commands.specs.declared.outcome.Stop.{Stop}
-use Rattle.boot_commands.specs.declared.outcome.Stop.TheVariants as stops
+use Rattle.command_plans.specs.Deeds.{End, Finished, NoMemory, DiskFails, PipeFails}
+use Rattle.command_plans.specs.declared.outcome.Stop.{Stop}
+use Rattle.command_plans.specs.declared.outcome.Stop.TheVariants as stops
 use Rattle.tool_words.specs.declared.command.Command.{Command}
 use Rattle.tool_words.specs.declared.fault.UsageReason.{UsageReason}
 use Rattle.boot_tools.specs.Asked.{taken_by}

@@ -3,8 +3,8 @@
 use Rattle.std.specs.Prelude.{◌≡◌, ℕ, ◌≤◌, Bool, false, ◌||◌, List, [], ◌∷◌, ◌++◌, length, take, drop}
 use Rattle.boot_machine.specs.Disk.{Files}
 use Rattle.boot_machine.specs.Sent.{Sent, latest}
-use Rattle.boot_commands.specs.Answers.{is_refusal}
-use Rattle.boot_commands.specs.Deeds.{End, Finished, left_by, Stays, Breaks}
+use Rattle.command_plans.specs.Answers.{is_refusal}
+use Rattle.command_plans.specs.Deeds.{End, Finished, left_by, Stays, Breaks}
 use Rattle.boot_tools.specs.Lines.{line_deed}
 use Rattle.boot_tools.specs.declared.line.Line.{Line}
 

@@ -6,11 +6,11 @@ use Rattle.boot_base.specs.declared.refusal.Refusal.TheVariants as refusals
 use Rattle.boot_machine.specs.Disk.{Files, State}
 use Rattle.boot_machine.specs.Rows.{tagged}
 use Rattle.boot_machine.specs.declared.machine.Channel.TheVariants.{Out, Err}
-use Rattle.boot_commands.specs.Answers.{is_refusal}
+use Rattle.command_plans.specs.Answers.{is_refusal}
 use Rattle.boot_commands.specs.Commands.{Tidied, deed_of}
-use Rattle.boot_commands.specs.Deeds.{Deed}
-use Rattle.boot_commands.specs.declared.outcome.Outcome.{Outcome}
-use Rattle.boot_commands.specs.declared.outcome.Outcome.TheVariants.{Done, Refused}
+use Rattle.command_plans.specs.Deeds.{Deed}
+use Rattle.command_plans.specs.declared.outcome.Outcome.{Outcome}
+use Rattle.command_plans.specs.declared.outcome.Outcome.TheVariants.{Done, Refused}
 use Rattle.boot_tools.specs.declared.line.Line.{Line}
 use Rattle.boot_tools.specs.declared.line.Line.TheVariants.{Plain, Numbered, Unread, TooLong}
 use Rattle.boot_tools.specs.declared.lines.Acknowledgements.{Acknowledgements}

@@ -4,9 +4,9 @@ use Rattle.boot_machine.specs.Disk.{Files, State, view}
 use Rattle.boot_machine.specs.Images.{IsFirm}
 use Rattle.boot_machine.specs.Moments.{EachSince}
 use Rattle.boot_machine.specs.Sent.{Sent, Adds, latest, views}
-use Rattle.boot_commands.specs.Deeds.{Stopped}
-use Rattle.boot_commands.specs.Performs.{end_of}
-use Rattle.boot_commands.specs.declared.outcome.Stop.{Stop}
+use Rattle.command_plans.specs.Deeds.{Stopped}
+use Rattle.command_plans.specs.Performs.{end_of}
+use Rattle.command_plans.specs.declared.outcome.Stop.{Stop}
 use Rattle.boot_tools.specs.History.{Runs, states, said, any_refused}
 use Rattle.boot_tools.specs.declared.line.Line.{Line}
 

@@ -2,8 +2,8 @@
 use Rattle.std.specs.Prelude.{◌≡◌, ◌≢◌, ◌⊎◌, ℕ, ◌+◌, ◌≤◌, ◌<◌, ◌||◌, Bool, true, false, List, [], ◌∷◌, ◌++◌, length, take}
 use Rattle.boot_machine.specs.Disk.{Files, IsIn}
 use Rattle.boot_machine.specs.Sent.{Sent, IsPrefix, latest}
-use Rattle.boot_commands.specs.Answers.{is_refusal}
-use Rattle.boot_commands.specs.Deeds.{End, Stopped, Finished, NoMemory, DiskFails}
+use Rattle.command_plans.specs.Answers.{is_refusal}
+use Rattle.command_plans.specs.Deeds.{End, Stopped, Finished, NoMemory, DiskFails}
 use Rattle.boot_tools.specs.Lines.{line_deed, is_unread}
 use Rattle.boot_tools.specs.declared.line.Line.{Line}
 

@@ -2,7 +2,7 @@
 ghost use Rattle.std.specs.Prelude.{◌≡◌};
 ghost use Rattle.boot_tools.specs.Endings.{ended_by, status_of};
 
-use boot_commands::Stop;
+use command_plans::Stop;
 
 /// The end of a run.
 #[derive(Clone, Copy, Debug, PartialEq, Eq)]

@@ -3,11 +3,11 @@ ghost use Rattle.std.specs.Prelude.{◌≡◌, ◌+◌, ◌≤◌, ℕ, drop, ta
 ghost use Rattle.boot_machine.specs.Images.{IsImage};
 ghost use Rattle.boot_machine.specs.Moments.{EachSince};
 ghost use Rattle.boot_machine.specs.Sent.{SameButInput};
-ghost use Rattle.boot_commands.specs.Performs.{CountsStop};
+ghost use Rattle.command_plans.specs.Performs.{CountsStop};
 ghost use Rattle.boot_tools.specs.Lines.{script_limit};
 
-use boot_commands::Stop;
 use boot_machine::Machine;
+use command_plans::Stop;
 use std::alloc::Global;
 
 /// The most bytes of a script.

@@ -45,4 +45,6 @@ fn unreadable_words<R: AllocGlobal>(rt: &R) -> io::Result<Vec<String>> {
 }
 
 #[cfg(test)]
+mod image_tests;
+#[cfg(test)]
 mod tests;

@@ -10,17 +10,22 @@ use std::process::Abort;
 use std::test::Fail;
 use std::{env, fs, io, process};
 
-const KERNEL_LINES: &str =
+pub(crate) const KERNEL_LINES: &str =
     "# PCR[11] Phase <:>\n11:sha256=add59ff908ec30e42b7f32f055c9e9831e369067aba40e64693631392fe0166b\n";
 
-const ZERO_LINES: &str =
+pub(crate) const ZERO_LINES: &str =
     "# PCR[11] Phase <:>\n11:sha256=0000000000000000000000000000000000000000000000000000000000000000\n";
 
 // How many calls of the machine `machine_with_files` makes.
 const CALLS_BEFORE: u64 = 26;
 
 // Writes a file, with the names synced before and after.
-fn put(machine: &mut MemMachine, path: &str, bytes: &[u8], alloc: Global) -> Result<(), Fail> {
+pub(crate) fn put(
+    machine: &mut MemMachine,
+    path: &str,
+    bytes: &[u8],
+    alloc: Global,
+) -> Result<(), Fail> {
     let target = Target::of(alloc, BootPath::read(alloc, path)?)?;
     settle(machine)?;
     write_bytes(machine, &target, bytes)?;
@@ -28,7 +33,7 @@ fn put(machine: &mut MemMachine, path: &str, bytes: &[u8], alloc: Global) -> Res
 }
 
 // The files `k`, which holds `abc`, `e`, which is empty, two images, and the leftover of a third.
-fn machine_with_files(alloc: Global) -> Result<MemMachine, Fail> {
+pub(crate) fn machine_with_files(alloc: Global) -> Result<MemMachine, Fail> {
     let mut machine = MemMachine::new(alloc, Vec::new(alloc))?;
     put(&mut machine, "k", b"abc", alloc)?;
     put(&mut machine, "e", b"", alloc)?;
@@ -41,7 +46,7 @@ fn machine_with_files(alloc: Global) -> Result<MemMachine, Fail> {
 }
 
 // The words of a line without quotes, which single spaces part.
-fn words_of(alloc: Global, line: &str) -> Result<Vec<String>, AllocError> {
+pub(crate) fn words_of(alloc: Global, line: &str) -> Result<Vec<String>, AllocError> {
     let mut words = Vec::new(alloc);
     if line.is_empty() {
         return Ok(words);
@@ -53,7 +58,7 @@ fn words_of(alloc: Global, line: &str) -> Result<Vec<String>, AllocError> {
 }
 
 // What was printed on that channel.
-fn printed_on(
+pub(crate) fn printed_on(
     alloc: Global,
     machine: &MemMachine,
     channel: Channel,
@@ -69,7 +74,7 @@ fn printed_on(
 
 // The words of a run, its input, and what it comes to.
 #[derive(Drop)]
-struct Row {
+pub(crate) struct Row {
     words: &'static str,
     input: &'static str,
     status: u8,
@@ -77,8 +82,12 @@ struct Row {
     err: &'static str,
 }
 
-fn check_row(rt: &impl Abort, alloc: Global, row: &Row) -> Result<(), Fail> {
-    let mut machine = machine_with_files(alloc)?;
+pub(crate) fn check_row(
+    rt: &impl Abort,
+    alloc: Global,
+    mut machine: MemMachine,
+    row: &Row,
+) -> Result<(), Fail> {
     machine.set_input(row.input.as_bytes().to_vec(alloc)?);
     let status = run(alloc, &words_of(alloc, row.words)?, &mut machine);
     assert_eq!(rt; status, row.status, "of {}", row.words);
@@ -96,12 +105,12 @@ fn check_row(rt: &impl Abort, alloc: Global, row: &Row) -> Result<(), Fail> {
 
 fn check_rows(rt: &impl Abort, alloc: Global, rows: &[Row]) -> Result<(), Fail> {
     for row in rows {
-        check_row(rt, alloc, row)?;
+        check_row(rt, alloc, machine_with_files(alloc)?, row)?;
     }
     Ok(())
 }
 
-fn plain(words: &'static str, status: u8, out: &'static str, err: &'static str) -> Row {
+pub(crate) fn plain(words: &'static str, status: u8, out: &'static str, err: &'static str) -> Row {
     Row {
         words,
         input: "",
@@ -155,19 +164,6 @@ fn calculations(rt: HostRuntime) -> Result<(), Fail> {
             1,
             "",
             "refusal 2:  is not a path\n",
-        ),
-        plain("measure calculate --linux=k", 1, "", NOT_BUILT),
-        plain(
-            "measure calculate --linux=k --bank=sha256 --phase=a",
-            1,
-            "",
-            NOT_BUILT,
-        ),
-        plain(
-            "measure calculate --linux=k --cmdline=e --bank=sha256 --phase=",
-            1,
-            "",
-            NOT_BUILT,
         ),
     ];
     check_rows(&rt, rt.alloc(), &rows)
@@ -373,7 +369,7 @@ fn own_folder(rt: &HostRuntime) -> Result<String, AllocError> {
 }
 
 // Makes that folder among the temporary ones, and goes there.
-fn enter_own_folder(rt: &HostRuntime) -> io::Result<()> {
+pub(crate) fn enter_own_folder(rt: &HostRuntime) -> io::Result<()> {
     let parent = env::temp_dir(rt)?;
     env::set_current_dir(rt, parent.as_path())?;
     let folder = own_folder(rt)?;
@@ -381,7 +377,7 @@ fn enter_own_folder(rt: &HostRuntime) -> io::Result<()> {
     env::set_current_dir(rt, folder.as_str())
 }
 
-fn remove_own_folder(rt: &HostRuntime) -> io::Result<()> {
+pub(crate) fn remove_own_folder(rt: &HostRuntime) -> io::Result<()> {
     env::set_current_dir(rt, "..")?;
     fs::remove_dir_all(rt, own_folder(rt)?.as_str())
 }

@@ -7,7 +7,7 @@ ghost use Rattle.boot_machine.specs.Rows.{tagged};
 ghost use Rattle.boot_machine.specs.Sent.{Adds, SameButInput, Sent, seen, views};
 ghost use Rattle.boot_machine.specs.declared.machine.Channel.TheVariants.{Err as ErrChannel};
 ghost use Rattle.install_steps.specs.Steps.{NoNewTemp};
-ghost use Rattle.boot_commands.specs.Performs.{CountsStop, LeavesNoTemp};
+ghost use Rattle.command_plans.specs.Performs.{CountsStop, LeavesNoTemp};
 ghost use Rattle.tool_words.specs.Meaning.{meaning};
 ghost use Rattle.tool_words.specs.declared.fault.UsageReason.{UsageReason};
 ghost use Rattle.boot_tools.specs.Asked.{asked, lines_for, lines_in, usage_line};
@@ -24,8 +24,8 @@ use crate::line::Line;
 use crate::lines::run_lines;
 use crate::script::{is_script, lines_in};
 use boot_base::Text;
-use boot_commands::Stop;
 use boot_machine::{Channel, Machine, print_all};
+use command_plans::Stop;
 use std::alloc::{AllocError, Global};
 use tool_words::{Command, UsageReason, WordsFault};
 

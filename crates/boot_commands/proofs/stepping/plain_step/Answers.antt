@@ -3,12 +3,12 @@ use Rattle.boot_machine.specs.Images.{IsFirm}
 use Rattle.boot_machine.specs.Sent.{seen}
 use Rattle.boot_machine.proofs.Seeing.{sees}
 use Rattle.boot_commands.specs.Commands.{deed_of}
-use Rattle.boot_commands.specs.Deeds.{made}
-use Rattle.boot_commands.specs.Performs.{Performs, Syncs, end_by}
-use Rattle.boot_commands.specs.Plans.{planned}
-use Rattle.boot_commands.specs.declared.outcome.MachineFault.{MachineFault}
-use Rattle.boot_commands.proofs.Performed.{plan_failed, after_reads, stopped_by, done_by}
-use Rattle.boot_commands.proofs.Syncing.{syncs_after_reads, syncs_stopped, syncs_done}
+use Rattle.command_plans.specs.Deeds.{made}
+use Rattle.command_plans.specs.Performs.{Performs, Syncs, end_by}
+use Rattle.command_plans.specs.Plans.{planned}
+use Rattle.command_plans.specs.declared.outcome.MachineFault.{MachineFault}
+use Rattle.command_plans.proofs.Performed.{plan_failed, after_reads, stopped_by, done_by}
+use Rattle.command_plans.proofs.Syncing.{syncs_after_reads, syncs_stopped, syncs_done}
 use Rattle.boot_commands.proofs.stepping.plain_step.Goals as goal
 
 pub returns-in_err-plan-clause-performs : goal.returns-in_err-plan-clause-performs

@@ -3,7 +3,7 @@ use Rattle.std.specs.Prelude.{All}
 use Rattle.boot_machine.specs.Disk.{has}
 use Rattle.boot_commands.specs.Tidying.{HasLeftovers, leftovers_among}
 use Rattle.boot_commands.proofs.Leftovers.{leftovers_there, leftovers_all}
-use Rattle.boot_commands.proofs.ReadCalls.{reads_once}
+use Rattle.boot_machine.proofs.Reading.{reads_once}
 use Rattle.boot_commands.proofs.tidy.leftovers_in.Goals as goal
 
 pub returns-in_err-names-clause-reads : goal.returns-in_err-names-clause-reads

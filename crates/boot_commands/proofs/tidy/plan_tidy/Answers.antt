@@ -1,18 +1,18 @@
 use Rattle.std.proofs.Common.{sym, subst}
 use Rattle.install_steps.specs.Steps.{Lacks}
-use Rattle.boot_commands.specs.Plans.{Drops}
+use Rattle.command_plans.specs.Plans.{Drops}
 use Rattle.boot_commands.specs.Tidying.{CleanAt}
 use Rattle.boot_commands.proofs.Leftovers.{clean_after}
-use Rattle.boot_commands.proofs.ReadCalls.{reads_nothing}
+use Rattle.boot_machine.proofs.Reading.{reads_none}
 use Rattle.boot_commands.proofs.tidy.plan_tidy.Goals as goal
 
 pub returns-in_err-plan-in-Err-clause-reads : goal.returns-in_err-plan-in-Err-clause-reads
 returns-in_err-plan-in-Err-clause-reads g c told =
-    reads_nothing g.M.Machine.clock g.M.Machine.since g.M.Machine.state c.args.machine.now (λ m o left. g.met.M.Machine.only_now c.args.machine.now m o told left)
+    reads_none g.M.Machine.clock g.M.Machine.since g.M.Machine.state c.args.machine.now (λ m o left. g.met.M.Machine.only_now c.args.machine.now m o told left)
 
 pub returns-in_ok-plan-in-Err-clause-reads : goal.returns-in_ok-plan-in-Err-clause-reads
 returns-in_ok-plan-in-Err-clause-reads g c told =
-    reads_nothing g.M.Machine.clock g.M.Machine.since g.M.Machine.state c.args.machine.now (λ m o left. g.met.M.Machine.only_now c.args.machine.now m o told left)
+    reads_none g.M.Machine.clock g.M.Machine.since g.M.Machine.state c.args.machine.now (λ m o left. g.met.M.Machine.only_now c.args.machine.now m o told left)
 
 pub returns-in_ok-tidy_plan-in-Ok-clause-tidies : goal.returns-in_ok-tidy_plan-in-Ok-clause-tidies
 returns-in_ok-tidy_plan-in-Ok-clause-tidies g c told files dropped =

@@ -4,8 +4,8 @@ use Rattle.boot_machine.specs.Rows.{tagged, with_printed}
 use Rattle.boot_machine.specs.declared.machine.Channel.TheVariants.{Out}
 use Rattle.boot_machine.specs.Sent.{PrintsPart, seen}
 use Rattle.boot_tools.specs.Lines.{acknowledgement, acknowledgement_in, acknowledged}
-use Rattle.boot_commands.specs.Performs.{Performs, end_of}
-use Rattle.boot_commands.proofs.Exits.{on_err, not_ok}
+use Rattle.command_plans.specs.Performs.{Performs, end_of}
+use Rattle.command_plans.proofs.Exits.{on_err, not_ok}
 use Rattle.boot_tools.proofs.BehindSync.{behind_late, broken_late}
 use Rattle.boot_tools.proofs.Acknowledging.{no_memory_yet, not_behind, behind_failed, behind_done}
 use Rattle.boot_machine.proofs.Seeing.{sees}

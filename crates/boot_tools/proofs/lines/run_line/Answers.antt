@@ -1,7 +1,7 @@
 use Rattle.std.proofs.Common.{refl, sym, ap, subst}
 use Rattle.boot_machine.specs.Sent.{seen, views}
 use Rattle.boot_tools.specs.Lines.{line_deed}
-use Rattle.boot_commands.specs.Performs.{Performs, Syncs, end_of}
+use Rattle.command_plans.specs.Performs.{Performs, Syncs, end_of}
 use Rattle.boot_tools.proofs.BehindSync.{syncs_not}
 use Rattle.boot_tools.proofs.Staying.{files_stay, input_stays, leaves_none, temps_stay}
 use Rattle.boot_tools.proofs.lines.run_line.Goals as goal

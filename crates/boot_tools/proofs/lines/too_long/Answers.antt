@@ -2,7 +2,7 @@ use Rattle.std.proofs.Common.{subst}
 use Rattle.std.proofs.Common.{ℕ, List}
 use Rattle.boot_machine.specs.Sent.{seen}
 use Rattle.boot_tools.specs.Lines.{unread, too_long_text}
-use Rattle.boot_commands.specs.Performs.{Performs, end_of}
+use Rattle.command_plans.specs.Performs.{Performs, end_of}
 use Rattle.boot_tools.proofs.Acknowledging.{no_memory_yet}
 use Rattle.boot_machine.proofs.Seeing.{sees}
 use Rattle.boot_tools.proofs.lines.too_long.Goals as goal

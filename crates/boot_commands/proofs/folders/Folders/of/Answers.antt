@@ -1,7 +1,7 @@
 use Rattle.std.proofs.Common.{◌∙◌}
 use Rattle.boot_commands.specs.Folders.{entries_below, images_below}
-use Rattle.boot_commands.specs.Refusing.{path_under}
-use Rattle.boot_commands.proofs.Declining.{declined_first, declined_next, done_next, means_declined}
+use Rattle.command_plans.specs.Refusing.{path_under}
+use Rattle.command_plans.proofs.Declining.{declined_first, declined_next, done_next, means_declined}
 use Rattle.boot_commands.proofs.folders.Folders.of.Goals as goal
 
 pub returns-in_err-entries : goal.returns-in_err-entries

@@ -1,0 +1,5 @@
+pub mod Declining
+pub mod Exits
+pub mod Performed
+pub mod Sizes
+pub mod Syncing

@@ -1,0 +1,5 @@
+pub mod Answers
+pub mod Deeds
+pub mod Performs
+pub mod Plans
+pub mod Refusing

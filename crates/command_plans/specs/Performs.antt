@@ -1,0 +1,83 @@
+-- The clauses of every command.
+use Rattle.std.specs.Prelude.{◌≡◌, ◌⊎◌, ◌≤◌, ℕ, true, [], ◌∷◌, ◌++◌, Result, MatchResult, IfOk, IfErr, OnOk, OnErr}
+use Rattle.boot_machine.specs.Disk.{Files, State, view}
+use Rattle.boot_machine.specs.Images.{IsFirm}
+use Rattle.boot_machine.specs.Moments.{EachSince}
+use Rattle.boot_machine.specs.Counts.{Counts, DiskFailed, PipeFailed}
+use Rattle.boot_machine.specs.Sent.{Sent, Adds, latest, views}
+use Rattle.boot_machine.specs.declared.machine.NamesFault.{NamesFault}
+use Rattle.boot_machine.specs.declared.machine.NamesFault.TheVariants as names
+use Rattle.install_steps.specs.Steps.{NoNewTemp}
+use Rattle.command_plans.specs.Deeds.{Deed, End, Stopped, NoMemory, DiskFails, PipeFails, left_by, Breaks}
+use Rattle.command_plans.specs.declared.outcome.Outcome.{Outcome}
+use Rattle.command_plans.specs.declared.outcome.Stop.{Stop}
+use Rattle.command_plans.specs.declared.outcome.Stop.TheVariants as stops
+use Rattle.command_plans.specs.declared.outcome.MachineFault.{MachineFault}
+use Rattle.command_plans.specs.declared.outcome.MachineFault.TheVariants as faults
+
+-- the end that a stop makes of a run
+abbrev pub end_of : Stop → End
+end_of stops.Disk = DiskFails
+end_of stops.Pipe = PipeFails
+end_of stops.Memory = NoMemory
+
+-- a fault of the machine as a stop
+abbrev pub stop_of : MachineFault → Stop
+stop_of faults.Disk = stops.Disk
+stop_of faults.Pipe = stops.Pipe
+
+-- a failure to list names, as a stop
+abbrev pub names_stop : NamesFault → Stop
+names_stop names.Memory = stops.Memory
+names_stop names.Disk = stops.Disk
+
+abbrev pub end_by : MachineFault → End
+end_by fault = end_of (stop_of fault)
+
+-- the deed was done and its reply printed
+abbrev pub IsDone : Deed → State → State → Outcome → Type 0
+IsDone deed s now outcome = (outcome ≡ deed.outcome) × (views now ≡ left_by deed (views s)) × (now.printed ≡ s.printed ++ deed.sent)
+
+-- One deed on a firm machine, from old to new: what stands after each answer, and at every moment.
+pub record Performs {M E : Type 0} (clock : M → ℕ) (since : M → ℕ → Files → Sent → Type 0) (state : M → State) (ends : E → End) (old new : M) (deed : Deed) (result : Result Outcome E) : Type 0 where
+  pub firm : IsFirm (state new)
+  pub ok : IfOk result (IsDone deed (state old) (state new))
+  pub err : IfErr result (λ fault. Adds (state old).printed (state new).printed (λ part. Breaks deed (views (state old)) (views (state new)) part (ends fault)))
+  pub moments : EachSince clock since old new (λ image sent. Adds (state old).printed sent (λ part. Breaks deed (views (state old)) (view image ∷ []) part Stopped))
+
+-- From some moment on, the images are those after a sync of the names as they were at the start.
+abbrev pub LateFrom : {M : Type 0} → (M → ℕ) → (M → ℕ → Files → Sent → Type 0) → (M → State) → M → M → Deed → Type 0
+LateFrom clock since state old new deed =
+    (t : ℕ) × (clock old ≤ t) × (t ≤ clock new) × ((image : Files) (sent : Sent) → since new t image sent → Adds (state old).printed sent (λ part. Breaks deed (latest (views (state old)) ∷ []) (view image ∷ []) part Stopped))
+
+-- a deed that settles is late from some moment on, unless it was given up with nothing changed
+pub record Syncs {M E : Type 0} (clock : M → ℕ) (since : M → ℕ → Files → Sent → Type 0) (state : M → State) (old new : M) (deed : Deed) (result : Result Outcome E) : Type 0 where
+  pub ok : OnOk result (deed.settles ≡ true → LateFrom clock since state old new deed)
+  pub err : OnErr result ((views (state new) ≡ views (state old)) ⊎ LateFrom clock since state old new deed)
+
+-- the counts at each stop
+abbrev pub stop_counts : Stop → Counts → Counts → Type 0
+stop_counts stops.Disk old new = DiskFailed old new
+stop_counts stops.Pipe old new = PipeFailed old new
+stop_counts stops.Memory old new = new ≡ old
+
+-- a stop of disk or pipe comes only where its count rose, and every other answer leaves both counts
+abbrev pub CountsStop : {T : Type 0} → Result T Stop → Counts → Counts → Type 0
+CountsStop result old new = MatchResult result (λ _. new ≡ old) (λ stop. stop_counts stop old new)
+
+-- the same of the machine's faults
+abbrev pub CountsFault : {T : Type 0} → Result T MachineFault → Counts → Counts → Type 0
+CountsFault result old new = MatchResult result (λ _. new ≡ old) (λ fault. stop_counts (stop_of fault) old new)
+
+-- no temporary file is left that wasn't there, but after a fault of the disk
+abbrev pub stop_temps : Stop → State → State → Type 0
+stop_temps stops.Disk old new = Unit {0}
+stop_temps stops.Pipe old new = NoNewTemp old new
+stop_temps stops.Memory old new = NoNewTemp old new
+
+abbrev pub LeavesNoTemp : {T : Type 0} → Result T Stop → State → State → Type 0
+LeavesNoTemp result old new = MatchResult result (λ _. NoNewTemp old new) (λ stop. stop_temps stop old new)
+
+-- the same of the machine's faults
+abbrev pub LeavesNoTempBy : {T : Type 0} → Result T MachineFault → State → State → Type 0
+LeavesNoTempBy result old new = MatchResult result (λ _. NoNewTemp old new) (λ fault. stop_temps (stop_of fault) old new)

@@ -1,0 +1,19 @@
+//! What a command comes to, and how it is carried out on a machine.
+//!
+//! A command is first planned, by reads alone: its change, and its whole reply, with all paths and texts made.
+//! Then `perform` settles the machine, makes the change and prints the reply; it takes no memory. Whatever
+//! fails and wherever it is stopped, the boot files are as before the command or as after it, and no byte of
+//! the reply is printed before the change can't be undone.
+#![tactic(auto)]
+
+mod outcome;
+mod performing;
+mod plan;
+mod reading;
+mod refusing;
+
+pub use outcome::{MachineFault, Outcome, Stop};
+pub use performing::perform;
+pub use plan::{Change, Plan};
+pub use reading::seen_size;
+pub use refusing::{Declined, not_there, path_in, path_under, printed, refusal_line, refused};

@@ -1,0 +1,73 @@
+//! A plan is carried out.
+ghost use Rattle.std.specs.Prelude.{◌≡◌, IfOk, OnOk, IsNone, IsSome, IsTrue};
+ghost use Rattle.boot_machine.specs.Counts.{CountsDisk};
+ghost use Rattle.boot_machine.specs.Disk.{HasOneCandidate, IsRested};
+ghost use Rattle.boot_machine.specs.Images.{IsFirm};
+ghost use Rattle.boot_machine.specs.Sent.{seen};
+ghost use Rattle.install_steps.specs.Steps.{IsDone, Keeps, NoNewTemp, StepsTo};
+ghost use Rattle.command_plans.specs.Deeds.{made};
+ghost use Rattle.command_plans.specs.Performs.{CountsFault, LeavesNoTempBy, Performs, Syncs, end_by};
+ghost use Rattle.command_plans.specs.Plans.{CanMake, Drops, IsMakeable, effect, planned};
+
+use crate::outcome::{MachineFault, Outcome};
+use crate::plan::{Change, Plan};
+use boot_machine::{Channel, DiskFault, Machine, print_all};
+use install_steps::{StepFault, drop_leftovers, drop_name, settle};
+
+/// Makes a change on a settled machine. Where the file to be removed is gone, which no machine comes to that
+/// tells its files, it gives the line to print, and nothing is changed.
+fn apply<'a, M: Machine>(change: &'a Change, machine: &mut M) -> Result<Option<&'a [u8]>, DiskFault>
+    requires one { IsTrue M.tells → HasOneCandidate (M.state machine.old) }
+    requires rested { IsTrue M.tells → IsRested (M.state machine.old) }
+    requires distinct { IsMakeable change.now }
+    requires there { IsTrue M.tells → CanMake (M.state machine.old) change.now }
+    ensures done { IfOk result (λ gone. IsTrue M.tells → IsFirm (M.state machine.old)
+        → IsDone (M.state machine.new) (effect (seen (M.state machine.old)) change.now)) }
+    ensures found { IfOk result (λ gone. IsTrue M.tells → IsNone gone) }
+    ensures step { IsTrue M.tells → IsFirm (M.state machine.old) → StepsTo M.clock M.since M.state
+        (effect (seen (M.state machine.old)) change.now) machine.old machine.new }
+    ensures drops { OnOk result (IsTrue M.tells → Drops change.now (M.state machine.old).files (M.state machine.new).files) }
+    ensures keeps { IsTrue M.tells → Keeps (M.state machine.old) (M.state machine.new) }
+    ensures temps { OnOk result (IsTrue M.tells → NoNewTemp (M.state machine.old) (M.state machine.new)) }
+    ensures counts { CountsDisk result (M.counts machine.old) (M.counts machine.new) }
+{
+    match change {
+        Change::Nothing => Ok(None),
+        Change::Remove { path, gone } => match drop_name(machine, path) {
+            Ok(()) => Ok(None),
+            Err(StepFault::Disk) => Err(DiskFault),
+            Err(StepFault::NotFound) => Ok(Some(gone.as_slice())),
+        },
+        Change::Leftovers(temps) => {
+            drop_leftovers(machine, temps.as_slice())?;
+            Ok(None)
+        }
+    }
+}
+
+/// Settles the machine, makes the change of a plan and prints its reply. It takes no memory.
+pub fn perform<M: Machine>(plan: &Plan, machine: &mut M) -> Result<Outcome, MachineFault>
+    requires rested { IsTrue M.tells → IsRested (M.state machine.old) }
+    requires distinct { IsMakeable plan.now.change }
+    requires there { IsTrue M.tells → CanMake (M.state machine.old) plan.now.change }
+    ensures performs { IsTrue M.tells → IsFirm (M.state machine.old) → Performs M.clock M.since M.state end_by machine.old machine.new
+        (made (planned (seen (M.state machine.old)) plan.now)) result }
+    ensures syncs { IsTrue M.tells → IsFirm (M.state machine.old) → Syncs M.clock M.since M.state machine.old machine.new
+        (made (planned (seen (M.state machine.old)) plan.now)) result }
+    ensures drops { OnOk result (IsTrue M.tells → Drops plan.now.change (M.state machine.old).files (M.state machine.new).files) }
+    ensures input { IsTrue M.tells → (M.state machine.new).input ≡ (M.state machine.old).input }
+    ensures temps { IsTrue M.tells → LeavesNoTempBy result (M.state machine.old) (M.state machine.new) }
+    ensures counts { CountsFault result (M.counts machine.old) (M.counts machine.new) }
+{
+    settle(machine)?;
+    match apply(&plan.change, machine)? {
+        None => {
+            print_all(plan.outcome.channel(), plan.text.as_slice(), machine)?;
+            Ok(plan.outcome)
+        }
+        Some(gone) => {
+            print_all(Channel::Err, gone, machine)?;
+            Ok(Outcome::Refused { number: 1 })
+        }
+    }
+}

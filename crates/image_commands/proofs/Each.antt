@@ -1,0 +1,62 @@
+-- What is made of each of a list, one by one.
+use Rattle.std.proofs.Common.{◌≡◌, List, [], ◌∷◌, ◌++◌, Result, Ok, Err, refl, sym, ap, ◌∙◌, subst, length, suc}
+use Rattle.boot_base.specs.declared.refusal.Refusal.{Refusal}
+use Rattle.command_plans.specs.Refusing.{◌>>=◌}
+use Rattle.image_commands.specs.Files.{each}
+
+bind_ok : {B C : Type 0} (r : Result B Refusal) (g : B → Result C Refusal) (c : C) → (r >>= g) ≡ Ok c → (b : B) × (r ≡ Ok b) × (g b ≡ Ok c)
+bind_ok (Ok b) g c is = (b, refl, is)
+bind_ok (Err e) g c is = cc
+
+each_step : {A B : Type 0} (f : A → Result B Refusal) (x : A) (xs : List A) (y : B) (ys : List B) → f x ≡ Ok y → each f xs ≡ Ok ys → each f (x ∷ xs) ≡ Ok (y ∷ ys)
+unfolding each
+each_step f x xs y ys first more = ap (λ q. q >>= λ z. each f xs >>= λ r. Ok (z ∷ r)) first ∙ ap (λ q. q >>= λ r. Ok (y ∷ r)) more
+
+each_step_refused : {A B : Type 0} (f : A → Result B Refusal) (x : A) (xs : List A) (y : B) (why : Refusal) → f x ≡ Ok y → each f xs ≡ Err why → each f (x ∷ xs) ≡ Err why
+unfolding each
+each_step_refused f x xs y why first more = ap (λ q. q >>= λ z. each f xs >>= λ r. Ok (z ∷ r)) first ∙ ap (λ q. q >>= λ r. Ok (y ∷ r)) more
+
+each_cut : {A B : Type 0} (f : A → Result B Refusal) (x : A) (xs : List A) (ys : List B) → each f (x ∷ xs) ≡ Ok ys
+    → (y : B) × (r : List B) × (f x ≡ Ok y) × (each f xs ≡ Ok r) × (ys ≡ y ∷ r)
+unfolding each
+each_cut f x xs ys done =
+    let first = bind_ok (f x) (λ y. each f xs >>= λ r. Ok (y ∷ r)) ys done in
+    let more = bind_ok (each f xs) (λ r. Ok (first.0 ∷ r)) ys first.2 in
+    (first.0, more.0, first.1, more.1, cc more.2)
+
+-- nothing is made of nothing
+pub each_none : {A B : Type 0} (f : A → Result B Refusal) → each f [] ≡ Ok []
+unfolding each
+each_none f = refl
+
+none_made : {A B : Type 0} (f : A → Result B Refusal) (ys : List B) → each f [] ≡ Ok ys → [] ≡ ys
+unfolding each
+none_made f ys done = cc done
+
+last : {A B : Type 0} (f : A → Result B Refusal) (ys : List B) (x : A) (y : B) → [] ≡ ys → f x ≡ Ok y → each f (x ∷ []) ≡ Ok (ys ++ y ∷ [])
+last f ys x y none is = subst (λ l. each f (x ∷ []) ≡ Ok (l ++ y ∷ [])) none (each_step f x [] y [] is (each_none f))
+
+-- one more
+pub each_more : {A B : Type 0} (f : A → Result B Refusal) (xs : List A) (ys : List B) (x : A) (y : B) → each f xs ≡ Ok ys → f x ≡ Ok y → each f (xs ++ x ∷ []) ≡ Ok (ys ++ y ∷ [])
+each_more f [] ys x y done is = last f ys x y (none_made f ys done) is
+each_more f (first ∷ xs) ys x y done is =
+    let cut = each_cut f first xs ys done in
+    subst (λ l. each f (first ∷ (xs ++ x ∷ [])) ≡ Ok (l ++ y ∷ [])) (sym cut.4) (each_step f first (xs ++ x ∷ []) cut.0 (cut.1 ++ y ∷ []) cut.2 (each_more f xs cut.1 x y cut.3 is))
+
+refused_here : {A B : Type 0} (f : A → Result B Refusal) (x : A) (rest : List A) (why : Refusal) → f x ≡ Err why → each f (x ∷ rest) ≡ Err why
+unfolding each
+refused_here f x rest why is = ap (λ q. q >>= λ z. each f rest >>= λ r. Ok (z ∷ r)) is
+
+-- the first that is refused
+pub each_refused : {A B : Type 0} (f : A → Result B Refusal) (xs : List A) (ys : List B) (x : A) (rest : List A) (why : Refusal) → each f xs ≡ Ok ys → f x ≡ Err why → each f (xs ++ x ∷ rest) ≡ Err why
+each_refused f [] ys x rest why done is = refused_here f x rest why is
+each_refused f (first ∷ xs) ys x rest why done is =
+    let cut = each_cut f first xs ys done in
+    each_step_refused f first (xs ++ x ∷ rest) cut.0 why cut.2 (each_refused f xs cut.1 x rest why cut.3 is)
+
+-- as many are made
+pub each_length : {A B : Type 0} (f : A → Result B Refusal) (xs : List A) (ys : List B) → each f xs ≡ Ok ys → length ys ≡ length xs
+each_length f [] ys done = sym (ap length (none_made f ys done))
+each_length f (first ∷ xs) ys done =
+    let cut = each_cut f first xs ys done in
+    ap length cut.4 ∙ ap suc (each_length f xs cut.1 cut.3)

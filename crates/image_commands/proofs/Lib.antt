@@ -1,0 +1,10 @@
+mod Each
+mod Given
+mod Heads
+mod Inspecting
+mod Known
+mod Lines
+mod Once
+mod Parts
+mod Registers
+mod Unsaying

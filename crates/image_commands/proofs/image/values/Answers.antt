@@ -1,0 +1,39 @@
+use Rattle.std.proofs.Common.{List, map, ap, sym, subst, ◌∙◌}
+use Rattle.boot_machine.specs.Disk.{State}
+use Rattle.boot_machine.specs.Rows.{contents}
+use Rattle.boot_machine.specs.Sent.{seen}
+use Rattle.boot_phases.specs.Lines.{HasDistinctBanks, result_text, shown}
+use Rattle.pcr_fold.specs.declared.pcr.Pcr.{Pcr}
+use Rattle.pe_reader.specs.Reads.{headers_of}
+use Rattle.boot_machine.proofs.Reading.{reads_on}
+use Rattle.image_commands.proofs.Registers.{distinct_registers, values_are}
+use Rattle.image_commands.proofs.Unsaying.{says_unsaid, unrefused}
+use Rattle.image_commands.proofs.image.values.Goals as goal
+
+pub returns-in_err-registers-clause-says : goal.returns-in_err-registers-clause-says
+returns-in_err-registers-clause-says g c told =
+    says_unsaid c.from_residual-in_err-registers.result c.in_err-registers.field-0.0 _ _ c.from_residual-in_err-registers.ensures.0 c.from_residual-in_err-registers.ensures.1
+    (unrefused c.in_err-registers.field-0.0 _ _ (c.in_err-registers.ensures.says told))
+
+pub returns-in_err-registers-clause-reads : goal.returns-in_err-registers-clause-reads
+returns-in_err-registers-clause-reads g c told =
+    reads_on g.M.Machine.clock g.M.Machine.since g.M.Machine.state c.args.machine.now c.image_head.new.machine c.registers.new.machine (c.image_head.ensures.reads told) (c.registers.ensures.reads told)
+
+pub result_lines-requires-clause-banks : goal.result_lines-requires-clause-banks
+result_lines-requires-clause-banks g c =
+    subst HasDistinctBanks (sym c.as_slice-2.ensures.value)
+    (distinct_registers c.in_ok-registers.registers.items c.in_ok-banks.banks.items (c.in_ok-registers.ensures.banks ∙ c.as_slice.ensures.value) c.in_ok-banks.ensures.distinct)
+
+pub returns-in_err-result_lines-clause-reads : goal.returns-in_err-result_lines-clause-reads
+returns-in_err-result_lines-clause-reads g c told =
+    reads_on g.M.Machine.clock g.M.Machine.since g.M.Machine.state c.args.machine.now c.image_head.new.machine c.registers.new.machine (c.image_head.ensures.reads told) (c.registers.ensures.reads told)
+
+pub returns-clause-reads : goal.returns-clause-reads
+returns-clause-reads g c told =
+    reads_on g.M.Machine.clock g.M.Machine.since g.M.Machine.state c.args.machine.now c.image_head.new.machine c.registers.new.machine (c.image_head.ensures.reads told) (c.registers.ensures.reads told)
+
+pub returns-clause-says : goal.returns-clause-says
+returns-clause-says g c told =
+    values_are (seen (g.M.Machine.state c.args.machine.now)) c.args.path.now c.args.banks.now c.args.phases.now (contents (g.M.Machine.state c.args.machine.now).files c.args.path.now) _ (headers_of c.in_ok-head.head) (map shown c.in_ok-registers.registers.items) c.as_slice.result.now c.as_slice-3.result.now c.in_ok-result_lines.field-0.items
+    (c.in_ok-head.ensures.image told) (ap (λ (s : State). contents s.files c.args.path.now) (c.image_head.ensures.reads told).same) (cc (c.in_ok-registers.ensures.says told)) (c.as_slice.ensures.value ∙ c.in_ok-banks.ensures.value) (c.as_slice-3.ensures.value ∙ c.in_ok-paths.ensures.value)
+    (c.in_ok-result_lines.ensures ∙ ap (λ (l : List Pcr). result_text (map shown l) c.as_slice-3.result.now) c.as_slice-2.ensures.value)

@@ -1,0 +1,41 @@
+use Rattle.std.proofs.Common.{rules, refl, ap, ◌∙◌}
+use Rattle.boot_machine.specs.Disk.{State}
+use Rattle.boot_machine.specs.Rows.{contents}
+use Rattle.pe_reader.specs.Reads.{headers_of}
+use Rattle.boot_machine.proofs.Reading.{reads_none, reads_on}
+use Rattle.image_commands.proofs.Inspecting.{item_inside, lines_more, unwrapped}
+use Rattle.image_commands.proofs.Unsaying.{says_unsaid, unrefused}
+use Rattle.image_commands.proofs.inspect.append_sections.Goals as goal
+
+pub loop-section-init : goal.loop-section-init
+loop-section-init g c = record {
+  room = refl;
+  lines = λ told. search rules;
+  reads = λ told. reads_none g.M.Machine.clock g.M.Machine.since g.M.Machine.state c.args.machine.now (λ m o left. g.met.M.Machine.only_now c.args.machine.now m o told left);
+  counts = refl;
+}
+
+pub returns-in_err-append_section-clause-reads : goal.returns-in_err-append_section-clause-reads
+returns-in_err-append_section-clause-reads g c told =
+    reads_on g.M.Machine.clock g.M.Machine.since g.M.Machine.state c.args.machine.now c.loop-section.machine c.append_section.new.machine (c.loop-section.invariant.reads told) (c.append_section.ensures.reads told)
+
+pub returns-in_err-append_section-clause-says : goal.returns-in_err-append_section-clause-says
+returns-in_err-append_section-clause-says g c told =
+    let same = ap (λ (s : State). contents s.files c.args.path.now) (c.loop-section.invariant.reads told).same in
+    says_unsaid c.from_residual.result c.in_err-append_section.field-0.0 _ _ c.from_residual.ensures.0 c.from_residual.ensures.1
+    (unrefused c.in_err-append_section.field-0.0 _ _ (c.in_err-append_section.ensures.says told
+    (item_inside (contents (g.M.Machine.state c.args.machine.now).files c.args.path.now) _ (headers_of c.args.head.now) c.sections-section-items.result.now c.loop-section.section-index _ (c.requires.head told) same c.sections-section-items.ensures c.loop-section-test.true)))
+
+pub loop-section-preserved : goal.loop-section-preserved
+loop-section-preserved g c =
+    let before = c.loop-section.invariant in
+    record {
+      room = c.append_section.ensures.room ∙ before.room;
+      lines = λ told.
+          let same = ap (λ (s : State). contents s.files c.args.path.now) (before.reads told).same in
+          lines_more (contents (g.M.Machine.state c.args.machine.now).files c.args.path.now) _ c.sections-section-items.result.now c.loop-section.section-index _ c.args.out.now.items c.loop-section.out.items c.append_section.new.out.items c.loop-section-test.true same (before.lines told)
+          (unwrapped _ _ _ _ refl refl (c.in_ok-append_section.ensures.says told
+          (item_inside (contents (g.M.Machine.state c.args.machine.now).files c.args.path.now) _ (headers_of c.args.head.now) c.sections-section-items.result.now c.loop-section.section-index _ (c.requires.head told) same c.sections-section-items.ensures c.loop-section-test.true)));
+      reads = λ told. reads_on g.M.Machine.clock g.M.Machine.since g.M.Machine.state c.args.machine.now c.loop-section.machine c.append_section.new.machine (before.reads told) (c.append_section.ensures.reads told);
+      counts = search rules;
+    }

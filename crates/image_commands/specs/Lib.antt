@@ -1,0 +1,5 @@
+pub mod Calculating
+pub mod Files
+pub mod Said
+pub mod Saying
+pub mod Values

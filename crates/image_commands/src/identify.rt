@@ -1,0 +1,80 @@
+//! `bootctl kernel-identify`.
+ghost use Rattle.std.specs.Prelude.{◌≡◌, IfOk, IsTrue, List, Ok, ℕ};
+ghost use Rattle.boot_machine.specs.Reading.{OnlyReads};
+ghost use Rattle.boot_machine.specs.Sent.{seen};
+ghost use Rattle.pe_reader.specs.Grammar.{pe_of};
+ghost use Rattle.pe_reader.specs.Reads.{headers_of};
+ghost use Rattle.command_plans.specs.Answers.{said};
+ghost use Rattle.command_plans.specs.Performs.{CountsStop};
+ghost use Rattle.command_plans.specs.Plans.{IsMakeable, Plans};
+ghost use Rattle.image_commands.specs.Said.{has_loaded, identify_said, kind_at, kind_of};
+ghost use Rattle.image_commands.specs.Saying.{CountsUnsaid, Says};
+
+use crate::files::readable;
+use crate::saying::{Unsaid, said};
+use boot_base::BootPath;
+use boot_machine::Machine;
+use command_plans::{Plan, Stop, path_in};
+use pe_reader::{HeadFault, Pe};
+use std::alloc::Global;
+
+// Whether the first section of that name has loaded bytes.
+fn has_loaded(head: &Pe, name: &[u8]) -> bool
+    ensures { (bytes : List ℕ) → pe_of bytes ≡ Ok (headers_of head.now) → result ≡ has_loaded bytes name.now }
+{
+    match head.find(name) {
+        None => false,
+        Some(index) => {
+            let range = head.loaded_range(index);
+            range.length + range.zeros != 0
+        }
+    }
+}
+
+// What a PE32+ file with these headers is told to be.
+fn pe_kind(head: &Pe) -> &'static str
+    ensures { (bytes : List ℕ) → pe_of bytes ≡ Ok (headers_of head.now) → result.now ≡ kind_of bytes (pe_of bytes) }
+{
+    if has_loaded(head, b".linux") && has_loaded(head, b".osrel") {
+        return "uki\n";
+    }
+    "pe\n"
+}
+
+// What the file at a path is told to be.
+fn kind<M: Machine>(alloc: Global, path: &BootPath, machine: &mut M) -> Result<&'static str, Unsaid>
+    ensures kind { IsTrue M.tells → Says (λ text. text.now) result (kind_at (seen (M.state machine.old)) path.now) }
+    ensures reads { IsTrue M.tells → OnlyReads M.clock M.since M.state machine.old machine.new }
+    ensures counts { CountsUnsaid result (M.counts machine.old) (M.counts machine.new) }
+{
+    readable(alloc, path, machine)?;
+    match Pe::read_head(alloc, machine, path) {
+        Ok(head) => Ok(pe_kind(&head)),
+        Err(HeadFault::NotPe { .. }) => Ok("unknown\n"),
+        Err(HeadFault::Memory) => Err(Unsaid::Memory),
+        Err(HeadFault::Disk) => Err(Unsaid::Disk),
+    }
+}
+
+fn identified<M: Machine>(alloc: Global, file: &str, machine: &mut M) -> Result<Vec<u8>, Unsaid>
+    ensures says { IsTrue M.tells → Says (λ text. text.items) result (identify_said (seen (M.state machine.old)) file.now) }
+    ensures reads { IsTrue M.tells → OnlyReads M.clock M.since M.state machine.old machine.new }
+    ensures counts { CountsUnsaid result (M.counts machine.old) (M.counts machine.new) }
+{
+    let path = path_in(alloc, file)?;
+    let kind = kind(alloc, &path, machine)?;
+    Ok(Vec::from_slice(alloc, kind.as_bytes())?)
+}
+
+/// What is going to be told of a file: `uki` of a unified kernel image, `pe` of any other PE32+ file, and
+/// `unknown` of the rest. No section's bytes are read.
+pub fn plan_identify<M: Machine>(alloc: Global, file: &str, machine: &mut M) -> Result<Plan, Stop>
+    ensures plans { IfOk result (λ plan. IsTrue M.tells → Plans (M.state machine.old) plan
+        (said (seen (M.state machine.old)) (identify_said (seen (M.state machine.old)) file.now))) }
+    ensures makeable { IfOk result (λ plan. IsMakeable plan.change) }
+    ensures reads { IsTrue M.tells → OnlyReads M.clock M.since M.state machine.old machine.new }
+    ensures counts { CountsStop result (M.counts machine.old) (M.counts machine.new) }
+{
+    let text = identified(alloc, file, machine);
+    said(alloc, text)
+}

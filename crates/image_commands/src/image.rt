@@ -1,0 +1,104 @@
+//! `measure image`: the value of PCR 11 that an image's stub comes to.
+ghost use Rattle.std.specs.Prelude.{◌≡◌, IfOk, IsTrue, Ok, map};
+ghost use Rattle.boot_machine.specs.Reading.{OnlyReads};
+ghost use Rattle.boot_machine.specs.Rows.{contents};
+ghost use Rattle.boot_machine.specs.Sent.{seen};
+ghost use Rattle.boot_phases.specs.Lines.{shown};
+ghost use Rattle.pcr_fold.specs.Values.{pcr_bank};
+ghost use Rattle.pe_reader.specs.Grammar.{pe_of};
+ghost use Rattle.pe_reader.specs.Reads.{headers_of};
+ghost use Rattle.stub_replay.specs.Measured.{measured_list};
+ghost use Rattle.command_plans.specs.Answers.{said};
+ghost use Rattle.command_plans.specs.Performs.{CountsStop};
+ghost use Rattle.command_plans.specs.Plans.{IsMakeable, Plans};
+ghost use Rattle.image_commands.specs.Said.{image_said, values_at};
+ghost use Rattle.image_commands.specs.Saying.{CountsUnsaid, Says};
+ghost use Rattle.image_commands.specs.Values.{starts_of};
+
+use crate::choices::{banks_of, paths_of};
+use crate::files::image_head;
+use crate::saying::{Unsaid, said};
+use boot_base::{BootPath, Text};
+use boot_machine::Machine;
+use boot_phases::result_lines;
+use command_plans::{Plan, Stop, path_in};
+use pcr_fold::{Bank, Pcr};
+use pe_reader::Pe;
+use std::alloc::Global;
+use stub_replay::replay;
+
+// The register of each bank after the image's stub has measured it.
+fn registers<M: Machine>(
+    alloc: Global,
+    path: &BootPath,
+    head: &Pe,
+    banks: &[Bank],
+    machine: &mut M,
+) -> Result<Vec<Pcr>, Unsaid>
+    requires { IsTrue M.tells → pe_of (contents (M.state machine.old).files path.now) ≡ Ok (headers_of head.now) }
+    ensures banks { IfOk result (λ registers. map pcr_bank registers.items ≡ banks.now) }
+    ensures says { IsTrue M.tells → Says (λ registers. map shown registers.items) result
+        (Ok (starts_of (measured_list (contents (M.state machine.old).files path.now)) banks.now)) }
+    ensures reads { IsTrue M.tells → OnlyReads M.clock M.since M.state machine.old machine.new }
+    ensures counts { CountsUnsaid result (M.counts machine.old) (M.counts machine.new) }
+{
+    let mut buffer = [0; 65536];
+    let mut registers = Vec::new(alloc);
+    for bank in banks {
+        registers.push(replay(machine, path, head, *bank, &mut buffer)?)?;
+    }
+    Ok(registers)
+}
+
+// The lines of the image at a path.
+fn values<M: Machine>(
+    alloc: Global,
+    path: &BootPath,
+    banks: &[Text],
+    phases: &[Text],
+    machine: &mut M,
+) -> Result<Vec<u8>, Unsaid>
+    ensures says { IsTrue M.tells → Says (λ text. text.items) result (values_at (seen (M.state machine.old)) banks.now phases.now path.now) }
+    ensures reads { IsTrue M.tells → OnlyReads M.clock M.since M.state machine.old machine.new }
+    ensures counts { CountsUnsaid result (M.counts machine.old) (M.counts machine.new) }
+{
+    let head = image_head(alloc, path, machine)?;
+    let banks = banks_of(alloc, banks)?;
+    let paths = paths_of(alloc, phases)?;
+    let registers = registers(alloc, path, &head, banks.as_slice(), machine)?;
+    Ok(result_lines(alloc, registers.as_slice(), paths.as_slice())?)
+}
+
+fn measured<M: Machine>(
+    alloc: Global,
+    file: &str,
+    banks: &[Text],
+    phases: &[Text],
+    machine: &mut M,
+) -> Result<Vec<u8>, Unsaid>
+    ensures says { IsTrue M.tells → Says (λ text. text.items) result (image_said (seen (M.state machine.old)) file.now banks.now phases.now) }
+    ensures reads { IsTrue M.tells → OnlyReads M.clock M.since M.state machine.old machine.new }
+    ensures counts { CountsUnsaid result (M.counts machine.old) (M.counts machine.new) }
+{
+    let path = path_in(alloc, file)?;
+    values(alloc, &path, banks, phases, machine)
+}
+
+/// What is going to be said of an image: for each phase path the value of PCR 11, in each bank, after the
+/// image's stub has measured it and the path's words have followed.
+pub fn plan_image<M: Machine>(
+    alloc: Global,
+    file: &str,
+    banks: &[Text],
+    phases: &[Text],
+    machine: &mut M,
+) -> Result<Plan, Stop>
+    ensures plans { IfOk result (λ plan. IsTrue M.tells → Plans (M.state machine.old) plan
+        (said (seen (M.state machine.old)) (image_said (seen (M.state machine.old)) file.now banks.now phases.now))) }
+    ensures makeable { IfOk result (λ plan. IsMakeable plan.change) }
+    ensures reads { IsTrue M.tells → OnlyReads M.clock M.since M.state machine.old machine.new }
+    ensures counts { CountsStop result (M.counts machine.old) (M.counts machine.new) }
+{
+    let text = measured(alloc, file, banks, phases, machine);
+    said(alloc, text)
+}

@@ -1,0 +1,151 @@
+//! `ukify inspect`: the sections of an image.
+ghost use Rattle.std.specs.Prelude.{◌≡◌, ◌<◌, ◌≤◌, ◌++◌, IfOk, IsTrue, List, Ok, OnOk, codes, drop, length, ℕ};
+ghost use Rattle.std.specs.Fmt.{decimal};
+ghost use Rattle.std.specs.List.{flat_map};
+ghost use Rattle.boot_machine.specs.Reading.{OnlyReads};
+ghost use Rattle.boot_machine.specs.Rows.{contents};
+ghost use Rattle.boot_machine.specs.Sent.{seen};
+ghost use Rattle.pcr_fold.specs.Values.{bytes_of};
+ghost use Rattle.pe_reader.specs.Grammar.{pe_of};
+ghost use Rattle.pe_reader.specs.Loaded.{range_of};
+ghost use Rattle.pe_reader.specs.Reads.{headers_of};
+ghost use Rattle.command_plans.specs.Answers.{said};
+ghost use Rattle.command_plans.specs.Performs.{CountsStop};
+ghost use Rattle.command_plans.specs.Plans.{IsMakeable, Plans};
+ghost use Rattle.command_plans.specs.Refusing.{printed_path};
+ghost use Rattle.image_commands.specs.Said.{first_line, inspect_said, inspection_at, measures, section_lines, shown_byte};
+ghost use Rattle.image_commands.specs.Saying.{CountsUnsaid, Says};
+
+use crate::files::image_head;
+use crate::saying::{Unsaid, said};
+use boot_base::BootPath;
+use boot_machine::Machine;
+use command_plans::{Plan, Stop, path_in};
+use pcr_fold::{Bank, Digest};
+use pe_reader::{Pe, Section, short_name};
+use std::alloc::{AllocError, Global};
+use stub_replay::range_digest;
+
+// Puts a byte of a section's name behind `out` as it is printed.
+fn append_byte(alloc: Global, out: &mut Vec<u8>, byte: u8) -> Result<(), AllocError>
+    ensures { OnOk result (out.new.items ≡ out.old.items ++ shown_byte byte) }
+{
+    if 0x21 <= byte && byte <= 0x7E {
+        return out.extend_from_slice(&[byte]);
+    }
+    let hex = hex::encode(alloc, &[byte])?;
+    out.extend_from_slice(b"\\x")?;
+    out.extend_from_slice(hex.as_bytes())
+}
+
+fn append_name(alloc: Global, out: &mut Vec<u8>, name: &[u8]) -> Result<(), AllocError>
+    ensures { OnOk result (out.new.items ≡ out.old.items ++ flat_map shown_byte name.now) }
+{
+    for byte in name {
+        append_byte(alloc, out, *byte)?;
+    }
+    Ok(())
+}
+
+// What is printed behind a section's name.
+fn measures(alloc: Global, size: u64, digest: &Digest) -> Result<Vec<u8>, AllocError>
+    ensures { IfOk result (λ lines. lines.items ≡ measures size (bytes_of digest.now)) }
+{
+    let digest = hex::encode(alloc, digest.bytes())?;
+    let lines = format!(in alloc; ":\n  size: {size} bytes\n  sha256: {digest}\n")?;
+    Ok(lines.into_bytes())
+}
+
+// Puts the lines of a section behind `out`.
+fn append_section<M: Machine>(
+    alloc: Global,
+    out: &mut Vec<u8>,
+    section: &Section,
+    path: &BootPath,
+    buffer: &mut [u8],
+    machine: &mut M,
+) -> Result<(), Unsaid>
+    requires room { 0 < length buffer.old }
+    ensures room { length buffer.new ≡ length buffer.old }
+    ensures says { IsTrue M.tells
+        → (range_of section.now).length ≤ length (drop (range_of section.now).place (contents (M.state machine.old).files path.now))
+        → Says (λ _. out.new.items) result
+        (Ok (out.old.items ++ section_lines (contents (M.state machine.old).files path.now) section.now)) }
+    ensures reads { IsTrue M.tells → OnlyReads M.clock M.since M.state machine.old machine.new }
+    ensures counts { CountsUnsaid result (M.counts machine.old) (M.counts machine.new) }
+{
+    let range = section.loaded_range();
+    let digest = range_digest(Bank::Sha256, machine, path, range, buffer)?;
+    let lines = measures(alloc, range.length + range.zeros, &digest)?;
+    append_name(alloc, out, short_name(&section.name))?;
+    out.extend_from_slice(lines.as_slice())?;
+    Ok(())
+}
+
+// Puts the lines of all sections behind `out`, in the table's order.
+fn append_sections<M: Machine>(
+    alloc: Global,
+    out: &mut Vec<u8>,
+    path: &BootPath,
+    head: &Pe,
+    buffer: &mut [u8],
+    machine: &mut M,
+) -> Result<(), Unsaid>
+    requires head { IsTrue M.tells → pe_of (contents (M.state machine.old).files path.now) ≡ Ok (headers_of head.now) }
+    requires room { 0 < length buffer.old }
+    ensures says { IsTrue M.tells → Says (λ _. out.new.items) result
+        (Ok (out.old.items ++ flat_map (section_lines (contents (M.state machine.old).files path.now)) (headers_of head.now).sections)) }
+    ensures reads { IsTrue M.tells → OnlyReads M.clock M.since M.state machine.old machine.new }
+    ensures counts { CountsUnsaid result (M.counts machine.old) (M.counts machine.new) }
+{
+    for section in head.sections() {
+        append_section(alloc, out, section, path, buffer, machine)?;
+    }
+    Ok(())
+}
+
+fn first_line(alloc: Global, path: &BootPath, count: usize) -> Result<Vec<u8>, AllocError>
+    ensures { IfOk result (λ line. line.items ≡ first_line path.now count) }
+{
+    let line = format!(in alloc; "{path}: {count} sections\n")?;
+    Ok(line.into_bytes())
+}
+
+// The lines of the image at a path.
+fn inspection<M: Machine>(
+    alloc: Global,
+    path: &BootPath,
+    machine: &mut M,
+) -> Result<Vec<u8>, Unsaid>
+    ensures says { IsTrue M.tells → Says (λ text. text.items) result (inspection_at (seen (M.state machine.old)) path.now) }
+    ensures reads { IsTrue M.tells → OnlyReads M.clock M.since M.state machine.old machine.new }
+    ensures counts { CountsUnsaid result (M.counts machine.old) (M.counts machine.new) }
+{
+    let head = image_head(alloc, path, machine)?;
+    let mut buffer = [0; 65536];
+    let mut text = first_line(alloc, path, head.sections().len())?;
+    append_sections(alloc, &mut text, path, &head, &mut buffer, machine)?;
+    Ok(text)
+}
+
+fn inspected<M: Machine>(alloc: Global, file: &str, machine: &mut M) -> Result<Vec<u8>, Unsaid>
+    ensures says { IsTrue M.tells → Says (λ text. text.items) result (inspect_said (seen (M.state machine.old)) file.now) }
+    ensures reads { IsTrue M.tells → OnlyReads M.clock M.since M.state machine.old machine.new }
+    ensures counts { CountsUnsaid result (M.counts machine.old) (M.counts machine.new) }
+{
+    let path = path_in(alloc, file)?;
+    inspection(alloc, &path, machine)
+}
+
+/// What is going to be said of an image: how many sections it has, and of each its name, and the number and
+/// the SHA-256 digest of its loaded bytes. Each section's bytes are read once.
+pub fn plan_inspect<M: Machine>(alloc: Global, file: &str, machine: &mut M) -> Result<Plan, Stop>
+    ensures plans { IfOk result (λ plan. IsTrue M.tells → Plans (M.state machine.old) plan
+        (said (seen (M.state machine.old)) (inspect_said (seen (M.state machine.old)) file.now))) }
+    ensures makeable { IfOk result (λ plan. IsMakeable plan.change) }
+    ensures reads { IsTrue M.tells → OnlyReads M.clock M.since M.state machine.old machine.new }
+    ensures counts { CountsStop result (M.counts machine.old) (M.counts machine.new) }
+{
+    let text = inspected(alloc, file, machine);
+    said(alloc, text)
+}
