@@ -1,13 +1,14 @@
 -- What a reading function returned, unless memory ran out, and what a `Pe` was read from.
-use Rattle.std.specs.Prelude.{◌≡◌, ℕ, List, length, Result, Ok, Err, MatchResult}
+use Rattle.std.specs.Prelude.{◌≡◌, ℕ, List, ◌++◌, length, Result, Ok, Err, MatchResult}
 use Rattle.boot_machine.specs.Counts.{Counts, DiskFailed}
 use Rattle.pe_reader.specs.declared.fault.FailedCheck.{FailedCheck}
 use Rattle.pe_reader.specs.declared.fault.PeFault.{PeFault}
 use Rattle.pe_reader.specs.declared.fault.PeFault.TheVariants.{Memory, NotPe}
 use Rattle.pe_reader.specs.declared.fault.HeadFault.{HeadFault}
 use Rattle.pe_reader.specs.declared.fault.HeadFault.TheVariants as heads
+use Rattle.pe_reader.specs.declared.head.Head.{Head}
 use Rattle.pe_reader.specs.declared.pe.Pe.{Pe}
-use Rattle.pe_reader.specs.Grammar.{Headers, pe_of}
+use Rattle.pe_reader.specs.Grammar.{Headers, head_of, pe_of}
 
 -- the fault is the first check that fails, or want of memory
 abbrev pub Fails : {Y : Type 0} → PeFault → Result Y FailedCheck → Type 0
@@ -42,6 +43,18 @@ head_counts heads.Disk old new = DiskFailed old new
 
 abbrev pub CountsHead : {X : Type 0} → Result X HeadFault → Counts → Counts → Type 0
 CountsHead result old new = MatchResult result (λ _. new ≡ old) (λ fault. head_counts fault old new)
+
+-- a stage of the reading gave it from so many bytes
+pub record FromBytes {X : Type 0} (count : ℕ) (stage : List ℕ → Result X FailedCheck) (given : X) : Type 0 where
+  pub bytes : List ℕ
+  pub length_is : length bytes ≡ count
+  pub reads : stage bytes ≡ Ok given
+
+-- There are bytes up to the section table such that every file of that size that begins with them has this head.
+pub record HeadFrom (head : Head) (size : ℕ) : Type 0 where
+  pub before : List ℕ
+  pub length_is : length before ≡ head.table_place
+  pub reads : (after : List ℕ) → length (before ++ after) ≡ size → head_of (before ++ after) ≡ Ok head
 
 -- a `Pe` without where it lies in memory
 abbrev pub headers_of : Pe → Headers

@@ -6,7 +6,7 @@ ghost use Rattle.boot_machine.specs.Reading.{OnlyReads, TakesAtMost};
 ghost use Rattle.boot_machine.specs.Rows.{contents};
 ghost use Rattle.pe_reader.specs.Fields.{part};
 ghost use Rattle.pe_reader.specs.Grammar.{head_of, pe_place_of, coff_of, optional_of, sections_of};
-ghost use Rattle.pe_reader.specs.Reads.{GivesFrom, CountsHead};
+ghost use Rattle.pe_reader.specs.Reads.{FromBytes, GivesFrom, CountsHead, HeadFrom};
 
 use crate::fault::HeadFault;
 use crate::head::{Coff, Head, coff_header, optional_header, pe_place};
@@ -43,6 +43,7 @@ pub fn head_in<M: Machine>(
     requires small { size ≤ 268435456 }
     ensures exact { IsTrue M.tells → size ≡ length (contents (M.state machine.old).files path.now)
         → GivesFrom (λ head. head) result (head_of (contents (M.state machine.old).files path.now)) }
+    ensures read { IfOk result (λ head. HeadFrom head size) }
     ensures inside { IfOk result (λ head. head.table_place + 40 * head.section_count ≤ size) }
     ensures few { IfOk result (λ head. head.section_count ≤ 96) }
     ensures reads { IsTrue M.tells → OnlyReads M.clock M.since M.state machine.old machine.new }
@@ -58,6 +59,7 @@ pub fn head_in<M: Machine>(
 fn place_in<M: Machine>(machine: &mut M, path: &BootPath, size: u64) -> Result<u32, HeadFault>
     ensures exact { IsTrue M.tells → size ≡ length (contents (M.state machine.old).files path.now)
         → GivesFrom (λ place. place) result (pe_place_of size (part (contents (M.state machine.old).files path.now) 0 64)) }
+    ensures read { IfOk result (FromBytes 64 (pe_place_of size)) }
     ensures reads { IsTrue M.tells → OnlyReads M.clock M.since M.state machine.old machine.new }
     ensures counts { CountsHead result (M.counts machine.old) (M.counts machine.new) }
     ensures taken { IsTrue M.tells → TakesAtMost 64 (M.taken machine.old) (M.taken machine.new) }
@@ -76,6 +78,7 @@ fn coff_in<M: Machine>(
 ) -> Result<Coff, HeadFault>
     ensures exact { IsTrue M.tells → size ≡ length (contents (M.state machine.old).files path.now)
         → GivesFrom (λ coff. coff) result (coff_of size place (part (contents (M.state machine.old).files path.now) place 24)) }
+    ensures read { IfOk result (FromBytes 24 (coff_of size place)) }
     ensures long { IfOk result (λ coff. 112 ≤ coff.optional_size) }
     ensures inside { IfOk result (λ coff. place + 24 + coff.optional_size ≤ size) }
     ensures few { IfOk result (λ coff. coff.section_count ≤ 96) }
@@ -103,6 +106,7 @@ fn optional_in<M: Machine>(
     ensures exact { IsTrue M.tells → size ≡ length (contents (M.state machine.old).files path.now)
         → GivesFrom (λ head. head) result (optional_of size place coff
         (part (contents (M.state machine.old).files path.now) (place + 24) coff.optional_size)) }
+    ensures read { IfOk result (FromBytes coff.optional_size (optional_of size place coff)) }
     ensures inside { IfOk result (λ head. head.table_place + 40 * head.section_count ≤ size) }
     ensures count { IfOk result (λ head. head.section_count ≡ coff.section_count) }
     ensures reads { IsTrue M.tells → OnlyReads M.clock M.since M.state machine.old machine.new }
@@ -127,6 +131,8 @@ pub fn sections_in<M: Machine>(
     ensures exact { IsTrue M.tells → size ≡ length (contents (M.state machine.old).files path.now)
         → GivesFrom (λ sections. sections.items) result (sections_of size head.now.header_size head.now.section_count head.now.table_place []
         (part (contents (M.state machine.old).files path.now) head.now.table_place (40 * head.now.section_count))) }
+    ensures read { IfOk result (λ sections. FromBytes (40 * head.now.section_count)
+        (sections_of size head.now.header_size head.now.section_count head.now.table_place []) sections.items) }
     ensures reads { IsTrue M.tells → OnlyReads M.clock M.since M.state machine.old machine.new }
     ensures counts { CountsHead result (M.counts machine.old) (M.counts machine.new) }
     ensures taken { IsTrue M.tells → TakesAtMost (40 * head.now.section_count) (M.taken machine.old) (M.taken machine.new) }

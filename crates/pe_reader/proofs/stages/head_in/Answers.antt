@@ -1,4 +1,6 @@
+use Rattle.std.proofs.lemmas.Result.{IfOk-weaker}
 use Rattle.boot_machine.proofs.Reading.{reads_on}
+use Rattle.pe_reader.proofs.Joined.{head_joined}
 use Rattle.pe_reader.proofs.stages.head_in.Goals as goal
 
 pub returns-in_err-coff-clause-reads : goal.returns-in_err-coff-clause-reads
@@ -7,3 +9,7 @@ returns-in_err-coff-clause-reads g c told = reads_on g.M.Machine.clock g.M.Machi
 pub returns-clause-reads : goal.returns-clause-reads
 returns-clause-reads g c told =
     reads_on g.M.Machine.clock g.M.Machine.since g.M.Machine.state _ _ _ (reads_on g.M.Machine.clock g.M.Machine.since g.M.Machine.state _ _ _ (c.place_in.ensures.reads told) (c.coff_in.ensures.reads told)) (c.optional_in.ensures.reads told)
+
+pub returns-clause-read : goal.returns-clause-read
+returns-clause-read g c =
+    IfOk-weaker c.optional_in.result _ _ (λ head. head_joined c.args.size c.in_ok-place.place c.in_ok-coff.coff head c.in_ok-place.ensures.read c.in_ok-coff.ensures.read) c.optional_in.ensures.read
