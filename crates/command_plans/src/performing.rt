@@ -4,15 +4,42 @@ ghost use Rattle.boot_machine.specs.Counts.{CountsDisk};
 ghost use Rattle.boot_machine.specs.Disk.{HasOneCandidate, IsRested};
 ghost use Rattle.boot_machine.specs.Images.{IsFirm};
 ghost use Rattle.boot_machine.specs.Sent.{seen};
+ghost use Rattle.image_writer.specs.Sourced.{IsSourced};
 ghost use Rattle.install_steps.specs.Steps.{IsDone, Keeps, NoNewTemp, StepsTo};
 ghost use Rattle.command_plans.specs.Deeds.{made};
 ghost use Rattle.command_plans.specs.Performs.{CountsFault, LeavesNoTempBy, Performs, Syncs, end_by};
-ghost use Rattle.command_plans.specs.Plans.{CanMake, Drops, IsMakeable, effect, planned};
+ghost use Rattle.command_plans.specs.Plans.{CanMake, Drops, IsMakeable, effect, planned, written};
 
 use crate::outcome::{MachineFault, Outcome};
 use crate::plan::{Change, Plan};
+use boot_base::Target;
 use boot_machine::{Channel, DiskFault, Machine, print_all};
-use install_steps::{StepFault, drop_leftovers, drop_name, settle};
+use image_writer::Sources;
+use install_steps::{StepFault, drop_leftovers, drop_name, settle, write_planned};
+
+/// Writes the finished image by a plan of these sources at the target. The buffer stands here, so that no other change
+/// has to make room for it.
+#[inline(never)]
+fn write<M: Machine>(
+    image: &pe_builder::Plan,
+    sources: &Sources,
+    target: &Target,
+    machine: &mut M,
+) -> Result<(), DiskFault>
+    requires one { IsTrue M.tells → HasOneCandidate (M.state machine.old) }
+    requires rested { IsTrue M.tells → IsRested (M.state machine.old) }
+    requires sourced { IsTrue M.tells → IsSourced image.now sources.now (seen (M.state machine.old)) }
+    ensures done { OnOk result (IsTrue M.tells → IsFirm (M.state machine.old)
+        → IsDone (M.state machine.new) (written image.now sources.now target.now.path (seen (M.state machine.old)))) }
+    ensures step { IsTrue M.tells → IsFirm (M.state machine.old) → StepsTo M.clock M.since M.state
+        (written image.now sources.now target.now.path (seen (M.state machine.old))) machine.old machine.new }
+    ensures keeps { IsTrue M.tells → Keeps (M.state machine.old) (M.state machine.new) }
+    ensures temps { OnOk result (IsTrue M.tells → NoNewTemp (M.state machine.old) (M.state machine.new)) }
+    ensures counts { CountsDisk result (M.counts machine.old) (M.counts machine.new) }
+{
+    let mut buffer = [0; 65536];
+    write_planned(machine, image, sources, target, &mut buffer)
+}
 
 /// Makes a change on a settled machine. Where the file to be removed is gone, which no machine comes to that
 /// tells its files, it gives the line to print, and nothing is changed.
@@ -40,6 +67,14 @@ fn apply<'a, M: Machine>(change: &'a Change, machine: &mut M) -> Result<Option<&
         },
         Change::Leftovers(temps) => {
             drop_leftovers(machine, temps.as_slice())?;
+            Ok(None)
+        }
+        Change::Write {
+            image,
+            sources,
+            target,
+        } => {
+            write(image, sources, target, machine)?;
             Ok(None)
         }
     }

@@ -2,4 +2,5 @@ pub mod Appending
 pub mod Assembled
 pub mod Filled
 pub mod Padded
+pub mod PlannedImages
 pub mod Rising
