@@ -1,7 +1,10 @@
 -- What is made of each of a list, one by one.
-use Rattle.std.proofs.Common.{◌≡◌, List, [], ◌∷◌, ◌++◌, Result, Ok, Err, refl, sym, ap, ◌∙◌, subst, length, suc}
+use Rattle.std.proofs.Common.{◌≡◌, ◌<◌, ◌+◌, ℕ, List, [], ◌∷◌, ◌++◌, Result, Ok, Err, refl, sym, ap, ◌∙◌, subst, length, suc, map, take, drop, get_or}
+use Rattle.std.proofs.lemmas.List.{drop_more, take-append-drop, take_more}
 use Rattle.boot_base.specs.declared.refusal.Refusal.{Refusal}
-use Rattle.command_plans.specs.Refusing.{◌>>=◌}
+use Rattle.command_plans.specs.Refusing.{◌>>=◌, DeclinedFor}
+use Rattle.command_plans.specs.declared.refusing.Declined.{Declined}
+use Rattle.command_plans.specs.declared.refusing.Declined.TheVariants.{Memory, Refused}
 use Rattle.image_commands.specs.Files.{each}
 
 bind_ok : {B C : Type 0} (r : Result B Refusal) (g : B → Result C Refusal) (c : C) → (r >>= g) ≡ Ok c → (b : B) × (r ≡ Ok b) × (g b ≡ Ok c)
@@ -60,3 +63,49 @@ each_length f [] ys done = sym (ap length (none_made f ys done))
 each_length f (first ∷ xs) ys done =
     let cut = each_cut f first xs ys done in
     ap length cut.4 ∙ ap suc (each_length f xs cut.1 cut.3)
+
+-- of a list of one
+pub each_one : {A B : Type 0} (f : A → Result B Refusal) (x : A) (y : B) → f x ≡ Ok y → each f (x ∷ []) ≡ Ok (y ∷ [])
+each_one f x y is = each_step f x [] y [] is (each_none f)
+
+pub each_one_declined : {A B : Type 0} (f : A → Result B Refusal) (x : A) (declined : Declined) → DeclinedFor declined (f x) → DeclinedFor declined (each f (x ∷ []))
+each_one_declined f x Memory why = tt
+each_one_declined f x (Refused refusal) why = refused_here f x [] refusal why
+
+-- of what is made of each first
+pub each_map : {A B C : Type 0} (f : B → Result C Refusal) (g : A → B) (xs : List A) → each f (map g xs) ≡ each (λ x. f (g x)) xs
+unfolding each
+each_map f g [] = refl
+each_map f g (x ∷ xs) = ap (λ r. f (g x) >>= λ y. r >>= λ ys. Ok (y ∷ ys)) (each_map f g xs)
+
+-- of one list behind another
+ok_again : {X : Type 0} (r : Result X Refusal) → r ≡ (r >>= λ x. Ok x)
+ok_again (Ok x) = refl
+ok_again (Err e) = refl
+
+joined : {B : Type 0} (first : Result B Refusal) (xs ys : Result (List B) Refusal)
+    → (first >>= λ y. (xs >>= λ made. ys >>= λ more. Ok (made ++ more)) >>= λ r. Ok (y ∷ r)) ≡ ((first >>= λ y. xs >>= λ r. Ok (y ∷ r)) >>= λ made. ys >>= λ more. Ok (made ++ more))
+joined (Err e) xs ys = refl
+joined (Ok y) (Err e) ys = refl
+joined (Ok y) (Ok made) (Err e) = refl
+joined (Ok y) (Ok made) (Ok more) = refl
+
+pub each_append : {A B : Type 0} (f : A → Result B Refusal) (xs ys : List A) → each f (xs ++ ys) ≡ (each f xs >>= λ made. each f ys >>= λ more. Ok (made ++ more))
+unfolding each
+each_append f [] ys = ok_again (each f ys)
+each_append f (x ∷ xs) ys = ap (λ r. f x >>= λ y. r >>= λ more. Ok (y ∷ more)) (each_append f xs ys) ∙ joined (f x) (each f xs) (each f ys)
+
+-- one by one, as far as a loop has come
+pub each_taken : {A B : Type 0} (f : A → Result B Refusal) (xs : List A) (i : ℕ) (ys more : List B) (x d : A) (y : B) → i < length xs → each f (take i xs) ≡ Ok ys → x ≡ get_or xs i d → f x ≡ Ok y → more ≡ ys ++ y ∷ []
+    → each f (take (i + 1) xs) ≡ Ok more
+each_taken f xs i ys more x d y inside before is_item made is =
+    ap (each f) (take_more xs i d inside)
+    ∙ each_more f (take i xs) ys (get_or xs i d) y before (ap f (sym is_item) ∙ made)
+    ∙ ap Ok (sym is)
+
+pub taken_declined : {A B : Type 0} (f : A → Result B Refusal) (xs : List A) (i : ℕ) (ys : List B) (x d : A) (declined : Declined) → i < length xs → each f (take i xs) ≡ Ok ys → x ≡ get_or xs i d → DeclinedFor declined (f x)
+    → DeclinedFor declined (each f xs)
+taken_declined f xs i ys x d Memory inside before is_item why = tt
+taken_declined f xs i ys x d (Refused refusal) inside before is_item why =
+    ap (each f) (sym (take-append-drop i xs) ∙ ap (λ l. take i xs ++ l) (drop_more xs i d inside))
+    ∙ each_refused f (take i xs) ys (get_or xs i d) (drop (i + 1) xs) refusal before (ap f (sym is_item) ∙ why)

@@ -1,10 +1,10 @@
-mod Each
+pub mod Each
 mod Given
 mod Heads
 mod Inspecting
-mod Known
-mod Lines
+pub mod Known
+pub mod Lines
 mod Once
-mod Parts
+pub mod Parts
 mod Registers
-mod Unsaying
+pub mod Unsaying

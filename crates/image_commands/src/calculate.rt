@@ -21,6 +21,7 @@ ghost use Rattle.image_commands.specs.Saying.{CountsUnsaid, Says};
 
 use crate::choices::{banks_of, paths_of};
 use crate::files::readable;
+use crate::lists::push;
 use crate::saying::{Unsaid, said};
 use boot_base::{BootPath, Text};
 use boot_machine::Machine;
@@ -36,13 +37,6 @@ use uki_parts::Piece;
 
 /// How many parts are measured.
 const PART_COUNT: usize = 9;
-
-fn push<T: Drop>(items: &mut Vec<T>, item: T) -> Result<(), AllocError>
-    ensures { OnOk result (items.new.items ≡ items.old.items ++ item ∷ []) }
-{
-    items.push(item)?;
-    Ok(())
-}
 
 fn text_of(word: &Option<Text>) -> Option<&str>
     ensures { option_copied result ≡ word.now }

@@ -36,7 +36,7 @@ fn optional(alloc: Global, value: Option<&str>) -> Result<Option<Text>, AllocErr
 }
 
 /// The text itself, or after a leading `@` the path of its file.
-fn given(alloc: Global, value: &str) -> Result<Given, AllocError>
+pub fn given(alloc: Global, value: &str) -> Result<Given, AllocError>
     ensures { IfOk result (λ made. made ≡ given_text value.now) }
 {
     match value.strip_prefix('@') {

@@ -14,6 +14,7 @@ mod scan;
 
 pub use command::{BlessWord, BuildWords, CalculateWords, Command, Given};
 pub use fault::{LineFault, UsageReason, WordsFault};
+pub use fill::given;
 pub use line::split_line;
 
 #[cfg(test)]

@@ -1,5 +1,5 @@
 use Rattle.std.proofs.Common.{arith, ◌∙◌}
-use Rattle.image_commands.proofs.Known.{known}
+use Rattle.image_commands.proofs.Known.{known, shown_contents}
 use Rattle.image_commands.proofs.files.readable.Goals as goal
 
 pub returns-in-Some-2-clause-file : goal.returns-in-Some-2-clause-file
@@ -18,3 +18,6 @@ pub returns-in-Some-2-clause-size : goal.returns-in-Some-2-clause-size
 returns-in-Some-2-clause-size g c told =
     let found = c.in_ok-seen_size.ensures.size told ∙ c.in-Some.is in
     (known (g.M.Machine.state c.args.machine.now) c.args.path.now c.in-Some.size c.know.ensures found (omega (arith, c.if-size-gt-FILE_LIMIT.false))).long c.in-Some.size found
+
+pub returns-in-Some-2-clause-held : goal.returns-in-Some-2-clause-held
+returns-in-Some-2-clause-held g c told = shown_contents (g.M.Machine.state c.args.machine.now) c.args.path.now c.know.ensures

@@ -1,0 +1,270 @@
+-- What the plan of an image comes to on a view.
+use Rattle.std.proofs.Common.{◌≡◌, ℕ, ◌<◌, Bool, true, false, cond, not, List, [], ◌∷◌, ◌++◌, filter, length, map, Option, None, Some, Result, Ok, Err, refl, sym, ap, subst, ◌∙◌, arith}
+use Rattle.std.specs.Prelude.{◌==◌, All, codes}
+use Rattle.std.specs.Option.{option_map}
+use Rattle.std.proofs.lemmas.Bool.Decides.{nat_tests}
+use Rattle.std.proofs.lemmas.List.{append_assoc, append-nil, map-append}
+use Rattle.std.proofs.lemmas.List.Elements.{All-cons, All-filter, All-head, All-nil, All-push, All-tail}
+use Rattle.std.proofs.lemmas.List.Sums.{sum_by-cons}
+use Rattle.boot_base.specs.Paths.{Path}
+use Rattle.boot_base.specs.declared.refusal.Refusal.{Refusal}
+use Rattle.boot_machine.specs.Disk.{Files}
+use Rattle.boot_machine.specs.Rows.{contents}
+use Rattle.pcr_prediction.proofs.Taking.{length-bytes_of}
+use Rattle.pe_reader.specs.Grammar.{Headers, pe_of}
+use Rattle.uki_parts.specs.declared.name.SectionName.{SectionName}
+use Rattle.uki_parts.specs.declared.part.Part.{Part}
+use Rattle.uki_parts.specs.Names.{named}
+use Rattle.uki_parts.specs.declared.piece.Piece.{Piece}
+use Rattle.uki_parts.specs.declared.piece.Piece.TheVariants as pieces
+use Rattle.uki_parts.specs.Pieces.{Reading, HasSizes, bytes_of, piece_bytes, piece_length, total_length}
+use Rattle.pe_builder.specs.declared.fault.PlanFault.{PlanFault}
+use Rattle.pe_builder.specs.declared.fault.PlanFault.TheVariants as faults
+use Rattle.pe_builder.specs.declared.size.WideSize.{WideSize}
+use Rattle.pe_builder.specs.Image.{finished}
+use Rattle.pe_builder.specs.Planned.{Plans, given}
+use Rattle.pe_builder.specs.Refusals.{first_refusal}
+use Rattle.pe_builder.specs.Replaced.{sbat_name}
+use Rattle.pe_builder.specs.Sizes.{part_flags}
+use Rattle.image_writer.specs.Sourced.{IsPieced, IsSourced, new_sbat, part_list, parts_bytes, planned_image, stub_path}
+use Rattle.image_writer.specs.declared.sources.Sources.{Sources}
+use Rattle.pe_builder.specs.declared.plan.Plan.{Plan}
+use Rattle.image_writer.proofs.PlannedImages.{planned_image-is}
+use Rattle.image_build.specs.declared.build_plan.ImagePlan.{ImagePlan}
+use Rattle.image_build.specs.Building.{Built, builder_refusal, has_bytes, has_sbat, image_of_parts, image_or, size_of_part}
+use Rattle.image_build.specs.Imaged.{AreParts, AreRead, Images, IsPlanOf, IsSbatPart, PlansParts, any_size, image_meant, is_filled, read_part}
+
+-- the bytes of a part are as many as it says
+read_length : (files : Reading) (part : Part) → IsPieced files part → length (bytes_of files part.pieces.items) ≡ part.length
+read_length files part is = length-bytes_of files part.pieces.items is.sizes ∙ is.total
+
+-- so the sizes of the parts are those of their bytes
+sizes_read : (files : Reading) (parts : List Part) → All (IsPieced files) parts → map size_of_part (map (read_part files) parts) ≡ map any_size parts
+sizes_read files [] pieced = refl
+sizes_read files (part ∷ parts) pieced =
+    let here = read_length files part (All-head (IsPieced files) part parts pieced) in
+    ap (λ (n : ℕ). (let size : WideSize = record { name = part.name; length = n; flags = part_flags part.name } in size) ∷ map size_of_part (map (read_part files) parts)) here
+    ∙ ap (λ (l : List WideSize). any_size part ∷ l) (sizes_read files parts (All-tail (IsPieced files) part parts pieced))
+
+contents_read : (files : Reading) (parts : List Part) → map (λ (p : SectionName × List ℕ). p.1) (map (read_part files) parts) ≡ parts_bytes files parts
+contents_read files [] = refl
+contents_read files (part ∷ parts) = ap (λ (l : List (List ℕ)). bytes_of files part.pieces.items ∷ l) (contents_read files parts)
+
+lengths_read : (files : Reading) (parts : List Part) → All (IsPieced files) parts → map length (parts_bytes files parts) ≡ map (λ p. p.length) (map any_size parts)
+lengths_read files [] pieced = refl
+lengths_read files (part ∷ parts) pieced =
+    let here = read_length files part (All-head (IsPieced files) part parts pieced) in
+    ap (λ (n : ℕ). n ∷ map length (parts_bytes files parts)) here
+    ∙ ap (λ (l : List ℕ). part.length ∷ l) (lengths_read files parts (All-tail (IsPieced files) part parts pieced))
+
+-- the parts with bytes are those of some length
+pub filled_read : (files : Reading) (parts : List Part) → All (IsPieced files) parts → filter has_bytes (map (read_part files) parts) ≡ map (read_part files) (filter is_filled parts)
+filled_read files [] pieced = refl
+filled_read files (part ∷ parts) pieced =
+    let here = read_length files part (All-head (IsPieced files) part parts pieced) in
+    let rest = filled_read files parts (All-tail (IsPieced files) part parts pieced) in
+    let first = read_part files part in
+    ap (λ (n : ℕ). cond (not (n == 0)) (first ∷ filter has_bytes (map (read_part files) parts)) (filter has_bytes (map (read_part files) parts))) here
+    ∙ ap (λ (l : List (SectionName × List ℕ)). cond (not (part.length == 0)) (first ∷ l) l) rest
+    ∙ elim (part.length == 0) as (λ b. cond (not b) (first ∷ map (read_part files) (filter is_filled parts)) (map (read_part files) (filter is_filled parts)) ≡ map (read_part files) (cond (not b) (part ∷ filter is_filled parts) (filter is_filled parts))) [
+      | true ↦ refl
+      | false ↦ refl
+    ]
+
+sourced_for : (plan : Plan) (sources : Sources) (view : Files) (h : Headers) (in_place : Option ℕ) → pe_of (contents view (stub_path sources)) ≡ Ok h
+    → All (IsPieced (contents view)) (part_list sources) → option_map length (given in_place (new_sbat sources)) ≡ in_place
+    → Plans plan h (length (contents view (stub_path sources))) (map any_size (part_list sources)) in_place → IsSourced plan sources view
+sourced_for plan sources view h in_place reads pieced len plans = record {
+  plan_is = record {
+    headers = h;
+    sizes = map any_size (part_list sources);
+    in_place = in_place;
+    reads = reads;
+    plans = plans;
+    lengths = lengths_read (contents view) (part_list sources) pieced;
+    sbat_length = len;
+  };
+  pieced = pieced;
+}
+
+abbrev built : Path → List ℕ → Result Built Refusal
+built output image = Ok (record { output = output; image = image })
+
+-- of parts that are read, the first refusal goes by the sizes that they say
+refusal_read : (output : Path) (h : Headers) (files : Reading) (stub : List ℕ) (parts : List Part) (in_place : Option ℕ) (sbat : List ℕ) (refused : Option PlanFault)
+    → All (IsPieced files) parts → option_map length (given in_place sbat) ≡ in_place → first_refusal h (length stub) (map any_size parts) in_place ≡ refused
+    → image_of_parts output h stub (map (read_part files) parts) (given in_place sbat) ≡ image_or output h stub (map (read_part files) parts) (given in_place sbat) refused
+refusal_read output h files stub parts in_place sbat refused pieced len is =
+    let read = map (read_part files) parts in
+    ap (λ (l : List WideSize). image_or output h stub read (given in_place sbat) (first_refusal h (length stub) l (option_map length (given in_place sbat)))) (sizes_read files parts pieced)
+    ∙ ap (λ (o : Option ℕ). image_or output h stub read (given in_place sbat) (first_refusal h (length stub) (map any_size parts) o)) len
+    ∙ ap (λ (o : Option PlanFault). image_or output h stub read (given in_place sbat) o) is
+
+image_for : (output : Path) (plan : Plan) (sources : Sources) (view : Files) (h : Headers) (in_place : Option ℕ) → pe_of (contents view (stub_path sources)) ≡ Ok h
+    → All (IsPieced (contents view)) (part_list sources) → option_map length (given in_place (new_sbat sources)) ≡ in_place
+    → Plans plan h (length (contents view (stub_path sources))) (map any_size (part_list sources)) in_place
+    → image_of_parts output h (contents view (stub_path sources)) (map (read_part (contents view)) (part_list sources)) (given in_place (new_sbat sources)) ≡ built output (planned_image plan sources view)
+image_for output plan sources view h in_place reads pieced len plans =
+    let files = contents view in
+    let stub = files (stub_path sources) in
+    let parts = part_list sources in
+    let sbat = given in_place (new_sbat sources) in
+    refusal_read output h files stub parts in_place (new_sbat sources) None pieced len plans.buildable.not_refused
+    ∙ ap (λ (l : List WideSize). built output (finished h l (map (λ p. p.1) (map (read_part files) parts)) sbat stub)) (sizes_read files parts pieced)
+    ∙ ap (λ (l : List (List ℕ)). built output (finished h (map any_size parts) l sbat stub)) (contents_read files parts)
+    ∙ ap (λ (l : List ℕ). built output l) (sym (planned_image-is plan sources view h (map any_size parts) in_place reads plans len))
+
+-- the image of parts and a `.sbat` in place, where it is said
+abbrev pub parts_meant : Files → Headers → Path → List Part → Option ℕ → List ℕ → Path → Result Built Refusal
+parts_meant view h stub parts in_place sbat output =
+    image_of_parts output h (contents view stub) (map (read_part (contents view)) parts) (given in_place sbat)
+
+-- these files and parts are read
+pub record Read (view : Files) (h : Headers) (n : ℕ) (stub : Path) (parts : List Part) (in_place : Option ℕ) (sbat : List ℕ) : Type 0 where
+  pub length_is : length (contents view stub) ≡ n
+  pub reads : pe_of (contents view stub) ≡ Ok h
+  pub pieced : All (IsPieced (contents view)) parts
+  pub sbat_length : option_map length (given in_place sbat) ≡ in_place
+
+images_plan : (view : Files) (h : Headers) (n : ℕ) (in_place : Option ℕ) (image : ImagePlan) → Read view h n (stub_path image.sources) (part_list image.sources) in_place (new_sbat image.sources)
+    → Plans image.plan h n (map any_size (part_list image.sources)) in_place
+    → Images view (parts_meant view h (stub_path image.sources) (part_list image.sources) in_place (new_sbat image.sources)) (Ok image)
+images_plan view h n in_place image read plans =
+    let sources = image.sources in
+    let here = subst (λ (k : ℕ). Plans image.plan h k (map any_size (part_list sources)) in_place) (sym read.length_is) plans in (
+      sourced_for image.plan sources view h in_place read.reads read.pieced read.sbat_length here,
+      λ output. image_for output image.plan sources view h in_place read.reads read.pieced read.sbat_length here,
+    )
+
+images_made : (view : Files) (h : Headers) (n : ℕ) (stub : Path) (parts : List Part) (in_place : Option ℕ) (sbat : List ℕ) (image : ImagePlan) → Read view h n stub parts in_place sbat
+    → IsPlanOf image h n stub parts in_place sbat → Images view (parts_meant view h stub parts in_place sbat) (Ok image)
+images_made view h n stub parts in_place sbat image read is =
+    let F : Path → List Part → List ℕ → Type 0 = λ p l s. Read view h n p l in_place s → Plans image.plan h n (map any_size l) in_place → Images view (parts_meant view h p l in_place s) (Ok image) in
+    let all : F stub parts sbat =
+    subst (λ (p : Path). F p parts sbat) is.stub_is
+    (subst (λ (l : List Part). F (stub_path image.sources) l sbat) is.parts_are
+    (subst (λ (s : List ℕ). F (stub_path image.sources) (part_list image.sources) s) is.sbat_is (images_plan view h n in_place image))) in
+    all read is.plans
+
+images_refused : (view : Files) (h : Headers) (n : ℕ) (stub : Path) (parts : List Part) (in_place : Option ℕ) (sbat : List ℕ) (fault : PlanFault) → Read view h n stub parts in_place sbat
+    → first_refusal h n (map any_size parts) in_place ≡ Some fault → (output : Path) → parts_meant view h stub parts in_place sbat output ≡ Err (builder_refusal output fault)
+images_refused view h n stub parts in_place sbat fault read is output =
+    let here = subst (λ (k : ℕ). first_refusal h k (map any_size parts) in_place ≡ Some fault) (sym read.length_is) is in
+    refusal_read output h (contents view) (contents view stub) parts in_place sbat (Some fault) read.pieced read.sbat_length here
+
+-- What a plan of parts comes to where they are read.
+pub images_parts : (view : Files) (h : Headers) (n : ℕ) (stub : Path) (parts : List Part) (in_place : Option ℕ) (sbat : List ℕ) (result : Result ImagePlan PlanFault)
+    → Read view h n stub parts in_place sbat → PlansParts h n stub parts in_place sbat result → Images view (parts_meant view h stub parts in_place sbat) result
+images_parts view h n stub parts in_place sbat (Ok image) read is = images_made view h n stub parts in_place sbat image read is
+images_parts view h n stub parts in_place sbat (Err faults.Memory) read is = tt
+images_parts view h n stub parts in_place sbat (Err fault) read is = images_refused view h n stub parts in_place sbat fault read is
+
+pub images_as : (view : Files) (meant other : Path → Result Built Refusal) (result : Result ImagePlan PlanFault) → ((output : Path) → other output ≡ meant output) → Images view meant result → Images view other result
+images_as view meant other (Ok image) same is = (is.0, λ output. same output ∙ is.1 output)
+images_as view meant other (Err faults.Memory) same is = tt
+images_as view meant other (Err fault) same is = λ output. same output ∙ is output
+
+-- whether a text is empty
+pub is_none : (empty : Bool) (n : ℕ) → empty ≡ (n == 0) → empty ≡ true → n ≡ 0
+is_none empty n is holds = grind (arith, nat_tests)
+
+pub is_some : (empty : Bool) (n : ℕ) → empty ≡ (n == 0) → empty ≡ false → 0 < n
+is_some empty n is fails = grind (arith, nat_tests)
+
+-- the parts, the kernel behind them
+listed_read : (files : Reading) (parts : List Part) (linux : Part) → linux.name ≡ named (codes ".linux") → All (IsPieced files) (parts ++ linux ∷ [])
+    → filter has_bytes (map (read_part files) parts ++ (named (codes ".linux"), bytes_of files linux.pieces.items) ∷ []) ≡ map (read_part files) (filter is_filled (parts ++ linux ∷ []))
+listed_read files parts linux name pieced =
+    ap (λ (n : SectionName). filter has_bytes (map (read_part files) parts ++ (n, bytes_of files linux.pieces.items) ∷ [])) (sym name)
+    ∙ ap (filter has_bytes) (sym (map-append (read_part files) parts (linux ∷ [])))
+    ∙ filled_read files (parts ++ linux ∷ []) pieced
+
+all_pieced : (view : Files) (h : Headers) (n : ℕ) (stub : Path) (parts : List Part) (linux : Part) → AreRead view h n stub parts linux → All (IsPieced (contents view)) (parts ++ linux ∷ [])
+all_pieced view h n stub parts linux read = All-push (IsPieced (contents view)) parts linux read.pieced read.linux_pieced
+
+filled_are_read : (view : Files) (h : Headers) (n : ℕ) (stub : Path) (parts all list : List Part) (linux : Part) (in_place : Option ℕ) (sbat : List ℕ) → AreRead view h n stub parts linux
+    → All (IsPieced (contents view)) all → list ≡ filter is_filled all → option_map length (given in_place sbat) ≡ in_place → Read view h n stub list in_place sbat
+filled_are_read view h n stub parts all list linux in_place sbat read pieced is len = record {
+  length_is = read.length_is;
+  reads = read.reads;
+  pieced = subst (All (IsPieced (contents view))) (sym is) (All-filter is_filled (IsPieced (contents view)) all pieced);
+  sbat_length = len;
+}
+
+meant_without : (view : Files) (h : Headers) (stub : Path) (parts : List Part) (linux : Part) (sbat : List ℕ) (output : Path) → length sbat ≡ 0
+    → image_meant view h stub parts linux sbat output
+    ≡ image_of_parts output h (contents view stub) (filter has_bytes (map (read_part (contents view)) parts ++ (named (codes ".linux"), bytes_of (contents view) linux.pieces.items) ∷ [])) None
+meant_without view h stub parts linux [] output none = refl
+meant_without view h stub parts linux (byte ∷ text) output none = absurd (omega arith)
+
+-- without an SBAT text
+pub images_without : (view : Files) (h : Headers) (n : ℕ) (stub : Path) (parts list : List Part) (linux : Part) (sbat : List ℕ) (result : Result ImagePlan PlanFault) → AreParts parts linux
+    → list ≡ filter is_filled (parts ++ linux ∷ []) → length sbat ≡ 0 → PlansParts h n stub list None sbat result → AreRead view h n stub parts linux
+    → Images view (image_meant view h stub parts linux sbat) result
+images_without view h n stub parts list linux sbat result are is none planned read =
+    let pieced = all_pieced view h n stub parts linux read in
+    images_as view (parts_meant view h stub list None sbat) (image_meant view h stub parts linux sbat) result
+    (λ output.
+    meant_without view h stub parts linux sbat output none
+    ∙ ap (λ (l : List (SectionName × List ℕ)). image_of_parts output h (contents view stub) l None) (listed_read (contents view) parts linux are.name pieced ∙ ap (map (read_part (contents view))) (sym is)))
+    (images_parts view h n stub list None sbat result (filled_are_read view h n stub parts (parts ++ linux ∷ []) list linux None sbat read pieced is refl) planned)
+
+meant_in_place : (view : Files) (h : Headers) (stub : Path) (parts : List Part) (linux : Part) (sbat : List ℕ) (output : Path) → 0 < length sbat → has_sbat h ≡ true
+    → image_meant view h stub parts linux sbat output
+    ≡ image_of_parts output h (contents view stub) (filter has_bytes (map (read_part (contents view)) parts ++ (named (codes ".linux"), bytes_of (contents view) linux.pieces.items) ∷ [])) (Some sbat)
+meant_in_place view h stub parts linux [] output some has = absurd (omega arith)
+meant_in_place view h stub parts linux (byte ∷ text) output some has = rw has refl
+
+-- with one in the place of the stub's
+pub images_in_place : (view : Files) (h : Headers) (n : ℕ) (stub : Path) (parts list : List Part) (linux : Part) (sbat : List ℕ) (count : ℕ) (result : Result ImagePlan PlanFault) → AreParts parts linux
+    → list ≡ filter is_filled (parts ++ linux ∷ []) → 0 < length sbat → has_sbat h ≡ true → length sbat ≡ count → PlansParts h n stub list (Some count) sbat result → AreRead view h n stub parts linux
+    → Images view (image_meant view h stub parts linux sbat) result
+images_in_place view h n stub parts list linux sbat count result are is some has len planned read =
+    let pieced = all_pieced view h n stub parts linux read in
+    images_as view (parts_meant view h stub list (Some count) sbat) (image_meant view h stub parts linux sbat) result
+    (λ output.
+    meant_in_place view h stub parts linux sbat output some has
+    ∙ ap (λ (l : List (SectionName × List ℕ)). image_of_parts output h (contents view stub) l (Some sbat)) (listed_read (contents view) parts linux are.name pieced ∙ ap (map (read_part (contents view))) (sym is)))
+    (images_parts view h n stub list (Some count) sbat result (filled_are_read view h n stub parts (parts ++ linux ∷ []) list linux (Some count) sbat read pieced is (ap (λ (k : ℕ). let o : Option ℕ = Some k in o) len)) planned)
+
+text_pieced : (files : Reading) (part : Part) (text : List ℕ) → IsSbatPart part text → IsPieced files part
+text_pieced files part text is = record {
+  sizes = subst (HasSizes files) (sym is.pieces_are) (All-cons (λ piece. length (piece_bytes files piece) ≡ piece_length piece) (pieces.Bytes text) [] refl (All-nil (λ piece. length (piece_bytes files piece) ≡ piece_length piece)));
+  total = ap total_length is.pieces_are ∙ sum_by-cons piece_length (pieces.Bytes text) [] ∙ omega (arith, is.length_is);
+}
+
+text_read : (files : Reading) (part : Part) (text : List ℕ) → IsSbatPart part text → read_part files part ≡ (named sbat_name, text)
+text_read files part text is =
+    ap (λ (n : SectionName). (n, bytes_of files part.pieces.items)) is.name
+    ∙ ap (λ (l : List Piece). (named sbat_name, bytes_of files l)) is.pieces_are
+    ∙ ap (λ (l : List ℕ). (named sbat_name, l)) (append-nil text)
+
+meant_as_part : (view : Files) (h : Headers) (stub : Path) (parts : List Part) (linux : Part) (sbat : List ℕ) (output : Path) → 0 < length sbat → has_sbat h ≡ false
+    → image_meant view h stub parts linux sbat output
+    ≡ image_of_parts output h (contents view stub) (filter has_bytes (map (read_part (contents view)) parts ++ (named sbat_name, sbat) ∷ (named (codes ".linux"), bytes_of (contents view) linux.pieces.items) ∷ [])) None
+meant_as_part view h stub parts linux [] output some has = absurd (omega arith)
+meant_as_part view h stub parts linux (byte ∷ text) output some has = rw has refl
+
+text_listed : (files : Reading) (parts : List Part) (linux part : Part) (text : List ℕ) → IsSbatPart part text
+    → map (read_part files) parts ++ (named sbat_name, text) ∷ (named (codes ".linux"), bytes_of files linux.pieces.items) ∷ []
+    ≡ map (read_part files) (parts ++ part ∷ []) ++ (named (codes ".linux"), bytes_of files linux.pieces.items) ∷ []
+text_listed files parts linux part text is =
+    let kernel : SectionName × List ℕ = (named (codes ".linux"), bytes_of files linux.pieces.items) in
+    ap (λ (p : SectionName × List ℕ). map (read_part files) parts ++ p ∷ kernel ∷ []) (sym (text_read files part text is))
+    ∙ sym (append_assoc (map (read_part files) parts) (read_part files part ∷ []) (kernel ∷ []))
+    ∙ ap (λ (l : List (SectionName × List ℕ)). l ++ kernel ∷ []) (sym (map-append (read_part files) parts (part ∷ [])))
+
+-- with one as a part
+pub images_as_part : (view : Files) (h : Headers) (n : ℕ) (stub : Path) (parts list : List Part) (linux part : Part) (sbat none : List ℕ) (result : Result ImagePlan PlanFault) → AreParts parts linux → IsSbatPart part sbat
+    → list ≡ filter is_filled ((parts ++ part ∷ []) ++ linux ∷ []) → 0 < length sbat → has_sbat h ≡ false → PlansParts h n stub list None none result → AreRead view h n stub parts linux
+    → Images view (image_meant view h stub parts linux sbat) result
+images_as_part view h n stub parts list linux part sbat none result are holds is some has planned read =
+    let files = contents view in
+    let more = parts ++ part ∷ [] in
+    let pieced = All-push (IsPieced files) more linux (All-push (IsPieced files) parts part read.pieced (text_pieced files part sbat holds)) read.linux_pieced in
+    images_as view (parts_meant view h stub list None none) (image_meant view h stub parts linux sbat) result
+    (λ output.
+    meant_as_part view h stub parts linux sbat output some has
+    ∙ ap (λ (l : List (SectionName × List ℕ)). image_of_parts output h (files stub) (filter has_bytes l) None) (text_listed files parts linux part sbat holds)
+    ∙ ap (λ (l : List (SectionName × List ℕ)). image_of_parts output h (files stub) l None) (listed_read files more linux are.name pieced ∙ ap (map (read_part files)) (sym is)))
+    (images_parts view h n stub list None none result (filled_are_read view h n stub parts (more ++ linux ∷ []) list linux None none read pieced is refl) planned)

@@ -1,0 +1,112 @@
+-- Parts that are added in their order.
+use Rattle.std.proofs.Common.{◌≡◌, ℕ, ◌<◌, ◌≤◌, ◌^◌, Bool, true, false, cond, not, List, [], ◌∷◌, ◌++◌, filter, length, get_or, refl, sym, ap, subst, ◌∙◌, arith, append-nil, length-append}
+use Rattle.std.specs.Prelude.{◌==◌, All, sum_by}
+use Rattle.std.specs.List.Sorted.{IsNonDecreasingBy}
+use Rattle.std.proofs.Math.Seq.{get_or-append_seam}
+use Rattle.std.proofs.lemmas.Bool.Decides.{nat_tests}
+use Rattle.std.proofs.lemmas.Grind.{common_steps}
+use Rattle.std.proofs.lemmas.List.{get_or_append_left}
+use Rattle.std.proofs.lemmas.List.Elements.{All-filter, All-head, All-push, All-tail, All-weaker, filter-append}
+use Rattle.std.proofs.lemmas.List.Filters.{length-filter_both, sum_by-filter_both}
+use Rattle.std.proofs.lemmas.List.Sums.{sum_by-append, sum_by-cons}
+use Rattle.uki_parts.specs.Kinds.{append_place}
+use Rattle.uki_parts.specs.declared.part.Part.{Part}
+use Rattle.uki_parts.specs.Parts.{part_place, is_up_to, is_after, with_part}
+use Rattle.image_build.specs.Imaged.{AreParts, IsSbatPart, is_filled}
+
+-- these parts stand before that one
+abbrev pub AreBefore : Part → List Part → Type 0
+AreBefore part parts = All (λ other. part_place other ≤ part_place part) parts
+
+all_up_to : (part : Part) (parts : List Part) → AreBefore part parts → filter (is_up_to part.kind) parts ≡ parts
+all_up_to part [] before = refl
+all_up_to part (first ∷ parts) before =
+    let here : part_place first ≤ part_place part = All-head (λ other. part_place other ≤ part_place part) first parts before in
+    let rest = All-tail (λ other. part_place other ≤ part_place part) first parts before in
+    grind (arith, common_steps, nat_tests, all_up_to part parts rest)
+
+none_after : (part : Part) (parts : List Part) → AreBefore part parts → filter (is_after part.kind) parts ≡ []
+none_after part [] before = refl
+none_after part (first ∷ parts) before =
+    let here : part_place first ≤ part_place part = All-head (λ other. part_place other ≤ part_place part) first parts before in
+    let rest = All-tail (λ other. part_place other ≤ part_place part) first parts before in
+    grind (arith, common_steps, nat_tests, none_after part parts rest)
+
+-- a part that is added to those before it stands behind them
+pub with_part-last : (part : Part) (parts : List Part) → AreBefore part parts → with_part part (filter is_filled parts) ≡ filter is_filled (parts ++ part ∷ [])
+with_part-last part parts before =
+    let kept = filter is_filled parts in
+    let all = All-filter is_filled (λ other. part_place other ≤ part_place part) parts before in
+    elim (part.length == 0) as (λ b. cond b kept (filter (is_up_to part.kind) kept ++ part ∷ filter (is_after part.kind) kept) ≡ kept ++ cond (not b) (part ∷ []) []) [
+      | true ↦ sym (append-nil kept)
+      | false ↦ ap (λ l. l ++ part ∷ filter (is_after part.kind) kept) (all_up_to part kept all) ∙ ap (λ l. kept ++ part ∷ l) (none_after part kept all)
+    ]
+    ∙ sym (filter-append is_filled parts (part ∷ []))
+
+-- in a list in order the parts before one stand before it
+pub earlier : (seen : List Part) (part : Part) (rest : List Part) → IsNonDecreasingBy part_place (seen ++ part ∷ rest) → AreBefore part seen
+earlier seen part rest ordered k d inside =
+    let all = seen ++ part ∷ rest in
+    let h = ordered k (length seen) d (omega (arith, inside)) (omega (arith, length-append seen (part ∷ rest))) in
+    subst (λ (p : Part). part_place p ≤ part_place part) (get_or_append_left seen (part ∷ rest) d k inside)
+    (subst (λ (p : Part). part_place (get_or all k d) ≤ part_place p) (get_or-append_seam seen part rest d) h)
+
+pub added : (seen : List Part) (part : Part) (rest all list more : List Part) → all ≡ seen ++ part ∷ rest → IsNonDecreasingBy part_place all
+    → list ≡ filter is_filled seen → more ≡ with_part part list → more ≡ filter is_filled (seen ++ part ∷ [])
+added seen part rest all list more left ordered before is =
+    is ∙ ap (with_part part) before ∙ with_part-last part seen (earlier seen part rest (subst (IsNonDecreasingBy part_place) left ordered))
+
+-- the kernel stands behind the parts
+pub linux_added : (parts list more : List Part) (linux : Part) → AreParts parts linux → list ≡ filter is_filled parts → more ≡ with_part linux list
+    → more ≡ filter is_filled (parts ++ linux ∷ [])
+linux_added parts list more linux are before is =
+    let last : part_place linux ≡ 10 = ap append_place are.kind in
+    let all = All-weaker (λ part. part_place part ≤ 8) (λ part. part_place part ≤ part_place linux) (λ part early. omega arith) parts are.early in
+    is ∙ ap (with_part linux) before ∙ with_part-last linux parts all
+
+-- and an SBAT text between them
+pub text_added : (parts list more most : List Part) (linux part : Part) (text : List ℕ) → AreParts parts linux → IsSbatPart part text → list ≡ filter is_filled parts
+    → more ≡ with_part part list → most ≡ with_part linux more → most ≡ filter is_filled ((parts ++ part ∷ []) ++ linux ∷ [])
+text_added parts list more most linux part text are holds before one two =
+    let last : part_place linux ≡ 10 = ap append_place are.kind in
+    let next : part_place part ≡ 9 = ap append_place holds.kind in
+    let first = All-weaker (λ other. part_place other ≤ 8) (λ other. part_place other ≤ part_place part) (λ other early. omega arith) parts are.early in
+    let all = All-weaker (λ other. part_place other ≤ 8) (λ other. part_place other ≤ part_place linux) (λ other early. omega arith) parts are.early in
+    let both = All-push (λ other. part_place other ≤ part_place linux) parts part all (omega arith) in
+    let seen : more ≡ filter is_filled (parts ++ part ∷ []) = one ∙ ap (with_part part) before ∙ with_part-last part parts first in
+    two ∙ ap (with_part linux) seen ∙ with_part-last linux (parts ++ part ∷ []) both
+
+-- how many parts there are, and how many bytes they have
+pub record Counted (list : List Part) : Type 0 where
+  pub few : length list ≤ 16777216
+  pub total : sum_by (λ part. part.length) list ≤ 2 ^ 62
+
+abbrev is_empty : Part → Bool
+is_empty part = part.length == 0
+
+counted : (all list : List Part) → list ≡ filter is_filled all → length all ≤ 16777216 → sum_by (λ part. part.length) all ≤ 2 ^ 62 → Counted list
+counted all list is few total =
+    let count = length-filter_both is_empty is_filled (λ part. refl) all in
+    let sum = sum_by-filter_both is_empty is_filled (λ part. refl) (λ part. part.length) all in
+    subst Counted (sym is) (record { few = omega (arith, count); total = omega (arith, sum) })
+
+pub linux_counted : (parts list more : List Part) (linux : Part) → AreParts parts linux → list ≡ filter is_filled parts → more ≡ with_part linux list → Counted more
+linux_counted parts list more linux are before is =
+    let few = are.few in
+    let total = are.total in
+    let small = are.small in
+    counted (parts ++ linux ∷ []) more (linux_added parts list more linux are before is)
+    (omega (arith, length-append parts (linux ∷ [])))
+    (omega (arith, sum_by-append (λ (part : Part). part.length) parts (linux ∷ []), sum_by-cons (λ (part : Part). part.length) linux []))
+
+pub text_counted : (parts list more most : List Part) (linux part : Part) (text : List ℕ) → AreParts parts linux → IsSbatPart part text → length text < 2 ^ 32 → list ≡ filter is_filled parts
+    → more ≡ with_part part list → most ≡ with_part linux more → Counted most
+text_counted parts list more most linux part text are holds short before one two =
+    let few = are.few in
+    let total = are.total in
+    let small = are.small in
+    let long = holds.length_is in
+    let sum = λ (part : Part). part.length in
+    counted ((parts ++ part ∷ []) ++ linux ∷ []) most (text_added parts list more most linux part text are holds before one two)
+    (omega (arith, length-append (parts ++ part ∷ []) (linux ∷ []), length-append parts (part ∷ [])))
+    (omega (arith, sum_by-append sum (parts ++ part ∷ []) (linux ∷ []), sum_by-append sum parts (part ∷ []), sum_by-cons sum linux [], sum_by-cons sum part []))

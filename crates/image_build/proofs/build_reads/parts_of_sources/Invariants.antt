@@ -1,0 +1,20 @@
+use Rattle.std.proofs.Common.{◌≡◌, ◌++◌, IsTrue, Ok, map}
+use Rattle.std.specs.List.{AllZip}
+use Rattle.std.specs.Prelude.{All}
+use Rattle.boot_machine.specs.Reading.{OnlyReads}
+use Rattle.boot_machine.specs.Rows.{contents}
+use Rattle.boot_machine.specs.Sent.{seen}
+use Rattle.image_build.specs.Building.{part_bytes, part_named}
+use Rattle.image_commands.specs.Files.{each}
+use Rattle.image_build.specs.Reads.{PartFrom, PartHasSizes, part_as}
+use Rattle.image_build.proofs.build_reads.parts_of_sources.Given as goal
+
+abbrev pub invariant-loop-source : goal.invariant-loop-source
+invariant-loop-source g l = record {
+  left : l.fn.sources.items ≡ l.yielded ++ l.source-iterator.rest.items;
+  from : AllZip PartFrom l.yielded l.parts.items;
+  found : IsTrue g.M.Machine.tells → each (part_bytes (seen (g.M.Machine.state l.initial.machine))) (map part_named l.yielded) ≡ Ok (map (part_as (contents (seen (g.M.Machine.state l.initial.machine)))) l.parts.items);
+  sizes : IsTrue g.M.Machine.tells → All (PartHasSizes (contents (seen (g.M.Machine.state l.initial.machine)))) l.parts.items;
+  reads : IsTrue g.M.Machine.tells → OnlyReads g.M.Machine.clock g.M.Machine.since g.M.Machine.state l.initial.machine l.machine;
+  counts : g.M.Machine.counts l.machine ≡ g.M.Machine.counts l.initial.machine;
+}

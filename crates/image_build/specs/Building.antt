@@ -1,0 +1,213 @@
+-- What the words of `ukify build` name, and the image of a stub and parts (ukify(1); UAPI Unified Kernel Image).
+use Rattle.std.specs.Prelude.{ℕ, ◌+◌, ◌==◌, Bool, not, List, [], ◌∷◌, ◌++◌, codes, length, map, filter, take, drop, position, nat_lt, Option, Some, None, Result, Ok, Err, if◌then◌else◌}
+use Rattle.std.specs.Option.{option_map}
+use Rattle.boot_base.specs.Paths.{Path}
+use Rattle.boot_base.specs.declared.refusal.Refusal.{Refusal}
+use Rattle.boot_base.specs.declared.refusal.Refusal.TheVariants as refusals
+use Rattle.boot_machine.specs.Disk.{Files}
+use Rattle.pe_reader.specs.Grammar.{Headers, pe_of}
+use Rattle.pe_reader.specs.Loaded.{loaded}
+use Rattle.uki_parts.specs.Cmdlines.{cleaned}
+use Rattle.uki_parts.specs.Initrds.{joined_bytes}
+use Rattle.uki_parts.specs.Names.{name_bytes, named, read_name}
+use Rattle.uki_parts.specs.Sbat.{merged_sbat}
+use Rattle.uki_parts.specs.declared.kind.PartKind.{PartKind}
+use Rattle.uki_parts.specs.declared.kind.PartKind.TheVariants as kinds
+use Rattle.uki_parts.specs.declared.name.SectionName.{SectionName}
+use Rattle.pe_builder.specs.declared.fault.PlanFault.{PlanFault}
+use Rattle.pe_builder.specs.declared.fault.PlanFault.TheVariants as faults
+use Rattle.pe_builder.specs.declared.size.WideSize.{WideSize}
+use Rattle.pe_builder.specs.Image.{finished}
+use Rattle.pe_builder.specs.Refusals.{first_refusal}
+use Rattle.pe_builder.specs.Replaced.{sbat_index, sbat_name}
+use Rattle.pe_builder.specs.Sizes.{part_flags}
+use Rattle.tool_words.specs.declared.command.BuildWords.{BuildWords}
+use Rattle.tool_words.specs.declared.command.Given.{Given}
+use Rattle.tool_words.specs.declared.command.Given.TheVariants.{Inline, File}
+use Rattle.tool_words.specs.Meaning.{given}
+use Rattle.command_plans.specs.Refusing.{◌>>=◌, path_in, printed_path}
+use Rattle.image_build.specs.declared.source.Source.{Source}
+use Rattle.image_build.specs.declared.source.PartSources.{PartSources}
+use Rattle.image_build.specs.declared.source.BuildSources.{BuildSources}
+use Rattle.image_build.specs.declared.source.Source.TheVariants as sources
+use Rattle.image_commands.specs.Calculating.{if_given}
+use Rattle.image_commands.specs.Files.{bytes_at, each, headers_or}
+
+-- A value of `--section=`: a section's name, and behind the first colon a text, or `@` and the path of a file. Without a
+-- colon, or where no section has that name, it is refused.
+abbrev pub section_name : List ℕ → Option SectionName → Result SectionName Refusal
+section_name text None = Err (refusals.BadSectionName text)
+section_name text (Some name) = Ok name
+
+abbrev pub section_cut : List ℕ → Option ℕ → Result (SectionName × Given) Refusal
+section_cut value None = Err (refusals.BadSectionName value)
+section_cut value (Some colon) = section_name (take colon value) (read_name (take colon value)) >>= λ name. Ok (name, given (drop (colon + 1) value))
+
+abbrev pub section_of : List ℕ → Result (SectionName × Given) Refusal
+section_of value = section_cut value (position (λ byte. byte == 58) value)
+
+-- a part that is wanted: its name, and where its bytes come from, one behind the other
+pub record Wanted : Type 0 where
+  pub kind : PartKind
+  pub name : SectionName
+  pub sources : List Given
+
+abbrev pub wanted : PartKind → List ℕ → List Given → List Wanted
+wanted kind name [] = []
+wanted kind name (source ∷ more) = record { kind = kind; name = named name; sources = source ∷ more } ∷ []
+
+abbrev pub given_once : Option Given → List Given
+given_once None = []
+given_once (Some source) = source ∷ []
+
+-- whitespace of a command line that is said is cleaned, a file is taken as it is
+abbrev pub clean : Given → Given
+clean (Inline text) = Inline (cleaned text)
+clean (File word) = File word
+
+-- a section of the user's own
+abbrev pub extra : SectionName × Given → Wanted
+extra section = record { kind = kinds.Extra; name = section.0; sources = section.1 ∷ [] }
+
+-- the parts but for the SBAT text and the kernel, in append order
+abbrev pub wanted_parts : BuildWords → List (SectionName × Given) → List Wanted
+wanted_parts words sections =
+    wanted kinds.Osrel (codes ".osrel") (given_once words.osrel)
+    ++ wanted kinds.Cmdline (codes ".cmdline") (given_once (option_map clean words.cmdline))
+    ++ wanted kinds.Dtb (codes ".dtb") (given_once (option_map File words.dtb))
+    ++ wanted kinds.Uname (codes ".uname") (given_once (option_map Inline words.uname))
+    ++ wanted kinds.Splash (codes ".splash") (given_once (option_map File words.splash))
+    ++ wanted kinds.Pcrpkey (codes ".pcrpkey") (given_once (option_map File words.pcrpkey))
+    ++ wanted kinds.Initrd (codes ".initrd") (map File words.initrds)
+    ++ map extra sections
+
+-- where bytes come from: a text, or a file whose word is read as a path
+abbrev pub source_of : Given → Result Source Refusal
+source_of (Inline text) = Ok (sources.Said text)
+source_of (File word) = path_in word >>= λ path. Ok (sources.At path)
+
+abbrev pub sources_of : Wanted → Result (SectionName × List Source) Refusal
+sources_of part = each source_of part.sources >>= λ found. Ok (part.name, found)
+
+-- the parts that are there, and behind them those that are wanted
+abbrev pub with_parts : List (SectionName × List Source) → List Wanted → Result (List (SectionName × List Source)) Refusal
+with_parts made wants = each sources_of wants >>= λ more. Ok (made ++ more)
+
+-- the bytes of a source on a view
+abbrev pub source_bytes : Files → Source → Result (List ℕ) Refusal
+source_bytes view (sources.Said text) = Ok text
+source_bytes view (sources.At path) = bytes_at view path
+
+-- the bytes of a part: of several sources, which only initrds have, each is filled up to a multiple of four bytes
+abbrev pub part_bytes : Files → SectionName × List Source → Result (SectionName × List ℕ) Refusal
+part_bytes view part = each (source_bytes view) part.1 >>= λ bytes. Ok (part.0, joined_bytes bytes)
+
+-- the first refusal of a builder; an image that is too large is told by its path
+abbrev pub builder_refusal : Path → PlanFault → Refusal
+builder_refusal output faults.SignedStub = refusals.SignedStub
+builder_refusal output (faults.SectionTwice name) = refusals.SectionTwice (name_bytes name)
+builder_refusal output (faults.SbatDoesNotFit length room) = refusals.SbatDoesNotFit length room
+builder_refusal output (faults.NoHeaderSpace need have) = refusals.NoHeaderSpace need have
+builder_refusal output (faults.AddressSpace end) = refusals.AddressSpace end
+builder_refusal output (faults.ImageTooLarge size) = refusals.TooLarge (printed_path output) size
+builder_refusal output faults.Memory = refusals.NotBuilt
+
+-- what is built, and where it is to stand
+pub record Built : Type 0 where
+  pub output : Path
+  pub image : List ℕ
+
+abbrev pub has_bytes : SectionName × List ℕ → Bool
+has_bytes part = not (length part.1 == 0)
+
+abbrev pub size_of_part : SectionName × List ℕ → WideSize
+size_of_part part = record { name = part.0; length = length part.1; flags = part_flags part.0 }
+
+-- the image of these parts and of a `.sbat` that takes the place of the stub's, or the first refusal
+abbrev pub image_or : Path → Headers → List ℕ → List (SectionName × List ℕ) → Option (List ℕ) → Option PlanFault → Result Built Refusal
+image_or output headers stub parts sbat (Some fault) = Err (builder_refusal output fault)
+image_or output headers stub parts sbat None = Ok (record { output = output; image = finished headers (map size_of_part parts) (map (λ part. part.1) parts) sbat stub })
+
+abbrev pub image_of_parts : Path → Headers → List ℕ → List (SectionName × List ℕ) → Option (List ℕ) → Result Built Refusal
+image_of_parts output headers stub parts sbat =
+    image_or output headers stub parts sbat (first_refusal headers (length stub) (map size_of_part parts) (option_map length sbat))
+
+-- whether the stub has a `.sbat`, whose place a new one takes
+abbrev pub has_sbat : Headers → Bool
+has_sbat headers = nat_lt (sbat_index headers) (length headers.sections)
+
+-- the image with an SBAT text that isn't empty: in the place of the stub's, or as a part before the kernel
+abbrev pub with_sbat_text : Path → Headers → List ℕ → List (SectionName × List ℕ) → List ℕ → List ℕ → Result Built Refusal
+with_sbat_text output headers stub parts kernel [] = image_of_parts output headers stub (filter has_bytes (parts ++ (named (codes ".linux"), kernel) ∷ [])) None
+with_sbat_text output headers stub parts kernel (byte ∷ text) =
+    if has_sbat headers then image_of_parts output headers stub (filter has_bytes (parts ++ (named (codes ".linux"), kernel) ∷ [])) (Some (byte ∷ text))
+    else image_of_parts output headers stub (filter has_bytes (parts ++ (named sbat_name, byte ∷ text) ∷ (named (codes ".linux"), kernel) ∷ [])) None
+
+-- what the words of a build name: the files, the texts, and where the image is to stand
+pub record Named : Type 0 where
+  pub stub : Path
+  pub linux : Path
+  pub parts : List (SectionName × List Source)
+  pub sbat : Option Source
+  pub output : Path
+
+-- The refusals of the words in their order: names of sections, and then words that are no paths, of the stub, the
+-- kernel, the other parts in append order, and the output.
+abbrev pub named_of : BuildWords → Result Named Refusal
+named_of words =
+    each section_of words.sections >>= λ sections.
+    path_in words.stub >>= λ stub.
+    path_in words.linux >>= λ linux.
+    each sources_of (wanted_parts words sections) >>= λ parts.
+    if_given source_of words.sbat >>= λ sbat.
+    path_in words.output >>= λ output.
+    Ok (record { stub = stub; linux = linux; parts = parts; sbat = sbat; output = output })
+
+-- the bytes of all these
+pub record Contents : Type 0 where
+  pub stub : List ℕ
+  pub linux : List ℕ
+  pub parts : List (SectionName × List ℕ)
+  pub sbat : List ℕ
+
+-- the text of `--sbat`, which is empty where it isn't given
+abbrev pub given_sbat : Files → Option Source → Result (List ℕ) Refusal
+given_sbat view None = Ok []
+given_sbat view (Some source) = source_bytes view source
+
+-- the refusals of the files in the same order: each that isn't there or is too large
+abbrev pub contents_of : Files → Named → Result Contents Refusal
+contents_of view named =
+    bytes_at view named.stub >>= λ stub.
+    bytes_at view named.linux >>= λ linux.
+    each (part_bytes view) named.parts >>= λ parts.
+    given_sbat view named.sbat >>= λ sbat.
+    Ok (record { stub = stub; linux = linux; parts = parts; sbat = sbat })
+
+-- the SBAT text of an image: the entries of the stub's section, the kernel's and the given text
+abbrev pub sbat_of : Contents → List ℕ
+sbat_of contents = merged_sbat (loaded contents.stub sbat_name) (loaded contents.linux sbat_name) contents.sbat
+
+-- what an image is made of: the stub with its headers, the kernel, the other parts and the image's SBAT text
+pub record Material : Type 0 where
+  pub headers : Headers
+  pub stub : List ℕ
+  pub linux : List ℕ
+  pub parts : List (SectionName × List ℕ)
+  pub sbat : List ℕ
+
+-- a stub that is no PE32+ file is refused
+abbrev pub material : Contents → Result Material Refusal
+material contents =
+    headers_or (pe_of contents.stub) >>= λ headers.
+    Ok (record { headers = headers; stub = contents.stub; linux = contents.linux; parts = contents.parts; sbat = sbat_of contents })
+
+abbrev pub material_of : Files → Named → Result Material Refusal
+material_of view named = contents_of view named >>= material
+
+-- what was found in the words
+abbrev pub part_named : PartSources → SectionName × List Source
+part_named part = (part.name, part.sources.items)
+
+abbrev pub named_as : BuildSources → Named
+named_as found = record { stub = found.stub; linux = found.linux; parts = map part_named found.parts.items; sbat = found.sbat; output = found.output }

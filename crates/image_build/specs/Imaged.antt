@@ -1,0 +1,90 @@
+-- The plan of an image that is built of parts whose files are read.
+use Rattle.std.specs.Prelude.{◌≡◌, ℕ, ◌≤◌, ◌==◌, ◌^◌, Bool, not, List, ◌∷◌, [], codes, length, map, All, sum_by, Option, Some, Result, Ok, Err}
+use Rattle.std.specs.List.Sorted.{IsNonDecreasingBy}
+use Rattle.boot_base.specs.Paths.{Path}
+use Rattle.boot_base.specs.declared.refusal.Refusal.{Refusal}
+use Rattle.boot_machine.specs.Disk.{Files}
+use Rattle.boot_machine.specs.Rows.{contents}
+use Rattle.pe_reader.specs.Grammar.{Headers, pe_of}
+use Rattle.uki_parts.specs.declared.kind.PartKind.TheVariants as kinds
+use Rattle.uki_parts.specs.declared.name.SectionName.{SectionName}
+use Rattle.uki_parts.specs.declared.part.Part.{Part}
+use Rattle.uki_parts.specs.declared.piece.Piece.TheVariants as pieces
+use Rattle.uki_parts.specs.Names.{named}
+use Rattle.uki_parts.specs.Parts.{part_place}
+use Rattle.uki_parts.specs.Pieces.{Reading, bytes_of}
+use Rattle.pe_builder.specs.declared.fault.PlanFault.{PlanFault}
+use Rattle.pe_builder.specs.declared.fault.PlanFault.TheVariants as faults
+use Rattle.pe_builder.specs.declared.size.WideSize.{WideSize}
+use Rattle.pe_builder.specs.Planned.{Plans}
+use Rattle.pe_builder.specs.Refusals.{first_refusal, wide}
+use Rattle.pe_builder.specs.Replaced.{sbat_name}
+use Rattle.pe_builder.specs.Sizes.{size_of}
+use Rattle.image_writer.specs.Sourced.{IsPieced, IsSourced, new_sbat, part_list, planned_image, stub_path}
+use Rattle.image_build.specs.declared.build_plan.ImagePlan.{ImagePlan}
+use Rattle.image_build.specs.Building.{Built, builder_refusal, with_sbat_text}
+
+-- the size of a part of any length
+abbrev pub any_size : Part → WideSize
+any_size part = wide (size_of part)
+
+-- whether a part adds a section, as one without bytes doesn't
+abbrev pub is_filled : Part → Bool
+is_filled part = not (part.length == 0)
+
+-- the part that holds an SBAT text
+pub record IsSbatPart (part : Part) (text : List ℕ) : Type 0 where
+  pub kind : part.kind ≡ kinds.Sbat
+  pub name : part.name ≡ named sbat_name
+  pub pieces_are : part.pieces.items ≡ pieces.Bytes text ∷ []
+  pub length_is : part.length ≡ length text
+
+-- What an image is made of besides its stub and the SBAT text: parts that are appended before that text, in append
+-- order, and the kernel.
+pub record AreParts (parts : List Part) (linux : Part) : Type 0 where
+  pub order : IsNonDecreasingBy part_place parts
+  pub early : All (λ part. part_place part ≤ 8) parts
+  pub few : length parts ≤ 16777000
+  pub total : sum_by (λ part. part.length) parts ≤ 2 ^ 61
+  pub kind : linux.kind ≡ kinds.Linux
+  pub name : linux.name ≡ named (codes ".linux")
+  pub small : linux.length ≤ 268435456
+
+-- On a view the stub at a path has this length and reads with these headers, and the pieces of all parts have the sizes
+-- that they say, which together are the parts'.
+pub record AreRead (view : Files) (headers : Headers) (stub_length : ℕ) (stub : Path) (parts : List Part) (linux : Part) : Type 0 where
+  pub length_is : length (contents view stub) ≡ stub_length
+  pub reads : pe_of (contents view stub) ≡ Ok headers
+  pub pieced : All (IsPieced (contents view)) parts
+  pub linux_pieced : IsPieced (contents view) linux
+
+-- a part's name, and its bytes in these files
+abbrev pub read_part : Reading → Part → SectionName × List ℕ
+read_part files part = (part.name, bytes_of files part.pieces.items)
+
+-- what these parts and an SBAT text come to on a view
+abbrev pub image_meant : Files → Headers → Path → List Part → Part → List ℕ → Path → Result Built Refusal
+image_meant view headers stub parts linux sbat output =
+    with_sbat_text output headers (contents view stub) (map (read_part (contents view)) parts) (bytes_of (contents view) linux.pieces.items) sbat
+
+-- The plan was made for its sources on a view, and the image by it is the one that is meant; or the refusal is meant.
+-- Without memory nothing is told.
+abbrev pub Images : Files → (Path → Result Built Refusal) → Result ImagePlan PlanFault → Type 0
+Images view meant (Ok image) =
+    IsSourced image.plan image.sources view
+    × ((output : Path) → meant output ≡ Ok (record { output = output; image = planned_image image.plan image.sources view }))
+Images view meant (Err faults.Memory) = Unit {0}
+Images view meant (Err fault) = (output : Path) → meant output ≡ Err (builder_refusal output fault)
+
+-- the plan of an image of these parts, and its sources
+pub record IsPlanOf (image : ImagePlan) (headers : Headers) (stub_length : ℕ) (stub : Path) (parts : List Part) (in_place : Option ℕ) (sbat : List ℕ) : Type 0 where
+  pub plans : Plans image.plan headers stub_length (map any_size parts) in_place
+  pub stub_is : stub_path image.sources ≡ stub
+  pub parts_are : part_list image.sources ≡ parts
+  pub sbat_is : new_sbat image.sources ≡ sbat
+
+-- such a plan was made, or the first refusal is this, unless memory ran out
+abbrev pub PlansParts : Headers → ℕ → Path → List Part → Option ℕ → List ℕ → Result ImagePlan PlanFault → Type 0
+PlansParts headers stub_length stub parts in_place sbat (Ok image) = IsPlanOf image headers stub_length stub parts in_place sbat
+PlansParts headers stub_length stub parts in_place sbat (Err faults.Memory) = Unit {0}
+PlansParts headers stub_length stub parts in_place sbat (Err fault) = first_refusal headers stub_length (map any_size parts) in_place ≡ Some fault
