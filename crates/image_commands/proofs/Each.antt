@@ -7,7 +7,7 @@ use Rattle.command_plans.specs.declared.refusing.Declined.{Declined}
 use Rattle.command_plans.specs.declared.refusing.Declined.TheVariants.{Memory, Refused}
 use Rattle.image_commands.specs.Files.{each}
 
-bind_ok : {B C : Type 0} (r : Result B Refusal) (g : B → Result C Refusal) (c : C) → (r >>= g) ≡ Ok c → (b : B) × (r ≡ Ok b) × (g b ≡ Ok c)
+pub bind_ok : {B C : Type 0} (r : Result B Refusal) (g : B → Result C Refusal) (c : C) → (r >>= g) ≡ Ok c → (b : B) × (r ≡ Ok b) × (g b ≡ Ok c)
 bind_ok (Ok b) g c is = (b, refl, is)
 bind_ok (Err e) g c is = cc
 
@@ -19,7 +19,7 @@ each_step_refused : {A B : Type 0} (f : A → Result B Refusal) (x : A) (xs : Li
 unfolding each
 each_step_refused f x xs y why first more = ap (λ q. q >>= λ z. each f xs >>= λ r. Ok (z ∷ r)) first ∙ ap (λ q. q >>= λ r. Ok (y ∷ r)) more
 
-each_cut : {A B : Type 0} (f : A → Result B Refusal) (x : A) (xs : List A) (ys : List B) → each f (x ∷ xs) ≡ Ok ys
+pub each_cut : {A B : Type 0} (f : A → Result B Refusal) (x : A) (xs : List A) (ys : List B) → each f (x ∷ xs) ≡ Ok ys
     → (y : B) × (r : List B) × (f x ≡ Ok y) × (each f xs ≡ Ok r) × (ys ≡ y ∷ r)
 unfolding each
 each_cut f x xs ys done =
@@ -32,7 +32,7 @@ pub each_none : {A B : Type 0} (f : A → Result B Refusal) → each f [] ≡ Ok
 unfolding each
 each_none f = refl
 
-none_made : {A B : Type 0} (f : A → Result B Refusal) (ys : List B) → each f [] ≡ Ok ys → [] ≡ ys
+pub none_made : {A B : Type 0} (f : A → Result B Refusal) (ys : List B) → each f [] ≡ Ok ys → [] ≡ ys
 unfolding each
 none_made f ys done = cc done
 

@@ -1,18 +1,17 @@
 -- The parts of the files that are given, one by one.
-use Rattle.std.proofs.Common.{◌≡◌, ◌<◌, ◌≤◌, ◌+◌, ℕ, List, [], ◌∷◌, ◌++◌, get_or, take, length, map, Option, Some, None, sym, ap, ◌∙◌, subst, arith, refl, suc}
-use Rattle.std.proofs.lemmas.List.{append-nil, map-append, take_more, take_all}
+use Rattle.std.proofs.Common.{◌≡◌, ◌<◌, ◌≤◌, ◌+◌, ℕ, List, [], ◌∷◌, ◌++◌, get_or, take, length, map, Option, None, sym, ap, ◌∙◌, subst, arith, refl, suc}
+use Rattle.std.proofs.lemmas.List.{append-nil, take_more, take_all}
 use Rattle.std.proofs.lemmas.List.Concat.{flat_map-append}
-use Rattle.std.proofs.lemmas.List.Elements.{All-append, All-cons, All-nil}
 use Rattle.std.proofs.lemmas.Slice.Zip.{get_or-zip, length-zip}
 use Rattle.std.proofs.Math.ListN.{get_or-map}
 use Rattle.std.specs.List.{zip}
 use Rattle.std.specs.Option.{option_map}
 use Rattle.std.specs.Prelude.{All}
 use Rattle.pcr_prediction.specs.Ordered.{as_part, present}
-use Rattle.pcr_prediction.specs.Parts.{HaveSizes, named_bytes}
+use Rattle.pcr_prediction.specs.Parts.{named_bytes}
 use Rattle.pcr_prediction.specs.declared.measurable.Measurable.{Measurable}
 use Rattle.stub_replay.specs.Measured.{measured_names}
-use Rattle.uki_parts.specs.Pieces.{Reading, HasSizes, bytes_of, piece_bytes, piece_length}
+use Rattle.uki_parts.specs.Pieces.{Reading, piece_bytes}
 use Rattle.uki_parts.specs.declared.piece.Piece.{Piece}
 use Rattle.image_commands.specs.Calculating.{HasItsSize, given_bytes}
 
@@ -40,18 +39,6 @@ present_more reading files i few inside =
     ∙ ap (λ l. present (take i named) ++ l) (append-nil (as_part (get_or named i ([], None)).0 (get_or named i ([], None)).1))
     ∙ ap (λ (p : List ℕ × Option (List ℕ)). present (take i named) ++ as_part p.0 p.1) (named_at reading files i few inside)
 
-part_is : (reading : Reading) (part : Measurable) (name : List ℕ) (piece : Piece) → part.name.now ≡ name → part.pieces.now ≡ piece ∷ [] → named_bytes reading part ≡ (name, piece_bytes reading piece)
-part_is reading part name piece is_name are_pieces =
-    ap (λ (n : List ℕ). (n, bytes_of reading part.pieces.now)) is_name ∙ ap (λ (ps : List Piece). (name, bytes_of reading ps)) are_pieces
-    ∙ ap (λ (bytes : List ℕ). (name, bytes)) (append-nil (piece_bytes reading piece))
-
--- a part that is given stands behind the others
-pub pushed : (reading : Reading) (parts more : List Measurable) (part : Measurable) (name : List ℕ) (piece : Piece) → part.name.now ≡ name → part.pieces.now ≡ piece ∷ [] → more ≡ parts ++ part ∷ []
-    → map (named_bytes reading) more ≡ map (named_bytes reading) parts ++ as_part name (Some (piece_bytes reading piece))
-pushed reading parts more part name piece is_name are_pieces is =
-    ap (map (named_bytes reading)) is ∙ map-append (named_bytes reading) parts (part ∷ [])
-    ∙ ap (λ (p : List ℕ × List ℕ). map (named_bytes reading) parts ++ p ∷ []) (part_is reading part name piece is_name are_pieces)
-
 -- one more name
 pub given_more : (reading : Reading) (files : List (Option Piece)) (i : ℕ) (parts more : List Measurable) (name : List ℕ) (file : Option Piece) → i < 9 → i < length files → file ≡ get_or files i None
     → name ≡ get_or measured_names i [] → map (named_bytes reading) more ≡ map (named_bytes reading) parts ++ as_part name (option_map (piece_bytes reading) file)
@@ -67,18 +54,6 @@ pub given_all : (reading : Reading) (files : List (Option Piece)) (i : ℕ) (par
     → map (named_bytes reading) parts ≡ present (take i (given_names reading files)) → map (named_bytes reading) parts ≡ given_bytes reading files
 given_all reading files i parts end before =
     before ∙ ap present (take_all i (given_names reading files) (omega (arith, end, mapped reading files, length-zip measured_names (map (option_map (piece_bytes reading)) files))))
-
-its_size : (reading : Reading) (piece : Piece) (pieces : List Piece) → HasItsSize reading (Some piece) → pieces ≡ piece ∷ [] → HasSizes reading pieces
-its_size reading piece pieces size are =
-    subst (HasSizes reading) (sym are) (All-cons (λ piece. length (piece_bytes reading piece) ≡ piece_length piece) piece [] size (All-nil (λ piece. length (piece_bytes reading piece) ≡ piece_length piece)))
-
--- a part more has its size
-pub sized : (reading : Reading) (parts more : List Measurable) (part : Measurable) (piece : Piece) → part.pieces.now ≡ piece ∷ [] → more ≡ parts ++ part ∷ [] → HasItsSize reading (Some piece)
-    → HaveSizes reading parts → HaveSizes reading more
-sized reading parts more part piece are_pieces is size before =
-    subst (HaveSizes reading) (sym is)
-    (All-append (λ part. HasSizes reading part.pieces.now) parts (part ∷ []) before
-    (All-cons (λ part. HasSizes reading part.pieces.now) part [] (its_size reading piece part.pieces.now size are_pieces) (All-nil (λ part. HasSizes reading part.pieces.now))))
 
 pub size_at : (reading : Reading) (files : List (Option Piece)) (i : ℕ) (file : Option Piece) → i < length files → file ≡ get_or files i None → All (HasItsSize reading) files → HasItsSize reading file
 size_at reading files i file inside is sizes = subst (HasItsSize reading) (sym is) (sizes i None inside)

@@ -1,5 +1,5 @@
 -- What a length tells of a file that is read.
-use Rattle.std.proofs.Common.{◌≡◌, ◌≤◌, ℕ, true, false, List, [], length, Option, Some, unwrap_or, Ok, is_some, refl, sym, ap, ◌∙◌, arith}
+use Rattle.std.proofs.Common.{◌≡◌, ◌≤◌, ℕ, true, false, List, length, Some, Ok, is_some, refl, sym, ap, ◌∙◌, arith}
 use Rattle.std.proofs.lemmas.Bool.Decides.{nat_tests}
 use Rattle.std.specs.Prelude.{nat_lt}
 use Rattle.std.specs.Option.{option_map}
@@ -35,7 +35,3 @@ known s path size shown found small =
       there = ap is_some (sym (get-view_shown s.files path shown) ∙ there.1);
       small = omega (arith, ap length held, few);
     }
-
--- what boot sees of a file is what stands there
-pub shown_contents : (s : State) (path : Path) → is_temp path ≡ false → contents (seen s) path ≡ contents s.files path
-shown_contents s path shown = ap (λ (o : Option (List ℕ)). unwrap_or o []) (get-view_shown s.files path shown)

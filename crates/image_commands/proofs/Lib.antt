@@ -6,5 +6,5 @@ pub mod Known
 pub mod Lines
 mod Once
 pub mod Parts
-mod Registers
+pub mod Registers
 pub mod Unsaying

@@ -65,24 +65,24 @@ count_more seen x made more y before is = ap length is ∙ length-append made (y
 
 -- a part's file more
 pub file_more : (s now : State) (paths : List (Option Path)) (files more : List (Option Piece)) (path : Option Path) (file : Option Piece) → now ≡ s
-    → each (if_given (bytes_at (seen s))) paths ≡ Ok (map (option_map (piece_bytes (contents s.files))) files)
-    → if_given (bytes_at (seen now)) path ≡ Ok (option_map (piece_bytes (contents now.files)) file) → more ≡ files ++ file ∷ []
-    → each (if_given (bytes_at (seen s))) (paths ++ path ∷ []) ≡ Ok (map (option_map (piece_bytes (contents s.files))) more)
+    → each (if_given (bytes_at (seen s))) paths ≡ Ok (map (option_map (piece_bytes (contents (seen s)))) files)
+    → if_given (bytes_at (seen now)) path ≡ Ok (option_map (piece_bytes (contents (seen now))) file) → more ≡ files ++ file ∷ []
+    → each (if_given (bytes_at (seen s))) (paths ++ path ∷ []) ≡ Ok (map (option_map (piece_bytes (contents (seen s)))) more)
 file_more s now paths files more path file same before found is =
-    let bytes_of = option_map (piece_bytes (contents s.files)) in
+    let bytes_of = option_map (piece_bytes (contents (seen s))) in
     let here : if_given (bytes_at (seen s)) path ≡ Ok (bytes_of file) =
-    subst (λ (t : State). if_given (bytes_at (seen t)) path ≡ Ok (option_map (piece_bytes (contents t.files)) file)) same found in
+    subst (λ (t : State). if_given (bytes_at (seen t)) path ≡ Ok (option_map (piece_bytes (contents (seen t))) file)) same found in
     each_more (if_given (bytes_at (seen s))) paths (map bytes_of files) path (bytes_of file) before here
     ∙ ap (λ (l : List (Option (List ℕ))). Ok l) (sym (map-append bytes_of files (file ∷ [])) ∙ ap (map bytes_of) (sym is))
 
-pub size_more : (s now : State) (files more : List (Option Piece)) (file : Option Piece) → now ≡ s → All (HasItsSize (contents s.files)) files → HasItsSize (contents now.files) file → more ≡ files ++ file ∷ []
-    → All (HasItsSize (contents s.files)) more
+pub size_more : (s now : State) (files more : List (Option Piece)) (file : Option Piece) → now ≡ s → All (HasItsSize (contents (seen s))) files → HasItsSize (contents (seen now)) file → more ≡ files ++ file ∷ []
+    → All (HasItsSize (contents (seen s))) more
 size_more s now files more file same before found is =
-    let here = subst (λ (t : State). HasItsSize (contents t.files) file) same found in
-    subst (All (HasItsSize (contents s.files))) (sym is) (All-append (HasItsSize (contents s.files)) files (file ∷ []) before (All-cons (HasItsSize (contents s.files)) file [] here (All-nil (HasItsSize (contents s.files)))))
+    let here = subst (λ (t : State). HasItsSize (contents (seen t)) file) same found in
+    subst (All (HasItsSize (contents (seen s)))) (sym is) (All-append (HasItsSize (contents (seen s))) files (file ∷ []) before (All-cons (HasItsSize (contents (seen s))) file [] here (All-nil (HasItsSize (contents (seen s))))))
 
 unsaid_each : (s now : State) (all paths rest : List (Option Path)) (files : List (Option Piece)) (path : Option Path) (fault : Unsaid) → now ≡ s → all ≡ paths ++ path ∷ rest
-    → each (if_given (bytes_at (seen s))) paths ≡ Ok (map (option_map (piece_bytes (contents s.files))) files) → UnsaidFor fault (if_given (bytes_at (seen now)) path)
+    → each (if_given (bytes_at (seen s))) paths ≡ Ok (map (option_map (piece_bytes (contents (seen s)))) files) → UnsaidFor fault (if_given (bytes_at (seen now)) path)
     → UnsaidFor fault (each (if_given (bytes_at (seen s))) all)
 unsaid_each s now all paths rest files path WithoutMemory same is before why = tt
 unsaid_each s now all paths rest files path Disk same is before why = tt
@@ -96,7 +96,7 @@ unsaid_result view (Err e) fault meant failed is why = subst (λ d. UnsaidFor d 
 
 pub file_refused : {X : Type 0} (view : X → List (Option (List ℕ))) (s now : State) (all paths rest : List (Option Path)) (files : List (Option Piece)) (path : Option Path) (fault : Unsaid) (result : Result X Unsaid)
     → now ≡ s → all ≡ paths ++ path ∷ rest
-    → each (if_given (bytes_at (seen s))) paths ≡ Ok (map (option_map (piece_bytes (contents s.files))) files) → UnsaidFor fault (if_given (bytes_at (seen now)) path)
+    → each (if_given (bytes_at (seen s))) paths ≡ Ok (map (option_map (piece_bytes (contents (seen s)))) files) → UnsaidFor fault (if_given (bytes_at (seen now)) path)
     → IsErr result → IsErrAnd result (λ e. e ≡ fault) → Says view result (each (if_given (bytes_at (seen s))) all)
 file_refused view s now all paths rest files path fault result same is before why failed fails =
     unsaid_result view result fault _ failed fails (unsaid_each s now all paths rest files path fault same is before why)

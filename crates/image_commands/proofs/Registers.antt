@@ -31,6 +31,7 @@ use Rattle.std.specs.Prelude.{All, Result}
 use Rattle.boot_base.specs.declared.refusal.Refusal.{Refusal}
 use Rattle.boot_machine.specs.Disk.{State}
 use Rattle.boot_machine.specs.Rows.{contents}
+use Rattle.boot_machine.specs.Sent.{seen}
 use Rattle.uki_parts.specs.Pieces.{Reading}
 use Rattle.uki_parts.specs.declared.piece.Piece.{Piece}
 use Rattle.pcr_prediction.specs.Parts.{folded, named_bytes}
@@ -100,12 +101,12 @@ AreSaid found starts = ◌≡◌ {A = Result (List (Bank × List ℕ)) Refusal} 
 
 -- registers of what is found on the machine as it is
 pub starts_are : (s now : State) (files seen_files : List (Option Piece)) (banks seen_banks : List Bank) (starts : List (Bank × List ℕ)) → now ≡ s → seen_files ≡ files → seen_banks ≡ banks
-    → (All (HasItsSize (contents now.files)) seen_files → AreSaid (starts_of (items_of (given_bytes (contents now.files) seen_files)) seen_banks) starts)
-    → All (HasItsSize (contents s.files)) files → starts_of (items_of (given_bytes (contents s.files) files)) banks ≡ starts
+    → (All (HasItsSize (contents (seen now))) seen_files → AreSaid (starts_of (items_of (given_bytes (contents (seen now)) seen_files)) seen_banks) starts)
+    → All (HasItsSize (contents (seen s))) files → starts_of (items_of (given_bytes (contents (seen s)) files)) banks ≡ starts
 starts_are s now files seen_files banks seen_banks starts same is_files is_banks found sizes =
-    let by_banks = subst (λ (bs : List Bank). All (HasItsSize (contents now.files)) seen_files → AreSaid (starts_of (items_of (given_bytes (contents now.files) seen_files)) bs) starts) is_banks found in
-    let by_files = subst (λ (fs : List (Option Piece)). All (HasItsSize (contents now.files)) fs → AreSaid (starts_of (items_of (given_bytes (contents now.files) fs)) banks) starts) is_files by_banks in
-    let by_state = subst (λ (t : State). All (HasItsSize (contents t.files)) files → AreSaid (starts_of (items_of (given_bytes (contents t.files) files)) banks) starts) same by_files in
+    let by_banks = subst (λ (bs : List Bank). All (HasItsSize (contents (seen now))) seen_files → AreSaid (starts_of (items_of (given_bytes (contents (seen now)) seen_files)) bs) starts) is_banks found in
+    let by_files = subst (λ (fs : List (Option Piece)). All (HasItsSize (contents (seen now))) fs → AreSaid (starts_of (items_of (given_bytes (contents (seen now)) fs)) banks) starts) is_files by_banks in
+    let by_state = subst (λ (t : State). All (HasItsSize (contents (seen t))) files → AreSaid (starts_of (items_of (given_bytes (contents (seen t)) files)) banks) starts) same by_files in
     cc (by_state sizes)
 
 -- predicted values are those registers

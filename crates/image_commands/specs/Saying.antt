@@ -2,6 +2,11 @@
 use Rattle.std.specs.Prelude.{◌≡◌, Result, Ok, Err, MatchResult}
 use Rattle.boot_base.specs.declared.refusal.Refusal.{Refusal}
 use Rattle.boot_machine.specs.Counts.{Counts, DiskFailed}
+use Rattle.boot_machine.specs.Disk.{State}
+use Rattle.boot_machine.specs.Sent.{seen}
+use Rattle.command_plans.specs.Answers.{refusal}
+use Rattle.command_plans.specs.Plans.{Plans}
+use Rattle.command_plans.specs.declared.plan.Plan.{Plan}
 use Rattle.command_plans.specs.declared.refusing.Declined.{Declined}
 use Rattle.command_plans.specs.declared.refusing.Declined.TheVariants as declines
 use Rattle.pcr_prediction.specs.declared.fault.PredictFault.{PredictFault}
@@ -24,6 +29,12 @@ abbrev pub UnsaidFor : {X : Type 0} → Unsaid → Result X Refusal → Type 0
 UnsaidFor unsaid.Memory meant = Unit {0}
 UnsaidFor unsaid.Disk meant = Unit {0}
 UnsaidFor (unsaid.Refused why) meant = meant ≡ Err why
+
+-- the plan is that of the refusal
+abbrev pub PlansUnsaid : Unsaid → Plan → Type 0
+PlansUnsaid unsaid.Memory plan = ⊥
+PlansUnsaid unsaid.Disk plan = ⊥
+PlansUnsaid (unsaid.Refused why) plan = (s : State) → Plans s plan (refusal (seen s) why)
 
 -- what was made, seen by view, is what is meant, or the refusal is
 abbrev pub Says : {X Y : Type 0} → (X → Y) → Result X Unsaid → Result Y Refusal → Type 0

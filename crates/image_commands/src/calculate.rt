@@ -9,7 +9,7 @@ ghost use Rattle.uki_parts.specs.Pieces.{Reading};
 ghost use Rattle.pcr_fold.specs.Values.{pcr_bank};
 ghost use Rattle.boot_phases.specs.Lines.{shown};
 ghost use Rattle.pcr_prediction.specs.Ordered.{as_part};
-ghost use Rattle.pcr_prediction.specs.Parts.{HaveSizes, items_of, named_bytes};
+ghost use Rattle.pcr_prediction.specs.Parts.{HaveSizes, IsPlaced, items_of, named_bytes};
 ghost use Rattle.image_commands.specs.Values.{starts_of};
 ghost use Rattle.command_plans.specs.Answers.{said};
 ghost use Rattle.command_plans.specs.Performs.{CountsStop};
@@ -28,7 +28,7 @@ use boot_machine::Machine;
 use boot_phases::result_lines;
 use command_plans::{Declined, Plan, Stop, path_in};
 use pcr_fold::{Bank, Pcr};
-use pcr_prediction::{Measurable, predict};
+use pcr_prediction::{Content, Measurable, predict};
 use std::alloc::{AllocError, Global};
 use std::slice;
 use stub_replay::measured_name;
@@ -93,9 +93,9 @@ fn part_file<M: Machine>(
     path: Option<BootPath>,
     machine: &mut M,
 ) -> Result<Option<Piece>, Unsaid>
-    ensures says { IsTrue M.tells → Says (option_map (piece_bytes (contents (M.state machine.old).files))) result
+    ensures says { IsTrue M.tells → Says (option_map (piece_bytes (contents (seen (M.state machine.old))))) result
         (if_given (bytes_at (seen (M.state machine.old))) path) }
-    ensures size { IfOk result (λ file. IsTrue M.tells → HasItsSize (contents (M.state machine.old).files) file) }
+    ensures size { IfOk result (λ file. IsTrue M.tells → HasItsSize (contents (seen (M.state machine.old))) file) }
     ensures reads { IsTrue M.tells → OnlyReads M.clock M.since M.state machine.old machine.new }
     ensures counts { CountsUnsaid result (M.counts machine.old) (M.counts machine.new) }
 {
@@ -114,10 +114,10 @@ fn part_files<M: Machine>(
     paths: Vec<Option<BootPath>>,
     machine: &mut M,
 ) -> Result<Vec<Option<Piece>>, Unsaid>
-    ensures says { IsTrue M.tells → Says (λ files. map (option_map (piece_bytes (contents (M.state machine.old).files))) files.items) result
+    ensures says { IsTrue M.tells → Says (λ files. map (option_map (piece_bytes (contents (seen (M.state machine.old))))) files.items) result
         (each (if_given (bytes_at (seen (M.state machine.old)))) paths.items) }
     ensures count { IfOk result (λ files. length files.items ≡ length paths.items) }
-    ensures sizes { IfOk result (λ files. IsTrue M.tells → All (HasItsSize (contents (M.state machine.old).files)) files.items) }
+    ensures sizes { IfOk result (λ files. IsTrue M.tells → All (HasItsSize (contents (seen (M.state machine.old)))) files.items) }
     ensures reads { IsTrue M.tells → OnlyReads M.clock M.since M.state machine.old machine.new }
     ensures counts { CountsUnsaid result (M.counts machine.old) (M.counts machine.new) }
 {
@@ -138,12 +138,13 @@ fn push_given<'a>(
     ensures bytes { OnOk result ((reading : Reading) → map (named_bytes reading) parts.new.items
         ≡ map (named_bytes reading) parts.old.items ++ as_part name.now (option_map (piece_bytes reading) file.now)) }
     ensures sizes { OnOk result ((reading : Reading) → HasItsSize reading file.now → HaveSizes reading parts.old.items → HaveSizes reading parts.new.items) }
+    ensures ranges { OnOk result (All (λ part. IsPlaced part.content) parts.old.items → All (λ part. IsPlaced part.content) parts.new.items) }
 {
     match file {
         None => Ok(()),
         Some(piece) => {
-            let pieces = slice::from_ref(piece);
-            parts.push(Measurable { name, pieces })?;
+            let content = Content::Pieces(slice::from_ref(piece));
+            parts.push(Measurable { name, content })?;
             Ok(())
         }
     }
@@ -157,6 +158,7 @@ fn given_parts<'a>(
     requires { length files.now ≤ 9 }
     ensures bytes { IfOk result (λ parts. (reading : Reading) → map (named_bytes reading) parts.items ≡ given_bytes reading files.now) }
     ensures sizes { IfOk result (λ parts. (reading : Reading) → All (HasItsSize reading) files.now → HaveSizes reading parts.items) }
+    ensures ranges { IfOk result (λ parts. All (λ part. IsPlaced part.content) parts.items) }
 {
     let mut parts = Vec::new(alloc);
     for index in 0..files.len() {
@@ -174,8 +176,8 @@ fn registers<M: Machine>(
 ) -> Result<Vec<Pcr>, Unsaid>
     requires { length files.now ≤ 9 }
     ensures banks { IfOk result (λ registers. map pcr_bank registers.items ≡ banks.now) }
-    ensures says { IsTrue M.tells → All (HasItsSize (contents (M.state machine.old).files)) files.now → Says (λ registers. map shown registers.items) result
-        (Ok (starts_of (items_of (given_bytes (contents (M.state machine.old).files) files.now)) banks.now)) }
+    ensures says { IsTrue M.tells → All (HasItsSize (contents (seen (M.state machine.old)))) files.now → Says (λ registers. map shown registers.items) result
+        (Ok (starts_of (items_of (given_bytes (contents (seen (M.state machine.old))) files.now)) banks.now)) }
     ensures reads { IsTrue M.tells → OnlyReads M.clock M.since M.state machine.old machine.new }
     ensures counts { CountsUnsaid result (M.counts machine.old) (M.counts machine.new) }
 {

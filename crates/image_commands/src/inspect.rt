@@ -17,6 +17,7 @@ ghost use Rattle.image_commands.specs.Said.{first_line, inspect_said, inspection
 ghost use Rattle.image_commands.specs.Saying.{CountsUnsaid, Says};
 
 use crate::files::image_head;
+use crate::names::shown_name;
 use crate::saying::{Unsaid, said};
 use boot_base::BootPath;
 use boot_machine::Machine;
@@ -25,27 +26,6 @@ use pcr_fold::{Bank, Digest};
 use pe_reader::{Pe, Section, short_name};
 use std::alloc::{AllocError, Global};
 use stub_replay::range_digest;
-
-// Puts a byte of a section's name behind `out` as it is printed.
-fn append_byte(alloc: Global, out: &mut Vec<u8>, byte: u8) -> Result<(), AllocError>
-    ensures { OnOk result (out.new.items ≡ out.old.items ++ shown_byte byte) }
-{
-    if 0x21 <= byte && byte <= 0x7E {
-        return out.extend_from_slice(&[byte]);
-    }
-    let hex = hex::encode(alloc, &[byte])?;
-    out.extend_from_slice(b"\\x")?;
-    out.extend_from_slice(hex.as_bytes())
-}
-
-fn append_name(alloc: Global, out: &mut Vec<u8>, name: &[u8]) -> Result<(), AllocError>
-    ensures { OnOk result (out.new.items ≡ out.old.items ++ flat_map shown_byte name.now) }
-{
-    for byte in name {
-        append_byte(alloc, out, *byte)?;
-    }
-    Ok(())
-}
 
 // What is printed behind a section's name.
 fn measures(alloc: Global, size: u64, digest: &Digest) -> Result<Vec<u8>, AllocError>
@@ -77,7 +57,8 @@ fn append_section<M: Machine>(
     let range = section.loaded_range();
     let digest = range_digest(Bank::Sha256, machine, path, range, buffer)?;
     let lines = measures(alloc, range.length + range.zeros, &digest)?;
-    append_name(alloc, out, short_name(&section.name))?;
+    let name = shown_name(alloc, short_name(&section.name))?;
+    out.extend_from_slice(name.as_bytes())?;
     out.extend_from_slice(lines.as_slice())?;
     Ok(())
 }

@@ -7,7 +7,7 @@ ghost use Rattle.boot_machine.specs.Sent.{seen};
 ghost use Rattle.command_plans.specs.Answers.{said};
 ghost use Rattle.command_plans.specs.Performs.{CountsStop};
 ghost use Rattle.command_plans.specs.Plans.{IsMakeable, Plans};
-ghost use Rattle.image_commands.specs.Saying.{CountsUnsaid, Says};
+ghost use Rattle.image_commands.specs.Saying.{CountsUnsaid, PlansUnsaid, Says, unsaid_counts};
 
 use boot_base::{Bytes, Refusal};
 use boot_machine::DiskFault;
@@ -87,6 +87,21 @@ impl From<Declined> for Unsaid {
     }
 }
 
+impl Unsaid {
+    /// The plan of the refusal, or why there is none.
+    pub fn plan(self, alloc: Global) -> Result<Plan, Stop>
+        ensures plans { IfOk result (PlansUnsaid self) }
+        ensures makeable { IfOk result (λ plan. IsMakeable plan.change) }
+        ensures counts { (old new : Counts) → unsaid_counts self old new → CountsStop result old new }
+    {
+        match self {
+            Unsaid::Memory => Err(Stop::Memory),
+            Unsaid::Disk => Err(Stop::Disk),
+            Unsaid::Refused(why) => Ok(refused(alloc, &why)?),
+        }
+    }
+}
+
 /// The plan of a command that changes nothing: its text, or the refusal.
 pub fn said(alloc: Global, text: Result<Vec<u8>, Unsaid>) -> Result<Plan, Stop>
     ensures plans { IfOk result (λ plan. (s : State) (meant : Result (List ℕ) Refusal)
@@ -100,8 +115,6 @@ pub fn said(alloc: Global, text: Result<Vec<u8>, Unsaid>) -> Result<Plan, Stop>
             outcome: Outcome::Done,
             text: Bytes::from(text),
         }),
-        Err(Unsaid::Memory) => Err(Stop::Memory),
-        Err(Unsaid::Disk) => Err(Stop::Disk),
-        Err(Unsaid::Refused(why)) => Ok(refused(alloc, &why)?),
+        Err(unsaid) => unsaid.plan(alloc),
     }
 }

@@ -4,7 +4,7 @@ ghost use Rattle.std.specs.Prelude.{◌≡◌};
 ghost use Rattle.image_writer.specs.Sourced.{stub_path, part_list, new_sbat};
 
 use boot_base::BootPath;
-use uki_parts::PartList;
+use uki_parts::{Part, PartList};
 
 /// Where the bytes of an image come from: the file of its stub, its parts, and the new `.sbat` that takes the place of
 /// the stub's where the plan says so.
@@ -24,5 +24,26 @@ impl Sources {
         ensures sbat { new_sbat result ≡ sbat.items }
     {
         Sources { stub, parts, sbat }
+    }
+
+    /// The path of the stub.
+    pub fn stub(&self) -> &BootPath
+        ensures { result.now ≡ stub_path self.now }
+    {
+        &self.stub
+    }
+
+    /// The parts, in append order.
+    pub fn parts(&self) -> &[Part]
+        ensures { result.now ≡ part_list self.now }
+    {
+        self.parts.parts()
+    }
+
+    /// The bytes of the new `.sbat`.
+    pub fn sbat(&self) -> &[u8]
+        ensures { result.now ≡ new_sbat self.now }
+    {
+        &self.sbat
     }
 }

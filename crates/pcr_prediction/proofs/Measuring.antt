@@ -3,19 +3,19 @@ use Rattle.std.proofs.Common.{◌≡◌, ◌<◌, ◌+◌, ℕ, Bool, List, [], 
 use Rattle.std.specs.List.{AllZip}
 use Rattle.std.proofs.lemmas.Grind.{flat_map-append}
 use Rattle.std.proofs.lemmas.List.{take_more, map-append}
-use Rattle.uki_parts.specs.declared.piece.Piece.{Piece}
-use Rattle.uki_parts.specs.Pieces.{Reading, HasSizes, total_length, bytes_of}
+use Rattle.uki_parts.specs.Pieces.{Reading}
 use Rattle.stub_replay.specs.Measured.{section_items}
 use Rattle.stub_replay.proofs.Ranges.{items_none, items_some}
 use Rattle.pcr_fold.specs.declared.bank.Bank.{Bank}
 use Rattle.pcr_fold.specs.declared.pcr.Pcr.{Pcr}
 use Rattle.pcr_fold.specs.Values.{pcr_bank}
+use Rattle.pcr_prediction.specs.declared.measurable.Content.{Content}
 use Rattle.pcr_prediction.specs.declared.measurable.Measurable.{Measurable}
 use Rattle.pcr_prediction.specs.declared.register.Register.{Register}
-use Rattle.pcr_prediction.specs.Parts.{named_bytes, items_of, HaveSizes, shown, folded}
+use Rattle.pcr_prediction.specs.Parts.{IsWhole, content_bytes, content_length, named_bytes, items_of, HaveSizes, shown, folded}
 use Rattle.pcr_prediction.specs.Registers.{Holds, AllHold, Takes, Closes, Extends}
 use Rattle.pcr_prediction.specs.Taking.{TakesWhere, ExtendsWhere, AreBetween}
-use Rattle.pcr_prediction.proofs.Taking.{length-bytes_of}
+use Rattle.pcr_prediction.proofs.Taking.{length-content_bytes}
 use Rattle.pcr_prediction.proofs.Zips.{zip_same, zip_joined, zip_moved}
 
 -- nothing extends the registers
@@ -34,11 +34,11 @@ extends_more a b xs ys zs first second =
     first second
 
 items_more : (files : Reading) (parts : List Measurable) (i : ℕ) (d : Measurable) → i < length parts
-    → items_of (map (named_bytes files) (take i parts)) ++ section_items (get_or parts i d).name.now (bytes_of files (get_or parts i d).pieces.now)
+    → items_of (map (named_bytes files) (take i parts)) ++ section_items (get_or parts i d).name.now (content_bytes files (get_or parts i d).content)
     ≡ items_of (map (named_bytes files) (take (i + 1) parts))
 items_more files parts i d inside =
     let part = get_or parts i d in
-    let here = section_items part.name.now (bytes_of files part.pieces.now) in
+    let here = section_items part.name.now (content_bytes files part.content) in
     let before = map (named_bytes files) (take i parts) in
     ap (λ (l : List (List ℕ)). items_of before ++ l) (sym (append-nil here))
     ∙ sym (flat_map-append (λ (p : List ℕ × List ℕ). section_items p.0 p.1) before (named_bytes files part ∷ []))
@@ -49,41 +49,41 @@ items_more files parts i d inside =
 pub parts_more : (tells : Bool) (files seen : Reading) (parts : List Measurable) (i : ℕ) (part : Measurable) (xs ys zs : List Register) → (IsTrue tells → seen ≡ files)
     → i < length parts → part ≡ get_or parts i part
     → ExtendsWhere (IsTrue tells × HaveSizes files parts) (items_of (map (named_bytes files) (take i parts))) xs ys
-    → ExtendsWhere (IsTrue tells × HasSizes seen part.pieces.now) (section_items part.name.now (bytes_of seen part.pieces.now)) ys zs
+    → ExtendsWhere (IsTrue tells × IsWhole seen part.content) (section_items part.name.now (content_bytes seen part.content)) ys zs
     → ExtendsWhere (IsTrue tells × HaveSizes files parts) (items_of (map (named_bytes files) (take (i + 1) parts))) xs zs
 parts_more tells files seen parts i part xs ys zs same inside at first second = (
   first.0 ++ second.0,
   extends_more first.0 second.0 xs ys zs first.1 second.1,
   λ told.
-      let P = λ (f : Reading). HasSizes f part.pieces.now in
-      let Q = λ (p : Measurable). HasSizes files p.pieces.now in
-      let sizes : HasSizes files part.pieces.now = subst Q (sym at) (told.1 i part inside) in
+      let P = λ (f : Reading). IsWhole f part.content in
+      let Q = λ (p : Measurable). IsWhole files p.content in
+      let sizes : IsWhole files part.content = subst Q (sym at) (told.1 i part inside) in
       ap (λ (l : List (List ℕ)). l ++ second.0) (first.2 told)
       ∙ ap (λ (l : List (List ℕ)). items_of (map (named_bytes files) (take i parts)) ++ l)
       (second.2 (told.0, subst P (sym (same told.0)) sizes)
-      ∙ ap (λ (f : Reading). section_items part.name.now (bytes_of f part.pieces.now)) (same told.0)
-      ∙ ap (λ (p : Measurable). section_items p.name.now (bytes_of files p.pieces.now)) at)
+      ∙ ap (λ (f : Reading). section_items part.name.now (content_bytes f part.content)) (same told.0)
+      ∙ ap (λ (p : Measurable). section_items p.name.now (content_bytes files p.content)) at)
       ∙ items_more files parts i part inside,
 )
 
 -- nothing of an empty part
-pub part_empty : (tells : Bool) (files : Reading) (name : List ℕ) (pieces : List Piece) (xs : List Register) → total_length pieces ≡ 0
-    → ExtendsWhere (IsTrue tells × HasSizes files pieces) (section_items name (bytes_of files pieces)) xs xs
-part_empty tells files name pieces xs empty =
-    ([], extends_none xs, λ told. sym (items_none name (bytes_of files pieces) (length-bytes_of files pieces told.1 ∙ empty)))
+pub part_empty : (tells : Bool) (files : Reading) (name : List ℕ) (content : Content) (xs : List Register) → content_length content ≡ 0
+    → ExtendsWhere (IsTrue tells × IsWhole files content) (section_items name (content_bytes files content)) xs xs
+part_empty tells files name content xs empty =
+    ([], extends_none xs, λ told. sym (items_none name (content_bytes files content) (length-content_bytes files content told.1 ∙ empty)))
 
 -- a name and the bytes of a part
-pub part_some : (tells : Bool) (files : Reading) (name : List ℕ) (pieces : List Piece) (xs ys zs : List Register) → 0 < total_length pieces
-    → TakesWhere (IsTrue tells × HasSizes files pieces) (bytes_of files pieces) xs ys → AllZip (Closes name) ys zs
-    → ExtendsWhere (IsTrue tells × HasSizes files pieces) (section_items name (bytes_of files pieces)) xs zs
-part_some tells files name pieces xs ys zs some takes closes =
+pub part_some : (tells : Bool) (files : Reading) (name : List ℕ) (content : Content) (xs ys zs : List Register) → 0 < content_length content
+    → TakesWhere (IsTrue tells × IsWhole files content) (content_bytes files content) xs ys → AllZip (Closes name) ys zs
+    → ExtendsWhere (IsTrue tells × IsWhole files content) (section_items name (content_bytes files content)) xs zs
+part_some tells files name content xs ys zs some takes closes =
     let bytes = takes.0 in
     let items : List (List ℕ) = (name ++ 0 ∷ []) ∷ bytes ∷ [] in (
       items,
       zip_joined (Takes bytes) (Closes name) (Extends items) xs ys zs (λ x y z r s bank before holds. s bank before bytes (r bank before [] holds)) takes.1 closes,
       λ told.
           ap (λ (l : List ℕ). (name ++ 0 ∷ []) ∷ l ∷ []) (takes.2 told)
-          ∙ sym (items_some name (bytes_of files pieces) (omega (arith, some, length-bytes_of files pieces told.1))),
+          ∙ sym (items_some name (content_bytes files content) (omega (arith, some, length-content_bytes files content told.1))),
     )
 
 holds_after : (banks : List Bank) (items more : List (List ℕ)) (xs ys : List Register) → AllHold xs banks items [] → AllZip (Extends more) xs ys → AllHold ys banks (items ++ more) []

@@ -4,12 +4,16 @@ use Rattle.std.specs.Prelude.{replicate}
 use Rattle.std.specs.List.{AllZip}
 use Rattle.std.proofs.Math.Seq.{take-add}
 use Rattle.std.proofs.lemmas.Grind.{flat_map-append}
-use Rattle.std.proofs.lemmas.List.{take_more, replicate-append-replicate}
+use Rattle.std.proofs.lemmas.List.{take_more, drop-drop, replicate-append-replicate}
 use Rattle.std.proofs.lemmas.List.Elements.{All-tail}
 use Rattle.std.proofs.lemmas.List.Sums.{sum_by-cons}
 use Rattle.uki_parts.specs.declared.piece.Piece.{Piece}
 use Rattle.uki_parts.specs.Pieces.{Reading, HasSizes, piece_length, total_length, piece_bytes, bytes_of}
 use Rattle.pcr_fold.specs.declared.bank.Bank.{Bank}
+use Rattle.stub_replay.proofs.Ranges.{length-bytes_in}
+use Rattle.pcr_prediction.specs.declared.measurable.Content.{Content}
+use Rattle.pcr_prediction.specs.declared.measurable.Content.TheVariants as contents
+use Rattle.pcr_prediction.specs.Parts.{IsWhole, content_bytes, content_length}
 use Rattle.pcr_prediction.specs.declared.register.Register.{Register}
 use Rattle.pcr_prediction.specs.Registers.{Holds, AreHeld, Takes}
 use Rattle.pcr_prediction.specs.Taking.{TakesWhere, AreBetween}
@@ -47,17 +51,28 @@ where_more P Q S a b c xs ys zs to_first to_second joined first second = (
 pub where_none : (P : Type 0) (xs : List Register) → TakesWhere P [] xs xs
 where_none P xs = ([], takes_none xs, λ told. refl)
 
--- the next bytes of a file
-pub file_more : (tells : Bool) (file seen : List ℕ) (done count : ℕ) (xs ys zs : List Register) → (IsTrue tells → seen ≡ file)
-    → TakesWhere (IsTrue tells × (done ≤ length file)) (take done file) xs ys
-    → TakesWhere (IsTrue tells × (count ≤ length (drop done seen))) (take count (drop done seen)) ys zs
-    → TakesWhere (IsTrue tells × (done + count ≤ length file)) (take (done + count) file) xs zs
-file_more tells file seen done count xs ys zs same first second =
-    where_more _ _ _ (take done file) (take count (drop done seen)) (take (done + count) file) xs ys zs
+-- the next bytes of a file, from a place on
+pub range_more : (tells : Bool) (file seen : List ℕ) (at done count : ℕ) (xs ys zs : List Register) → (IsTrue tells → seen ≡ file)
+    → TakesWhere (IsTrue tells × (done ≤ length (drop at file))) (take done (drop at file)) xs ys
+    → TakesWhere (IsTrue tells × (count ≤ length (drop (at + done) seen))) (take count (drop (at + done) seen)) ys zs
+    → TakesWhere (IsTrue tells × (done + count ≤ length (drop at file))) (take (done + count) (drop at file)) xs zs
+range_more tells file seen at done count xs ys zs same first second =
+    let there = drop at file in
+    where_more _ _ _ (take done there) (take count (drop (at + done) seen)) (take (done + count) there) xs ys zs
     (λ told. (told.0, omega (arith, told.1)))
-    (λ told. (told.0, omega (arith, told.1, length-drop done seen, ap length (same told.0))))
-    (λ told. ap (λ (f : List ℕ). take done file ++ take count (drop done f)) (same told.0) ∙ sym (take-add done count file))
+    (λ told. (told.0, omega (arith, told.1, length-drop at file, length-drop (at + done) seen, ap length (same told.0))))
+    (λ told.
+    ap (λ (f : List ℕ). take done there ++ take count (drop (at + done) f)) (same told.0)
+    ∙ ap (λ (l : List ℕ). take done there ++ take count l) (sym (drop-drop done at file))
+    ∙ sym (take-add done count there))
     first second
+
+-- zeros behind what is taken
+pub zeros_behind : (P : Type 0) (bytes : List ℕ) (count : ℕ) (xs ys zs : List Register) → TakesWhere P bytes xs ys
+    → AllZip (Takes (replicate count 0)) ys zs → TakesWhere P (bytes ++ replicate count 0) xs zs
+zeros_behind P bytes count xs ys zs first second =
+    where_more P P P bytes (replicate count 0) (bytes ++ replicate count 0) xs ys zs (λ told. told) (λ told. told) (λ told. refl)
+    first (replicate count 0, second, λ told. refl)
 
 bytes_more : (files : Reading) (pieces : List Piece) (i : ℕ) (d : Piece) → i < length pieces
     → bytes_of files (take i pieces) ++ piece_bytes files (get_or pieces i d) ≡ bytes_of files (take (i + 1) pieces)
@@ -92,6 +107,12 @@ length-bytes_of files [] sizes = refl
 length-bytes_of files (piece ∷ pieces) sizes =
     let rest = length-bytes_of files pieces (All-tail (λ (p : Piece). length (piece_bytes files p) ≡ piece_length p) piece pieces sizes) in
     omega (arith, length-append (piece_bytes files piece) (bytes_of files pieces), sum_by-cons piece_length piece pieces, sizes 0 piece (omega arith), rest)
+
+-- a content that is whole has as many bytes as it says
+pub length-content_bytes : (files : Reading) (content : Content) → IsWhole files content → length (content_bytes files content) ≡ content_length content
+length-content_bytes files (contents.Pieces pieces) whole = length-bytes_of files pieces.now whole
+length-content_bytes files (contents.Bytes bytes) whole = refl
+length-content_bytes files (contents.Loaded path range) whole = length-bytes_in (files path.now) range whole
 
 -- the registers hold what they have taken
 pub held_after : (taken : List ℕ) (xs ys : List Register) → AreBetween xs → AllZip (Takes taken) xs ys → AreHeld ys

@@ -11,7 +11,7 @@ mod register;
 
 pub use fault::PredictFault;
 pub use laws::prediction_of_ordered_parts;
-pub use measurable::Measurable;
+pub use measurable::{Content, Measurable};
 pub use prediction::predict;
 
 #[cfg(test)]

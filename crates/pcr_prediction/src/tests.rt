@@ -4,6 +4,7 @@ use super::*;
 use boot_base::{BootPath, Bytes};
 use memory_machine::{FailMode, MemFile, MemMachine};
 use pcr_fold::{Bank, Pcr};
+use pe_reader::LoadedRange;
 use std::alloc::{AllocError, Global};
 use std::test::Fail;
 use uki_parts::Piece;
@@ -60,7 +61,7 @@ fn a_kernel_of_three_bytes(rt: HostRuntime) -> Result<(), Fail> {
     let pieces = vec![in alloc; file_piece(alloc, 3)?]?;
     let parts = [Measurable {
         name: b".linux",
-        pieces: &pieces,
+        content: Content::Pieces(&pieces),
     }];
     let mut buffer = [7; 2];
     let pcrs = predict(alloc, &mut machine, &parts, &BANKS, &mut buffer)?;
@@ -88,15 +89,15 @@ fn parts_of_several_pieces(rt: HostRuntime) -> Result<(), Fail> {
     let parts = [
         Measurable {
             name: b".linux",
-            pieces: &kernel,
+            content: Content::Pieces(&kernel),
         },
         Measurable {
             name: b".cmdline",
-            pieces: &empty,
+            content: Content::Pieces(&empty),
         },
         Measurable {
             name: b".initrd",
-            pieces: &initrd,
+            content: Content::Pieces(&initrd),
         },
     ];
     let mut buffer = [7; 4];
@@ -111,6 +112,45 @@ fn parts_of_several_pieces(rt: HostRuntime) -> Result<(), Fail> {
         assert_eq!(rt; *pcr, wanted, "{bank:?}");
     }
     assert_eq!(rt; given(&machine), 12);
+    Ok(())
+}
+
+#[test]
+fn a_range_of_a_file_and_bytes_at_hand(rt: HostRuntime) -> Result<(), Fail> {
+    let alloc = rt.alloc();
+    let mut machine = machine_with(alloc, b"a stub's file")?;
+    let path = BootPath::read(alloc, "k")?;
+    let range = LoadedRange {
+        place: 2,
+        length: 6,
+        zeros: 5,
+    };
+    let parts = [
+        Measurable {
+            name: b".osrel",
+            content: Content::Bytes(b"ID=os"),
+        },
+        Measurable {
+            name: b".cmdline",
+            content: Content::Bytes(b""),
+        },
+        Measurable {
+            name: b".sbat",
+            content: Content::Loaded { path: &path, range },
+        },
+    ];
+    let mut buffer = [7; 4];
+    let pcrs = predict(alloc, &mut machine, &parts, &BANKS, &mut buffer)?;
+    assert_eq!(rt; pcrs.len(), BANKS.len());
+    for (pcr, bank) in pcrs.iter().zip(&BANKS) {
+        let wanted = Pcr::zero(*bank)
+            .extend_data(b".osrel\0")
+            .extend_data(b"ID=os")
+            .extend_data(b".sbat\0")
+            .extend_data(b"stub's\0\0\0\0\0");
+        assert_eq!(rt; *pcr, wanted, "{bank:?}");
+    }
+    assert_eq!(rt; given(&machine), 6);
     Ok(())
 }
 
@@ -135,7 +175,7 @@ fn a_disk_fault_ends_it(rt: HostRuntime) -> Result<(), Fail> {
     let pieces = vec![in alloc; file_piece(alloc, 6)?]?;
     let parts = [Measurable {
         name: b".linux",
-        pieces: &pieces,
+        content: Content::Pieces(&pieces),
     }];
     let mut buffer = [7; 4];
     let answer = predict(alloc, &mut machine, &parts, &BANKS, &mut buffer);

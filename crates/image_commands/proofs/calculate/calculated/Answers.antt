@@ -31,7 +31,7 @@ returns-in_err-result_lines-clause-reads g c told =
 pub returns-clause-says : goal.returns-clause-says
 returns-clause-says g c told =
     let s = g.M.Machine.state c.args.machine.now in
-    calculation_is (seen s) c.args.words.now c.in_ok-paths.paths.items (map (option_map (piece_bytes (contents s.files))) c.in_ok-files.files.items) (map shown c.in_ok-registers.registers.items)
+    calculation_is (seen s) c.args.words.now c.in_ok-paths.paths.items (map (option_map (piece_bytes (contents (seen s)))) c.in_ok-files.files.items) (map shown c.in_ok-registers.registers.items)
     c.in_ok-banks.banks.items c.deref-4.result.now c.in_ok-result_lines.field-0.items
     c.in_ok-paths.ensures.means (c.in_ok-files.ensures.says told)
     (starts_are s (g.M.Machine.state c.part_files.new.machine) c.in_ok-files.files.items c.deref.result.now c.in_ok-banks.banks.items c.deref-2.result.now _ (c.part_files.ensures.reads told).same

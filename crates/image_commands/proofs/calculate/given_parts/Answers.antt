@@ -13,6 +13,7 @@ loop-index-preserved c =
           c.measured_name.ensures (c.in_ok-push_given.ensures.bytes reading) (c.loop-index.invariant.bytes reading);
       sizes = λ reading sizes.
           c.in_ok-push_given.ensures.sizes reading (size_at reading c.args.files.now c.loop-index.index c.index-files-index.result inside file sizes) (c.loop-index.invariant.sizes reading sizes);
+      ranges = c.in_ok-push_given.ensures.ranges c.loop-index.invariant.ranges;
     }
 
 pub returns-clause-bytes : goal.returns-clause-bytes

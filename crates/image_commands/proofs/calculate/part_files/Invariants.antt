@@ -13,8 +13,8 @@ abbrev pub invariant-loop-path : goal.invariant-loop-path
 invariant-loop-path g l = record {
   left : l.fn.paths.items ≡ l.yielded ++ l.path-iterator.rest.items;
   count : length l.files.items ≡ length l.yielded;
-  found : IsTrue g.M.Machine.tells → each (if_given (bytes_at (seen (g.M.Machine.state l.initial.machine)))) l.yielded ≡ Ok (map (option_map (piece_bytes (contents (g.M.Machine.state l.initial.machine).files))) l.files.items);
-  sizes : IsTrue g.M.Machine.tells → All (HasItsSize (contents (g.M.Machine.state l.initial.machine).files)) l.files.items;
+  found : IsTrue g.M.Machine.tells → each (if_given (bytes_at (seen (g.M.Machine.state l.initial.machine)))) l.yielded ≡ Ok (map (option_map (piece_bytes (contents (seen (g.M.Machine.state l.initial.machine))))) l.files.items);
+  sizes : IsTrue g.M.Machine.tells → All (HasItsSize (contents (seen (g.M.Machine.state l.initial.machine)))) l.files.items;
   reads : IsTrue g.M.Machine.tells → OnlyReads g.M.Machine.clock g.M.Machine.since g.M.Machine.state l.initial.machine l.machine;
   counts : g.M.Machine.counts l.machine ≡ g.M.Machine.counts l.initial.machine;
 }

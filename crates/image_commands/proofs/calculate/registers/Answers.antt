@@ -1,5 +1,6 @@
 use Rattle.std.proofs.Common.{sym, subst, map}
 use Rattle.boot_machine.specs.Rows.{contents}
+use Rattle.boot_machine.specs.Sent.{seen}
 use Rattle.boot_phases.specs.Lines.{shown}
 use Rattle.pcr_prediction.specs.Parts.{HaveSizes}
 use Rattle.image_commands.proofs.Registers.{starts_predicted}
@@ -12,7 +13,7 @@ returns-in_err-parts-clause-reads g c told =
 
 pub returns-clause-says : goal.returns-clause-says
 returns-clause-says g c told sizes =
-    let reading = contents (g.M.Machine.state c.args.machine.now).files in
+    let reading = contents (seen (g.M.Machine.state c.args.machine.now)) in
     let parts = c.in_ok-parts.parts.items in
     let have = subst (HaveSizes reading) (sym c.deref.ensures.value) (c.in_ok-parts.ensures.sizes reading sizes) in
     starts_predicted reading c.args.files.now parts c.deref.result.now c.args.banks.now (map shown c.in_ok-predict.field-0.items) c.deref.ensures.value (c.in_ok-parts.ensures.bytes reading)

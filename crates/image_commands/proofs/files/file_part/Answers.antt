@@ -1,7 +1,7 @@
 use Rattle.std.proofs.Common.{arith}
 use Rattle.std.proofs.lemmas.Grind.{common_steps}
 use Rattle.boot_machine.proofs.Reading.{reads_none}
-use Rattle.image_commands.proofs.Known.{shown_contents}
+use Rattle.pcr_prediction.proofs.Shown.{shown_contents}
 use Rattle.image_commands.proofs.files.file_part.Goals as goal
 
 pub returns-in_err-bytes-clause-reads : goal.returns-in_err-bytes-clause-reads

@@ -1,7 +1,7 @@
 use Rattle.std.proofs.Common.{List, ap, subst, sym, ◌∙◌, length, ℕ}
 use Rattle.pe_reader.specs.Grammar.{pe_of}
 use Rattle.pe_reader.specs.Reads.{GivesFrom, headers_of}
-use Rattle.image_commands.proofs.Known.{shown_contents}
+use Rattle.pcr_prediction.proofs.Shown.{shown_contents}
 use Rattle.image_commands.proofs.files.head_of_size.Goals as goal
 
 pub read_head_of_size-requires-clause-size : goal.read_head_of_size-requires-clause-size

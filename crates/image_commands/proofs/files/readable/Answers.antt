@@ -1,5 +1,6 @@
 use Rattle.std.proofs.Common.{arith, ◌∙◌}
-use Rattle.image_commands.proofs.Known.{known, shown_contents}
+use Rattle.pcr_prediction.proofs.Shown.{shown_contents}
+use Rattle.image_commands.proofs.Known.{known}
 use Rattle.image_commands.proofs.files.readable.Goals as goal
 
 pub returns-in-Some-2-clause-file : goal.returns-in-Some-2-clause-file

@@ -2,6 +2,7 @@ use Rattle.std.proofs.Common.{rules, arith, refl, ap}
 use Rattle.std.proofs.lemmas.List.Sums.{sum_by_more}
 use Rattle.boot_machine.specs.Disk.{State}
 use Rattle.boot_machine.specs.Rows.{contents}
+use Rattle.boot_machine.specs.Sent.{seen}
 use Rattle.boot_machine.proofs.Reading.{reads_none, reads_on}
 use Rattle.pcr_prediction.specs.Parts.{file_length}
 use Rattle.pcr_prediction.proofs.Taking.{where_none, pieces_more}
@@ -26,9 +27,9 @@ loop-piece-preserved g c =
     let piece = c.in_ok-take_piece.ensures in
     record {
       room = search rules;
-      hashed = pieces_more g.M.Machine.tells (contents (g.M.Machine.state c.args.machine.now).files) (contents (g.M.Machine.state c.loop-piece.machine).files)
+      hashed = pieces_more g.M.Machine.tells (contents (seen (g.M.Machine.state c.args.machine.now))) (contents (seen (g.M.Machine.state c.loop-piece.machine)))
           c.args.pieces.now c.loop-piece.piece-index c.piece-item.result c.args.registers.now c.loop-piece.registers c.take_piece.new.registers
-          (λ told. ap (λ (s : State). contents s.files) (before.reads told).same) (omega arith) c.piece-item.is before.hashed piece.data;
+          (λ told. ap (λ (s : State). contents (seen s)) (before.reads told).same) (omega arith) c.piece-item.is before.hashed piece.data;
       reads = λ told. reads_on g.M.Machine.clock g.M.Machine.since g.M.Machine.state _ _ _ (before.reads told) (c.take_piece.ensures.reads told);
       counts = search rules;
       taken = λ told.

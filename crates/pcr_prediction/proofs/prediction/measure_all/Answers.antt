@@ -1,11 +1,11 @@
 use Rattle.std.proofs.Common.{rules, arith, refl, ap}
-use Rattle.std.specs.Prelude.{sum_by}
 use Rattle.std.proofs.lemmas.List.Sums.{sum_by_more}
 use Rattle.boot_machine.specs.Disk.{State}
 use Rattle.boot_machine.specs.Rows.{contents}
+use Rattle.boot_machine.specs.Sent.{seen}
 use Rattle.boot_machine.proofs.Reading.{reads_none, reads_on}
 use Rattle.pcr_prediction.specs.declared.measurable.Measurable.{Measurable}
-use Rattle.pcr_prediction.specs.Parts.{file_length}
+use Rattle.pcr_prediction.specs.Parts.{read_length}
 use Rattle.pcr_prediction.proofs.Measuring.{measured_none, parts_more, between_after}
 use Rattle.pcr_prediction.proofs.prediction.measure_all.Goals as goal
 
@@ -32,9 +32,9 @@ loop-part-preserved g c =
     let part = c.in_ok-measure_part.ensures in
     record {
       room = search rules;
-      value = parts_more g.M.Machine.tells (contents (g.M.Machine.state c.args.machine.now).files) (contents (g.M.Machine.state c.loop-part.machine).files)
+      value = parts_more g.M.Machine.tells (contents (seen (g.M.Machine.state c.args.machine.now))) (contents (seen (g.M.Machine.state c.loop-part.machine)))
           c.args.parts.now c.loop-part.part-index c.part-item.result c.args.registers.now c.loop-part.registers c.measure_part.new.registers
-          (λ told. ap (λ (s : State). contents s.files) (before.reads told).same) (omega arith) c.part-item.is before.value part.value;
+          (λ told. ap (λ (s : State). contents (seen s)) (before.reads told).same) (omega arith) c.part-item.is before.value part.value;
       reads = λ told. reads_on g.M.Machine.clock g.M.Machine.since g.M.Machine.state _ _ _ (before.reads told) (c.measure_part.ensures.reads told);
       counts = search rules;
       taken = λ told.
@@ -42,7 +42,7 @@ loop-part-preserved g c =
             arith,
             before.taken told,
             part.taken told,
-            ap (λ (p : Measurable). sum_by file_length p.pieces.now) c.part-item.is,
-            sum_by_more (λ (p : Measurable). sum_by file_length p.pieces.now) c.args.parts.now c.loop-part.part-index c.part-item.result (omega arith),
+            ap (λ (p : Measurable). read_length p.content) c.part-item.is,
+            sum_by_more (λ (p : Measurable). read_length p.content) c.args.parts.now c.loop-part.part-index c.part-item.result (omega arith),
           );
     }

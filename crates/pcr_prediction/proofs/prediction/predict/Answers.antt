@@ -1,5 +1,6 @@
 use Rattle.std.proofs.Common.{◌∙◌, rules, map, IsTrue}
 use Rattle.boot_machine.specs.Rows.{contents}
+use Rattle.boot_machine.specs.Sent.{seen}
 use Rattle.boot_machine.proofs.Reading.{reads_none}
 use Rattle.pcr_prediction.specs.Parts.{named_bytes, items_of, HaveSizes}
 use Rattle.pcr_prediction.proofs.Measuring.{value_banks, value_shown}
@@ -12,7 +13,7 @@ returns-in_err-registers-clause-reads g c told =
 
 pub returns-clause-banks : goal.returns-clause-banks
 returns-clause-banks g c =
-    let files = contents (g.M.Machine.state c.args.machine.now).files in
+    let files = contents (seen (g.M.Machine.state c.args.machine.now)) in
     value_banks (IsTrue g.M.Machine.tells × HaveSizes files c.args.parts.now) (items_of (map (named_bytes files) c.args.parts.now)) c.args.banks.now
     c.in_ok-registers.registers.items c.deref_mut.result.now c.measure_all.new.registers c.deref.result.now c.in_ok-values.field-0.items
     c.in_ok-registers.ensures (search rules) c.in_ok-measure_all.ensures.value
@@ -20,7 +21,7 @@ returns-clause-banks g c =
 
 pub returns-clause-value : goal.returns-clause-value
 returns-clause-value g c told sizes =
-    let files = contents (g.M.Machine.state c.args.machine.now).files in
+    let files = contents (seen (g.M.Machine.state c.args.machine.now)) in
     value_shown (IsTrue g.M.Machine.tells × HaveSizes files c.args.parts.now) (items_of (map (named_bytes files) c.args.parts.now)) c.args.banks.now
     c.in_ok-registers.registers.items c.deref_mut.result.now c.measure_all.new.registers c.deref.result.now c.in_ok-values.field-0.items
     c.in_ok-registers.ensures (search rules) c.in_ok-measure_all.ensures.value

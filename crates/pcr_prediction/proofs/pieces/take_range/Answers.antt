@@ -1,9 +1,10 @@
 use Rattle.std.proofs.Common.{rules, arith, refl, ap}
 use Rattle.boot_machine.specs.Disk.{State}
 use Rattle.boot_machine.specs.Rows.{contents}
+use Rattle.boot_machine.specs.Sent.{seen}
 use Rattle.boot_machine.proofs.Reading.{reads_none, reads_on}
-use Rattle.pcr_prediction.proofs.Taking.{where_none, file_more}
-use Rattle.pcr_prediction.proofs.pieces.take_file.Goals as goal
+use Rattle.pcr_prediction.proofs.Taking.{where_none, range_more}
+use Rattle.pcr_prediction.proofs.pieces.take_range.Goals as goal
 
 pub loop-done-init : goal.loop-done-init
 loop-done-init g c = record {
@@ -26,9 +27,9 @@ loop-done-preserved g c =
     record {
       within = omega (arith, part.within);
       room = search rules;
-      hashed = file_more g.M.Machine.tells (contents (g.M.Machine.state c.args.machine.now).files c.args.path.now) (contents (g.M.Machine.state c.loop-done.machine).files c.args.path.now)
-          c.loop-done.done c.in_ok-done.field-0 c.args.registers.now c.loop-done.registers c.take_part.new.registers
-          (λ told. ap (λ (s : State). contents s.files c.args.path.now) (before.reads told).same) before.hashed part.data;
+      hashed = range_more g.M.Machine.tells (contents (seen (g.M.Machine.state c.args.machine.now)) c.args.path.now) (contents (seen (g.M.Machine.state c.loop-done.machine)) c.args.path.now)
+          c.args.at c.loop-done.done c.in_ok-done.field-0 c.args.registers.now c.loop-done.registers c.take_part.new.registers
+          (λ told. ap (λ (s : State). contents (seen s) c.args.path.now) (before.reads told).same) before.hashed part.data;
       reads = λ told. reads_on g.M.Machine.clock g.M.Machine.since g.M.Machine.state _ _ _ (before.reads told) (c.take_part.ensures.reads told);
       counts = search rules;
       taken = λ told. omega (arith, before.taken told, part.taken told);
