@@ -13,6 +13,7 @@ use Rattle.command_plans.specs.Answers.{Answer, said}
 use Rattle.pcr_fold.specs.declared.bank.Bank.{Bank}
 use Rattle.pe_reader.specs.declared.fault.FailedCheck.{FailedCheck}
 use Rattle.pe_reader.specs.Grammar.{Headers, pe_of}
+use Rattle.image_build.specs.Building.{Built, build_of, built_answer}
 use Rattle.image_commands.specs.Calculating.{calculate_said, if_given, part_words}
 use Rattle.image_commands.specs.Files.{bytes_at, each, image_at}
 use Rattle.image_commands.specs.Said.{has_loaded, identify_said, image_said, inspect_said, inspection_at, kind_at, kind_of, values_at}
@@ -70,9 +71,13 @@ some_removal : (view : Files) (path : Path) (found : Option (List ℕ)) → 0 < 
 some_removal view path None = some_line (refusals.NotFound (printed_path path))
 some_removal view path (Some bytes) = omega arith
 
+some_built : (view : Files) (measure : Bool) (built : Result Built Refusal) → 0 < length (built_answer view measure built).text
+some_built view measure (Err why) = some_line why
+some_built view measure (Ok built) = omega arith
+
 -- no command's reply is empty: a case for each command
 pub some_text : (view : Files) (c : Command) → 0 < length (answer_of view c).text
-some_text view (command.Build words) = some_line refusals.NotBuilt
+some_text view (command.Build words) = some_built view words.measure (build_of view words)
 some_text view (command.Calculate words) =
     some_said view (calculate_said view words)
     (text_next (each (if_given path_in) (part_words words)) _ (λ paths. text_next (each (if_given (bytes_at view)) paths) _ (λ parts. some_values _ (banks_of words.banks) words.phases)))

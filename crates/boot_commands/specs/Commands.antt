@@ -6,6 +6,7 @@ use Rattle.tool_words.specs.declared.command.Command.TheVariants as command
 use Rattle.command_plans.specs.Answers.{Answer, refusal, said}
 use Rattle.command_plans.specs.Deeds.{Deed, made}
 use Rattle.command_plans.specs.Refusing.{unless_refused}
+use Rattle.image_build.specs.Building.{build_answer}
 use Rattle.image_commands.specs.Calculating.{calculate_said}
 use Rattle.image_commands.specs.Said.{identify_said, image_said, inspect_said}
 use Rattle.boot_commands.specs.Unlinking.{entry_path, unlink_answer}
@@ -16,7 +17,7 @@ abbrev pub not_built : Files → Answer
 not_built view = refusal view refusals.NotBuilt
 
 abbrev pub answer_of : Files → Command → Answer
-answer_of view (command.Build words) = not_built view
+answer_of view (command.Build words) = build_answer view words
 answer_of view (command.Calculate words) = said view (calculate_said view words)
 answer_of view (command.Inspect file) = said view (inspect_said view file)
 answer_of view (command.Image file banks phases) = said view (image_said view file banks phases)

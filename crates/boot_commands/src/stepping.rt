@@ -13,6 +13,7 @@ use crate::unlink::plan_unlink;
 use boot_base::Refusal;
 use boot_machine::Machine;
 use command_plans::{Outcome, Plan, Stop, perform, refused};
+use image_build::plan_build;
 use image_commands::{plan_calculate, plan_identify, plan_image, plan_inspect};
 use std::alloc::Global;
 use tool_words::Command;
@@ -26,6 +27,7 @@ fn plan_of<M: Machine>(alloc: Global, command: &Command, machine: &mut M) -> Res
     ensures counts { CountsStop result (M.counts machine.old) (M.counts machine.new) }
 {
     match command {
+        Command::Build(words) => plan_build(alloc, words, machine),
         Command::Calculate(words) => plan_calculate(alloc, words, machine),
         Command::Inspect { file } => plan_inspect(alloc, file.as_str(), machine),
         Command::Image {
@@ -39,8 +41,7 @@ fn plan_of<M: Machine>(alloc: Global, command: &Command, machine: &mut M) -> Res
         Command::Identify { file } => plan_identify(alloc, file.as_str(), machine),
         Command::Unlink { name, esp } => plan_unlink(alloc, name.as_str(), esp.as_str(), machine),
         Command::Tidy { esp } => plan_tidy(alloc, esp.as_str(), machine),
-        Command::Build(_)
-        | Command::List { .. }
+        Command::List { .. }
         | Command::Boot { .. }
         | Command::Install { .. }
         | Command::Bless { .. }

@@ -50,7 +50,7 @@ contents_read : (files : Reading) (parts : List Part) → map (λ (p : SectionNa
 contents_read files [] = refl
 contents_read files (part ∷ parts) = ap (λ (l : List (List ℕ)). bytes_of files part.pieces.items ∷ l) (contents_read files parts)
 
-lengths_read : (files : Reading) (parts : List Part) → All (IsPieced files) parts → map length (parts_bytes files parts) ≡ map (λ p. p.length) (map any_size parts)
+pub lengths_read : (files : Reading) (parts : List Part) → All (IsPieced files) parts → map length (parts_bytes files parts) ≡ map (λ p. p.length) (map any_size parts)
 lengths_read files [] pieced = refl
 lengths_read files (part ∷ parts) pieced =
     let here = read_length files part (All-head (IsPieced files) part parts pieced) in

@@ -2,6 +2,10 @@ mod Built
 mod Imaged
 mod Listed
 mod Material
+mod Ordered
 mod Pieced
+mod Planning
+mod Printed
 mod Small
+mod Values
 mod Wants

@@ -5,13 +5,14 @@ use Rattle.std.specs.List.{flat_map}
 use Rattle.std.proofs.lemmas.List.{length-replicate}
 use Rattle.std.proofs.lemmas.List.Elements.{All-append, All-cons, All-head, All-nil, All-tail}
 use Rattle.boot_machine.specs.Disk.{Files}
+use Rattle.uki_parts.specs.declared.kind.PartKind.{PartKind}
 use Rattle.uki_parts.specs.declared.name.SectionName.{SectionName}
 use Rattle.uki_parts.specs.declared.piece.Piece.{Piece}
 use Rattle.uki_parts.specs.declared.piece.Piece.TheVariants as pieces
 use Rattle.uki_parts.specs.Initrds.{joined_bytes, joined_initrds, padded_piece, padding_of}
 use Rattle.uki_parts.specs.Pieces.{HasSizes, Reading, bytes_of, piece_bytes, piece_length}
 use Rattle.image_build.specs.declared.source.Source.{Source}
-use Rattle.image_build.specs.Building.{part_bytes, source_bytes}
+use Rattle.image_build.specs.Building.{named_part, part_bytes, source_bytes}
 use Rattle.image_commands.specs.Files.{each}
 use Rattle.command_plans.specs.Refusing.{◌>>=◌}
 
@@ -37,8 +38,8 @@ joined_sizes files (only ∷ []) pieces is sizes = subst (HasSizes files) (sym i
 joined_sizes files (first ∷ second ∷ more) pieces is sizes = subst (HasSizes files) (sym is) (padded_sizes files (first ∷ second ∷ more) sizes)
 
 -- the bytes of a part
-pub part_is : (view : Files) (files : Reading) (name : SectionName) (sources : List Source) (initrds pieces : List Piece) → each (source_bytes view) sources ≡ Ok (map (piece_bytes files) initrds)
-    → pieces ≡ joined_initrds initrds → bytes_of files (joined_initrds initrds) ≡ joined_bytes (map (piece_bytes files) initrds) → part_bytes view (name, sources) ≡ Ok (name, bytes_of files pieces)
-part_is view files name sources initrds pieces found is joined =
+pub part_is : (view : Files) (files : Reading) (kind : PartKind) (name : SectionName) (sources : List Source) (initrds pieces : List Piece) → each (source_bytes view) sources ≡ Ok (map (piece_bytes files) initrds)
+    → pieces ≡ joined_initrds initrds → bytes_of files (joined_initrds initrds) ≡ joined_bytes (map (piece_bytes files) initrds) → part_bytes view (named_part kind name sources) ≡ Ok (name, bytes_of files pieces)
+part_is view files kind name sources initrds pieces found is joined =
     ap (λ r. r >>= λ bytes. Ok (name, joined_bytes bytes)) found
     ∙ ap (λ (bytes : List ℕ). Ok (name, bytes)) (sym joined ∙ ap (bytes_of files) (sym is))

@@ -12,33 +12,33 @@ use Rattle.uki_parts.specs.declared.kind.PartKind.{PartKind}
 use Rattle.uki_parts.specs.declared.name.SectionName.{SectionName}
 use Rattle.image_build.specs.declared.source.PartSources.{PartSources}
 use Rattle.image_build.specs.declared.source.Source.{Source}
-use Rattle.image_build.specs.Building.{Wanted, extra, given_once, part_named, source_of, sources_of, wanted, with_parts}
+use Rattle.image_build.specs.Building.{NamedPart, Wanted, extra, given_once, named_part, part_named, source_of, sources_of, wanted, with_parts}
 use Rattle.image_commands.specs.Files.{each}
 use Rattle.image_commands.proofs.Each.{each_append, each_map, each_one, each_one_declined}
 
 abbrev Found : Type 0
-Found = List (SectionName × List Source)
+Found = List NamedPart
 
 pub with_none : (made : Found) → with_parts made [] ≡ Ok made
 unfolding each
 with_none made = ap Ok (append-nil made)
 
 -- one more
-pub with_one : (part : Wanted) (sources : List Source) (made more : Found) → each source_of part.sources ≡ Ok sources → more ≡ made ++ (part.name, sources) ∷ [] → with_parts made (part ∷ []) ≡ Ok more
+pub with_one : (part : Wanted) (sources : List Source) (made more : Found) → each source_of part.sources ≡ Ok sources → more ≡ made ++ named_part part.kind part.name sources ∷ [] → with_parts made (part ∷ []) ≡ Ok more
 unfolding each
 with_one part sources made more found is =
-    ap (λ r. ((r >>= λ l. Ok (part.name, l)) >>= λ y. Ok (y ∷ [])) >>= λ l. Ok (made ++ l)) found ∙ ap Ok (sym is)
+    ap (λ r. ((r >>= λ l. Ok (named_part part.kind part.name l)) >>= λ y. Ok (y ∷ [])) >>= λ l. Ok (made ++ l)) found ∙ ap Ok (sym is)
 
 pub with_one_declined : (declined : Declined) (part : Wanted) (made : Found) → DeclinedFor declined (each source_of part.sources) → DeclinedFor declined (with_parts made (part ∷ []))
 unfolding each
 with_one_declined Memory part made why = tt
-with_one_declined (Refused refusal) part made why = ap (λ r. ((r >>= λ l. Ok (part.name, l)) >>= λ y. Ok (y ∷ [])) >>= λ l. Ok (made ++ l)) why
+with_one_declined (Refused refusal) part made why = ap (λ r. ((r >>= λ l. Ok (named_part part.kind part.name l)) >>= λ y. Ok (y ∷ [])) >>= λ l. Ok (made ++ l)) why
 
 -- a part that is given once
 pub with_absent : (kind : PartKind) (name : List ℕ) (given : Option Given) (made : Found) → given ≡ None → with_parts made (wanted kind name (given_once given)) ≡ Ok made
 with_absent kind name given made is = ap (λ (g : Option Given). with_parts made (wanted kind name (given_once g))) is ∙ with_none made
 
-pub with_given : (kind : PartKind) (name : List ℕ) (given : Option Given) (one : Given) (source : Source) (made more : Found) → given ≡ Some one → source_of one ≡ Ok source → more ≡ made ++ (named name, source ∷ []) ∷ []
+pub with_given : (kind : PartKind) (name : List ℕ) (given : Option Given) (one : Given) (source : Source) (made more : Found) → given ≡ Some one → source_of one ≡ Ok source → more ≡ made ++ named_part kind (named name) (source ∷ []) ∷ []
     → with_parts made (wanted kind name (given_once given)) ≡ Ok more
 with_given kind name given one source made more is found all =
     ap (λ (g : Option Given). with_parts made (wanted kind name (given_once g))) is
@@ -56,7 +56,7 @@ with_no_files kind name [] made none = with_none made
 with_no_files kind name (word ∷ words) made none = absurd (omega (arith, none))
 
 pub with_files : (kind : PartKind) (name : List ℕ) (words : List (List ℕ)) (sources : List Source) (made more : Found) → 0 < length words → each (λ word. source_of (File word)) words ≡ Ok sources
-    → more ≡ made ++ (named name, sources) ∷ [] → with_parts made (wanted kind name (map File words)) ≡ Ok more
+    → more ≡ made ++ named_part kind (named name) sources ∷ [] → with_parts made (wanted kind name (map File words)) ≡ Ok more
 with_files kind name [] sources made more some found all = absurd (omega (arith, some))
 with_files kind name (word ∷ words) sources made more some found all =
     with_one (record { kind = kind; name = named name; sources = map File (word ∷ words) }) sources made more (each_map source_of File (word ∷ words) ∙ found) all
@@ -69,9 +69,9 @@ with_files_declined declined kind name (word ∷ words) made some why =
     (subst (DeclinedFor declined) (sym (each_map source_of File (word ∷ words))) why)
 
 -- a part that is put behind the others
-pub part_put : (old new : List PartSources) (part : PartSources) (sources : List Source) → new ≡ old ++ part ∷ [] → part.sources.items ≡ sources → map part_named new ≡ map part_named old ++ (part.name, sources) ∷ []
+pub part_put : (old new : List PartSources) (part : PartSources) (sources : List Source) → new ≡ old ++ part ∷ [] → part.sources.items ≡ sources → map part_named new ≡ map part_named old ++ named_part part.kind part.name sources ∷ []
 part_put old new part sources is are =
-    ap (map part_named) is ∙ map-append part_named old (part ∷ []) ∙ ap (λ (l : List Source). map part_named old ++ (part.name, l) ∷ []) are
+    ap (map part_named) is ∙ map-append part_named old (part ∷ []) ∙ ap (λ (l : List Source). map part_named old ++ named_part part.kind part.name l ∷ []) are
 
 -- more that are wanted
 more_found : (made more : Found) (r s : Result Found Refusal) → (r >>= λ l. Ok (made ++ l)) ≡ Ok more → ((r >>= λ a. s >>= λ b. Ok (a ++ b)) >>= λ l. Ok (made ++ l)) ≡ (s >>= λ l. Ok (more ++ l))

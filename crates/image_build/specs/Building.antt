@@ -1,6 +1,9 @@
 -- What the words of `ukify build` name, and the image of a stub and parts (ukify(1); UAPI Unified Kernel Image).
 use Rattle.std.specs.Prelude.{ℕ, ◌+◌, ◌==◌, Bool, not, List, [], ◌∷◌, ◌++◌, codes, length, map, filter, take, drop, position, nat_lt, Option, Some, None, Result, Ok, Err, if◌then◌else◌}
 use Rattle.std.specs.Option.{option_map}
+use Rattle.std.specs.FinMap.{insert}
+use Rattle.std.specs.List.{flat_map}
+use Rattle.std.specs.Fmt.{decimal}
 use Rattle.boot_base.specs.Paths.{Path}
 use Rattle.boot_base.specs.declared.refusal.Refusal.{Refusal}
 use Rattle.boot_base.specs.declared.refusal.Refusal.TheVariants as refusals
@@ -25,6 +28,7 @@ use Rattle.tool_words.specs.declared.command.BuildWords.{BuildWords}
 use Rattle.tool_words.specs.declared.command.Given.{Given}
 use Rattle.tool_words.specs.declared.command.Given.TheVariants.{Inline, File}
 use Rattle.tool_words.specs.Meaning.{given}
+use Rattle.command_plans.specs.Answers.{Answer, done, refusal}
 use Rattle.command_plans.specs.Refusing.{◌>>=◌, path_in, printed_path}
 use Rattle.image_build.specs.declared.source.Source.{Source}
 use Rattle.image_build.specs.declared.source.PartSources.{PartSources}
@@ -32,6 +36,10 @@ use Rattle.image_build.specs.declared.source.BuildSources.{BuildSources}
 use Rattle.image_build.specs.declared.source.Source.TheVariants as sources
 use Rattle.image_commands.specs.Calculating.{if_given}
 use Rattle.image_commands.specs.Files.{bytes_at, each, headers_or}
+use Rattle.image_commands.specs.Said.{shown_byte}
+use Rattle.image_commands.specs.Values.{all_banks, value_lines}
+use Rattle.boot_phases.specs.Phases.{default_phase_paths}
+use Rattle.stub_replay.specs.Measured.{stub_pcr}
 
 -- A value of `--section=`: a section's name, and behind the first colon a text, or `@` and the path of a file. Without a
 -- colon, or where no section has that name, it is refused.
@@ -86,11 +94,20 @@ abbrev pub source_of : Given → Result Source Refusal
 source_of (Inline text) = Ok (sources.Said text)
 source_of (File word) = path_in word >>= λ path. Ok (sources.At path)
 
-abbrev pub sources_of : Wanted → Result (SectionName × List Source) Refusal
-sources_of part = each source_of part.sources >>= λ found. Ok (part.name, found)
+-- a part whose files and texts are known
+pub record NamedPart : Type 0 where
+  pub kind : PartKind
+  pub name : SectionName
+  pub sources : List Source
+
+abbrev pub named_part : PartKind → SectionName → List Source → NamedPart
+named_part kind name sources = record { kind = kind; name = name; sources = sources }
+
+abbrev pub sources_of : Wanted → Result NamedPart Refusal
+sources_of part = each source_of part.sources >>= λ found. Ok (named_part part.kind part.name found)
 
 -- the parts that are there, and behind them those that are wanted
-abbrev pub with_parts : List (SectionName × List Source) → List Wanted → Result (List (SectionName × List Source)) Refusal
+abbrev pub with_parts : List NamedPart → List Wanted → Result (List NamedPart) Refusal
 with_parts made wants = each sources_of wants >>= λ more. Ok (made ++ more)
 
 -- the bytes of a source on a view
@@ -99,13 +116,13 @@ source_bytes view (sources.Said text) = Ok text
 source_bytes view (sources.At path) = bytes_at view path
 
 -- the bytes of a part: of several sources, which only initrds have, each is filled up to a multiple of four bytes
-abbrev pub part_bytes : Files → SectionName × List Source → Result (SectionName × List ℕ) Refusal
-part_bytes view part = each (source_bytes view) part.1 >>= λ bytes. Ok (part.0, joined_bytes bytes)
+abbrev pub part_bytes : Files → NamedPart → Result (SectionName × List ℕ) Refusal
+part_bytes view part = each (source_bytes view) part.sources >>= λ bytes. Ok (part.name, joined_bytes bytes)
 
 -- the first refusal of a builder; an image that is too large is told by its path
 abbrev pub builder_refusal : Path → PlanFault → Refusal
 builder_refusal output faults.SignedStub = refusals.SignedStub
-builder_refusal output (faults.SectionTwice name) = refusals.SectionTwice (name_bytes name)
+builder_refusal output (faults.SectionTwice name) = refusals.SectionTwice (flat_map shown_byte (name_bytes name))
 builder_refusal output (faults.SbatDoesNotFit length room) = refusals.SbatDoesNotFit length room
 builder_refusal output (faults.NoHeaderSpace need have) = refusals.NoHeaderSpace need have
 builder_refusal output (faults.AddressSpace end) = refusals.AddressSpace end
@@ -147,7 +164,7 @@ with_sbat_text output headers stub parts kernel (byte ∷ text) =
 pub record Named : Type 0 where
   pub stub : Path
   pub linux : Path
-  pub parts : List (SectionName × List Source)
+  pub parts : List NamedPart
   pub sbat : Option Source
   pub output : Path
 
@@ -206,8 +223,36 @@ abbrev pub material_of : Files → Named → Result Material Refusal
 material_of view named = contents_of view named >>= material
 
 -- what was found in the words
-abbrev pub part_named : PartSources → SectionName × List Source
-part_named part = (part.name, part.sources.items)
+abbrev pub part_named : PartSources → NamedPart
+part_named part = named_part part.kind part.name part.sources.items
 
 abbrev pub named_as : BuildSources → Named
 named_as found = record { stub = found.stub; linux = found.linux; parts = map part_named found.parts.items; sbat = found.sbat; output = found.output }
+
+-- the image that is built of these, and where it is to stand
+abbrev pub image_of : Path → Material → Result Built Refusal
+image_of output m = with_sbat_text output m.headers m.stub m.parts m.linux m.sbat
+
+-- `ukify build`: what its words name is found and read, and the image is built of it
+abbrev pub build_of : Files → BuildWords → Result Built Refusal
+build_of view words = named_of words >>= λ named. material_of view named >>= image_of named.output
+
+-- the path of the image and its number of bytes
+abbrev pub built_line : Path → ℕ → List ℕ
+built_line output size = codes "built " ++ (printed_path output ++ (codes ", " ++ (decimal size ++ codes " bytes\n")))
+
+-- what a stub that measures an image comes to, in all banks and after the usual phase paths, where it is asked for
+abbrev pub asked_values : Bool → List ℕ → List ℕ
+asked_values measure image = if measure then value_lines (stub_pcr image) all_banks default_phase_paths else []
+
+-- what is said of a finished image
+abbrev pub built_text : Bool → Built → List ℕ
+built_text measure built = built_line built.output (length built.image) ++ asked_values measure built.image
+
+-- the image stands at its path afterwards
+abbrev pub built_answer : Files → Bool → Result Built Refusal → Answer
+built_answer view measure (Err why) = refusal view why
+built_answer view measure (Ok built) = done (insert view built.output built.image) (built_text measure built)
+
+abbrev pub build_answer : Files → BuildWords → Answer
+build_answer view words = built_answer view words.measure (build_of view words)

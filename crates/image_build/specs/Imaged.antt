@@ -1,5 +1,5 @@
 -- The plan of an image that is built of parts whose files are read.
-use Rattle.std.specs.Prelude.{◌≡◌, ℕ, ◌≤◌, ◌==◌, ◌^◌, Bool, not, List, ◌∷◌, [], codes, length, map, All, sum_by, Option, Some, Result, Ok, Err}
+use Rattle.std.specs.Prelude.{◌≡◌, ℕ, ◌≤◌, ◌<◌, ◌-◌, ◌==◌, ◌^◌, Bool, not, List, ◌∷◌, [], codes, length, map, min, All, sum_by, option_map, Option, Some, Result, Ok, Err}
 use Rattle.std.specs.List.Sorted.{IsNonDecreasingBy}
 use Rattle.boot_base.specs.Paths.{Path}
 use Rattle.boot_base.specs.declared.refusal.Refusal.{Refusal}
@@ -12,11 +12,11 @@ use Rattle.uki_parts.specs.declared.part.Part.{Part}
 use Rattle.uki_parts.specs.declared.piece.Piece.TheVariants as pieces
 use Rattle.uki_parts.specs.Names.{named}
 use Rattle.uki_parts.specs.Parts.{part_place}
-use Rattle.uki_parts.specs.Pieces.{Reading, bytes_of}
+use Rattle.uki_parts.specs.Pieces.{HasSizes, Reading, bytes_of, total_length}
 use Rattle.pe_builder.specs.declared.fault.PlanFault.{PlanFault}
 use Rattle.pe_builder.specs.declared.fault.PlanFault.TheVariants as faults
 use Rattle.pe_builder.specs.declared.size.WideSize.{WideSize}
-use Rattle.pe_builder.specs.Planned.{Plans}
+use Rattle.pe_builder.specs.Planned.{Plans, given}
 use Rattle.pe_builder.specs.Refusals.{first_refusal, wide}
 use Rattle.pe_builder.specs.Replaced.{sbat_name}
 use Rattle.pe_builder.specs.Sizes.{size_of}
@@ -41,6 +41,20 @@ pub record IsSbatPart (part : Part) (text : List ℕ) : Type 0 where
 
 -- What an image is made of besides its stub and the SBAT text: parts that are appended before that text, in append
 -- order, and the kernel.
+pub record AreOrdered (parts : List Part) (linux : Part) : Type 0 where
+  pub order : IsNonDecreasingBy part_place parts
+  pub early : All (λ part. part_place part ≤ 8) parts
+  pub kind : linux.kind ≡ kinds.Linux
+  pub name : linux.name ≡ named (codes ".linux")
+  pub small : linux.length ≤ 268435456
+
+-- the numbers of an image hold so many parts and bytes
+pub record IsCountable (parts : List Part) (sbat : List ℕ) : Type 0 where
+  pub few : length parts ≤ 16777000
+  pub total : sum_by (λ part. part.length) parts ≤ 2 ^ 61
+  pub text : length sbat < 2 ^ 32
+
+-- both
 pub record AreParts (parts : List Part) (linux : Part) : Type 0 where
   pub order : IsNonDecreasingBy part_place parts
   pub early : All (λ part. part_place part ≤ 8) parts
@@ -56,6 +70,18 @@ pub record AreRead (view : Files) (headers : Headers) (stub_length : ℕ) (stub 
   pub length_is : length (contents view stub) ≡ stub_length
   pub reads : pe_of (contents view stub) ≡ Ok headers
   pub pieced : All (IsPieced (contents view)) parts
+  pub linux_pieced : IsPieced (contents view) linux
+
+-- the pieces of a part have the sizes that they say, which together are the part's, or the highest number of 64 bits
+pub record IsSized (files : Reading) (part : Part) : Type 0 where
+  pub sizes : HasSizes files part.pieces.items
+  pub total : part.length ≡ min (total_length part.pieces.items) (2 ^ 64 - 1)
+
+-- the same of parts of which nothing more is known
+pub record AreFound (view : Files) (headers : Headers) (stub_length : ℕ) (stub : Path) (parts : List Part) (linux : Part) : Type 0 where
+  pub length_is : length (contents view stub) ≡ stub_length
+  pub reads : pe_of (contents view stub) ≡ Ok headers
+  pub sized : All (IsSized (contents view)) parts
   pub linux_pieced : IsPieced (contents view) linux
 
 -- a part's name, and its bytes in these files
@@ -88,3 +114,10 @@ abbrev pub PlansParts : Headers → ℕ → Path → List Part → Option ℕ �
 PlansParts headers stub_length stub parts in_place sbat (Ok image) = IsPlanOf image headers stub_length stub parts in_place sbat
 PlansParts headers stub_length stub parts in_place sbat (Err faults.Memory) = Unit {0}
 PlansParts headers stub_length stub parts in_place sbat (Err fault) = first_refusal headers stub_length (map any_size parts) in_place ≡ Some fault
+
+-- the plan is that of its own sources, with this stub
+pub record IsOwnPlan (image : ImagePlan) (headers : Headers) (stub_length : ℕ) (stub : Path) : Type 0 where
+  pub in_place : Option ℕ
+  pub plans : Plans image.plan headers stub_length (map any_size (part_list image.sources)) in_place
+  pub stub_is : stub_path image.sources ≡ stub
+  pub sbat_length : option_map length (given in_place (new_sbat image.sources)) ≡ in_place

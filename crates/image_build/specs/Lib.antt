@@ -1,3 +1,5 @@
 pub mod Building
 pub mod Imaged
+pub mod Laws
+pub mod Planning
 pub mod Reads

@@ -1,5 +1,5 @@
 //! The plan of an image that is built of a stub and parts, before any of their bytes are copied.
-ghost use Rattle.std.specs.Prelude.{◌≡◌, ◌≤◌, ◌<◌, ◌^◌, All, IfOk, filter, length, map, sum_by};
+ghost use Rattle.std.specs.Prelude.{◌≡◌, ◌≤◌, ◌<◌, ◌^◌, All, IfOk, filter, length, map, sum_by, true};
 ghost use Rattle.std.specs.List.Sorted.{IsNonDecreasingBy};
 ghost use Rattle.boot_machine.specs.Disk.{Files};
 ghost use Rattle.pe_reader.specs.Reads.{ReadFrom, headers_of};
@@ -7,7 +7,7 @@ ghost use Rattle.pe_builder.specs.Replaced.{MayReplace};
 ghost use Rattle.pe_builder.specs.Sizes.{size_of};
 ghost use Rattle.uki_parts.specs.Parts.{part_place};
 ghost use Rattle.image_build.specs.Building.{has_sbat};
-ghost use Rattle.image_build.specs.Imaged.{AreParts, AreRead, Images, IsSbatPart, PlansParts, any_size, image_meant, is_filled};
+ghost use Rattle.image_build.specs.Imaged.{AreFound, AreOrdered, AreParts, AreRead, IsCountable, IsOwnPlan, Images, IsSbatPart, PlansParts, any_size, image_meant, is_filled};
 
 use boot_base::{BootPath, Bytes};
 use image_writer::Sources;
@@ -128,15 +128,23 @@ fn sbat_part(alloc: Global, text: Vec<u8>) -> Result<Part, AllocError>
     })
 }
 
-/// The plan of an image of the stub at a path, which has these headers and this length, of parts in append order, a
-/// kernel and an SBAT text. Parts without bytes are left out. An SBAT text that isn't empty takes the place of the
-/// stub's, or becomes a part before the kernel where the stub has none.
-///
-/// # Errors
-///
-/// The first refusal of the builder, as `plan_refusal` has it, exactly where there is one; `Memory` where there is no
-/// memory for the plan.
-pub fn plan_image_of(
+// Whether the numbers of an image can hold so many parts and bytes. They do of every command, whose words and files are
+// short enough.
+fn is_countable(parts: &[Part], sbat: &[u8]) -> bool
+    ensures { result ≡ true → IsCountable parts.now sbat.now }
+{
+    let mut room = 1u64 << 61;
+    for part in parts {
+        if room < part.length {
+            return false;
+        }
+        room -= part.length;
+    }
+    parts.len() <= 16_777_000 && sbat.len() < 1 << 32
+}
+
+// The plan of an image of these, with its numbers.
+fn counted_plan(
     alloc: Global,
     head: &Pe,
     stub_length: u32,
@@ -149,8 +157,9 @@ pub fn plan_image_of(
     requires small { stub_length ≤ 268435456 }
     requires parts { AreParts parts.items linux }
     requires sbat { length sbat.items < 2 ^ 32 }
-    ensures { (view : Files) → AreRead view (headers_of head.now) stub_length stub parts.items linux
+    ensures images { (view : Files) → AreRead view (headers_of head.now) stub_length stub parts.items linux
         → Images view (image_meant view (headers_of head.now) stub parts.items linux sbat.items) result }
+    ensures own { IfOk result (λ image. IsOwnPlan image (headers_of head.now) stub_length stub) }
 {
     let mut list = listed(alloc, parts)?;
     if sbat.is_empty() {
@@ -165,4 +174,34 @@ pub fn plan_image_of(
     list.add(sbat_part(alloc, sbat)?)?;
     list.add(linux)?;
     planned(alloc, head, stub_length, stub, list, None, Vec::new(alloc))
+}
+
+/// The plan of an image of the stub at a path, which has these headers and this length, of parts in append order, a
+/// kernel and an SBAT text. Parts without bytes are left out. An SBAT text that isn't empty takes the place of the
+/// stub's, or becomes a part before the kernel where the stub has none.
+///
+/// # Errors
+///
+/// The first refusal of the builder, as `plan_refusal` has it, exactly where there is one; `Memory` where there is no
+/// memory for the plan, or for so many parts and bytes as no command has.
+pub fn plan_image_of(
+    alloc: Global,
+    head: &Pe,
+    stub_length: u32,
+    stub: BootPath,
+    parts: Vec<Part>,
+    linux: Part,
+    sbat: Vec<u8>,
+) -> Result<ImagePlan, PlanFault>
+    requires read { ReadFrom head.now stub_length }
+    requires small { stub_length ≤ 268435456 }
+    requires parts { AreOrdered parts.items linux }
+    ensures images { (view : Files) → AreFound view (headers_of head.now) stub_length stub parts.items linux
+        → Images view (image_meant view (headers_of head.now) stub parts.items linux sbat.items) result }
+    ensures own { IfOk result (λ image. IsOwnPlan image (headers_of head.now) stub_length stub) }
+{
+    if !is_countable(&parts, &sbat) {
+        return Err(PlanFault::Memory);
+    }
+    counted_plan(alloc, head, stub_length, stub, parts, linux, sbat)
 }

@@ -5,7 +5,7 @@ ghost use Rattle.command_plans.specs.Refusing.{Means};
 ghost use Rattle.tool_words.specs.declared.command.Given.TheVariants.{Inline, File};
 ghost use Rattle.uki_parts.specs.declared.kind.PartKind.TheVariants as kinds;
 ghost use Rattle.uki_parts.specs.Names.{fixed_name, named, read_name};
-ghost use Rattle.image_build.specs.Building.{clean, extra, given_once, named_as, named_of, part_named, section_name, section_of, source_of, sources_of, wanted, wanted_parts, with_parts};
+ghost use Rattle.image_build.specs.Building.{clean, extra, given_once, named_as, named_of, named_part, part_named, section_name, section_of, source_of, sources_of, wanted, wanted_parts, with_parts};
 ghost use Rattle.image_commands.specs.Calculating.{if_given};
 ghost use Rattle.image_commands.specs.Files.{each};
 
@@ -109,7 +109,7 @@ fn push_fixed(
 ) -> Result<(), AllocError>
     requires { IsTrue (is_some (fixed_name kind)) }
     ensures { OnOk result ((name : List ℕ) → fixed_name kind ≡ Some (named name)
-        → map part_named parts.new.items ≡ map part_named parts.old.items ++ (named name, sources.items) ∷ []) }
+        → map part_named parts.new.items ≡ map part_named parts.old.items ++ named_part kind (named name) sources.items ∷ []) }
 {
     let name = SectionName::of(kind).unwrap();
     push(
@@ -131,7 +131,7 @@ fn push_one(
 ) -> Result<(), AllocError>
     requires { IsTrue (is_some (fixed_name kind)) }
     ensures { OnOk result ((name : List ℕ) → fixed_name kind ≡ Some (named name)
-        → map part_named parts.new.items ≡ map part_named parts.old.items ++ (named name, source ∷ []) ∷ []) }
+        → map part_named parts.new.items ≡ map part_named parts.old.items ++ named_part kind (named name) (source ∷ []) ∷ []) }
 {
     let sources = one_source(alloc, source)?;
     push_fixed(kind, sources, parts)

@@ -1,49 +1,20 @@
-use Rattle.std.proofs.Common.{◌∙◌, sym, arith}
+use Rattle.std.proofs.Common.{ℕ, List, subst}
 use Rattle.pe_reader.specs.Reads.{headers_of}
-use Rattle.image_build.proofs.Listed.{linux_added, linux_counted, text_added, text_counted}
-use Rattle.image_build.proofs.Imaged.{images_without, images_in_place, images_as_part, is_none, is_some}
+use Rattle.uki_parts.specs.declared.part.Part.{Part}
+use Rattle.image_build.specs.Imaged.{IsCountable}
+use Rattle.image_build.proofs.Planning.{found_read, parts_counted}
 use Rattle.image_build.proofs.build_plan.plan_image_of.Goals as goal
 
-pub planned-requires-clause-few : goal.planned-requires-clause-few
-planned-requires-clause-few c = (linux_counted c.args.parts.items c.in_ok-list.list c.add.new.self c.args.linux c.requires.parts c.in_ok-list.ensures c.in_ok-add.ensures.ok).few
+pub counted_plan-requires-clause-parts : goal.counted_plan-requires-clause-parts
+counted_plan-requires-clause-parts c =
+    parts_counted c.args.parts.items c.args.linux c.deref-2.result.now c.requires.parts
+    (subst (λ (l : List Part). IsCountable l c.deref-2.result.now) c.deref.ensures.value (c.is_countable.ensures c.if-not-is_countable.false))
 
-pub planned-requires-clause-total : goal.planned-requires-clause-total
-planned-requires-clause-total c = (linux_counted c.args.parts.items c.in_ok-list.list c.add.new.self c.args.linux c.requires.parts c.in_ok-list.ensures c.in_ok-add.ensures.ok).total
+pub counted_plan-requires-clause-sbat : goal.counted_plan-requires-clause-sbat
+counted_plan-requires-clause-sbat c = (subst (λ (l : List ℕ). IsCountable c.deref.result.now l) c.deref-2.ensures.value (c.is_countable.ensures c.if-not-is_countable.false)).text
 
-pub returns-then-is_empty : goal.returns-then-is_empty
-returns-then-is_empty c view read =
-    images_without view (headers_of c.args.head.now) c.args.stub_length c.args.stub c.args.parts.items c.add.new.self c.args.linux c.args.sbat.items c.planned.result c.requires.parts
-    (linux_added c.args.parts.items c.in_ok-list.list c.add.new.self c.args.linux c.requires.parts c.in_ok-list.ensures c.in_ok-add.ensures.ok)
-    (omega (arith, c.args.sbat.ok.0, is_none c.is_empty.result c.args.sbat.len c.is_empty.ensures c.if-is_empty.true)) c.planned.ensures read
-
-pub planned-requires-then-has_sbat-clause-few : goal.planned-requires-then-has_sbat-clause-few
-planned-requires-then-has_sbat-clause-few c =
-    (linux_counted c.args.parts.items c.in_ok-list.list c.add-then-has_sbat.new.self c.args.linux c.requires.parts c.in_ok-list.ensures c.in_ok-add-2.ensures.ok).few
-
-pub planned-requires-then-has_sbat-clause-total : goal.planned-requires-then-has_sbat-clause-total
-planned-requires-then-has_sbat-clause-total c =
-    (linux_counted c.args.parts.items c.in_ok-list.list c.add-then-has_sbat.new.self c.args.linux c.requires.parts c.in_ok-list.ensures c.in_ok-add-2.ensures.ok).total
-
-pub returns-then-has_sbat : goal.returns-then-has_sbat
-returns-then-has_sbat c view read =
-    images_in_place view (headers_of c.args.head.now) c.args.stub_length c.args.stub c.args.parts.items c.add-then-has_sbat.new.self c.args.linux c.args.sbat.items c.len-length.result c.planned-then-has_sbat.result c.requires.parts
-    (linux_added c.args.parts.items c.in_ok-list.list c.add-then-has_sbat.new.self c.args.linux c.requires.parts c.in_ok-list.ensures c.in_ok-add-2.ensures.ok)
-    (omega (arith, c.args.sbat.ok.0, is_some c.is_empty.result c.args.sbat.len c.is_empty.ensures c.if-is_empty.false)) (sym c.has_sbat.ensures ∙ c.if-has_sbat.true) (omega (arith, c.args.sbat.ok.0, c.len-length.ensures)) c.planned-then-has_sbat.ensures read
-
-pub planned-requires-2-clause-few : goal.planned-requires-2-clause-few
-planned-requires-2-clause-few c =
-    (text_counted c.args.parts.items c.in_ok-list.list c.add-2.new.self c.add-3.new.self c.args.linux c.in_ok-sbat_part.field-0 c.args.sbat.items c.requires.parts c.in_ok-sbat_part.ensures c.requires.sbat c.in_ok-list.ensures
-    c.in_ok-add-3.ensures.ok c.in_ok-add-4.ensures.ok).few
-
-pub planned-requires-2-clause-total : goal.planned-requires-2-clause-total
-planned-requires-2-clause-total c =
-    (text_counted c.args.parts.items c.in_ok-list.list c.add-2.new.self c.add-3.new.self c.args.linux c.in_ok-sbat_part.field-0 c.args.sbat.items c.requires.parts c.in_ok-sbat_part.ensures c.requires.sbat c.in_ok-list.ensures
-    c.in_ok-add-3.ensures.ok c.in_ok-add-4.ensures.ok).total
-
-pub returns : goal.returns
-returns c view read =
-    images_as_part view (headers_of c.args.head.now) c.args.stub_length c.args.stub c.args.parts.items c.add-3.new.self c.args.linux c.in_ok-sbat_part.field-0 c.args.sbat.items c.new.result.items c.planned-2.result
-    c.requires.parts c.in_ok-sbat_part.ensures
-    (text_added c.args.parts.items c.in_ok-list.list c.add-2.new.self c.add-3.new.self c.args.linux c.in_ok-sbat_part.field-0 c.args.sbat.items c.requires.parts c.in_ok-sbat_part.ensures c.in_ok-list.ensures
-    c.in_ok-add-3.ensures.ok c.in_ok-add-4.ensures.ok)
-    (omega (arith, c.args.sbat.ok.0, is_some c.is_empty.result c.args.sbat.len c.is_empty.ensures c.if-is_empty.false)) (sym c.has_sbat.ensures ∙ c.if-has_sbat.false) c.planned-2.ensures read
+pub returns-clause-images : goal.returns-clause-images
+returns-clause-images c view found =
+    c.counted_plan.ensures.images view
+    (found_read view (headers_of c.args.head.now) c.args.stub_length c.args.stub c.args.parts.items c.args.linux c.deref-2.result.now
+    (subst (λ (l : List Part). IsCountable l c.deref-2.result.now) c.deref.ensures.value (c.is_countable.ensures c.if-not-is_countable.false)) found)

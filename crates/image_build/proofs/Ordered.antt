@@ -1,0 +1,144 @@
+-- The parts that words name stand in append order.
+use Rattle.std.proofs.Common.{◌≡◌, ◌<◌, ◌≤◌, ℕ, List, [], ◌∷◌, ◌++◌, Result, Ok, refl, sym, ap, ◌∙◌, subst, zero, suc, map, get_or, length, arith}
+use Rattle.std.specs.List.{AllZip}
+use Rattle.std.specs.List.Sorted.{IsNonDecreasingBy}
+use Rattle.std.specs.Prelude.{All, codes}
+use Rattle.std.specs.Option.{option_map}
+use Rattle.std.proofs.lemmas.List.{map-append}
+use Rattle.std.proofs.lemmas.List.Elements.{All-cons, All-nil}
+use Rattle.boot_base.specs.declared.refusal.Refusal.{Refusal}
+use Rattle.command_plans.specs.Refusing.{path_in}
+use Rattle.image_commands.proofs.Each.{bind_ok, each_cut, none_made}
+use Rattle.image_commands.specs.Calculating.{if_given}
+use Rattle.image_commands.specs.Files.{each}
+use Rattle.tool_words.specs.declared.command.BuildWords.{BuildWords}
+use Rattle.tool_words.specs.declared.command.Given.{Given}
+use Rattle.tool_words.specs.declared.command.Given.TheVariants.{File, Inline}
+use Rattle.uki_parts.specs.Kinds.{append_place}
+use Rattle.uki_parts.specs.Parts.{part_place}
+use Rattle.uki_parts.specs.declared.kind.PartKind.{PartKind}
+use Rattle.uki_parts.specs.declared.kind.PartKind.TheVariants as kinds
+use Rattle.uki_parts.specs.declared.name.SectionName.{SectionName}
+use Rattle.uki_parts.specs.declared.part.Part.{Part}
+use Rattle.image_build.specs.Building.{Named, NamedPart, Wanted, clean, extra, given_once, named_as, named_of, named_part, part_named, section_of, source_of, sources_of, wanted, wanted_parts}
+use Rattle.image_build.specs.Reads.{PartFrom}
+use Rattle.image_build.specs.declared.source.BuildSources.{BuildSources}
+use Rattle.image_build.specs.declared.source.PartSources.{PartSources}
+
+-- numbers that rise from a low one to a high one
+abbrev pub Rises : ℕ → List ℕ → ℕ → Type 0
+Rises low [] high = low ≤ high
+Rises low (x ∷ xs) high = (low ≤ x) × Rises x xs high
+
+lower : (low middle high : ℕ) (xs : List ℕ) → low ≤ middle → Rises middle xs high → Rises low xs high
+lower low middle high [] below rises = omega (arith, below, rises)
+lower low middle high (x ∷ xs) below rises = (omega (arith, below, rises.0), rises.1)
+
+joined : (low middle high : ℕ) (xs ys : List ℕ) → Rises low xs middle → Rises middle ys high → Rises low (xs ++ ys) high
+joined low middle high [] ys one two = lower low middle high ys one two
+joined low middle high (x ∷ xs) ys one two = (one.0, joined x middle high xs ys one.1 two)
+
+ends : (low high : ℕ) (xs : List ℕ) → Rises low xs high → low ≤ high
+ends low high [] rises = rises
+ends low high (x ∷ xs) rises = omega (arith, rises.0, ends x high xs rises.1)
+
+at_least : {X : Type 0} (n : X → ℕ) (xs : List X) (low high : ℕ) → Rises low (map n xs) high → (j : ℕ) (d : X) → j < length xs → low ≤ n (get_or xs j d)
+at_least n [] low high rises j d inside = absurd (omega (arith, inside))
+at_least n (x ∷ xs) low high rises zero d inside = rises.0
+at_least n (x ∷ xs) low high rises (suc j) d inside = omega (arith, rises.0, at_least n xs (n x) high rises.1 j d (omega (arith, inside)))
+
+pub at_most : {X : Type 0} (n : X → ℕ) (xs : List X) (low high : ℕ) → Rises low (map n xs) high → All (λ x. n x ≤ high) xs
+at_most n [] low high rises = All-nil (λ x. n x ≤ high)
+at_most n (x ∷ xs) low high rises = All-cons (λ x. n x ≤ high) x xs (ends (n x) high (map n xs) rises.1) (at_most n xs (n x) high rises.1)
+
+pub in_order : {X : Type 0} (n : X → ℕ) (xs : List X) (low high : ℕ) → Rises low (map n xs) high → IsNonDecreasingBy n xs
+in_order n [] low high rises i j d before inside = absurd (omega (arith, inside))
+in_order n (x ∷ xs) low high rises zero zero d before inside = omega arith
+in_order n (x ∷ xs) low high rises zero (suc j) d before inside = at_least n xs (n x) high rises.1 j d (omega (arith, inside))
+in_order n (x ∷ xs) low high rises (suc i) zero d before inside = absurd (omega (arith, before))
+in_order n (x ∷ xs) low high rises (suc i) (suc j) d before inside = in_order n xs (n x) high rises.1 i j d (omega (arith, before)) (omega (arith, inside))
+
+-- the places of what is wanted
+abbrev wanted_place : Wanted → ℕ
+wanted_place part = append_place part.kind
+
+one_more : (low : ℕ) (kind : PartKind) (name : List ℕ) (sources : List Given) (before : List Wanted) → low ≤ append_place kind → Rises 0 (map wanted_place before) low
+    → Rises 0 (map wanted_place (before ++ wanted kind name sources)) (append_place kind)
+one_more low kind name sources before next rises =
+    subst (λ l. Rises 0 l (append_place kind)) (sym (map-append wanted_place before (wanted kind name sources)))
+    (joined 0 low (append_place kind) (map wanted_place before) (map wanted_place (wanted kind name sources)) rises (here sources))
+  where
+    here : (sources : List Given) → Rises low (map wanted_place (wanted kind name sources)) (append_place kind)
+    here [] = next
+    here (source ∷ more) = (next, omega arith)
+
+extras : (sections : List (SectionName × Given)) → Rises 8 (map wanted_place (map extra sections)) 8
+extras [] = omega arith
+extras (section ∷ sections) = (omega arith, extras sections)
+
+-- all of them rise
+wanted_rise : (words : BuildWords) (sections : List (SectionName × Given)) → Rises 0 (map wanted_place (wanted_parts words sections)) 8
+wanted_rise words sections =
+    let osrel = given_once words.osrel in
+    let cmdline = given_once (option_map clean words.cmdline) in
+    let dtb = given_once (option_map File words.dtb) in
+    let uname = given_once (option_map Inline words.uname) in
+    let splash = given_once (option_map File words.splash) in
+    let pcrpkey = given_once (option_map File words.pcrpkey) in
+    let one = wanted kinds.Osrel (codes ".osrel") osrel in
+    let two = one ++ wanted kinds.Cmdline (codes ".cmdline") cmdline in
+    let three = two ++ wanted kinds.Dtb (codes ".dtb") dtb in
+    let four = three ++ wanted kinds.Uname (codes ".uname") uname in
+    let five = four ++ wanted kinds.Splash (codes ".splash") splash in
+    let six = five ++ wanted kinds.Pcrpkey (codes ".pcrpkey") pcrpkey in
+    let seven = six ++ wanted kinds.Initrd (codes ".initrd") (map File words.initrds) in
+    let rise = one_more 6 kinds.Initrd (codes ".initrd") (map File words.initrds) six (omega arith)
+    (one_more 5 kinds.Pcrpkey (codes ".pcrpkey") pcrpkey five (omega arith)
+    (one_more 4 kinds.Splash (codes ".splash") splash four (omega arith)
+    (one_more 3 kinds.Uname (codes ".uname") uname three (omega arith)
+    (one_more 2 kinds.Dtb (codes ".dtb") dtb two (omega arith)
+    (one_more 1 kinds.Cmdline (codes ".cmdline") cmdline one (omega arith)
+    (one_more 0 kinds.Osrel (codes ".osrel") osrel [] (omega arith) (omega arith))))))) in
+    subst (λ l. Rises 0 l 8) (sym (map-append wanted_place seven (map extra sections)))
+    (joined 0 7 8 (map wanted_place seven) (map wanted_place (map extra sections)) rise (lower 7 8 8 (map wanted_place (map extra sections)) (omega arith) (extras sections)))
+
+-- what is named has the places of what is wanted
+kept : {A B : Type 0} (f : A → Result B Refusal) (m : A → ℕ) (n : B → ℕ) (keeps : (x : A) (y : B) → f x ≡ Ok y → n y ≡ m x) (xs : List A) (ys : List B) → each f xs ≡ Ok ys → map n ys ≡ map m xs
+kept f m n keeps [] ys done = sym (ap (map n) (none_made f ys done))
+kept f m n keeps (x ∷ xs) ys done =
+    let cut = each_cut f x xs ys done in
+    ap (map n) cut.4 ∙ ap (λ (k : ℕ). k ∷ map n cut.1) (keeps x cut.0 cut.2) ∙ ap (λ (l : List ℕ). m x ∷ l) (kept f m n keeps xs cut.1 cut.3)
+
+abbrev named_place : NamedPart → ℕ
+named_place part = append_place part.kind
+
+kind_kept : (part : Wanted) (made : NamedPart) → sources_of part ≡ Ok made → named_place made ≡ wanted_place part
+kind_kept part made is =
+    let found = bind_ok (each source_of part.sources) (λ found. Ok (named_part part.kind part.name found)) made is in
+    let same : named_part part.kind part.name found.0 ≡ made = cc found.2 in
+    sym (ap named_place same)
+
+parts_found : (words : BuildWords) (named : Named) → named_of words ≡ Ok named → (sections : List (SectionName × Given)) × (each sources_of (wanted_parts words sections) ≡ Ok named.parts)
+parts_found words named is =
+    let sections = bind_ok (each section_of words.sections) _ named is in
+    let stub = bind_ok (path_in words.stub) _ named sections.2 in
+    let linux = bind_ok (path_in words.linux) _ named stub.2 in
+    let parts = bind_ok (each sources_of (wanted_parts words sections.0)) _ named linux.2 in
+    let sbat = bind_ok (if_given source_of words.sbat) _ named parts.2 in
+    let output = bind_ok (path_in words.output) _ named sbat.2 in
+    let same : (let all : Named = record { stub = stub.0; linux = linux.0; parts = parts.0; sbat = sbat.0; output = output.0 } in all) ≡ named = cc output.2 in
+    (sections.0, parts.1 ∙ ap (λ (n : Named). Ok n.parts) same)
+
+-- and so do the parts that are read of it
+zipped : (sources : List PartSources) (parts : List Part) → AllZip PartFrom sources parts → map part_place parts ≡ map named_place (map part_named sources)
+zipped [] [] all = refl
+zipped [] (part ∷ parts) all = absurd all
+zipped (source ∷ sources) [] all = absurd all
+zipped (source ∷ sources) (part ∷ parts) all =
+    ap (λ (kind : PartKind). append_place kind ∷ map part_place parts) all.0.kind ∙ ap (λ (l : List ℕ). append_place source.kind ∷ l) (zipped sources parts all.1)
+
+pub parts_rise : (words : BuildWords) (found : BuildSources) (parts : List Part) → named_of words ≡ Ok (named_as found) → AllZip PartFrom found.parts.items parts → Rises 0 (map part_place parts) 8
+parts_rise words found parts is all =
+    let named = parts_found words (named_as found) is in
+    let same = zipped found.parts.items parts all ∙ kept sources_of wanted_place named_place kind_kept (wanted_parts words named.0) (map part_named found.parts.items) named.1 in
+    subst (λ (l : List ℕ). Rises 0 l 8) (sym same) (wanted_rise words named.0)

@@ -1,0 +1,28 @@
+use Rattle.std.proofs.Common.{List, ap, map, subst, sym, ◌∙◌}
+use Rattle.boot_machine.proofs.Reading.{reads_none}
+use Rattle.boot_machine.specs.Sent.{seen}
+use Rattle.boot_phases.specs.Lines.{HasDistinctBanks, result_text, shown}
+use Rattle.image_commands.proofs.Registers.{distinct_registers}
+use Rattle.image_writer.specs.Sourced.{planned_image}
+use Rattle.pcr_fold.specs.declared.pcr.Pcr.{Pcr}
+use Rattle.image_build.proofs.Values.{values_said}
+use Rattle.image_build.proofs.build_values.planned_values.Goals as goal
+
+pub returns-in_err-banks-clause-reads : goal.returns-in_err-banks-clause-reads
+returns-in_err-banks-clause-reads g c told = reads_none g.M.Machine.clock g.M.Machine.since g.M.Machine.state c.args.machine.now (λ m o left. g.met.M.Machine.only_now c.args.machine.now m o told left)
+
+pub returns-in_err-paths-clause-reads : goal.returns-in_err-paths-clause-reads
+returns-in_err-paths-clause-reads g c told = reads_none g.M.Machine.clock g.M.Machine.since g.M.Machine.state c.args.machine.now (λ m o left. g.met.M.Machine.only_now c.args.machine.now m o told left)
+
+pub result_lines-requires-clause-banks : goal.result_lines-requires-clause-banks
+result_lines-requires-clause-banks g c =
+    subst HasDistinctBanks (sym c.deref-2.ensures.value)
+    (distinct_registers c.in_ok-registers.registers.items c.in_ok-banks.banks.items (c.in_ok-registers.ensures.banks ∙ c.deref.ensures.value) c.in_ok-banks.ensures.distinct)
+
+pub returns-clause-says : goal.returns-clause-says
+returns-clause-says g c told on =
+    let view = seen (g.M.Machine.state c.args.machine.now) in
+    let plan = c.args.plan.now in
+    values_said (planned_image plan.image.plan plan.image.sources view) (map shown c.in_ok-registers.registers.items) c.deref.result.now c.deref-3.result.now c.in_ok-result_lines.field-0.items
+    (c.in_ok-registers.ensures.says told on) (c.deref.ensures.value ∙ c.in_ok-banks.ensures.value) (c.deref-3.ensures.value ∙ c.in_ok-paths.ensures.value)
+    (c.in_ok-result_lines.ensures ∙ ap (λ (l : List Pcr). result_text (map shown l) c.deref-3.result.now) c.deref-2.ensures.value)

@@ -1,0 +1,67 @@
+-- The plan of a build, and what the sections of its image are going to hold.
+use Rattle.std.specs.Prelude.{◌≡◌, ◌≤◌, ◌-◌, ◌^◌, ℕ, List, [], length, map, min, All, IfSome, Option, Some, None, Ok}
+use Rattle.std.specs.List.Sorted.{IsNonDecreasingBy}
+use Rattle.boot_machine.specs.Disk.{Files}
+use Rattle.boot_machine.specs.Rows.{contents}
+use Rattle.image_writer.specs.Sourced.{IsSourced, new_sbat, part_list, parts_bytes, planned_image, stub_path}
+use Rattle.pcr_prediction.specs.Parts.{IsWhole, content_bytes}
+use Rattle.pcr_prediction.specs.declared.measurable.Content.{Content}
+use Rattle.pe_builder.specs.Planned.{given}
+use Rattle.pe_reader.specs.Grammar.{pe_of}
+use Rattle.pe_reader.specs.Reads.{ReadFrom, headers_of}
+use Rattle.stub_replay.specs.Laws.{given_parts, kept_of}
+use Rattle.uki_parts.specs.Parts.{part_place}
+use Rattle.uki_parts.specs.Pieces.{Reading, total_length}
+use Rattle.uki_parts.specs.declared.part.Part.{Part}
+use Rattle.image_build.specs.Building.{Built}
+use Rattle.image_build.specs.Imaged.{IsOwnPlan, any_size}
+use Rattle.image_build.specs.Reads.{IsKernel}
+use Rattle.image_build.specs.declared.build_reads.BuildParts.{BuildParts}
+use Rattle.image_build.specs.declared.planned.PlannedBuild.{PlannedBuild}
+
+-- the image by a plan on a view, and where it is to stand
+abbrev pub built_as : Files → PlannedBuild → Built
+built_as view plan = record { output = plan.output; image = planned_image plan.image.plan plan.image.sources view }
+
+-- a part has the length of its pieces, or the highest number of 64 bits
+abbrev pub HasItsLength : Part → Type 0
+HasItsLength part = part.length ≡ min (total_length part.pieces.items) (2 ^ 64 - 1)
+
+-- what an image can be planned of
+pub record IsPlannable (built : BuildParts) : Type 0 where
+  pub read : ReadFrom built.head built.stub_length
+  pub small : built.stub_length ≤ 268435456
+  pub linux : IsKernel built.linux
+  pub order : IsNonDecreasingBy part_place built.parts.items
+  pub early : All (λ part. part_place part ≤ 8) built.parts.items
+  pub lengths : All HasItsLength built.parts.items
+
+-- the stub's bytes on a view
+abbrev pub stub_bytes : Files → PlannedBuild → List ℕ
+stub_bytes view plan = contents view (stub_path plan.image.sources)
+
+-- the plan was made of what the files on a view hold
+pub record IsPlannedOn (view : Files) (plan : PlannedBuild) : Type 0 where
+  pub reads : pe_of (stub_bytes view plan) ≡ Ok (headers_of plan.head)
+  pub own : IsOwnPlan plan.image (headers_of plan.head) (length (stub_bytes view plan)) (stub_path plan.image.sources)
+  pub sourced : IsSourced plan.image.plan plan.image.sources view
+
+-- what a section keeps that no part has the name of
+abbrev pub kept_bytes : Files → PlannedBuild → Option ℕ → List ℕ → List ℕ
+kept_bytes view plan in_place name = kept_of (given in_place (new_sbat plan.image.sources)) (stub_bytes view plan) name
+
+-- what the section of a name is going to hold
+abbrev pub section_bytes : Files → PlannedBuild → Option ℕ → List ℕ → List ℕ
+section_bytes view plan in_place name =
+    given_parts (map any_size (part_list plan.image.sources)) (parts_bytes (contents view) (part_list plan.image.sources))
+    (given in_place (new_sbat plan.image.sources)) (stub_bytes view plan) name
+
+-- the bytes of a content, if there is one
+abbrev pub content_or : Reading → Option Content → List ℕ
+content_or files None = []
+content_or files (Some content) = content_bytes files content
+
+-- the content has these bytes, and is whole in these files
+pub record IsContent (files : Reading) (content : Option Content) (bytes : List ℕ) : Type 0 where
+  pub bytes_are : content_or files content ≡ bytes
+  pub whole : IfSome content (IsWhole files)

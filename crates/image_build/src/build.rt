@@ -1,0 +1,194 @@
+//! `ukify build`: the plan of what its words mean.
+ghost use Rattle.std.specs.Prelude.{◌≡◌, Bool, IfErr, IfOk, IsTrue, Ok, Result};
+ghost use Rattle.std.specs.List.{flat_map};
+ghost use Rattle.boot_base.specs.Paths.{Path};
+ghost use Rattle.boot_base.specs.declared.refusal.Refusal.{Refusal};
+ghost use Rattle.boot_machine.specs.Counts.{Counts};
+ghost use Rattle.boot_machine.specs.Disk.{Files, State};
+ghost use Rattle.boot_machine.specs.Reading.{OnlyReads};
+ghost use Rattle.boot_machine.specs.Rows.{contents};
+ghost use Rattle.boot_machine.specs.Sent.{seen};
+ghost use Rattle.command_plans.specs.Performs.{CountsStop};
+ghost use Rattle.command_plans.specs.Plans.{IsMakeable, Plans};
+ghost use Rattle.command_plans.specs.Refusing.{printed_path};
+ghost use Rattle.image_writer.specs.Sourced.{IsSourced};
+ghost use Rattle.image_commands.specs.Said.{shown_byte};
+ghost use Rattle.image_commands.specs.Saying.{CountsUnsaid, Says, UnsaidFor};
+ghost use Rattle.image_build.specs.Building.{Built, build_answer, build_of, built_answer, built_line, built_text, image_of};
+ghost use Rattle.image_build.specs.Imaged.{Images};
+ghost use Rattle.image_build.specs.Planning.{built_as, IsPlannable, IsPlannedOn};
+ghost use Rattle.image_build.specs.Reads.{BuiltHasSizes, material_as};
+ghost use Rattle.pe_reader.specs.Grammar.{pe_of};
+ghost use Rattle.pe_reader.specs.Reads.{headers_of};
+ghost use Rattle.uki_parts.specs.Names.{name_bytes};
+
+use crate::build_plan::plan_image_of;
+use crate::build_reads::{BuildParts, read_build};
+use crate::build_values::planned_values;
+use crate::build_words::build_sources;
+use crate::planned::PlannedBuild;
+use boot_base::{BootPath, Bytes, Refusal, Target, Text};
+use boot_machine::Machine;
+use command_plans::{Change, Outcome, Plan, Stop, printed};
+use image_commands::{Unsaid, shown_name};
+use pe_builder::PlanFault;
+use std::alloc::{AllocError, Global};
+use tool_words::BuildWords;
+use uki_parts::SectionName;
+
+fn section_twice(alloc: Global, name: SectionName) -> Result<Refusal, AllocError>
+    ensures { IfOk result (λ why. why ≡ Refusal.SectionTwice (flat_map shown_byte (name_bytes name))) }
+{
+    let name = Text::from(shown_name(alloc, name.bytes())?);
+    Ok(Refusal::SectionTwice { name })
+}
+
+fn image_too_large(alloc: Global, output: &BootPath, size: u64) -> Result<Refusal, AllocError>
+    ensures { IfOk result (λ why. why ≡ Refusal.TooLarge (printed_path output.now) size) }
+{
+    let path = printed(alloc, output)?;
+    Ok(Refusal::TooLarge { path, size })
+}
+
+// The refusal of a builder that makes no image for that path.
+fn builder_refusal(
+    alloc: Global,
+    output: &BootPath,
+    fault: PlanFault,
+) -> Result<Refusal, AllocError>
+    ensures { IfOk result (λ why. (view : Files) (meant : Path → Result Built Refusal)
+        → Images view meant (Err fault) → meant output.now ≡ Err why) }
+{
+    match fault {
+        PlanFault::Memory => Err(AllocError),
+        PlanFault::SignedStub => Ok(Refusal::SignedStub),
+        PlanFault::SectionTwice { name } => section_twice(alloc, name),
+        PlanFault::SbatDoesNotFit { length, room } => Ok(Refusal::SbatDoesNotFit { length, room }),
+        PlanFault::NoHeaderSpace { need, have } => Ok(Refusal::NoHeaderSpace { need, have }),
+        PlanFault::AddressSpace { end } => Ok(Refusal::AddressSpace { end }),
+        PlanFault::ImageTooLarge { size } => image_too_large(alloc, output, size),
+    }
+}
+
+// The plan of the image that is built of these, or the builder's first refusal.
+fn plan_parts(alloc: Global, built: BuildParts) -> Result<PlannedBuild, Unsaid>
+    requires { IsPlannable built }
+    ensures says { (view : Files) → BuiltHasSizes (contents view) built → pe_of (contents view built.stub) ≡ Ok (headers_of built.head)
+        → Says (built_as view) result (image_of built.output (material_as (contents view) built)) }
+    ensures planned { IfOk result (λ plan. (view : Files) → BuiltHasSizes (contents view) built → pe_of (contents view built.stub) ≡ Ok (headers_of built.head)
+        → IsPlannedOn view plan) }
+    ensures counts { (counts : Counts) → CountsUnsaid result counts counts }
+{
+    let BuildParts {
+        stub,
+        stub_length,
+        head,
+        linux,
+        parts,
+        sbat,
+        output,
+    } = built;
+    match plan_image_of(alloc, &head, stub_length as u32, stub, parts, linux, sbat) {
+        Ok(image) => Ok(PlannedBuild {
+            image,
+            head,
+            output,
+        }),
+        Err(fault) => Err(Unsaid::Refused(builder_refusal(alloc, &output, fault)?)),
+    }
+}
+
+// The plan of the image that the words mean, made by reads alone.
+fn planned<M: Machine>(
+    alloc: Global,
+    words: &BuildWords,
+    machine: &mut M,
+) -> Result<PlannedBuild, Unsaid>
+    ensures says { IsTrue M.tells → Says (built_as (seen (M.state machine.old))) result (build_of (seen (M.state machine.old)) words.now) }
+    ensures planned { IfOk result (λ plan. IsTrue M.tells → IsPlannedOn (seen (M.state machine.old)) plan) }
+    ensures reads { IsTrue M.tells → OnlyReads M.clock M.since M.state machine.old machine.new }
+    ensures counts { CountsUnsaid result (M.counts machine.old) (M.counts machine.new) }
+{
+    let sources = build_sources(alloc, words)?;
+    let built = read_build(alloc, sources, machine)?;
+    plan_parts(alloc, built)
+}
+
+fn built_line(alloc: Global, output: &BootPath, size: u64) -> Result<Vec<u8>, AllocError>
+    ensures { IfOk result (λ line. line.items ≡ built_line output.now size) }
+{
+    let line = format!(in alloc; "built {output}, {size} bytes\n")?;
+    Ok(line.into_bytes())
+}
+
+// What is said of the planned image.
+fn reply<M: Machine>(
+    alloc: Global,
+    build: &PlannedBuild,
+    measure: bool,
+    machine: &mut M,
+) -> Result<Vec<u8>, Unsaid>
+    ensures says { IsTrue M.tells → IsPlannedOn (seen (M.state machine.old)) build.now → Says (λ text. text.items) result
+        (Ok (built_text measure (built_as (seen (M.state machine.old)) build.now))) }
+    ensures reads { IsTrue M.tells → OnlyReads M.clock M.since M.state machine.old machine.new }
+    ensures counts { CountsUnsaid result (M.counts machine.old) (M.counts machine.new) }
+{
+    let mut text = built_line(alloc, &build.output, build.image.plan.image_length())?;
+    if !measure {
+        return Ok(text);
+    }
+    let values = planned_values(alloc, build, machine)?;
+    text.extend_from_slice(&values)?;
+    Ok(text)
+}
+
+// The plan that writes the image and says this.
+fn writing(alloc: Global, build: PlannedBuild, text: Vec<u8>) -> Result<Plan, AllocError>
+    ensures plans { IfOk result (λ plan. (s : State) (measure : Bool) → IsSourced build.image.plan build.image.sources (seen s)
+        → text.items ≡ built_text measure (built_as (seen s) build) → Plans s plan (built_answer (seen s) measure (Ok (built_as (seen s) build)))) }
+    ensures makeable { IfOk result (λ plan. IsMakeable plan.change) }
+{
+    let PlannedBuild { image, output, .. } = build;
+    Ok(Plan {
+        change: Change::Write {
+            image: image.plan,
+            sources: image.sources,
+            target: Target::of(alloc, output)?,
+        },
+        outcome: Outcome::Done,
+        text: Bytes::from(text),
+    })
+}
+
+// The plan of the build, or why there is none.
+fn building<M: Machine>(alloc: Global, words: &BuildWords, machine: &mut M) -> Result<Plan, Unsaid>
+    ensures plans { IfOk result (λ plan. IsTrue M.tells → Plans (M.state machine.old) plan
+        (build_answer (seen (M.state machine.old)) words.now)) }
+    ensures unsaid { IfErr result (λ unsaid. IsTrue M.tells → UnsaidFor unsaid (build_of (seen (M.state machine.old)) words.now)) }
+    ensures makeable { IfOk result (λ plan. IsMakeable plan.change) }
+    ensures reads { IsTrue M.tells → OnlyReads M.clock M.since M.state machine.old machine.new }
+    ensures counts { CountsUnsaid result (M.counts machine.old) (M.counts machine.new) }
+{
+    let build = planned(alloc, words, machine)?;
+    let text = reply(alloc, &build, words.measure, machine)?;
+    Ok(writing(alloc, build, text)?)
+}
+
+/// What a build is going to do and to say: the image of what its words mean comes to stand at the output. Files are
+/// found and headers read; other bytes are read for the SBAT text alone, and once each where the image is measured.
+pub fn plan_build<M: Machine>(
+    alloc: Global,
+    words: &BuildWords,
+    machine: &mut M,
+) -> Result<Plan, Stop>
+    ensures plans { IfOk result (λ plan. IsTrue M.tells → Plans (M.state machine.old) plan
+        (build_answer (seen (M.state machine.old)) words.now)) }
+    ensures makeable { IfOk result (λ plan. IsMakeable plan.change) }
+    ensures reads { IsTrue M.tells → OnlyReads M.clock M.since M.state machine.old machine.new }
+    ensures counts { CountsStop result (M.counts machine.old) (M.counts machine.new) }
+{
+    match building(alloc, words, machine) {
+        Ok(plan) => Ok(plan),
+        Err(unsaid) => unsaid.plan(alloc),
+    }
+}

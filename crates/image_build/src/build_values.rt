@@ -1,0 +1,149 @@
+//! PCR 11 of a planned image, by what its sections are going to hold (systemd's TPM2 PCR document, PCR 11).
+ghost use Rattle.std.specs.Prelude.{◌≡◌, ◌++◌, All, IfOk, IfSome, IsTrue, Ok, OnOk, bytes_eq, map};
+ghost use Rattle.std.specs.List.{find};
+ghost use Rattle.std.specs.Option.{option_copied};
+ghost use Rattle.boot_machine.specs.Disk.{Files};
+ghost use Rattle.boot_machine.specs.Reading.{OnlyReads};
+ghost use Rattle.boot_machine.specs.Rows.{contents};
+ghost use Rattle.boot_machine.specs.Sent.{seen};
+ghost use Rattle.boot_phases.specs.Lines.{shown};
+ghost use Rattle.boot_phases.specs.Phases.{default_phase_paths};
+ghost use Rattle.image_writer.specs.Sourced.{planned_image};
+ghost use Rattle.pcr_fold.specs.Values.{pcr_bank};
+ghost use Rattle.pcr_prediction.specs.Parts.{HaveSizes, IsPlaced, IsWhole, items_of, named_bytes};
+ghost use Rattle.pe_reader.specs.Grammar.{pe_of};
+ghost use Rattle.pe_reader.specs.Loaded.{loaded};
+ghost use Rattle.pe_reader.specs.Reads.{headers_of};
+ghost use Rattle.stub_replay.specs.Measured.{measured_list, section_items, stub_pcr};
+ghost use Rattle.uki_parts.specs.Names.{name_bytes};
+ghost use Rattle.uki_parts.specs.Pieces.{Reading};
+ghost use Rattle.image_commands.specs.Saying.{CountsUnsaid, Says};
+ghost use Rattle.image_commands.specs.Values.{all_banks, starts_of, value_lines};
+ghost use Rattle.image_build.specs.Planning.{IsContent, IsPlannedOn, content_or, kept_bytes, section_bytes};
+
+use crate::planned::PlannedBuild;
+use boot_base::BootPath;
+use boot_machine::Machine;
+use boot_phases::result_lines;
+use image_commands::{Unsaid, banks_of, paths_of};
+use pcr_fold::{Bank, Pcr};
+use pcr_prediction::{Content, Measurable, predict};
+use pe_reader::Pe;
+use std::alloc::{AllocError, Global};
+use stub_replay::{MEASURED_COUNT, measured_name};
+use uki_parts::Part;
+
+// The first part of that name.
+fn part_named<'a>(parts: &'a [Part], name: &[u8]) -> Option<&'a Part>
+    ensures { option_copied result ≡ find (λ part. bytes_eq (name_bytes part.name) name.now) parts.now }
+{
+    parts.iter().find(|part| part.name.bytes() == name)
+}
+
+// What the stub at a path has loaded of that name, by what it reads as.
+fn stub_content<'a>(head: &Pe, stub: &'a BootPath, name: &[u8]) -> Option<Content<'a>>
+    ensures holds { (files : Reading) → pe_of (files stub.now) ≡ Ok (headers_of head.now) → IsContent files result (loaded (files stub.now) name.now) }
+    ensures placed { IfSome result IsPlaced }
+{
+    let index = head.find(name)?;
+    let range = head.loaded_range(index);
+    Some(Content::Loaded { path: stub, range })
+}
+
+// What the section of that name holds where no part has the name: the new `.sbat`, or what the stub has.
+fn kept_content<'a>(plan: &'a PlannedBuild, name: &[u8]) -> Option<Content<'a>>
+    ensures holds { (view : Files) (on : IsPlannedOn view plan.now) → IsContent (contents view) result (kept_bytes view plan.now on.own.in_place name.now) }
+    ensures placed { IfSome result IsPlaced }
+{
+    let sources = &plan.image.sources;
+    if b".sbat".as_slice() == name && plan.image.plan.sbat_place().is_some() {
+        return Some(Content::Bytes(sources.sbat()));
+    }
+    stub_content(&plan.head, sources.stub(), name)
+}
+
+// What the section of that name is going to hold.
+fn section_content<'a>(plan: &'a PlannedBuild, name: &[u8]) -> Option<Content<'a>>
+    ensures holds { (view : Files) (on : IsPlannedOn view plan.now) → IsContent (contents view) result (section_bytes view plan.now on.own.in_place name.now) }
+    ensures placed { IfSome result IsPlaced }
+{
+    match part_named(plan.image.sources.parts(), name) {
+        Some(part) => Some(Content::Pieces(&part.pieces)),
+        None => kept_content(plan, name),
+    }
+}
+
+// Puts the part of that name behind the others, if it has a content.
+fn push_part<'a>(
+    parts: &mut Vec<Measurable<'a>>,
+    name: &'a [u8],
+    content: Option<Content<'a>>,
+) -> Result<(), AllocError>
+    ensures items { OnOk result ((files : Reading) → items_of (map (named_bytes files) parts.new.items)
+        ≡ items_of (map (named_bytes files) parts.old.items) ++ section_items name.now (content_or files content.entry)) }
+    ensures whole { OnOk result ((files : Reading) → IfSome content.entry (IsWhole files) → HaveSizes files parts.old.items → HaveSizes files parts.new.items) }
+    ensures placed { OnOk result (IfSome content.entry IsPlaced → All (λ part. IsPlaced part.content) parts.old.items
+        → All (λ part. IsPlaced part.content) parts.new.items) }
+{
+    match content {
+        None => Ok(()),
+        Some(content) => {
+            parts.push(Measurable { name, content })?;
+            Ok(())
+        }
+    }
+}
+
+// The measured sections of the image, in the order in which they are measured.
+fn measured_parts<'a>(
+    alloc: Global,
+    plan: &'a PlannedBuild,
+) -> Result<Vec<Measurable<'a>>, AllocError>
+    ensures items { IfOk result (λ parts. (view : Files) → IsPlannedOn view plan.now → items_of (map (named_bytes (contents view)) parts.items)
+        ≡ measured_list (planned_image plan.now.image.plan plan.now.image.sources view)) }
+    ensures whole { IfOk result (λ parts. (view : Files) → IsPlannedOn view plan.now → HaveSizes (contents view) parts.items) }
+    ensures placed { IfOk result (λ parts. All (λ part. IsPlaced part.content) parts.items) }
+{
+    let mut parts = Vec::new(alloc);
+    for index in 0..MEASURED_COUNT {
+        let name = measured_name(index);
+        push_part(&mut parts, name, section_content(plan, name))?;
+    }
+    Ok(parts)
+}
+
+// The register of each bank after the image's stub has measured it.
+fn registers<M: Machine>(
+    alloc: Global,
+    plan: &PlannedBuild,
+    banks: &[Bank],
+    machine: &mut M,
+) -> Result<Vec<Pcr>, Unsaid>
+    ensures banks { IfOk result (λ registers. map pcr_bank registers.items ≡ banks.now) }
+    ensures says { IsTrue M.tells → IsPlannedOn (seen (M.state machine.old)) plan.now → Says (λ registers. map shown registers.items) result
+        (Ok (starts_of (measured_list (planned_image plan.now.image.plan plan.now.image.sources (seen (M.state machine.old)))) banks.now)) }
+    ensures reads { IsTrue M.tells → OnlyReads M.clock M.since M.state machine.old machine.new }
+    ensures counts { CountsUnsaid result (M.counts machine.old) (M.counts machine.new) }
+{
+    let mut buffer = [0; 65536];
+    let parts = measured_parts(alloc, plan)?;
+    Ok(predict(alloc, machine, &parts, banks, &mut buffer)?)
+}
+
+/// The lines of what a stub comes to that measures the planned image, in all banks and after the usual phase paths.
+/// Each file is read once.
+pub(crate) fn planned_values<M: Machine>(
+    alloc: Global,
+    plan: &PlannedBuild,
+    machine: &mut M,
+) -> Result<Vec<u8>, Unsaid>
+    ensures says { IsTrue M.tells → IsPlannedOn (seen (M.state machine.old)) plan.now → Says (λ text. text.items) result
+        (Ok (value_lines (stub_pcr (planned_image plan.now.image.plan plan.now.image.sources (seen (M.state machine.old)))) all_banks default_phase_paths)) }
+    ensures reads { IsTrue M.tells → OnlyReads M.clock M.since M.state machine.old machine.new }
+    ensures counts { CountsUnsaid result (M.counts machine.old) (M.counts machine.new) }
+{
+    let banks = banks_of(alloc, &[])?;
+    let paths = paths_of(alloc, &[])?;
+    let registers = registers(alloc, plan, &banks, machine)?;
+    Ok(result_lines(alloc, &registers, &paths)?)
+}
