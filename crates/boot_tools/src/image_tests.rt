@@ -1,27 +1,20 @@
 // The commands on images over a machine in memory, with values that an outside tool computed by FIPS 180-4's functions.
-ghost use Rattle.std.specs.Prelude.{◌≡◌, IfOk};
-
 use crate::tests::{
     KERNEL_LINES, Row, ZERO_LINES, check_row, enter_own_folder, machine_with_files, plain,
     printed_on, put, remove_own_folder, words_of,
 };
-use crate::top::run;
-use boot_base::{BootPath, Target};
+use boot_base::BootPath;
 use boot_machine::{Channel, Machine};
+use boot_run::run;
 use host_machine::HostMachine;
-use image_writer::Sources;
-use install_steps::{settle, write_planned};
 use memory_machine::MemMachine;
-use pe_builder::{PartSize, Plan};
-use pe_reader::Pe;
 use std::alloc::{AllocError, Global};
-use std::fs;
 use std::process::Abort;
 use std::test::Fail;
-use uki_parts::{Part, PartKind, PartList, Piece, SectionName};
+use std::{fs, str};
 
 // The values of a kernel `abc` in all banks, after each of the usual phase paths.
-const ALL_LINES: &str = "# PCR[11] Phase <enter-initrd>\n\
+pub(crate) const ALL_LINES: &str = "# PCR[11] Phase <enter-initrd>\n\
 11:sha1=0918efafb541bda40cc58e155992f3ca11494af8\n\
 11:sha256=d8546e744f457ca415705e2cb22d2fdef6dce3387a6437e5cd7f0088a8e931ee\n\
 11:sha384=1a7126ab438a1ab06601a278d3bcd067abc6f5a9e8f6105e85f589f33e1ee1c9a84890fb1136563dbe30dbc49bb21389\n\
@@ -42,7 +35,7 @@ const ALL_LINES: &str = "# PCR[11] Phase <enter-initrd>\n\
 11:sha384=c7f663c5749748d8a1b0a9ddfb7f0dfe1a8214b332c1a26eee6005c10bf3b18c8f2d6faf1cba005c49c5b91b77ee1b00\n\
 11:sha512=5372c71ac149f0672770cbe1a8542f82296cae702198c0413cd3666c6045bf14b2375b7e98fbce6736b2cfaa546fd17f0f3e55b825267bc83665d69a4eff2000\n";
 
-type Patch<'a> = (usize, &'a [u8]);
+pub(crate) type Patch<'a> = (usize, &'a [u8]);
 
 // The bytes of the small stub that aren't 0, by their places: one section `.text`, no data directories.
 const STUB: [Patch<'static>; 20] = [
@@ -68,8 +61,11 @@ const STUB: [Patch<'static>; 20] = [
     (236, &[0x20, 0, 0, 0x60]),
 ];
 
+// The section of a stub at the end of the address space.
+pub(crate) const HIGH: [Patch<'static>; 1] = [(212, &[0, 0xE0, 0xFF, 0xFF])];
+
 // What the image with a kernel has over the stub.
-const KERNEL: [Patch<'static>; 10] = [
+pub(crate) const KERNEL: [Patch<'static>; 10] = [
     (70, &[2]),
     (96, &[3]),
     (144, &[0, 0x30]),
@@ -110,24 +106,34 @@ fn write(bytes: &mut [u8], patches: &[Patch<'_>]) {
     }
 }
 
-// Writes so many bytes of the stub with what an image has over it.
-fn put_image(
+// The bytes of the stub with what an image has over it.
+pub(crate) fn image_bytes(lists: &[&[Patch<'_>]]) -> [u8; 2048] {
+    let mut bytes = [0; 2048];
+    write(&mut bytes, &STUB);
+    for patches in lists {
+        write(&mut bytes, patches);
+    }
+    bytes
+}
+
+// So many bytes from the beginning.
+pub(crate) fn front(bytes: &[u8], length: usize) -> &[u8] {
+    &bytes[..length.min(bytes.len())]
+}
+
+// Writes so many of them.
+pub(crate) fn put_image(
     machine: &mut MemMachine,
     path: &str,
     length: usize,
     lists: &[&[Patch<'_>]],
     alloc: Global,
 ) -> Result<(), Fail> {
-    let mut bytes = [0; 2048];
-    write(&mut bytes, &STUB);
-    for patches in lists {
-        write(&mut bytes, patches);
-    }
-    put(machine, path, &bytes[..length.min(2048)], alloc)
+    put(machine, path, front(&image_bytes(lists), length), alloc)
 }
 
-// Files of parts, stubs, images and other files.
-fn machine_with_images(alloc: Global) -> Result<MemMachine, Fail> {
+// Files of parts, and the small stub.
+pub(crate) fn machine_with_parts(alloc: Global) -> Result<MemMachine, Fail> {
     let mut machine = machine_with_files(alloc)?;
     let parts: [(&str, &[u8]); 8] = [
         ("osr", b"ID=demo\nPRETTY_NAME=\"Demo\"\n"),
@@ -143,32 +149,26 @@ fn machine_with_images(alloc: Global) -> Result<MemMachine, Fail> {
         put(&mut machine, path, bytes, alloc)?;
     }
     put_image(&mut machine, "stub", 1024, &[], alloc)?;
-    put_image(
-        &mut machine,
-        "odd",
-        1024,
-        &[&[(200, b"a\x7f \xff\0")]],
-        alloc,
-    )?;
-    put_image(&mut machine, "pe32", 1024, &[&[(88, &[0x0B, 1])]], alloc)?;
-    put_image(&mut machine, "out.efi", 1536, &[&KERNEL], alloc)?;
-    put_image(&mut machine, "cut.efi", 1535, &[&KERNEL], alloc)?;
-    put_image(&mut machine, "u.efi", 2048, &[&KERNEL, &UNIFIED], alloc)?;
-    put_image(
-        &mut machine,
-        "sig.efi",
-        2048,
-        &[&KERNEL, &UNIFIED, &SIGNED],
-        alloc,
-    )?;
-    let empty: [Patch<'_>; 1] = [(288, &[0])];
-    put_image(
-        &mut machine,
-        "empty.efi",
-        2048,
-        &[&KERNEL, &UNIFIED, &empty],
-        alloc,
-    )?;
+    Ok(machine)
+}
+
+const ODD: [Patch<'static>; 1] = [(200, b"a\x7f \xff\0")];
+
+const PE32: [Patch<'static>; 1] = [(88, &[0x0B, 1])];
+
+const EMPTY: [Patch<'static>; 1] = [(288, &[0])];
+
+// The same with images and other files.
+fn machine_with_images(alloc: Global) -> Result<MemMachine, Fail> {
+    let mut machine = machine_with_parts(alloc)?;
+    let to = &mut machine;
+    put_image(to, "odd", 1024, &[&ODD], alloc)?;
+    put_image(to, "pe32", 1024, &[&PE32], alloc)?;
+    put_image(to, "out.efi", 1536, &[&KERNEL], alloc)?;
+    put_image(to, "cut.efi", 1535, &[&KERNEL], alloc)?;
+    put_image(to, "u.efi", 2048, &[&KERNEL, &UNIFIED], alloc)?;
+    put_image(to, "sig.efi", 2048, &[&KERNEL, &UNIFIED, &SIGNED], alloc)?;
+    put_image(to, "empty.efi", 2048, &[&KERNEL, &UNIFIED, &EMPTY], alloc)?;
     Ok(machine)
 }
 
@@ -318,72 +318,84 @@ fn zeros(alloc: Global, count: usize) -> Result<Vec<u8>, AllocError> {
     vec![in alloc; 0u8; count]
 }
 
+const BIG: &str = "refusal 3: /big has 268435457 bytes\n";
+
+// Commands over a file `big` that is too large, and one `m` of a sixteenth of the largest image.
+const LARGE: [(&str, &str); 13] = [
+    ("ukify inspect big", BIG),
+    ("bootctl kernel-identify big", BIG),
+    ("measure image big", BIG),
+    ("measure calculate --linux=big", BIG),
+    (
+        "ukify build --output=o --stub=n --linux=big",
+        "refusal 1: /n is not there\n",
+    ),
+    ("ukify build --output=o --stub=big --linux=n", BIG),
+    (
+        "ukify build --output=o --stub=k --linux=big --os-release=@n",
+        BIG,
+    ),
+    (
+        "ukify build --output=o --stub=k --linux=k --splash=big --initrd=n",
+        BIG,
+    ),
+    (
+        "ukify build --output=o --stub=k --linux=k --initrd=big --section=.x:@n",
+        BIG,
+    ),
+    (
+        "ukify build --output=o --stub=k --linux=k --section=.x:@big --sbat=@n",
+        BIG,
+    ),
+    ("ukify build --output=o --stub=k --linux=k --sbat=@big", BIG),
+    (
+        "ukify build --output=./o --stub=stub --linux=k --initrd=m --initrd=m --initrd=m --initrd=m --initrd=m --initrd=m --initrd=m --initrd=m --initrd=m --initrd=m --initrd=m --initrd=m --initrd=m --initrd=m --initrd=m --initrd=m",
+        "refusal 3: /o has 268436992 bytes\n",
+    ),
+    (
+        "ukify build --output=./o --stub=high --linux=k --initrd=m --initrd=m --initrd=m --initrd=m --initrd=m --initrd=m --initrd=m --initrd=m --initrd=m --initrd=m --initrd=m --initrd=m --initrd=m --initrd=m --initrd=m --initrd=m",
+        "refusal 10: the image ends at 4563402752\n",
+    ),
+];
+
 #[test]
 fn files_past_the_limit(rt: HostRuntime) -> Result<(), Fail> {
     let alloc = rt.alloc();
-    let commands = [
-        "ukify inspect big",
-        "bootctl kernel-identify big",
-        "measure image big",
-        "measure calculate --linux=big",
-    ];
-    let mut machine = machine_with_files(alloc)?;
-    put(
-        &mut machine,
-        "big",
-        zeros(alloc, 268_435_457)?.as_slice(),
-        alloc,
-    )?;
-    for words in commands {
+    let mut machine = machine_with_parts(alloc)?;
+    put_image(&mut machine, "high", 1024, &[&HIGH], alloc)?;
+    let sixteenth = zeros(alloc, 16_777_216)?;
+    put(&mut machine, "m", sixteenth.as_slice(), alloc)?;
+    let large = zeros(alloc, 268_435_457)?;
+    put(&mut machine, "big", large.as_slice(), alloc)?;
+    let mut lines = Vec::new(alloc);
+    for (words, line) in LARGE {
         let status = run(alloc, &words_of(alloc, words)?, &mut machine);
         assert_eq!(rt; status, 1, "of {words}");
+        lines.extend_from_slice(line.as_bytes())?;
+        let printed = printed_on(alloc, &machine, Channel::Err)?;
+        assert_eq!(rt;
+            str::from_utf8(printed.as_slice()),
+            str::from_utf8(lines.as_slice()),
+            "of {words}"
+        );
     }
-    let line = "refusal 3: /big has 268435457 bytes\n";
-    let printed = printed_on(alloc, &machine, Channel::Err)?;
-    assert_eq!(rt; printed.len(), 4 * line.len());
-    assert!(rt; printed.as_slice().starts_with(line.as_bytes()));
     Ok(())
 }
 
-// The part of a kernel of three bytes in the file `k`.
-fn kernel_part(alloc: Global) -> Result<Part, Fail>
-    ensures { IfOk result (λ part. part.length ≡ 3) }
-{
-    let path = BootPath::read(alloc, "k")?;
-    let name = SectionName::of(PartKind::Linux).ok_or("no name")?;
-    Ok(Part {
-        kind: PartKind::Linux,
-        name,
-        pieces: vec![in alloc; Piece::File { path, size: 3 }]?,
-        length: 3,
-    })
-}
-
-// The image of the small stub and that kernel, written by a plan in a real folder.
+// The image of the small stub and a kernel, built in a real folder.
 #[test]
 fn image_in_a_folder(rt: HostRuntime) -> Result<(), Fail> {
     let alloc = rt.alloc();
     enter_own_folder(&rt)?;
-    let mut stub = [0; 1024];
-    write(&mut stub, &STUB);
-    fs::write(&rt, "stub", stub.as_slice())?;
+    fs::write(&rt, "stub", front(&image_bytes(&[]), 1024))?;
     fs::write(&rt, "k", b"abc".as_slice())?;
-    let part = kernel_part(alloc)?;
-    let head = Pe::read(alloc, &stub)?;
-    let plan = Plan::make(alloc, &head, 1024, &[PartSize::of(&part)], None)?;
-    let mut parts = PartList::new(alloc);
-    parts.add(part)?;
-    let sources = Sources::new(BootPath::read(alloc, "stub")?, parts, Vec::new(alloc));
-    let target = Target::of(alloc, BootPath::read(alloc, "out.efi")?)?;
     let mut machine = HostMachine::new(rt, rt.stderr());
-    settle(&mut machine)?;
-    write_planned(&mut machine, &plan, &sources, &target, &mut [0; 65536])?;
-    let mut image = [0; 1536];
-    write(&mut image, &STUB);
-    write(&mut image, &KERNEL);
+    let words = "ukify build --stub=stub --linux=k --output=out.efi";
+    assert_eq!(rt; run(alloc, &words_of(alloc, words)?, &mut machine), 0);
     let mut bytes = [0; 2048];
-    assert_eq!(rt; machine.read_at(&target.path, 0, &mut bytes)?, 1536);
-    assert!(rt; bytes.as_slice().starts_with(image.as_slice()));
+    let output = BootPath::read(alloc, "out.efi")?;
+    assert_eq!(rt; machine.read_at(&output, 0, &mut bytes)?, 1536);
+    assert!(rt; bytes == image_bytes(&[&KERNEL]));
     remove_own_folder(&rt)?;
     Ok(())
 }

@@ -5,20 +5,12 @@
 //! that the program starts in and its standard streams.
 #![tactic(auto)]
 
-mod ended;
-mod input;
-mod line;
-mod lines;
-mod script;
-mod top;
-
-use ended::Ended;
+use boot_run::{Ended, run};
 use host_machine::HostMachine;
 use std::io::ErrorKind;
 use std::process::ExitCode;
 use std::rt::Env;
 use std::{env, io};
-use top::run;
 
 fn main(rt: HostRuntime) -> ExitCode {
     let Ok(words) = given_words(&rt) else {
@@ -44,6 +36,8 @@ fn unreadable_words<R: AllocGlobal>(rt: &R) -> io::Result<Vec<String>> {
     Ok(words)
 }
 
+#[cfg(test)]
+mod build_tests;
 #[cfg(test)]
 mod image_tests;
 #[cfg(test)]

@@ -1,7 +1,7 @@
 // The program over a machine in memory: what it prints, how it ends, and what a stop leaves.
-use crate::top::run;
 use boot_base::{BootPath, Target, TempPath};
 use boot_machine::{Channel, Fuse, Machine};
+use boot_run::run;
 use host_machine::HostMachine;
 use install_steps::{settle, write_bytes};
 use memory_machine::{CrashChoice, FailMode, MemMachine};

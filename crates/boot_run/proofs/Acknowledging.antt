@@ -1,0 +1,119 @@
+-- A reply and the line behind it.
+use Rattle.std.proofs.Common.{◌≡◌, inl, inr, ℕ, List, [], ◌∷◌, ◌++◌, take, refl, sym, ap, ◌∙◌, subst, append_assoc, Result, Ok, Err}
+use Rattle.std.specs.Prelude.{IsErr, IsErrAnd}
+use Rattle.std.proofs.lemmas.List.{append-nil}
+use Rattle.boot_machine.specs.Disk.{Files, State, IsIn, view}
+use Rattle.boot_machine.specs.Images.{IsImage, IsFirm}
+use Rattle.boot_machine.specs.Moments.{EachSince}
+use Rattle.boot_machine.specs.Rows.{tagged, with_printed}
+use Rattle.boot_machine.specs.Sent.{Sent, Adds, PrintsPart, views, seen}
+use Rattle.boot_machine.specs.declared.machine.Channel.TheVariants.{Out, Err as ErrChannel}
+use Rattle.boot_machine.proofs.Elapsing.{weaken, joined, at_once}
+use Rattle.boot_machine.proofs.Printing.{prefix_more, prefix_behind, tagged_part}
+use Rattle.command_plans.specs.Deeds.{Deed, End, Stopped, Finished, NoMemory as WithoutMemory, DiskFails, PipeFails, Breaks}
+use Rattle.command_plans.specs.Performs.{Performs, end_of}
+use Rattle.command_plans.specs.declared.outcome.Outcome.{Outcome}
+use Rattle.command_plans.specs.declared.outcome.Outcome.TheVariants.{Refused}
+use Rattle.command_plans.specs.declared.outcome.Stop.{Stop}
+use Rattle.command_plans.specs.declared.outcome.Stop.TheVariants.{Pipe, Memory}
+use Rattle.command_plans.proofs.Exits.{if_ok, if_err}
+use Rattle.boot_run.specs.Lines.{unread}
+
+-- a deed that says this behind its reply
+abbrev pub behind : Deed → (List ℕ) → Deed
+behind deed ack = record { settles = deed.settles; outcome = deed.outcome; after = deed.after; sent = deed.sent ++ tagged Out ack }
+
+-- breaking off in a deed is breaking off in it with more behind
+pub breaks_more : (deed : Deed) (ack : (List ℕ)) (old new : List Files) (part : Sent) (end : End) → Breaks deed old new part end → Breaks (behind deed ack) old new part end
+breaks_more deed ack old new part end (inl stays) = inl stays
+breaks_more deed ack old new part Stopped (inr acts) = inr (prefix_more part deed.sent (tagged Out ack) acts.0, acts.1)
+breaks_more deed ack old new part PipeFails (inr acts) = inr (prefix_more part deed.sent (tagged Out ack) acts.0, acts.1)
+breaks_more deed ack old new part DiskFails (inr acts) = inr acts
+breaks_more deed ack old new part WithoutMemory (inr acts) = absurd acts
+breaks_more deed ack old new part Finished (inr acts) = absurd acts
+
+module _ {D : Type 0} (clock : D → ℕ) (since : D → ℕ → Files → Sent → Type 0) (state : D → State) (old : D) where
+  abbrev Within : Deed → Files → Sent → Type 0
+  Within deed image sent = Adds (state old).printed sent (λ part. Breaks deed (views (state old)) (view image ∷ []) part Stopped)
+
+  -- there was no memory for the texts
+  pub no_memory_yet : (deed : Deed) (result : Result Outcome Stop) → IsErr result → IsErrAnd result (λ stop. stop ≡ Memory) → IsFirm (state old)
+      → ((m : Files) (o : Sent) → since old (clock old) m o → IsIn (view m) (views (state old)) × (o ≡ (state old).printed)) → Performs clock since state end_of old old deed result
+  no_memory_yet deed result failed is firm at_start = record {
+    firm = firm;
+    ok = if_ok result _ failed;
+    err = if_err result Memory _ is ([], sym (append-nil (state old).printed), inl (refl, refl));
+    moments = at_once clock since state (Within deed) old (λ m o left. let now = at_start m o left in ([], now.1 ∙ sym (append-nil (state old).printed), inl (refl, (view m, refl, now.0))));
+  }
+
+  -- the reply to a line that is no command
+  pub refused_unread : (new : D) (number : ℕ) (text : (List ℕ)) (result : Result Outcome Stop) (k : ℕ) → ((m : Files) → IsImage (state old) m → IsIn (view m) (views (state old))) → IsFirm (state old)
+      → EachSince clock since old new (PrintsPart (state old) (tagged ErrChannel text)) → state new ≡ with_printed ErrChannel (take k text) (state old)
+      → IsErr result → IsErrAnd result (λ stop. stop ≡ Pipe) → Performs clock since state end_of old new (unread number text (seen (state old))) result
+  refused_unread new number text result k sees firm moments shown failed is = record {
+    firm = subst IsFirm (sym shown) (record { synced = firm.synced });
+    ok = if_ok result _ failed;
+    err = if_err result Pipe _ is (tagged ErrChannel (take k text), ap (λ (s : State). s.printed) shown, inr (tagged_part ErrChannel k text, ap views shown));
+    moments = unread_moments new number text sees moments;
+  }
+    where
+      unread_moments : (new : D) (number : ℕ) (text : (List ℕ)) → ((m : Files) → IsImage (state old) m → IsIn (view m) (views (state old))) → EachSince clock since old new (PrintsPart (state old) (tagged ErrChannel text)) → EachSince clock since old new (Within (unread number text (seen (state old))))
+      unread_moments new number text sees moments = weaken clock since state _ (Within (unread number text (seen (state old)))) old new (λ m o prints. (prints.part.0, prints.part.1, inr (prints.part.2, (view m, refl, sees m prints.stands)))) moments
+
+  pub told_unread : (new : D) (number : ℕ) (text : (List ℕ)) → ((m : Files) → IsImage (state old) m → IsIn (view m) (views (state old))) → IsFirm (state old)
+      → EachSince clock since old new (PrintsPart (state old) (tagged ErrChannel text)) → state new ≡ with_printed ErrChannel text (state old)
+      → Performs clock since state end_of old new (unread number text (seen (state old))) (Ok (Refused number))
+  told_unread new number text sees firm moments shown = record {
+    firm = subst IsFirm (sym shown) (record { synced = firm.synced });
+    ok = (refl, ap views shown, ap (λ (s : State). s.printed) shown);
+    err = tt;
+    moments = weaken clock since state _ (Within (unread number text (seen (state old)))) old new (λ m o prints. (prints.part.0, prints.part.1, inr (prints.part.2, (view m, refl, sees m prints.stands)))) moments;
+  }
+
+  module _ (deed : Deed) (ack : (List ℕ)) where
+    earlier : (mid : D) → EachSince clock since old mid (Within deed) → EachSince clock since old mid (Within (behind deed ack))
+    earlier mid moments = weaken clock since state (Within deed) (Within (behind deed ack)) old mid (λ m o adds. (adds.0, adds.1, breaks_more deed ack _ _ adds.0 Stopped adds.2)) moments
+
+    -- the deed itself was broken off
+    pub not_behind : (new : D) (stop : Stop) (result : Result Outcome Stop) → IsErr result → IsErrAnd result (λ e. e ≡ stop) → Performs clock since state end_of old new deed (Err stop) → Performs clock since state end_of old new (behind deed ack) result
+    not_behind new stop result failed is performs = record {
+      firm = performs.firm;
+      ok = if_ok result _ failed;
+      err = if_err result stop _ is (performs.err.0, performs.err.1, breaks_more deed ack _ _ performs.err.0 (end_of stop) performs.err.2);
+      moments = earlier new performs.moments;
+    }
+
+    both_moments : (mid new : D) (outcome : Outcome) → Performs clock since state end_of old mid deed (Ok outcome) → ((m : Files) → IsImage (state mid) m → IsIn (view m) (views (state mid)))
+        → EachSince clock since mid new (PrintsPart (state mid) (tagged Out ack)) → EachSince clock since old new (Within (behind deed ack))
+    both_moments mid new outcome performs sees moments = joined clock since state (Within (behind deed ack)) old mid new (earlier mid performs.moments)
+        (weaken clock since state _ (Within (behind deed ack)) mid new (λ m o prints. (
+          deed.sent ++ prints.part.0,
+          prints.part.1 ∙ ap (λ (l : Sent). l ++ prints.part.0) performs.ok.2 ∙ append_assoc (state old).printed deed.sent prints.part.0,
+          inr (prefix_behind deed.sent prints.part.0 (tagged Out ack) prints.part.2, (view m, refl, subst (λ (l : List Files). IsIn (view m) l) performs.ok.1 (sees m prints.stands))),
+        )) moments)
+
+    -- the line behind it couldn't be printed
+    pub behind_failed : (mid new : D) (outcome : Outcome) (result : Result Outcome Stop) → IsErr result → IsErrAnd result (λ stop. stop ≡ Pipe) → Performs clock since state end_of old mid deed (Ok outcome)
+        → ((m : Files) → IsImage (state mid) m → IsIn (view m) (views (state mid))) → EachSince clock since mid new (PrintsPart (state mid) (tagged Out ack)) → (k : ℕ) × (state new ≡ with_printed Out (take k ack) (state mid))
+        → Performs clock since state end_of old new (behind deed ack) result
+    behind_failed mid new outcome result failed is performs sees moments shown = record {
+      firm = subst IsFirm (sym shown.1) (record { synced = performs.firm.synced });
+      ok = if_ok result _ failed;
+      err = if_err result Pipe _ is (
+        deed.sent ++ tagged Out (take shown.0 ack),
+        ap (λ (s : State). s.printed) shown.1 ∙ ap (λ (l : Sent). l ++ tagged Out (take shown.0 ack)) performs.ok.2 ∙ append_assoc (state old).printed deed.sent (tagged Out (take shown.0 ack)),
+        inr (prefix_behind deed.sent (tagged Out (take shown.0 ack)) (tagged Out ack) (tagged_part Out shown.0 ack), ap views shown.1 ∙ performs.ok.1),
+      );
+      moments = both_moments mid new outcome performs sees moments;
+    }
+
+    -- reply and line are printed
+    pub behind_done : (mid new : D) (outcome : Outcome) → Performs clock since state end_of old mid deed (Ok outcome)
+        → ((m : Files) → IsImage (state mid) m → IsIn (view m) (views (state mid))) → EachSince clock since mid new (PrintsPart (state mid) (tagged Out ack)) → state new ≡ with_printed Out ack (state mid)
+        → Performs clock since state end_of old new (behind deed ack) (Ok outcome)
+    behind_done mid new outcome performs sees moments shown = record {
+      firm = subst IsFirm (sym shown) (record { synced = performs.firm.synced });
+      ok = (performs.ok.0, ap views shown ∙ performs.ok.1, ap (λ (s : State). s.printed) shown ∙ ap (λ (l : Sent). l ++ tagged Out ack) performs.ok.2 ∙ append_assoc (state old).printed deed.sent (tagged Out ack));
+      err = tt;
+      moments = both_moments mid new outcome performs sees moments;
+    }

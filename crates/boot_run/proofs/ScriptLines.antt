@@ -1,0 +1,73 @@
+-- The lines of a script, one after the other.
+use Rattle.std.proofs.Common.{◌≡◌, inl, inr, ℕ, suc, ◌+◌, Bool, true, false, cond, List, [], ◌∷◌, ◌++◌, length, take, refl, sym, ap, ◌∙◌, arith, append_assoc, append-nil, Result, Ok, Err, None}
+use Rattle.std.proofs.lemmas.Bool.{cases_Bool}
+use Rattle.std.proofs.lemmas.Str.{IsUtf8-from_is_utf8}
+use Rattle.std.specs.Str.{chars, is_utf8, IsUtf8}
+use Rattle.std.specs.Prelude.{not, ◌&&◌, if◌then◌else◌}
+use Rattle.tool_words.specs.Line.{is_open, line_words}
+use Rattle.tool_words.specs.Meaning.{meaning}
+use Rattle.tool_words.specs.declared.command.Command.{Command}
+use Rattle.tool_words.specs.declared.fault.LineFault.{LineFault}
+use Rattle.tool_words.specs.declared.fault.LineFault.TheVariants.{OpenQuote}
+use Rattle.boot_run.specs.Asked.{command_in, in_script, is_passed_over, is_script, line_at, lines_for, lines_from, lines_in}
+use Rattle.boot_run.specs.declared.line.Line.{Line}
+use Rattle.boot_run.specs.declared.line.Line.TheVariants.{Plain}
+
+abbrev given : (T : Type 0) → T → Result T LineFault
+given T value = Ok value
+
+-- what one piece adds
+abbrev pub line_of_piece : ℕ → List ℕ → List Line
+line_of_piece number piece = if is_passed_over piece then [] else line_at number (command_in piece) ∷ []
+
+pub lines_from-push : (number : ℕ) (pieces : List (List ℕ)) (piece : List ℕ) → lines_from number (pieces ++ piece ∷ []) ≡ lines_from number pieces ++ line_of_piece (number + length pieces) piece
+lines_from-push number [] piece = append-nil (line_of_piece number piece) ∙ ap (λ n. line_of_piece n piece) same
+  where
+    same : number ≡ number + 0
+    same = omega arith
+lines_from-push number (first ∷ pieces) piece =
+    let same : suc number + length pieces ≡ number + suc (length pieces) = omega arith in
+    ap (λ (l : List Line). line_of_piece number first ++ l) (lines_from-push (suc number) pieces piece ∙ ap (λ n. lines_from (suc number) pieces ++ line_of_piece n piece) same)
+    ∙ sym (append_assoc (line_of_piece number first) (lines_from (suc number) pieces) (line_of_piece (number + suc (length pieces)) piece))
+
+pub not_utf8 : (bytes : List ℕ) → (IsUtf8 bytes → ⊥) → is_utf8 bytes ≡ false
+not_utf8 bytes isnt_utf8 = elim (cases_Bool (is_utf8 bytes)) [ inl is ↦ absurd (isnt_utf8 (IsUtf8-from_is_utf8 bytes is)) | inr isnt ↦ isnt ]
+
+pub none_of_bytes : (piece : List ℕ) → is_utf8 piece ≡ false → command_in piece ≡ None
+none_of_bytes piece isnt = rw isnt refl
+
+pub none_when_open : (piece : List ℕ) → is_open (chars piece) ≡ true → command_in piece ≡ None
+none_when_open piece opened = by_utf8 (is_utf8 piece)
+  where
+    by_utf8 : (utf8 : Bool) → cond (utf8 && not (is_open (chars piece))) (in_script (meaning (line_words (chars piece)))) None ≡ None
+    by_utf8 true = rw opened refl
+    by_utf8 false = refl
+
+pub command_of_words : (piece : List ℕ) → is_utf8 piece ≡ true → is_open (chars piece) ≡ false → command_in piece ≡ in_script (meaning (line_words (chars piece)))
+command_of_words piece utf8 closed = rw (utf8, closed) refl
+
+-- a command of its own
+pub lines_plain : (input : List ℕ) (c : Command) → is_script c ≡ false → lines_for input c ≡ Plain c ∷ []
+lines_plain input c isnt = rw isnt refl
+
+pub lines_script : (input : List ℕ) (c : Command) → is_script c ≡ true → lines_for input c ≡ lines_in (take 1048577 input)
+lines_script input c is = rw is refl
+
+-- the lines so far, with one piece more
+pub with_piece : (pieces : List (List ℕ)) (piece : List ℕ) (number : ℕ) (lines : List Line) (line : Line) → number ≡ length pieces + 1 → is_passed_over piece ≡ false → line ≡ line_at number (command_in piece)
+    → lines ≡ lines_from 1 pieces → lines ++ line ∷ [] ≡ lines_from 1 (pieces ++ piece ∷ [])
+with_piece pieces piece number lines line number_is counts line_is lines_are =
+    let place : number ≡ 1 + length pieces = omega (arith, number_is) in
+    let one : line_of_piece (1 + length pieces) piece ≡ line ∷ [] = rw counts (ap (λ (l : Line). l ∷ []) (ap (λ n. line_at n (command_in piece)) (sym place) ∙ sym line_is)) in
+    ap (λ (l : List Line). l ++ line ∷ []) lines_are ∙ ap (λ (l : List Line). lines_from 1 pieces ++ l) (sym one) ∙ sym (lines_from-push 1 pieces piece)
+
+pub without_piece : (pieces : List (List ℕ)) (piece : List ℕ) (lines : List Line) → is_passed_over piece ≡ true → lines ≡ lines_from 1 pieces → lines ≡ lines_from 1 (pieces ++ piece ∷ [])
+without_piece pieces piece lines passed lines_are =
+    let none : line_of_piece (1 + length pieces) piece ≡ [] = rw passed refl in
+    lines_are ∙ sym (append-nil (lines_from 1 pieces)) ∙ ap (λ (l : List Line). lines_from 1 pieces ++ l) (sym none) ∙ sym (lines_from-push 1 pieces piece)
+
+pub not_open : {T : Type 0} (line : List ℕ) (result : Result T LineFault) (value : T) → result ≡ Ok value → (is_open line ≡ true → result ≡ Err OpenQuote) → is_open line ≡ false
+not_open line result value is so = elim (cases_Bool (is_open line)) [ inl opened ↦ absurd (ok_or_err value (sym is ∙ so opened)) | inr closed ↦ closed ]
+  where
+    ok_or_err : {T : Type 0} (value : T) → given T value ≡ Err OpenQuote → ⊥
+    ok_or_err value is = cc

@@ -1,0 +1,298 @@
+-- The clauses of the top call.
+use Rattle.std.proofs.Common.{◌≡◌, ◌≢◌, inl, ℕ, ◌<◌, Bool, true, false, List, [], ◌∷◌, ◌++◌, length, take, refl, sym, ap, ◌∙◌, subst, arith, Result, Ok, Err, ◌⊎◌, ◌≤◌, inr, ⊎_elim}
+use Rattle.std.specs.Prelude.{IfOk, IfErr, IsErr, IsErrAnd, ◌||◌}
+use Rattle.std.proofs.lemmas.List.{append-nil, take_all, drop_all}
+use Rattle.boot_machine.specs.Disk.{Files, State, IsIn, IsSound, candidates, view}
+use Rattle.boot_machine.specs.Images.{IsImage, IsFirm, IsSettled}
+use Rattle.boot_machine.specs.Moments.{EachSince}
+use Rattle.boot_machine.specs.Rows.{tagged, with_printed}
+use Rattle.boot_machine.specs.Sent.{Sent, Adds, PrintsPart, SameButInput, latest, views, seen}
+use Rattle.boot_machine.specs.declared.machine.Channel.{Channel}
+use Rattle.boot_machine.specs.declared.machine.Channel.TheVariants.{Err as ErrChannel}
+use Rattle.boot_machine.proofs.Elapsing.{at_once, weaken, joined}
+use Rattle.boot_machine.proofs.Printing.{tagged_part}
+use Rattle.boot_machine.proofs.Settled.{firm_of_settled}
+use Rattle.boot_machine.proofs.Seeing.{sees, seen_in, latest-views, from_views, candidate_image}
+use Rattle.tool_words.specs.declared.fault.UsageReason.{UsageReason}
+use Rattle.command_plans.specs.Answers.{is_refusal}
+use Rattle.command_plans.specs.Deeds.{End, left_by, Stopped, Finished, NoMemory, DiskFails, PipeFails, Stays}
+use Rattle.command_plans.specs.Performs.{end_of}
+use Rattle.command_plans.specs.declared.outcome.Stop.{Stop}
+use Rattle.command_plans.specs.declared.outcome.Stop.TheVariants.{Disk as DiskStop, Pipe as PipeStop, Memory as MemoryStop}
+use Rattle.command_plans.proofs.Exits.{if_ok, if_err, if_ok_by}
+use Rattle.boot_commands.proofs.Replies.{some_text}
+use Rattle.boot_run.specs.Asked.{usage_line}
+use Rattle.boot_run.specs.Endings.{AnswersRefusals, AtEnd, UnlessDisk, end_at, ended_by}
+use Rattle.boot_run.specs.History.{Runs, EndsBefore, states, said, any_refused}
+use Rattle.boot_run.specs.Lines.{line_deed, no_command_text, too_long_text}
+use Rattle.boot_run.specs.RunBy.{AllPrinted, RunsLines, RunsUsage, RunsBy}
+use Rattle.boot_run.specs.RunsTo.{RunsTo, AllDone, IsSyncedBy}
+use Rattle.boot_run.specs.Step.{Step, NoneEmpty, StopsIn, Leaves, SeesBegun, joined as end_to_end, replies, some_refused, view_after}
+use Rattle.boot_run.specs.declared.ended.Ended.{Ended}
+use Rattle.boot_run.specs.declared.ended.Ended.TheVariants.{Done, Refused, Usage, Disk, Pipe, Memory}
+use Rattle.boot_run.specs.declared.line.Line.{Line}
+use Rattle.boot_run.specs.declared.line.Line.TheVariants.{Plain, Numbered, Unread, TooLong}
+use Rattle.boot_run.proofs.Taken.{but_disk, unless_disk}
+use Rattle.boot_run.proofs.Stepping.{latest_left, one_view_after, step_of, leaves_of_run}
+
+some_sent : (to : Channel) (text : List ℕ) → 0 < length text → tagged to text ≢ []
+some_sent to [] some = absurd (omega arith)
+some_sent to (x ∷ text) some = λ is. cc
+
+some_more : (a b : Sent) → a ≢ [] → a ++ b ≢ []
+some_more [] b some = absurd (some refl)
+some_more (x ∷ a) b some = λ is. cc
+
+some_reply : (view : Files) (line : Line) → (line_deed view line).sent ≢ []
+some_reply view (Plain command) = some_sent _ _ (some_text view command)
+some_reply view (Numbered number command) = some_more _ _ (some_sent _ _ (some_text view command))
+some_reply view (Unread number) = some_more _ _ (some_sent ErrChannel (no_command_text number) (omega arith))
+some_reply view TooLong = some_sent ErrChannel too_long_text (omega arith)
+
+none_empty : (view : Files) (lines : List Line) → NoneEmpty view lines
+none_empty view [] = tt
+none_empty view (line ∷ lines) = (some_reply view line, none_empty (line_deed view line).after lines)
+
+step : (old : List Files) (lines : List Line) (new : List Files) (sent : Sent) (end : End) → Runs old lines new sent end → Step old lines new sent end
+step old lines new sent end runs = step_of old lines new sent end (none_empty (latest old) lines) runs
+
+stops : (old : List Files) (lines : List Line) (v : Files) (sent : Sent) → Runs old lines (v ∷ []) sent Stopped → StopsIn old lines v sent
+stops old lines v sent runs = (step old lines (v ∷ []) sent Stopped runs, λ settled. leaves_of_run old lines v sent (none_empty (latest old) lines) settled runs)
+
+-- where all candidates show one view, the machine is settled
+settled_after : (s : State) → IsSound s → IsFirm s → ((v w : Files) → IsIn v (views s) → IsIn w (views s) → v ≡ w) → IsSettled s
+settled_after s sound firm one = record { images = λ m image. one (view m) (view s.files) (sees s sound firm m image) (seen_in s) }
+
+not_disk_at : (ended : Ended) → ended ≢ Disk → end_at ended ≢ DiskFails
+not_disk_at Done not is = cc
+not_disk_at Refused not is = cc
+not_disk_at Usage not is = cc
+not_disk_at Disk not is = absurd (not refl)
+not_disk_at Pipe not is = cc
+not_disk_at Memory not is = cc
+
+not_stopped_at : (ended : Ended) → end_at ended ≢ Stopped
+not_stopped_at Done is = cc
+not_stopped_at Refused is = cc
+not_stopped_at Usage is = cc
+not_stopped_at Disk is = cc
+not_stopped_at Pipe is = cc
+not_stopped_at Memory is = cc
+
+-- all lines done
+all_runs : (old : List Files) (lines : List Line) (new : List Files) → new ≡ states old lines → Runs old lines new (said old lines) Finished
+all_runs old lines new is = record {
+  whole = length lines;
+  within = omega arith;
+  part = [];
+  printed = ap (said old) (sym (take_all (length lines) lines (omega arith))) ∙ sym (append-nil _);
+  ends = subst (λ (rest : List Line). EndsBefore rest (states old (take (length lines) lines)) new [] Finished) (sym (drop_all (length lines) lines (omega arith))) (refl, is ∙ ap (states old) (sym (take_all (length lines) lines (omega arith))));
+}
+
+-- what a run over lines comes to, in the words of the reference
+said-is : (old : List Files) (lines : List Line) → said old lines ≡ end_to_end (replies (latest old) lines)
+said-is old [] = refl
+said-is old (line ∷ lines) =
+    ap (λ (l : Sent). (line_deed (latest old) line).sent ++ l)
+    (said-is (left_by (line_deed (latest old) line) old) lines ∙ ap (λ v. end_to_end (replies v lines)) (latest_left old line))
+
+states-is : (old : List Files) (lines : List Line) → latest (states old lines) ≡ view_after (latest old) lines
+states-is old [] = refl
+states-is old (line ∷ lines) = states-is (left_by (line_deed (latest old) line) old) lines ∙ ap (λ v. view_after v lines) (latest_left old line)
+
+refused-is : (old : List Files) (lines : List Line) → any_refused old lines ≡ some_refused (latest old) lines
+refused-is old [] = refl
+refused-is old (line ∷ lines) =
+    ap (λ (b : Bool). is_refusal (line_deed (latest old) line).outcome || b)
+    (refused-is (left_by (line_deed (latest old) line) old) lines ∙ ap (λ v. some_refused v lines) (latest_left old line))
+
+-- nothing was done for want of memory, or because a pipe failed
+stays_runs : (old : List Files) (lines : List Line) (new : List Files) (end : End) → end ≢ Finished → Stays old new end → Runs old lines new [] end
+stays_runs old [] new Stopped not stays = record { whole = 0; within = omega arith; part = []; printed = refl; ends = (refl, stays) }
+stays_runs old [] new NoMemory not stays = record { whole = 0; within = omega arith; part = []; printed = refl; ends = (refl, stays) }
+stays_runs old [] new DiskFails not stays = record { whole = 0; within = omega arith; part = []; printed = refl; ends = (refl, stays) }
+stays_runs old [] new PipeFails not stays = record { whole = 0; within = omega arith; part = []; printed = refl; ends = (refl, stays) }
+stays_runs old [] new Finished not stays = absurd (not refl)
+stays_runs old (line ∷ lines) new end not stays = record { whole = 0; within = omega arith; part = []; printed = refl; ends = inl (refl, stays) }
+
+-- on a settled machine all views are one
+one_view_of_settled : (s : State) → IsSettled s → (v : Files) → IsIn v (views s) → v ≡ latest (views s)
+one_view_of_settled s settled v is =
+    let from = from_views (candidates s) v is in
+    from.2 ∙ settled.images from.0 (candidate_image s from.0 from.1) ∙ sym (latest-views s)
+
+module _ {D : Type 0} (clock : D → ℕ) (since : D → ℕ → Files → Sent → Type 0) (state : D → State) where
+  at_end : (old new : D) (lines : List Line) (result : Result Bool Stop) → RunsTo clock since state old new lines result
+      → Adds (state old).printed (state new).printed (λ sent. Step (views (state old)) lines (views (state new)) sent (end_at (ended_by result)))
+  at_end old new lines (Ok false) runs = (said (views (state old)) lines, runs.ok.printed, step _ lines _ _ Finished (all_runs _ lines _ runs.ok.state))
+  at_end old new lines (Ok true) runs = (said (views (state old)) lines, runs.ok.printed, step _ lines _ _ Finished (all_runs _ lines _ runs.ok.state))
+  at_end old new lines (Err DiskStop) runs = (runs.err.0, runs.err.1, step _ lines _ _ DiskFails runs.err.2)
+  at_end old new lines (Err PipeStop) runs = (runs.err.0, runs.err.1, step _ lines _ _ PipeFails runs.err.2)
+  at_end old new lines (Err MemoryStop) runs = (runs.err.0, runs.err.1, step _ lines _ _ NoMemory runs.err.2)
+
+  refusals : (old new : D) (lines : List Line) (result : Result Bool Stop) → RunsTo clock since state old new lines result → AnswersRefusals (any_refused (views (state old)) lines) (ended_by result)
+  refusals old new lines (Ok false) runs = sym runs.ok.answer
+  refusals old new lines (Ok true) runs = sym runs.ok.answer
+  refusals old new lines (Err DiskStop) runs = tt
+  refusals old new lines (Err PipeStop) runs = tt
+  refusals old new lines (Err MemoryStop) runs = tt
+
+  all_printed : (old new : D) (lines : List Line) (refused : Bool) → AllDone (state old) (state new) lines refused → AllPrinted (state old) (state new) lines
+  all_printed old new lines refused all = (
+    all.printed ∙ ap (λ (l : Sent). (state old).printed ++ l) (said-is (views (state old)) lines ∙ ap (λ v. end_to_end (replies v lines)) (latest-views (state old))),
+    sym (latest-views (state new)) ∙ ap latest all.state ∙ states-is (views (state old)) lines ∙ ap (λ v. view_after v lines) (latest-views (state old)),
+  )
+
+  finished : (old new : D) (lines : List Line) (result : Result Bool Stop) → RunsTo clock since state old new lines result → AtEnd (ended_by result) (AllPrinted (state old) (state new) lines)
+  finished old new lines (Ok false) runs = all_printed old new lines false runs.ok
+  finished old new lines (Ok true) runs = all_printed old new lines true runs.ok
+  finished old new lines (Err DiskStop) runs = tt
+  finished old new lines (Err PipeStop) runs = tt
+  finished old new lines (Err MemoryStop) runs = tt
+
+  from_sync_of : (old new : D) (lines : List Line) → IsSyncedBy clock since state old new lines
+      → (views (state new) ≡ views (state old)) ⊎ ((t : ℕ) × (clock old ≤ t) × (t ≤ clock new) × ((image : Files) (printed : Sent) → since new t image printed → Adds (state old).printed printed (Leaves (seen (state old)) lines (view image))))
+  from_sync_of old new lines (inl same) = inl same
+  from_sync_of old new lines (inr late) = inr (
+    late.0,
+    late.1,
+    late.2,
+    λ image printed left.
+        let adds = late.3 image printed left in (
+          adds.0,
+          adds.1,
+          subst (λ first. Leaves first lines (view image) adds.0) (latest-views (state old))
+              (leaves_of_run (latest (views (state old)) ∷ []) lines (view image) adds.0 (none_empty _ lines) (λ v is. ⊎_elim (λ here. here) (λ none. absurd none) is) adds.2),
+        ),
+  )
+
+  pub runs_lines : (old new : D) (lines : List Line) (result : Result Bool Stop) → IsSound (state new) → IsSyncedBy clock since state old new lines → RunsTo clock since state old new lines result → RunsLines clock since state old new lines (ended_by result)
+  runs_lines old new lines result sound synced runs = record {
+    firm = runs.firm;
+    settled = unless_disk (ended_by result) _ (λ not_disk settled. settled_after (state new) sound runs.firm (one_view_after _ lines _ _ (end_at (ended_by result)) (one_view_of_settled (state old) settled) (not_disk_at (ended_by result) not_disk) (not_stopped_at (ended_by result)) (at_end old new lines result runs).2));
+    refusals = subst (λ any. AnswersRefusals any (ended_by result)) (refused-is (views (state old)) lines ∙ ap (λ v. some_refused v lines) (latest-views (state old))) (refusals old new lines result runs);
+    finished = finished old new lines result runs;
+    at_end = at_end old new lines result runs;
+    at_each_moment = weaken clock since state _ _ old new (λ m o adds. (adds.0, adds.1, stops _ lines _ adds.0 adds.2)) runs.moments;
+    from_sync = from_sync_of old new lines synced;
+  }
+
+  -- no memory for the usage line
+  pub usage_unsaid : (old : D) (line : Sent) → ((m : Files) (o : Sent) → since old (clock old) m o → IsImage (state old) m × (o ≡ (state old).printed)) → RunsUsage clock since state old old line Memory
+  usage_unsaid old line at_start = record {
+    unchanged = refl;
+    at_end = ([], sym (append-nil _), refl);
+    at_each_moment = at_once clock since state _ old (λ m o left. let now = at_start m o left in (now.0, ([], now.1 ∙ sym (append-nil _), (line, refl))));
+  }
+
+  -- there was no memory to read the words
+  pub runs_nothing : (asks : Result (List Line) UsageReason) (old : D) → ((m : Files) (o : Sent) → since old (clock old) m o → IsImage (state old) m × (o ≡ (state old).printed))
+      → (IsFirm (state old) → (m : Files) → IsImage (state old) m → IsIn (view m) (views (state old))) → RunsBy clock since state asks old old Memory
+  runs_nothing (Ok lines) old at_start sees_each = λ firm. record {
+    firm = firm;
+    settled = λ settled. settled;
+    refusals = tt;
+    finished = tt;
+    at_end = ([], sym (append-nil _), step _ _ _ [] NoMemory (stays_runs _ _ _ NoMemory (λ is. cc) refl));
+    at_each_moment = at_once clock since state _ old (λ m o left. let now = at_start m o left in ([], now.1 ∙ sym (append-nil _), stops _ _ _ [] (stays_runs _ _ _ Stopped (λ is. cc) (view m, refl, sees_each firm m now.0))));
+    from_sync = inl refl;
+  }
+  runs_nothing (Err reason) old at_start sees_each = usage_unsaid old (tagged ErrChannel (usage_line reason)) at_start
+
+  -- the input is read, and then nothing more, or a run over lines
+  read_moments : (old mid : D) (lines : List Line) → ((m : Files) → IsImage (state old) m → IsIn (view m) (views (state old))) → EachSince clock since old mid (λ m o. IsImage (state old) m × (o ≡ (state old).printed))
+      → EachSince clock since old mid (λ image printed. Adds (state old).printed printed (λ sent. Runs (views (state old)) lines (view image ∷ []) sent Stopped))
+  read_moments old mid lines sees moments = weaken clock since state _ _ old mid (λ m o now. ([], now.1 ∙ sym (append-nil _), stays_runs _ lines _ Stopped (λ is. cc) (view m, refl, sees m now.0))) moments
+
+  pub same_firm : (s now : State) → SameButInput s now → IsFirm s → IsFirm now
+  same_firm s now same firm = subst IsFirm (sym same) (record { synced = firm.synced })
+
+  stays_at : (stop : Stop) (old new : List Files) → new ≡ old → Stays old new (end_of stop)
+  stays_at DiskStop old new is = is
+  stays_at PipeStop old new is = is
+  stays_at MemoryStop old new is = is
+
+  not_finished_at : (stop : Stop) → end_of stop ≢ Finished
+  not_finished_at DiskStop is = cc
+  not_finished_at PipeStop is = cc
+  not_finished_at MemoryStop is = cc
+
+  -- no script was read
+  pub no_script : (old mid : D) (lines : List Line) (stop : Stop) (result : Result Bool Stop) → IsErr result → IsErrAnd result (λ e. e ≡ stop) → ((m : Files) → IsImage (state old) m → IsIn (view m) (views (state old)))
+      → IsFirm (state old) → SameButInput (state old) (state mid) → EachSince clock since old mid (λ m o. IsImage (state old) m × (o ≡ (state old).printed)) → RunsTo clock since state old mid lines result
+  no_script old mid lines stop result failed is sees firm same moments = record {
+    firm = same_firm _ _ same firm;
+    ok = if_ok result _ failed;
+    err = if_err result stop _ is ([], ap (λ (s : State). s.printed) same ∙ sym (append-nil _), stays_runs _ lines _ (end_of stop) (not_finished_at stop) (stays_at stop _ _ (ap views same)));
+    moments = read_moments old mid lines sees moments;
+  }
+
+  -- a run over the lines of a script
+  pub script_runs : (old mid new : D) (lines : List Line) (result : Result Bool Stop) → ((m : Files) → IsImage (state old) m → IsIn (view m) (views (state old)))
+      → SameButInput (state old) (state mid) → EachSince clock since old mid (λ m o. IsImage (state old) m × (o ≡ (state old).printed)) → RunsTo clock since state mid new lines result → RunsTo clock since state old new lines result
+  script_runs old mid new lines result sees same moments runs = record {
+    firm = runs.firm;
+    ok = if_ok_by result (AllDone (record (state old) { input = (state mid).input }) (state new) lines) (AllDone (state old) (state new) lines)
+        (λ refused all. record { state = all.state; printed = all.printed; answer = all.answer })
+        (subst (λ (s : State). IfOk result (AllDone s (state new) lines)) same_ok runs.ok);
+    err = subst (λ (s : State). IfErr result (λ stop. Adds s.printed (state new).printed (λ sent. Runs (views s) lines (views (state new)) sent (end_of stop)))) same_ok runs.err;
+    moments = joined clock since state _ old mid new (read_moments old mid lines sees moments)
+        (subst (λ (s : State). EachSince clock since mid new (λ image printed. Adds s.printed printed (λ sent. Runs (views s) lines (view image ∷ []) sent Stopped))) same_ok runs.moments);
+  }
+    where
+      same_ok : state mid ≡ record (state old) { input = (state mid).input }
+      same_ok = same
+
+  -- a run over the lines of a script goes on from the sync as well
+  pub script_synced : (old mid new : D) (lines : List Line) → SameButInput (state old) (state mid) → clock old ≤ clock mid → IsSyncedBy clock since state mid new lines → IsSyncedBy clock since state old new lines
+  script_synced old mid new lines same later (inl unsynced) = inl (unsynced ∙ ap views same)
+  script_synced old mid new lines same later (inr late) = inr (
+    late.0,
+    omega (arith, later, late.1),
+    late.2,
+    subst (λ (s : State). (image : Files) (printed : Sent) → since new late.0 image printed → Adds s.printed printed (λ sent. Runs (latest (views s) ∷ []) lines (view image ∷ []) sent Stopped)) same late.3,
+  )
+
+  -- the line of usage
+  pub usage_done : (old new : D) (text : List ℕ) → state new ≡ with_printed ErrChannel text (state old) → EachSince clock since old new (PrintsPart (state old) (tagged ErrChannel text)) → RunsUsage clock since state old new (tagged ErrChannel text) Usage
+  usage_done old new text shown moments = record {
+    unchanged = shown ∙ ap (λ (s : State). record (state old) { printed = s.printed }) (sym shown);
+    at_end = (tagged ErrChannel text, ap (λ (s : State). s.printed) shown, refl);
+    at_each_moment = weaken clock since state _ _ old new (λ m o prints. (prints.stands, prints.part)) moments;
+  }
+
+  pub usage_failed : (old new : D) (text : List ℕ) → (k : ℕ) × (state new ≡ with_printed ErrChannel (take k text) (state old)) → EachSince clock since old new (PrintsPart (state old) (tagged ErrChannel text)) → RunsUsage clock since state old new (tagged ErrChannel text) Pipe
+  usage_failed old new text shown moments = record {
+    unchanged = shown.1 ∙ ap (λ (s : State). record (state old) { printed = s.printed }) (sym shown.1);
+    at_end = (tagged ErrChannel (take shown.0 text), ap (λ (s : State). s.printed) shown.1, tagged_part ErrChannel shown.0 text);
+    at_each_moment = weaken clock since state _ _ old new (λ m o prints. (prints.stands, prints.part)) moments;
+  }
+
+  -- the headline
+  pub headline : (old new : D) (lines : List Line) (ended : Ended) → IsSettled (state old) → RunsLines clock since state old new lines ended
+      → EachSince clock since old new (λ image printed. Adds (state old).printed printed (Leaves (seen (state old)) lines (view image)))
+  headline old new lines ended settled runs = weaken clock since state _ _ old new (λ m o adds. (
+    adds.0,
+    adds.1,
+    subst (λ first. Leaves first lines (view m) adds.0) (latest-views (state old)) (adds.2.1 (one_view_of_settled (state old) settled)),
+  )) runs.at_each_moment
+
+  -- what a moment of the headline shows of replies and their changes
+  pub after_change : (old new : D) (lines : List Line) → EachSince clock since old new (λ image printed. Adds (state old).printed printed (Leaves (seen (state old)) lines (view image)))
+      → EachSince clock since old new (λ image printed. Adds (state old).printed printed (SeesBegun (seen (state old)) lines (view image)))
+  after_change old new lines moments = weaken clock since state _ _ old new (λ m o adds. (adds.0, adds.1, adds.2.begun)) moments
+
+  -- a run by what its words ask for
+  pub lines_run : (asks : Result (List Line) UsageReason) (lines : List Line) (old new : D) (ended : Ended) → asks ≡ Ok lines → RunsBy clock since state asks old new ended → IsFirm (state old) → RunsLines clock since state old new lines ended
+  lines_run asks lines old new ended is runs = subst (λ r. RunsBy clock since state r old new ended) is runs
+
+  pub firm_by : (asks : Result (List Line) UsageReason) (old new : D) (ended : Ended) → RunsBy clock since state asks old new ended → IsFirm (state old) → IsFirm (state new)
+  firm_by (Ok lines) old new ended runs firm = (runs firm).firm
+  firm_by (Err reason) old new ended runs firm = subst IsFirm (sym runs.unchanged) (record { synced = firm.synced })
+
+  still_settled : (s now : State) → now ≡ record s { printed = now.printed } → IsSettled s → IsSettled now
+  still_settled s now same settled = subst IsSettled (sym same) (record { images = λ m image. settled.images m (record { of = image.of; candidate = image.candidate; image = image.image }) })
+
+  pub settled_by : (asks : Result (List Line) UsageReason) (old new : D) (ended : Ended) → RunsBy clock since state asks old new ended → UnlessDisk ended (IsSettled (state old) → IsSettled (state new))
+  settled_by (Ok lines) old new ended runs = unless_disk ended _ (λ other settled. but_disk ended _ other (runs (firm_of_settled (state old) settled)).settled settled)
+  settled_by (Err reason) old new ended runs = unless_disk ended _ (λ other settled. still_settled (state old) (state new) runs.unchanged settled)

@@ -1,0 +1,19 @@
+use Rattle.std.proofs.Common.{subst}
+use Rattle.std.proofs.Common.{ℕ, List}
+use Rattle.boot_machine.specs.Sent.{seen}
+use Rattle.boot_run.specs.Lines.{unread, too_long_text}
+use Rattle.command_plans.specs.Performs.{Performs, end_of}
+use Rattle.boot_run.proofs.Acknowledging.{no_memory_yet}
+use Rattle.boot_machine.proofs.Seeing.{sees}
+use Rattle.boot_run.proofs.lines.too_long.Goals as goal
+
+pub returns-in_err-text-clause-performs : goal.returns-in_err-text-clause-performs
+returns-in_err-text-clause-performs g c told firm =
+    let old = c.args.machine.now in
+    no_memory_yet g.M.Machine.clock g.M.Machine.since g.M.Machine.state old (unread 3 too_long_text (seen (g.M.Machine.state old))) c.from_residual.result c.from_residual.ensures.0 c.from_residual.ensures.1 firm
+    (λ m o left. let now = g.met.M.Machine.only_now old m o told left in (sees (g.M.Machine.state old) (g.met.M.Machine.sound old told) firm m now.0, now.1))
+
+pub returns-clause-performs : goal.returns-clause-performs
+returns-clause-performs g c told firm =
+    subst (λ (text : List ℕ). Performs g.M.Machine.clock g.M.Machine.since g.M.Machine.state end_of c.args.machine.now c.refuse_unread.new.machine (unread 3 text (seen (g.M.Machine.state c.args.machine.now))) c.refuse_unread.result)
+    c.in_ok-text.ensures (c.refuse_unread.ensures.performs told firm)

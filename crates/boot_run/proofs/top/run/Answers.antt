@@ -1,0 +1,50 @@
+use Rattle.std.proofs.Common.{sym, ap, ◌∙◌, subst}
+use Rattle.boot_machine.specs.Images.{IsSettled}
+use Rattle.boot_machine.specs.Sent.{Adds, views}
+use Rattle.boot_machine.proofs.Settled.{firm_of_settled}
+use Rattle.boot_run.specs.Endings.{AllTidied, AtEnd, UnlessDisk, end_at, ended_of}
+use Rattle.boot_run.specs.Step.{Step}
+use Rattle.boot_run.proofs.Taken.{ended_again}
+use Rattle.boot_run.proofs.Topping.{after_change, firm_by, headline, lines_run, settled_by}
+use Rattle.boot_run.proofs.top.run.Goals as goal
+
+pub returns-clause-headline : goal.returns-clause-headline
+returns-clause-headline g c told settled lines asks =
+    let old = c.args.machine.now in
+    let now = c.run_to_end.new.machine in
+    headline g.M.Machine.clock g.M.Machine.since g.M.Machine.state old now lines c.run_to_end.result settled
+    (lines_run g.M.Machine.clock g.M.Machine.since g.M.Machine.state _ lines old now c.run_to_end.result asks (c.run_to_end.ensures.runs told) (firm_of_settled (g.M.Machine.state old) settled))
+
+pub returns-clause-after_change : goal.returns-clause-after_change
+returns-clause-after_change g c told settled lines asks =
+    let old = c.args.machine.now in
+    let now = c.run_to_end.new.machine in
+    after_change g.M.Machine.clock g.M.Machine.since g.M.Machine.state old now lines
+    (headline g.M.Machine.clock g.M.Machine.since g.M.Machine.state old now lines c.run_to_end.result settled
+    (lines_run g.M.Machine.clock g.M.Machine.since g.M.Machine.state _ lines old now c.run_to_end.result asks (c.run_to_end.ensures.runs told) (firm_of_settled (g.M.Machine.state old) settled)))
+
+pub returns-clause-step : goal.returns-clause-step
+returns-clause-step g c told firm lines asks =
+    let old = c.args.machine.now in
+    let now = c.run_to_end.new.machine in
+    let same = ap ended_of c.status.ensures ∙ ended_again c.run_to_end.result in
+    subst (λ ended. Adds (g.M.Machine.state old).printed (g.M.Machine.state now).printed (λ sent. Step (views (g.M.Machine.state old)) lines (views (g.M.Machine.state now)) sent (end_at ended))) (sym same)
+    (lines_run g.M.Machine.clock g.M.Machine.since g.M.Machine.state _ lines old now c.run_to_end.result asks (c.run_to_end.ensures.runs told) firm).at_end
+
+pub returns-clause-firm : goal.returns-clause-firm
+returns-clause-firm g c told firm = firm_by g.M.Machine.clock g.M.Machine.since g.M.Machine.state _ c.args.machine.now c.run_to_end.new.machine c.run_to_end.result (c.run_to_end.ensures.runs told) firm
+
+pub returns-clause-settled : goal.returns-clause-settled
+returns-clause-settled g c told =
+    let old = c.args.machine.now in
+    let now = c.run_to_end.new.machine in
+    let same = ap ended_of c.status.ensures ∙ ended_again c.run_to_end.result in
+    subst (λ ended. UnlessDisk ended (IsSettled (g.M.Machine.state old) → IsSettled (g.M.Machine.state now))) (sym same)
+    (settled_by g.M.Machine.clock g.M.Machine.since g.M.Machine.state _ old now c.run_to_end.result (c.run_to_end.ensures.runs told))
+
+pub returns-clause-tidied : goal.returns-clause-tidied
+returns-clause-tidied g c told lines asks =
+    let old = c.args.machine.now in
+    let now = c.run_to_end.new.machine in
+    let same = ap ended_of c.status.ensures ∙ ended_again c.run_to_end.result in
+    subst (λ ended. AtEnd ended (AllTidied lines (g.M.Machine.state now))) (sym same) (c.run_to_end.ensures.tidies told lines asks)

@@ -1,0 +1,100 @@
+-- A run in the words of the reference: its replies, the views between them, and how many of them are acknowledged.
+use Rattle.std.specs.Prelude.{◌≡◌, ◌≢◌, ◌⊎◌, ℕ, ◌+◌, ◌≤◌, ◌<◌, ◌||◌, Bool, true, false, List, [], ◌∷◌, ◌++◌, length, take}
+use Rattle.boot_machine.specs.Disk.{Files, IsIn}
+use Rattle.boot_machine.specs.Sent.{Sent, IsPrefix, latest}
+use Rattle.command_plans.specs.Answers.{is_refusal}
+use Rattle.command_plans.specs.Deeds.{End, Stopped, Finished, NoMemory, DiskFails}
+use Rattle.boot_run.specs.Lines.{line_deed, is_unread}
+use Rattle.boot_run.specs.declared.line.Line.{Line}
+
+-- the replies of the lines, from a view on
+abbrev pub replies : Files → List Line → List Sent
+replies view [] = []
+replies view (line ∷ lines) = (line_deed view line).sent ∷ replies (line_deed view line).after lines
+
+-- the view after some lines. Below, S(k) is that after the first k of n lines
+abbrev pub view_after : Files → List Line → Files
+view_after view [] = view
+view_after view (line ∷ lines) = view_after (line_deed view line).after lines
+
+-- joined end to end
+abbrev pub joined : List Sent → Sent
+joined [] = []
+joined (reply ∷ rest) = reply ++ joined rest
+
+-- k is the greatest number for which the first k replies joined are a prefix of what was printed
+pub record Acknowledges (all : List Sent) (sent : Sent) (k : ℕ) : Type 0 where
+  pub within : k ≤ length all
+  pub whole : IsPrefix (joined (take k all)) sent
+  pub most : (j : ℕ) → j ≤ length all → IsPrefix (joined (take j all)) sent → j ≤ k
+
+abbrev pub AllUnread : List Line → Type 0
+AllUnread [] = Unit {0}
+AllUnread (line ∷ lines) = (is_unread line ≡ true) × AllUnread lines
+
+-- the state is the same, or a stop left one of its views
+abbrev pub Keeps : List Files → List Files → End → Type 0
+Keeps old new Stopped = (view : Files) × (new ≡ view ∷ []) × IsIn view old
+Keeps old new end = new ≡ old
+
+-- Early: no more is printed than replies to leading lines that are no command, and the state is that of the start.
+pub record Early (old : List Files) (lines : List Line) (new : List Files) (sent : Sent) (end : End) (k : ℕ) : Type 0 where
+  pub leading : ℕ
+  pub unread : AllUnread (take leading lines)
+  pub enough : k ≤ leading
+  pub front : IsPrefix sent (joined (take leading (replies (latest old) lines)))
+  pub kept : Keeps old new end
+
+-- Late: each view is S(k) or S(k+1), and S(k) where k = n. After a status other than 3 they are equal, after 5 they are S(k).
+pub record Late (old : List Files) (lines : List Line) (new : List Files) (end : End) (k : ℕ) : Type 0 where
+  pub views : (v : Files) → IsIn v new → (v ≡ view_after (latest old) (take k lines)) ⊎ ((k < length lines) × (v ≡ view_after (latest old) (take (k + 1) lines)))
+  pub equal : end ≢ DiskFails → (v w : Files) → IsIn v new → IsIn w new → v ≡ w
+  pub no_memory : end ≡ NoMemory → (v : Files) → IsIn v new → v ≡ view_after (latest old) (take k lines)
+
+-- From the state old a run over these lines may print this and leave the state new, at a status or a stop.
+pub record Step (old : List Files) (lines : List Line) (new : List Files) (sent : Sent) (end : End) : Type 0 where
+  pub acked : ℕ
+  pub is_acked : Acknowledges (replies (latest old) lines) sent acked
+  pub front : IsPrefix sent (joined (replies (latest old) lines))
+  pub finished : end ≡ Finished → sent ≡ joined (replies (latest old) lines)
+  pub no_memory : end ≡ NoMemory → sent ≡ joined (take acked (replies (latest old) lines))
+  pub case : Early old lines new sent end acked ⊎ Late old lines new end acked
+
+-- no reply is empty
+abbrev pub NoneEmpty : Files → List Line → Type 0
+NoneEmpty view [] = Unit {0}
+NoneEmpty view (line ∷ lines) = ((line_deed view line).sent ≢ []) × NoneEmpty (line_deed view line).after lines
+
+-- a byte of the reply behind the first i is printed, and none of the next
+pub record HasBegun (all : List Sent) (sent : Sent) (i : ℕ) : Type 0 where
+  pub some : length (joined (take i all)) < length sent
+  pub no_more : length sent ≤ length (joined (take (i + 1) all))
+
+-- Where a byte of a reply and none of the next one's is printed, boot sees the view after its line, or where the reply is whole and
+-- another follows, maybe the view after the next.
+abbrev pub SeesBegun : Files → List Line → Files → Sent → Type 0
+SeesBegun first lines seen_after sent =
+    (i : ℕ) → i < length lines → HasBegun (replies first lines) sent i
+    → (seen_after ≡ view_after first (take (i + 1) lines))
+    ⊎ ((sent ≡ joined (take (i + 1) (replies first lines))) × (i + 1 < length lines) × (seen_after ≡ view_after first (take (i + 2) lines)))
+
+-- all views of the state are one
+abbrev pub IsOneView : List Files → Type 0
+IsOneView state = (v : Files) → IsIn v state → v ≡ latest state
+
+-- A stop leaves printed a prefix of the replies, and boot sees the view after the acknowledged commands or one more.
+pub record Leaves (first : Files) (lines : List Line) (seen_after : Files) (sent : Sent) : Type 0 where
+  pub acked : ℕ
+  pub is_acked : Acknowledges (replies first lines) sent acked
+  pub front : IsPrefix sent (joined (replies first lines))
+  pub view : (seen_after ≡ view_after first (take acked lines)) ⊎ ((acked < length lines) × (seen_after ≡ view_after first (take (acked + 1) lines)))
+  pub begun : SeesBegun first lines seen_after sent
+
+-- A stop inside a run: a step of the reference, and where all views at the start are one, what the headline says.
+abbrev pub StopsIn : List Files → List Line → Files → Sent → Type 0
+StopsIn old lines seen_after sent = Step old lines (seen_after ∷ []) sent Stopped × (IsOneView old → Leaves (latest old) lines seen_after sent)
+
+-- some line is refused
+abbrev pub some_refused : Files → List Line → Bool
+some_refused view [] = false
+some_refused view (line ∷ lines) = is_refusal (line_deed view line).outcome || some_refused (line_deed view line).after lines

@@ -1,0 +1,12 @@
+//! One run of the program over any machine: its words, lines of commands, scripts, and how it ends.
+#![tactic(auto)]
+
+mod ended;
+mod input;
+mod line;
+mod lines;
+mod script;
+mod top;
+
+pub use ended::Ended;
+pub use top::run;

@@ -1,0 +1,182 @@
+//! A run over a list of lines.
+ghost use Rattle.std.specs.Prelude.{◌≡◌, ◌||◌, ◌++◌, [], ◌∷◌, IfOk, OnOk, OnErr, ℕ, take, IsTrue};
+ghost use Rattle.boot_base.specs.Refusals.{line_of};
+ghost use Rattle.boot_machine.specs.Counts.{CountsPipe};
+ghost use Rattle.boot_machine.specs.Images.{IsFirm};
+ghost use Rattle.boot_machine.specs.Moments.{EachSince};
+ghost use Rattle.boot_machine.specs.Rows.{tagged, with_printed};
+ghost use Rattle.boot_machine.specs.Sent.{PrintsPart, seen, views};
+ghost use Rattle.boot_machine.specs.declared.machine.Channel.TheVariants.{Out};
+ghost use Rattle.command_plans.specs.Answers.{is_refusal};
+ghost use Rattle.boot_commands.specs.Commands.{Tidied, deed_of};
+ghost use Rattle.command_plans.specs.Performs.{CountsStop, LeavesNoTemp, Performs, Syncs, end_of};
+ghost use Rattle.boot_run.specs.Endings.{AllTidied};
+ghost use Rattle.boot_run.specs.Lines.{Prints, TidiedBy, acknowledged, acknowledgement, acknowledgement_in, line_deed, no_command_text, too_long_text, unread};
+ghost use Rattle.boot_run.specs.RunsTo.{IsSyncedBy, RunsTo};
+
+use crate::input::SCRIPT_LIMIT;
+use crate::line::Line;
+use boot_base::{Bytes, Refusal, Text};
+use boot_commands::plain_step;
+use boot_machine::{Channel, Machine, PipeFault, print_all};
+use command_plans::{Outcome, Stop, refusal_line};
+use std::alloc::{AllocError, Global};
+use tool_words::Command;
+
+/// The two lines that may stand behind a reply.
+#[derive(Debug, Drop)]
+struct Acknowledgements {
+    ok: Bytes,
+    refused: Bytes,
+}
+
+impl Acknowledgements {
+    // Both lines of a script's line of that number.
+    fn of(alloc: Global, number: u64) -> Result<Acknowledgements, AllocError>
+        ensures { IfOk result (λ texts. (outcome : Outcome) → acknowledgement_in texts outcome ≡ acknowledgement outcome number) }
+    {
+        let ok = format!(in alloc; "ok {number}\n")?;
+        let refused = format!(in alloc; "refused {number}\n")?;
+        Ok(Acknowledgements {
+            ok: Bytes::from(ok.into_bytes()),
+            refused: Bytes::from(refused.into_bytes()),
+        })
+    }
+}
+
+// Prints the line behind a reply.
+fn acknowledge<M: Machine>(
+    outcome: Outcome,
+    texts: &Acknowledgements,
+    machine: &mut M,
+) -> Result<(), PipeFault>
+    ensures done { OnOk result (IsTrue M.tells → M.state machine.new ≡ with_printed Out (acknowledgement_in texts.now outcome) (M.state machine.old)) }
+    ensures part { OnErr result (IsTrue M.tells → (k : ℕ) × (M.state machine.new ≡ with_printed Out (take k (acknowledgement_in texts.now outcome)) (M.state machine.old))) }
+    ensures moments { IsTrue M.tells → EachSince M.clock M.since machine.old machine.new (PrintsPart (M.state machine.old) (tagged Out (acknowledgement_in texts.now outcome))) }
+    ensures stays { IsTrue M.tells → Prints (M.state machine.old) (M.state machine.new) }
+    ensures counts { CountsPipe result (M.counts machine.old) (M.counts machine.new) }
+{
+    match outcome {
+        Outcome::Done => print_all(Channel::Out, texts.ok.as_slice(), machine),
+        Outcome::Refused { .. } => print_all(Channel::Out, texts.refused.as_slice(), machine),
+    }
+}
+
+// Prints the refusal of what is no command.
+fn refuse_unread<M: Machine>(number: u8, text: &Bytes, machine: &mut M) -> Result<Outcome, Stop>
+    ensures performs { IsTrue M.tells → IsFirm (M.state machine.old) → Performs M.clock M.since M.state end_of machine.old machine.new
+        (unread number text.now (seen (M.state machine.old))) result }
+    ensures stays { IsTrue M.tells → Prints (M.state machine.old) (M.state machine.new) }
+    ensures counts { CountsStop result (M.counts machine.old) (M.counts machine.new) }
+{
+    print_all(Channel::Err, text.as_slice(), machine)?;
+    Ok(Outcome::Refused { number })
+}
+
+// A line of a script that is a command.
+fn numbered<M: Machine>(
+    alloc: Global,
+    number: u64,
+    command: &Command,
+    machine: &mut M,
+) -> Result<Outcome, Stop>
+    ensures performs { IsTrue M.tells → IsFirm (M.state machine.old) → Performs M.clock M.since M.state end_of machine.old machine.new
+        (acknowledged number (deed_of (seen (M.state machine.old)) command.now)) result }
+    ensures syncs { IsTrue M.tells → IsFirm (M.state machine.old) → Syncs M.clock M.since M.state machine.old machine.new
+        (acknowledged number (deed_of (seen (M.state machine.old)) command.now)) result }
+    ensures tidies { OnOk result (IsTrue M.tells → Tidied command.now (M.state machine.new).files) }
+    ensures input { IsTrue M.tells → (M.state machine.new).input ≡ (M.state machine.old).input }
+    ensures temps { IsTrue M.tells → LeavesNoTemp result (M.state machine.old) (M.state machine.new) }
+    ensures counts { CountsStop result (M.counts machine.old) (M.counts machine.new) }
+{
+    let texts = Acknowledgements::of(alloc, number)?;
+    let outcome = plain_step(alloc, command, machine)?;
+    acknowledge(outcome, &texts, machine)?;
+    Ok(outcome)
+}
+
+fn no_command(alloc: Global, number: u64) -> Result<Bytes, AllocError>
+    ensures { IfOk result (λ text. text ≡ no_command_text number) }
+{
+    refusal_line(alloc, &Refusal::BadScript { line: number })
+}
+
+// A line of a script that is no command.
+fn unread_line<M: Machine>(alloc: Global, number: u64, machine: &mut M) -> Result<Outcome, Stop>
+    ensures performs { IsTrue M.tells → IsFirm (M.state machine.old) → Performs M.clock M.since M.state end_of machine.old machine.new
+        (acknowledged number (unread 17 (no_command_text number) (seen (M.state machine.old)))) result }
+    ensures stays { IsTrue M.tells → Prints (M.state machine.old) (M.state machine.new) }
+    ensures counts { CountsStop result (M.counts machine.old) (M.counts machine.new) }
+{
+    let text = no_command(alloc, number)?;
+    let texts = Acknowledgements::of(alloc, number)?;
+    let outcome = refuse_unread(17, &text, machine)?;
+    acknowledge(outcome, &texts, machine)?;
+    Ok(outcome)
+}
+
+fn too_long_refusal(alloc: Global) -> Result<Bytes, AllocError>
+    ensures { IfOk result (λ text. text ≡ too_long_text) }
+{
+    let path = Text::of(alloc, "standard input")?;
+    let size = SCRIPT_LIMIT as u64 + 1;
+    refusal_line(alloc, &Refusal::TooLarge { path, size })
+}
+
+// A script that is too long.
+fn too_long<M: Machine>(alloc: Global, machine: &mut M) -> Result<Outcome, Stop>
+    ensures performs { IsTrue M.tells → IsFirm (M.state machine.old) → Performs M.clock M.since M.state end_of machine.old machine.new
+        (unread 3 too_long_text (seen (M.state machine.old))) result }
+    ensures stays { IsTrue M.tells → Prints (M.state machine.old) (M.state machine.new) }
+    ensures counts { CountsStop result (M.counts machine.old) (M.counts machine.new) }
+{
+    let text = too_long_refusal(alloc)?;
+    refuse_unread(3, &text, machine)
+}
+
+// One line.
+fn run_line<M: Machine>(alloc: Global, line: &Line, machine: &mut M) -> Result<Outcome, Stop>
+    ensures performs { IsTrue M.tells → IsFirm (M.state machine.old) → Performs M.clock M.since M.state end_of machine.old machine.new
+        (line_deed (seen (M.state machine.old)) line.now) result }
+    ensures syncs { IsTrue M.tells → IsFirm (M.state machine.old) → Syncs M.clock M.since M.state machine.old machine.new
+        (line_deed (seen (M.state machine.old)) line.now) result }
+    ensures tidies { OnOk result (IsTrue M.tells → TidiedBy (M.state machine.new).files line.now) }
+    ensures input { IsTrue M.tells → (M.state machine.new).input ≡ (M.state machine.old).input }
+    ensures temps { IsTrue M.tells → LeavesNoTemp result (M.state machine.old) (M.state machine.new) }
+    ensures counts { CountsStop result (M.counts machine.old) (M.counts machine.new) }
+{
+    match line {
+        Line::Plain(command) => plain_step(alloc, command, machine),
+        Line::Numbered(number, command) => numbered(alloc, *number, command, machine),
+        Line::Unread(number) => unread_line(alloc, *number, machine),
+        Line::TooLong => too_long(alloc, machine),
+    }
+}
+
+// Whether some reply is a refusal, this outcome's too.
+fn some_refused(refused: bool, outcome: Outcome) -> bool
+    ensures { result ≡ (refused || is_refusal outcome) }
+{
+    match outcome {
+        Outcome::Done => refused,
+        Outcome::Refused { .. } => true,
+    }
+}
+
+/// All lines, one after the other: whether some reply is a refusal. A refused line doesn't end the run; a
+/// fault of the machine and want of memory do.
+pub fn run_lines<M: Machine>(alloc: Global, lines: &[Line], machine: &mut M) -> Result<bool, Stop>
+    ensures runs { IsTrue M.tells → IsFirm (M.state machine.old) → RunsTo M.clock M.since M.state machine.old machine.new lines.now result }
+    ensures synced { IsTrue M.tells → IsFirm (M.state machine.old) → IsSyncedBy M.clock M.since M.state machine.old machine.new lines.now }
+    ensures tidies { OnOk result (IsTrue M.tells → AllTidied lines.now (M.state machine.new)) }
+    ensures input { IsTrue M.tells → (M.state machine.new).input ≡ (M.state machine.old).input }
+    ensures temps { IsTrue M.tells → LeavesNoTemp result (M.state machine.old) (M.state machine.new) }
+    ensures counts { CountsStop result (M.counts machine.old) (M.counts machine.new) }
+{
+    let mut refused = false;
+    for line in lines {
+        let outcome = run_line(alloc, line, machine)?;
+        refused = some_refused(refused, outcome);
+    }
+    Ok(refused)
+}
