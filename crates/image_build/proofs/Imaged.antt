@@ -32,21 +32,22 @@ use Rattle.pe_builder.specs.declared.plan.Plan.{Plan}
 use Rattle.image_writer.proofs.PlannedImages.{planned_image-is}
 use Rattle.image_build.specs.declared.build_plan.ImagePlan.{ImagePlan}
 use Rattle.image_build.specs.Building.{Built, builder_refusal, has_bytes, has_sbat, image_of_parts, image_or, size_of_part}
-use Rattle.image_build.specs.Imaged.{AreParts, AreRead, Images, IsPlanOf, IsSbatPart, PlansParts, any_size, image_meant, is_filled, read_part}
+use Rattle.image_build.specs.Imaged.{AreParts, AreRead, Images, IsPlanOf, IsSbatPart, PlansParts, any_size, image_meant, is_filled}
+use Rattle.image_build.specs.Reads.{part_as}
 
 -- the bytes of a part are as many as it says
 read_length : (files : Reading) (part : Part) → IsPieced files part → length (bytes_of files part.pieces.items) ≡ part.length
 read_length files part is = length-bytes_of files part.pieces.items is.sizes ∙ is.total
 
 -- so the sizes of the parts are those of their bytes
-sizes_read : (files : Reading) (parts : List Part) → All (IsPieced files) parts → map size_of_part (map (read_part files) parts) ≡ map any_size parts
+sizes_read : (files : Reading) (parts : List Part) → All (IsPieced files) parts → map size_of_part (map (part_as files) parts) ≡ map any_size parts
 sizes_read files [] pieced = refl
 sizes_read files (part ∷ parts) pieced =
     let here = read_length files part (All-head (IsPieced files) part parts pieced) in
-    ap (λ (n : ℕ). (let size : WideSize = record { name = part.name; length = n; flags = part_flags part.name } in size) ∷ map size_of_part (map (read_part files) parts)) here
+    ap (λ (n : ℕ). (let size : WideSize = record { name = part.name; length = n; flags = part_flags part.name } in size) ∷ map size_of_part (map (part_as files) parts)) here
     ∙ ap (λ (l : List WideSize). any_size part ∷ l) (sizes_read files parts (All-tail (IsPieced files) part parts pieced))
 
-contents_read : (files : Reading) (parts : List Part) → map (λ (p : SectionName × List ℕ). p.1) (map (read_part files) parts) ≡ parts_bytes files parts
+contents_read : (files : Reading) (parts : List Part) → map (λ (p : SectionName × List ℕ). p.1) (map (part_as files) parts) ≡ parts_bytes files parts
 contents_read files [] = refl
 contents_read files (part ∷ parts) = ap (λ (l : List (List ℕ)). bytes_of files part.pieces.items ∷ l) (contents_read files parts)
 
@@ -58,15 +59,15 @@ lengths_read files (part ∷ parts) pieced =
     ∙ ap (λ (l : List ℕ). part.length ∷ l) (lengths_read files parts (All-tail (IsPieced files) part parts pieced))
 
 -- the parts with bytes are those of some length
-pub filled_read : (files : Reading) (parts : List Part) → All (IsPieced files) parts → filter has_bytes (map (read_part files) parts) ≡ map (read_part files) (filter is_filled parts)
+pub filled_read : (files : Reading) (parts : List Part) → All (IsPieced files) parts → filter has_bytes (map (part_as files) parts) ≡ map (part_as files) (filter is_filled parts)
 filled_read files [] pieced = refl
 filled_read files (part ∷ parts) pieced =
     let here = read_length files part (All-head (IsPieced files) part parts pieced) in
     let rest = filled_read files parts (All-tail (IsPieced files) part parts pieced) in
-    let first = read_part files part in
-    ap (λ (n : ℕ). cond (not (n == 0)) (first ∷ filter has_bytes (map (read_part files) parts)) (filter has_bytes (map (read_part files) parts))) here
+    let first = part_as files part in
+    ap (λ (n : ℕ). cond (not (n == 0)) (first ∷ filter has_bytes (map (part_as files) parts)) (filter has_bytes (map (part_as files) parts))) here
     ∙ ap (λ (l : List (SectionName × List ℕ)). cond (not (part.length == 0)) (first ∷ l) l) rest
-    ∙ elim (part.length == 0) as (λ b. cond (not b) (first ∷ map (read_part files) (filter is_filled parts)) (map (read_part files) (filter is_filled parts)) ≡ map (read_part files) (cond (not b) (part ∷ filter is_filled parts) (filter is_filled parts))) [
+    ∙ elim (part.length == 0) as (λ b. cond (not b) (first ∷ map (part_as files) (filter is_filled parts)) (map (part_as files) (filter is_filled parts)) ≡ map (part_as files) (cond (not b) (part ∷ filter is_filled parts) (filter is_filled parts))) [
       | true ↦ refl
       | false ↦ refl
     ]
@@ -93,9 +94,9 @@ built output image = Ok (record { output = output; image = image })
 -- of parts that are read, the first refusal goes by the sizes that they say
 refusal_read : (output : Path) (h : Headers) (files : Reading) (stub : List ℕ) (parts : List Part) (in_place : Option ℕ) (sbat : List ℕ) (refused : Option PlanFault)
     → All (IsPieced files) parts → option_map length (given in_place sbat) ≡ in_place → first_refusal h (length stub) (map any_size parts) in_place ≡ refused
-    → image_of_parts output h stub (map (read_part files) parts) (given in_place sbat) ≡ image_or output h stub (map (read_part files) parts) (given in_place sbat) refused
+    → image_of_parts output h stub (map (part_as files) parts) (given in_place sbat) ≡ image_or output h stub (map (part_as files) parts) (given in_place sbat) refused
 refusal_read output h files stub parts in_place sbat refused pieced len is =
-    let read = map (read_part files) parts in
+    let read = map (part_as files) parts in
     ap (λ (l : List WideSize). image_or output h stub read (given in_place sbat) (first_refusal h (length stub) l (option_map length (given in_place sbat)))) (sizes_read files parts pieced)
     ∙ ap (λ (o : Option ℕ). image_or output h stub read (given in_place sbat) (first_refusal h (length stub) (map any_size parts) o)) len
     ∙ ap (λ (o : Option PlanFault). image_or output h stub read (given in_place sbat) o) is
@@ -103,21 +104,21 @@ refusal_read output h files stub parts in_place sbat refused pieced len is =
 image_for : (output : Path) (plan : Plan) (sources : Sources) (view : Files) (h : Headers) (in_place : Option ℕ) → pe_of (contents view (stub_path sources)) ≡ Ok h
     → All (IsPieced (contents view)) (part_list sources) → option_map length (given in_place (new_sbat sources)) ≡ in_place
     → Plans plan h (length (contents view (stub_path sources))) (map any_size (part_list sources)) in_place
-    → image_of_parts output h (contents view (stub_path sources)) (map (read_part (contents view)) (part_list sources)) (given in_place (new_sbat sources)) ≡ built output (planned_image plan sources view)
+    → image_of_parts output h (contents view (stub_path sources)) (map (part_as (contents view)) (part_list sources)) (given in_place (new_sbat sources)) ≡ built output (planned_image plan sources view)
 image_for output plan sources view h in_place reads pieced len plans =
     let files = contents view in
     let stub = files (stub_path sources) in
     let parts = part_list sources in
     let sbat = given in_place (new_sbat sources) in
     refusal_read output h files stub parts in_place (new_sbat sources) None pieced len plans.buildable.not_refused
-    ∙ ap (λ (l : List WideSize). built output (finished h l (map (λ p. p.1) (map (read_part files) parts)) sbat stub)) (sizes_read files parts pieced)
+    ∙ ap (λ (l : List WideSize). built output (finished h l (map (λ p. p.1) (map (part_as files) parts)) sbat stub)) (sizes_read files parts pieced)
     ∙ ap (λ (l : List (List ℕ)). built output (finished h (map any_size parts) l sbat stub)) (contents_read files parts)
     ∙ ap (λ (l : List ℕ). built output l) (sym (planned_image-is plan sources view h (map any_size parts) in_place reads plans len))
 
 -- the image of parts and a `.sbat` in place, where it is said
 abbrev pub parts_meant : Files → Headers → Path → List Part → Option ℕ → List ℕ → Path → Result Built Refusal
 parts_meant view h stub parts in_place sbat output =
-    image_of_parts output h (contents view stub) (map (read_part (contents view)) parts) (given in_place sbat)
+    image_of_parts output h (contents view stub) (map (part_as (contents view)) parts) (given in_place sbat)
 
 -- these files and parts are read
 pub record Read (view : Files) (h : Headers) (n : ℕ) (stub : Path) (parts : List Part) (in_place : Option ℕ) (sbat : List ℕ) : Type 0 where
@@ -173,10 +174,10 @@ is_some empty n is fails = grind (arith, nat_tests)
 
 -- the parts, the kernel behind them
 listed_read : (files : Reading) (parts : List Part) (linux : Part) → linux.name ≡ named (codes ".linux") → All (IsPieced files) (parts ++ linux ∷ [])
-    → filter has_bytes (map (read_part files) parts ++ (named (codes ".linux"), bytes_of files linux.pieces.items) ∷ []) ≡ map (read_part files) (filter is_filled (parts ++ linux ∷ []))
+    → filter has_bytes (map (part_as files) parts ++ (named (codes ".linux"), bytes_of files linux.pieces.items) ∷ []) ≡ map (part_as files) (filter is_filled (parts ++ linux ∷ []))
 listed_read files parts linux name pieced =
-    ap (λ (n : SectionName). filter has_bytes (map (read_part files) parts ++ (n, bytes_of files linux.pieces.items) ∷ [])) (sym name)
-    ∙ ap (filter has_bytes) (sym (map-append (read_part files) parts (linux ∷ [])))
+    ap (λ (n : SectionName). filter has_bytes (map (part_as files) parts ++ (n, bytes_of files linux.pieces.items) ∷ [])) (sym name)
+    ∙ ap (filter has_bytes) (sym (map-append (part_as files) parts (linux ∷ [])))
     ∙ filled_read files (parts ++ linux ∷ []) pieced
 
 all_pieced : (view : Files) (h : Headers) (n : ℕ) (stub : Path) (parts : List Part) (linux : Part) → AreRead view h n stub parts linux → All (IsPieced (contents view)) (parts ++ linux ∷ [])
@@ -193,7 +194,7 @@ filled_are_read view h n stub parts all list linux in_place sbat read pieced is 
 
 meant_without : (view : Files) (h : Headers) (stub : Path) (parts : List Part) (linux : Part) (sbat : List ℕ) (output : Path) → length sbat ≡ 0
     → image_meant view h stub parts linux sbat output
-    ≡ image_of_parts output h (contents view stub) (filter has_bytes (map (read_part (contents view)) parts ++ (named (codes ".linux"), bytes_of (contents view) linux.pieces.items) ∷ [])) None
+    ≡ image_of_parts output h (contents view stub) (filter has_bytes (map (part_as (contents view)) parts ++ (named (codes ".linux"), bytes_of (contents view) linux.pieces.items) ∷ [])) None
 meant_without view h stub parts linux [] output none = refl
 meant_without view h stub parts linux (byte ∷ text) output none = absurd (omega arith)
 
@@ -206,12 +207,12 @@ images_without view h n stub parts list linux sbat result are is none planned re
     images_as view (parts_meant view h stub list None sbat) (image_meant view h stub parts linux sbat) result
     (λ output.
     meant_without view h stub parts linux sbat output none
-    ∙ ap (λ (l : List (SectionName × List ℕ)). image_of_parts output h (contents view stub) l None) (listed_read (contents view) parts linux are.name pieced ∙ ap (map (read_part (contents view))) (sym is)))
+    ∙ ap (λ (l : List (SectionName × List ℕ)). image_of_parts output h (contents view stub) l None) (listed_read (contents view) parts linux are.name pieced ∙ ap (map (part_as (contents view))) (sym is)))
     (images_parts view h n stub list None sbat result (filled_are_read view h n stub parts (parts ++ linux ∷ []) list linux None sbat read pieced is refl) planned)
 
 meant_in_place : (view : Files) (h : Headers) (stub : Path) (parts : List Part) (linux : Part) (sbat : List ℕ) (output : Path) → 0 < length sbat → has_sbat h ≡ true
     → image_meant view h stub parts linux sbat output
-    ≡ image_of_parts output h (contents view stub) (filter has_bytes (map (read_part (contents view)) parts ++ (named (codes ".linux"), bytes_of (contents view) linux.pieces.items) ∷ [])) (Some sbat)
+    ≡ image_of_parts output h (contents view stub) (filter has_bytes (map (part_as (contents view)) parts ++ (named (codes ".linux"), bytes_of (contents view) linux.pieces.items) ∷ [])) (Some sbat)
 meant_in_place view h stub parts linux [] output some has = absurd (omega arith)
 meant_in_place view h stub parts linux (byte ∷ text) output some has = rw has refl
 
@@ -224,7 +225,7 @@ images_in_place view h n stub parts list linux sbat count result are is some has
     images_as view (parts_meant view h stub list (Some count) sbat) (image_meant view h stub parts linux sbat) result
     (λ output.
     meant_in_place view h stub parts linux sbat output some has
-    ∙ ap (λ (l : List (SectionName × List ℕ)). image_of_parts output h (contents view stub) l (Some sbat)) (listed_read (contents view) parts linux are.name pieced ∙ ap (map (read_part (contents view))) (sym is)))
+    ∙ ap (λ (l : List (SectionName × List ℕ)). image_of_parts output h (contents view stub) l (Some sbat)) (listed_read (contents view) parts linux are.name pieced ∙ ap (map (part_as (contents view))) (sym is)))
     (images_parts view h n stub list (Some count) sbat result (filled_are_read view h n stub parts (parts ++ linux ∷ []) list linux (Some count) sbat read pieced is (ap (λ (k : ℕ). let o : Option ℕ = Some k in o) len)) planned)
 
 text_pieced : (files : Reading) (part : Part) (text : List ℕ) → IsSbatPart part text → IsPieced files part
@@ -233,7 +234,7 @@ text_pieced files part text is = record {
   total = ap total_length is.pieces_are ∙ sum_by-cons piece_length (pieces.Bytes text) [] ∙ omega (arith, is.length_is);
 }
 
-text_read : (files : Reading) (part : Part) (text : List ℕ) → IsSbatPart part text → read_part files part ≡ (named sbat_name, text)
+text_read : (files : Reading) (part : Part) (text : List ℕ) → IsSbatPart part text → part_as files part ≡ (named sbat_name, text)
 text_read files part text is =
     ap (λ (n : SectionName). (n, bytes_of files part.pieces.items)) is.name
     ∙ ap (λ (l : List Piece). (named sbat_name, bytes_of files l)) is.pieces_are
@@ -241,18 +242,18 @@ text_read files part text is =
 
 meant_as_part : (view : Files) (h : Headers) (stub : Path) (parts : List Part) (linux : Part) (sbat : List ℕ) (output : Path) → 0 < length sbat → has_sbat h ≡ false
     → image_meant view h stub parts linux sbat output
-    ≡ image_of_parts output h (contents view stub) (filter has_bytes (map (read_part (contents view)) parts ++ (named sbat_name, sbat) ∷ (named (codes ".linux"), bytes_of (contents view) linux.pieces.items) ∷ [])) None
+    ≡ image_of_parts output h (contents view stub) (filter has_bytes (map (part_as (contents view)) parts ++ (named sbat_name, sbat) ∷ (named (codes ".linux"), bytes_of (contents view) linux.pieces.items) ∷ [])) None
 meant_as_part view h stub parts linux [] output some has = absurd (omega arith)
 meant_as_part view h stub parts linux (byte ∷ text) output some has = rw has refl
 
 text_listed : (files : Reading) (parts : List Part) (linux part : Part) (text : List ℕ) → IsSbatPart part text
-    → map (read_part files) parts ++ (named sbat_name, text) ∷ (named (codes ".linux"), bytes_of files linux.pieces.items) ∷ []
-    ≡ map (read_part files) (parts ++ part ∷ []) ++ (named (codes ".linux"), bytes_of files linux.pieces.items) ∷ []
+    → map (part_as files) parts ++ (named sbat_name, text) ∷ (named (codes ".linux"), bytes_of files linux.pieces.items) ∷ []
+    ≡ map (part_as files) (parts ++ part ∷ []) ++ (named (codes ".linux"), bytes_of files linux.pieces.items) ∷ []
 text_listed files parts linux part text is =
     let kernel : SectionName × List ℕ = (named (codes ".linux"), bytes_of files linux.pieces.items) in
-    ap (λ (p : SectionName × List ℕ). map (read_part files) parts ++ p ∷ kernel ∷ []) (sym (text_read files part text is))
-    ∙ sym (append_assoc (map (read_part files) parts) (read_part files part ∷ []) (kernel ∷ []))
-    ∙ ap (λ (l : List (SectionName × List ℕ)). l ++ kernel ∷ []) (sym (map-append (read_part files) parts (part ∷ [])))
+    ap (λ (p : SectionName × List ℕ). map (part_as files) parts ++ p ∷ kernel ∷ []) (sym (text_read files part text is))
+    ∙ sym (append_assoc (map (part_as files) parts) (part_as files part ∷ []) (kernel ∷ []))
+    ∙ ap (λ (l : List (SectionName × List ℕ)). l ++ kernel ∷ []) (sym (map-append (part_as files) parts (part ∷ [])))
 
 -- with one as a part
 pub images_as_part : (view : Files) (h : Headers) (n : ℕ) (stub : Path) (parts list : List Part) (linux part : Part) (sbat none : List ℕ) (result : Result ImagePlan PlanFault) → AreParts parts linux → IsSbatPart part sbat
@@ -266,5 +267,5 @@ images_as_part view h n stub parts list linux part sbat none result are holds is
     (λ output.
     meant_as_part view h stub parts linux sbat output some has
     ∙ ap (λ (l : List (SectionName × List ℕ)). image_of_parts output h (files stub) (filter has_bytes l) None) (text_listed files parts linux part sbat holds)
-    ∙ ap (λ (l : List (SectionName × List ℕ)). image_of_parts output h (files stub) l None) (listed_read files more linux are.name pieced ∙ ap (map (read_part files)) (sym is)))
+    ∙ ap (λ (l : List (SectionName × List ℕ)). image_of_parts output h (files stub) l None) (listed_read files more linux are.name pieced ∙ ap (map (part_as files)) (sym is)))
     (images_parts view h n stub list None none result (filled_are_read view h n stub parts (more ++ linux ∷ []) list linux None none read pieced is refl) planned)

@@ -119,7 +119,7 @@ source_bytes view (sources.At path) = bytes_at view path
 abbrev pub part_bytes : Files → NamedPart → Result (SectionName × List ℕ) Refusal
 part_bytes view part = each (source_bytes view) part.sources >>= λ bytes. Ok (part.name, joined_bytes bytes)
 
--- the first refusal of a builder; an image that is too large is told by its path
+-- the first refusal of a builder, which is never want of memory; an image that is too large is told by its path
 abbrev pub builder_refusal : Path → PlanFault → Refusal
 builder_refusal output faults.SignedStub = refusals.SignedStub
 builder_refusal output (faults.SectionTwice name) = refusals.SectionTwice (flat_map shown_byte (name_bytes name))

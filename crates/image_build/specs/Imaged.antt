@@ -7,7 +7,6 @@ use Rattle.boot_machine.specs.Disk.{Files}
 use Rattle.boot_machine.specs.Rows.{contents}
 use Rattle.pe_reader.specs.Grammar.{Headers, pe_of}
 use Rattle.uki_parts.specs.declared.kind.PartKind.TheVariants as kinds
-use Rattle.uki_parts.specs.declared.name.SectionName.{SectionName}
 use Rattle.uki_parts.specs.declared.part.Part.{Part}
 use Rattle.uki_parts.specs.declared.piece.Piece.TheVariants as pieces
 use Rattle.uki_parts.specs.Names.{named}
@@ -23,6 +22,7 @@ use Rattle.pe_builder.specs.Sizes.{size_of}
 use Rattle.image_writer.specs.Sourced.{IsPieced, IsSourced, new_sbat, part_list, planned_image, stub_path}
 use Rattle.image_build.specs.declared.build_plan.ImagePlan.{ImagePlan}
 use Rattle.image_build.specs.Building.{Built, builder_refusal, with_sbat_text}
+use Rattle.image_build.specs.Reads.{part_as}
 
 -- the size of a part of any length
 abbrev pub any_size : Part → WideSize
@@ -84,14 +84,10 @@ pub record AreFound (view : Files) (headers : Headers) (stub_length : ℕ) (stub
   pub sized : All (IsSized (contents view)) parts
   pub linux_pieced : IsPieced (contents view) linux
 
--- a part's name, and its bytes in these files
-abbrev pub read_part : Reading → Part → SectionName × List ℕ
-read_part files part = (part.name, bytes_of files part.pieces.items)
-
 -- what these parts and an SBAT text come to on a view
 abbrev pub image_meant : Files → Headers → Path → List Part → Part → List ℕ → Path → Result Built Refusal
 image_meant view headers stub parts linux sbat output =
-    with_sbat_text output headers (contents view stub) (map (read_part (contents view)) parts) (bytes_of (contents view) linux.pieces.items) sbat
+    with_sbat_text output headers (contents view stub) (map (part_as (contents view)) parts) (bytes_of (contents view) linux.pieces.items) sbat
 
 -- The plan was made for its sources on a view, and the image by it is the one that is meant; or the refusal is meant.
 -- Without memory nothing is told.
