@@ -140,8 +140,6 @@ const PLAIN: &str = "ukify build --stub=stub --linux=k --output=out.efi";
 struct Built {
     more: &'static str,
     size: u64,
-    // What `ukify inspect` prints.
-    sections: &'static str,
     // The value of PCR 11 before any phase.
     value: &'static str,
     // The same of a kernel that has the whole image's bytes.
@@ -152,112 +150,96 @@ const BUILT: [Built; 16] = [
     Built {
         more: "",
         size: 1536,
-        sections: "/out.efi: 2 sections\n.text:\n  size: 32 bytes\n  sha256: 66687aadf862bd776c8fc18b8e9f8e20089714856ee233b3902a591d0d5f2925\n.linux:\n  size: 3 bytes\n  sha256: ba7816bf8f01cfea414140de5dae2223b00361a396177a9cb410ff61f20015ad\n",
         value: "add59ff908ec30e42b7f32f055c9e9831e369067aba40e64693631392fe0166b",
         whole: "ed2d8c4b967b591758bdc7101a2a23a03f87bdb482dc16b6fda9e8d88e97a270",
     },
     Built {
         more: "--section=.pcrsig:@sig",
         size: 2048,
-        sections: "/out.efi: 3 sections\n.text:\n  size: 32 bytes\n  sha256: 66687aadf862bd776c8fc18b8e9f8e20089714856ee233b3902a591d0d5f2925\n.pcrsig:\n  size: 7 bytes\n  sha256: 8bb0cf6eb9b17d0f7d22b456f121257dc1254e1f01665370476383ea776df414\n.linux:\n  size: 3 bytes\n  sha256: ba7816bf8f01cfea414140de5dae2223b00361a396177a9cb410ff61f20015ad\n",
         value: "add59ff908ec30e42b7f32f055c9e9831e369067aba40e64693631392fe0166b",
         whole: "826cff43f7f0d3cefe2598d05caf71b2f3e04d44208c771c43087ca0e82e32d6",
     },
     Built {
         more: "--initrd=a --initrd=b",
         size: 2048,
-        sections: "/out.efi: 3 sections\n.text:\n  size: 32 bytes\n  sha256: 66687aadf862bd776c8fc18b8e9f8e20089714856ee233b3902a591d0d5f2925\n.initrd:\n  size: 12 bytes\n  sha256: 2bc9f2bb7cfa8849d466e0276f794b96f5466931a3d614ccc2f3e62f9cb05623\n.linux:\n  size: 3 bytes\n  sha256: ba7816bf8f01cfea414140de5dae2223b00361a396177a9cb410ff61f20015ad\n",
         value: "20571b76f0c38472976f964af879b3fca73e5472a4dcf51dcd35d82e12d53648",
         whole: "cb14b20e0a4f0a94e01d596ac084ea32dbcd3d78c6c52ad5cf33084119ea3a3f",
     },
     Built {
         more: "--initrd=a",
         size: 2048,
-        sections: "/out.efi: 3 sections\n.text:\n  size: 32 bytes\n  sha256: 66687aadf862bd776c8fc18b8e9f8e20089714856ee233b3902a591d0d5f2925\n.initrd:\n  size: 5 bytes\n  sha256: ed968e840d10d2d313a870bc131a4e2c311d7ad09bdf32b3418147221f51a6e2\n.linux:\n  size: 3 bytes\n  sha256: ba7816bf8f01cfea414140de5dae2223b00361a396177a9cb410ff61f20015ad\n",
         value: "0c9d72594f492ebcc47673135ba0ae81c50008448ffc0ba2b698f78954f82531",
         whole: "48c5a9fa9bc9a234c58b4855a57199b67fffc82c093bd8c9ccf3e88574d59fbf",
     },
     Built {
         more: "--stub=s2 --sbat=@t",
         size: 2048,
-        sections: "/out.efi: 3 sections\n.text:\n  size: 32 bytes\n  sha256: 66687aadf862bd776c8fc18b8e9f8e20089714856ee233b3902a591d0d5f2925\n.sbat:\n  size: 160 bytes\n  sha256: 380b0155f4ecf2932e8a0d724e5be0286bc331cea42b4e9e1ee57852167e30e6\n.linux:\n  size: 3 bytes\n  sha256: ba7816bf8f01cfea414140de5dae2223b00361a396177a9cb410ff61f20015ad\n",
         value: "578f19c0fc7d3747c086140cbb5f97f753db5eb673459e83e1392df055c2f5b6",
         whole: "bf848f285ba388b4f39c2a94a44b2047ef4243f75bed5aea83510657aec3ae1a",
     },
     Built {
         more: "--sbat=@t",
         size: 2048,
-        sections: "/out.efi: 3 sections\n.text:\n  size: 32 bytes\n  sha256: 66687aadf862bd776c8fc18b8e9f8e20089714856ee233b3902a591d0d5f2925\n.sbat:\n  size: 120 bytes\n  sha256: 0f1720b9873ac4e42b8e89bd76513a0e621aef07db624b29b4bf01165486f426\n.linux:\n  size: 3 bytes\n  sha256: ba7816bf8f01cfea414140de5dae2223b00361a396177a9cb410ff61f20015ad\n",
         value: "c26dff25c7eb6598223c4be7e65c73bf3bace642d871330cac1bb54a08075f44",
         whole: "d741e8197cf299f02627973c2391405011ecf5cef3d6754c2167403064354b55",
     },
     Built {
         more: "--stub=s2",
         size: 2048,
-        sections: "/out.efi: 3 sections\n.text:\n  size: 32 bytes\n  sha256: 66687aadf862bd776c8fc18b8e9f8e20089714856ee233b3902a591d0d5f2925\n.sbat:\n  size: 117 bytes\n  sha256: fd875e2e004ed58e2844cd6bb6a677eae6eb64faccd57dbe3a4542144323fb1f\n.linux:\n  size: 3 bytes\n  sha256: ba7816bf8f01cfea414140de5dae2223b00361a396177a9cb410ff61f20015ad\n",
         value: "45e42d4bc01cc998092423562f950a9b07cd158ffb563c5f45a91918e9c728c2",
         whole: "dd3aab74c2d98a74ed4851318fc01d268bce95bd78a3f7488d131dd0ddaf89bb",
     },
     Built {
         more: "--stub=head288",
         size: 1536,
-        sections: "/out.efi: 2 sections\n.text:\n  size: 32 bytes\n  sha256: 66687aadf862bd776c8fc18b8e9f8e20089714856ee233b3902a591d0d5f2925\n.linux:\n  size: 3 bytes\n  sha256: ba7816bf8f01cfea414140de5dae2223b00361a396177a9cb410ff61f20015ad\n",
         value: "add59ff908ec30e42b7f32f055c9e9831e369067aba40e64693631392fe0166b",
         whole: "13638510803f54ff7a4e8488a8b1ef787ce9e9010de0cb004be47745421d2bcd",
     },
     Built {
         more: "--os-release=ID=x '--cmdline=  root=/dev/sda1 \t quiet '",
         size: 2560,
-        sections: "/out.efi: 4 sections\n.text:\n  size: 32 bytes\n  sha256: 66687aadf862bd776c8fc18b8e9f8e20089714856ee233b3902a591d0d5f2925\n.osrel:\n  size: 4 bytes\n  sha256: 4079cb3bf2eafaeaac3a321f35f331250dd9eceb3f28f1df64d47955a8ab411f\n.cmdline:\n  size: 20 bytes\n  sha256: 134e69c33c4ed69f5d16938138e67cff3679c30d0890e5758afe9c8a1289fd9e\n.linux:\n  size: 3 bytes\n  sha256: ba7816bf8f01cfea414140de5dae2223b00361a396177a9cb410ff61f20015ad\n",
         value: "d0f38741f191eac53024fbc6b231cd1b26adb63b9339bc17ca58f570c9b24994",
         whole: "f90fbe9342e2cf5c2546969c1bccd841fb880993c06cd46bd9447fa0afd40a04",
     },
     Built {
         more: "--section=.osrel:ID=x",
         size: 2048,
-        sections: "/out.efi: 3 sections\n.text:\n  size: 32 bytes\n  sha256: 66687aadf862bd776c8fc18b8e9f8e20089714856ee233b3902a591d0d5f2925\n.osrel:\n  size: 4 bytes\n  sha256: 4079cb3bf2eafaeaac3a321f35f331250dd9eceb3f28f1df64d47955a8ab411f\n.linux:\n  size: 3 bytes\n  sha256: ba7816bf8f01cfea414140de5dae2223b00361a396177a9cb410ff61f20015ad\n",
         value: "fec3a2a2efedc0d22050b7f242bbd596f4481db41c7e38de8fb7ece4306ab009",
         whole: "d5af8ca34008bdafd0452cd70c88f289e5bad563881c63d01561fbfd2ce6a97e",
     },
     Built {
         more: "--linux=out.efi",
         size: 2560,
-        sections: "/out.efi: 2 sections\n.text:\n  size: 32 bytes\n  sha256: 66687aadf862bd776c8fc18b8e9f8e20089714856ee233b3902a591d0d5f2925\n.linux:\n  size: 1536 bytes\n  sha256: df0b1445661baebc4b0d001d4aa542be64b81eb59eb94318600dd200bc889ebf\n",
         value: "ed2d8c4b967b591758bdc7101a2a23a03f87bdb482dc16b6fda9e8d88e97a270",
         whole: "75e5f75fb3b754c2a385d52b4e77f1dfcbb4ba64561a03652649f61a0a5112d2",
     },
     Built {
         more: "--linux=kernel.efi",
         size: 3072,
-        sections: "/out.efi: 3 sections\n.text:\n  size: 32 bytes\n  sha256: 66687aadf862bd776c8fc18b8e9f8e20089714856ee233b3902a591d0d5f2925\n.sbat:\n  size: 88 bytes\n  sha256: 16d8749828ade3f4f3397580513c8ca53ee725af0212eacf1da300894b07d9e5\n.linux:\n  size: 1536 bytes\n  sha256: b1ca4342dd9410df86d427c456a083e74c0a37f2fea49ff130922d4d28a7d41c\n",
         value: "43498468183d403531f5595e9d4e6445372fc2f6974bd5eb698611edc6abaae1",
         whole: "f46678939bbe0ffe19fb49baabf810a0ffa505ce6ee985969094c13578746b74",
     },
     Built {
         more: "--stub=s2 --linux=kernel.efi --sbat=@t",
         size: 3072,
-        sections: "/out.efi: 3 sections\n.text:\n  size: 32 bytes\n  sha256: 66687aadf862bd776c8fc18b8e9f8e20089714856ee233b3902a591d0d5f2925\n.sbat:\n  size: 171 bytes\n  sha256: 24a91b25abb9a5b07a60460f2f38e3050c3303044d3d75093f551bd702fefe2d\n.linux:\n  size: 1536 bytes\n  sha256: b1ca4342dd9410df86d427c456a083e74c0a37f2fea49ff130922d4d28a7d41c\n",
         value: "6d9bff5e9f3ef856b27d03fd44e8f132464e2e980eb6836f6549b950bf4d1e30",
         whole: "e13559715f72bbb6de8f756e9430684dafab4f07c88450075948cdc21b09ddf7",
     },
     Built {
         more: "--linux=e --os-release= '--cmdline= ' --uname= --section=.text:",
         size: 1024,
-        sections: "/out.efi: 1 sections\n.text:\n  size: 32 bytes\n  sha256: 66687aadf862bd776c8fc18b8e9f8e20089714856ee233b3902a591d0d5f2925\n",
         value: "0000000000000000000000000000000000000000000000000000000000000000",
         whole: "f41ba93bd30dd1811fd2f3ec81d46c4e486ac983ca7cfecf801a5c303a03c91f",
     },
     Built {
         more: "--uname=6.7 --uname=@v --section=.x:a:b --sbat=sbat,1",
         size: 2560,
-        sections: "/out.efi: 4 sections\n.text:\n  size: 32 bytes\n  sha256: 66687aadf862bd776c8fc18b8e9f8e20089714856ee233b3902a591d0d5f2925\n.uname:\n  size: 2 bytes\n  sha256: 48124d719ee2ef5e04e1656abc1d8399bd3a9cc3a87a3be35da5278e7c3dded7\n.x:\n  size: 3 bytes\n  sha256: 6783a31eabf68ccc0660f935c0826282bdd2241f3a80a9f2d10d59aea9ebb5d8\n.linux:\n  size: 3 bytes\n  sha256: ba7816bf8f01cfea414140de5dae2223b00361a396177a9cb410ff61f20015ad\n",
         value: "e4bfec2ff94138538123dfdb82e4aa10fd1f6700050efcd2961d05d10e8577aa",
         whole: "55260a1585832aa9f3017e730249fe964afcf8defcc75bc4a3e4a10ffeea20d3",
     },
     Built {
         more: "--stub=usual --sbat=@t --section=.b:@c --section=.a:@osr --initrd=b --initrd=a --pcrpkey=p --splash=w --uname=6.8 --devicetree=d --cmdline=@c2 --os-release=@osr",
         size: 7680,
-        sections: "/out.efi: 16 sections\n.text:\n  size: 32 bytes\n  sha256: 07724952cb2d16cf7f4de0839886e9fd9ab3b55e3043bf7d0b7fd1595fea4c6a\n.rodata:\n  size: 0 bytes\n  sha256: e3b0c44298fc1c149afbf4c8996fb92427ae41e4649b934ca495991b7852b855\n.data:\n  size: 0 bytes\n  sha256: e3b0c44298fc1c149afbf4c8996fb92427ae41e4649b934ca495991b7852b855\n.sdmagic:\n  size: 0 bytes\n  sha256: e3b0c44298fc1c149afbf4c8996fb92427ae41e4649b934ca495991b7852b855\n.reloc:\n  size: 0 bytes\n  sha256: e3b0c44298fc1c149afbf4c8996fb92427ae41e4649b934ca495991b7852b855\n.osrel:\n  size: 27 bytes\n  sha256: 641842d476070db24875a41877eaf5ca6de3adaa93ab62e2a1db54af853e63ea\n.cmdline:\n  size: 7 bytes\n  sha256: cd19128ccd23240da39b07128a49e90eda3b36bc8d18e042288bba8e22c8440c\n.dtb:\n  size: 1 bytes\n  sha256: 18ac3e7343f016890c510e93f935261169d9e3f565436429830faf0934f4f8e4\n.uname:\n  size: 3 bytes\n  sha256: ee7e860a857feb60180ac10dcdabc3afc06f9e45f9d761232cb9f8aed33162a6\n.splash:\n  size: 1 bytes\n  sha256: 50e721e49c013f00c62cf59f2163542a9d8df02464efeb615d31051b0fddc326\n.pcrpkey:\n  size: 1 bytes\n  sha256: 148de9c5a7a44d19e56cd9ae1a554bf67847afb0c58f6e12fa29ac7ddfca9940\n.initrd:\n  size: 12 bytes\n  sha256: e2dc611e890805ab4d02b47126666bf11492c5465e117b8a585e534cab751407\n.b:\n  size: 5 bytes\n  sha256: 008f0747f4e27c8462baa991a538025bcc2dd143e78422f1afbdfcd9e757a20f\n.a:\n  size: 27 bytes\n  sha256: 641842d476070db24875a41877eaf5ca6de3adaa93ab62e2a1db54af853e63ea\n.sbat:\n  size: 120 bytes\n  sha256: 0f1720b9873ac4e42b8e89bd76513a0e621aef07db624b29b4bf01165486f426\n.linux:\n  size: 3 bytes\n  sha256: ba7816bf8f01cfea414140de5dae2223b00361a396177a9cb410ff61f20015ad\n",
         value: "7ff72ad1f44323de16f9c2581bcd42c918e98d4daef0ea8ccf34cb401ecc0408",
         whole: "4efa5b90870c8c02b4bafc67e21c1e14a683f78b819917acc67666694a8d7be0",
     },
@@ -271,7 +253,7 @@ fn check_built(
 ) -> Result<(), Fail> {
     let first = "--bank=sha256 --phase=";
     let script = format!(in alloc;
-        "{PLAIN} {}\nukify inspect out.efi\nmeasure image out.efi {first}\nmeasure calculate --linux=out.efi {first}\n",
+        "{PLAIN} {}\nmeasure image out.efi {first}\nmeasure calculate --linux=out.efi {first}\n",
         row.more
     )?;
     machine.set_input(script.into_bytes());
@@ -279,8 +261,8 @@ fn check_built(
     assert_eq!(rt; status, 0, "of {}", row.more);
     let heading = "# PCR[11] Phase <:>\n11:sha256=";
     let out = format!(in alloc;
-        "built /out.efi, {} bytes\nok 1\n{}ok 2\n{heading}{}\nok 3\n{heading}{}\nok 4\n",
-        row.size, row.sections, row.value, row.whole
+        "built /out.efi, {} bytes\nok 1\n{heading}{}\nok 2\n{heading}{}\nok 3\n",
+        row.size, row.value, row.whole
     )?;
     let printed = printed_on(alloc, &machine, Channel::Out)?;
     assert_eq!(rt;
@@ -304,6 +286,66 @@ fn builds(rt: HostRuntime) -> Result<(), Fail> {
     Ok(())
 }
 
+// A build prints this, and a line that follows it that.
+fn check_script(
+    rt: &impl Abort,
+    alloc: Global,
+    more: &str,
+    built: &str,
+    line: &str,
+    told: &str,
+) -> Result<(), Fail> {
+    let mut machine = machine_with_stubs(alloc)?;
+    let script = format!(in alloc; "{PLAIN} {more}\n{line}\n")?;
+    machine.set_input(script.into_bytes());
+    let status = run(alloc, &words_of(alloc, "script")?, &mut machine);
+    assert_eq!(rt; status, 0, "of {more}");
+    let out = format!(in alloc; "{built}ok 1\n{told}ok 2\n")?;
+    let printed = printed_on(alloc, &machine, Channel::Out)?;
+    assert_eq!(rt;
+        str::from_utf8(printed.as_slice()),
+        Ok(out.as_str()),
+        "of {more}"
+    );
+    Ok(())
+}
+
+// What `ukify inspect` prints of some of them.
+const INSPECTED: [(&str, u64, &str); 3] = [
+    (
+        "--initrd=a --initrd=b",
+        2048,
+        "/out.efi: 3 sections\n.text:\n  size: 32 bytes\n  sha256: 66687aadf862bd776c8fc18b8e9f8e20089714856ee233b3902a591d0d5f2925\n.initrd:\n  size: 12 bytes\n  sha256: 2bc9f2bb7cfa8849d466e0276f794b96f5466931a3d614ccc2f3e62f9cb05623\n.linux:\n  size: 3 bytes\n  sha256: ba7816bf8f01cfea414140de5dae2223b00361a396177a9cb410ff61f20015ad\n",
+    ),
+    (
+        "--stub=s2 --sbat=@t",
+        2048,
+        "/out.efi: 3 sections\n.text:\n  size: 32 bytes\n  sha256: 66687aadf862bd776c8fc18b8e9f8e20089714856ee233b3902a591d0d5f2925\n.sbat:\n  size: 160 bytes\n  sha256: 380b0155f4ecf2932e8a0d724e5be0286bc331cea42b4e9e1ee57852167e30e6\n.linux:\n  size: 3 bytes\n  sha256: ba7816bf8f01cfea414140de5dae2223b00361a396177a9cb410ff61f20015ad\n",
+    ),
+    (
+        "--stub=usual --sbat=@t --section=.b:@c --section=.a:@osr --initrd=b --initrd=a --pcrpkey=p --splash=w --uname=6.8 --devicetree=d --cmdline=@c2 --os-release=@osr",
+        7680,
+        "/out.efi: 16 sections\n.text:\n  size: 32 bytes\n  sha256: 07724952cb2d16cf7f4de0839886e9fd9ab3b55e3043bf7d0b7fd1595fea4c6a\n.rodata:\n  size: 0 bytes\n  sha256: e3b0c44298fc1c149afbf4c8996fb92427ae41e4649b934ca495991b7852b855\n.data:\n  size: 0 bytes\n  sha256: e3b0c44298fc1c149afbf4c8996fb92427ae41e4649b934ca495991b7852b855\n.sdmagic:\n  size: 0 bytes\n  sha256: e3b0c44298fc1c149afbf4c8996fb92427ae41e4649b934ca495991b7852b855\n.reloc:\n  size: 0 bytes\n  sha256: e3b0c44298fc1c149afbf4c8996fb92427ae41e4649b934ca495991b7852b855\n.osrel:\n  size: 27 bytes\n  sha256: 641842d476070db24875a41877eaf5ca6de3adaa93ab62e2a1db54af853e63ea\n.cmdline:\n  size: 7 bytes\n  sha256: cd19128ccd23240da39b07128a49e90eda3b36bc8d18e042288bba8e22c8440c\n.dtb:\n  size: 1 bytes\n  sha256: 18ac3e7343f016890c510e93f935261169d9e3f565436429830faf0934f4f8e4\n.uname:\n  size: 3 bytes\n  sha256: ee7e860a857feb60180ac10dcdabc3afc06f9e45f9d761232cb9f8aed33162a6\n.splash:\n  size: 1 bytes\n  sha256: 50e721e49c013f00c62cf59f2163542a9d8df02464efeb615d31051b0fddc326\n.pcrpkey:\n  size: 1 bytes\n  sha256: 148de9c5a7a44d19e56cd9ae1a554bf67847afb0c58f6e12fa29ac7ddfca9940\n.initrd:\n  size: 12 bytes\n  sha256: e2dc611e890805ab4d02b47126666bf11492c5465e117b8a585e534cab751407\n.b:\n  size: 5 bytes\n  sha256: 008f0747f4e27c8462baa991a538025bcc2dd143e78422f1afbdfcd9e757a20f\n.a:\n  size: 27 bytes\n  sha256: 641842d476070db24875a41877eaf5ca6de3adaa93ab62e2a1db54af853e63ea\n.sbat:\n  size: 120 bytes\n  sha256: 0f1720b9873ac4e42b8e89bd76513a0e621aef07db624b29b4bf01165486f426\n.linux:\n  size: 3 bytes\n  sha256: ba7816bf8f01cfea414140de5dae2223b00361a396177a9cb410ff61f20015ad\n",
+    ),
+];
+
+#[test]
+fn inspected_builds(rt: HostRuntime) -> Result<(), Fail> {
+    let alloc = rt.alloc();
+    for (more, size, sections) in INSPECTED {
+        let built = format!(in alloc; "built /out.efi, {size} bytes\n")?;
+        check_script(
+            &rt,
+            alloc,
+            more,
+            built.as_str(),
+            "ukify inspect out.efi",
+            sections,
+        )?;
+    }
+    Ok(())
+}
+
 // Builds with a kernel of so many bytes.
 const LONG: [(usize, Built); 4] = [
     (
@@ -311,7 +353,6 @@ const LONG: [(usize, Built); 4] = [
         Built {
             more: "--linux=long.efi",
             size: 66560,
-            sections: "/out.efi: 2 sections\n.text:\n  size: 32 bytes\n  sha256: 66687aadf862bd776c8fc18b8e9f8e20089714856ee233b3902a591d0d5f2925\n.linux:\n  size: 65535 bytes\n  sha256: dda402a2c028f0cbbdbc5c6ebae965eed9c75f71236e7022b0386d3455d5ae2f\n",
             value: "cb4bc27bd5a498e0a39b203df66c389664f89af78f1ac497719a3aacfc9d2c4b",
             whole: "97bd53576036ec0ba0364793ca8c63c24d4a3a0413c03ad69c2fdf8014b96f28",
         },
@@ -321,7 +362,6 @@ const LONG: [(usize, Built); 4] = [
         Built {
             more: "--linux=long.efi",
             size: 66560,
-            sections: "/out.efi: 2 sections\n.text:\n  size: 32 bytes\n  sha256: 66687aadf862bd776c8fc18b8e9f8e20089714856ee233b3902a591d0d5f2925\n.linux:\n  size: 65536 bytes\n  sha256: 4b640d85ab3ba30fd02c9fc9db4a8928f416322ad27022ea58a65aaee68a4df2\n",
             value: "1f44d8d7347d6dd53630c29339e8689d0794f0e46de0a4a659d922aa38eab87c",
             whole: "e637780080c2012decb8398095c9d71bc687e24ad21d7a9685f971a7cccfdf79",
         },
@@ -331,7 +371,6 @@ const LONG: [(usize, Built); 4] = [
         Built {
             more: "--linux=long.efi",
             size: 67072,
-            sections: "/out.efi: 2 sections\n.text:\n  size: 32 bytes\n  sha256: 66687aadf862bd776c8fc18b8e9f8e20089714856ee233b3902a591d0d5f2925\n.linux:\n  size: 65537 bytes\n  sha256: 237356e18b503616912abb8ffaed3a72591e397d4ac294c4637917d48a3f529d\n",
             value: "0ea3ede4ec27a1de2a3aea714ac4b015a2a8ba7674895c8fce4b34a207f22633",
             whole: "56353008a2cc1d3efd9d4151fcfcd76622d36f29bb6cb4f9974229d19eadec02",
         },
@@ -341,7 +380,6 @@ const LONG: [(usize, Built); 4] = [
         Built {
             more: "--linux=long.efi --stub=usual --os-release=@osr --cmdline=@c --uname=6.8 --splash=w --initrd=a --initrd=b",
             size: 14004736,
-            sections: "/out.efi: 11 sections\n.text:\n  size: 32 bytes\n  sha256: 07724952cb2d16cf7f4de0839886e9fd9ab3b55e3043bf7d0b7fd1595fea4c6a\n.rodata:\n  size: 0 bytes\n  sha256: e3b0c44298fc1c149afbf4c8996fb92427ae41e4649b934ca495991b7852b855\n.data:\n  size: 0 bytes\n  sha256: e3b0c44298fc1c149afbf4c8996fb92427ae41e4649b934ca495991b7852b855\n.sdmagic:\n  size: 0 bytes\n  sha256: e3b0c44298fc1c149afbf4c8996fb92427ae41e4649b934ca495991b7852b855\n.reloc:\n  size: 0 bytes\n  sha256: e3b0c44298fc1c149afbf4c8996fb92427ae41e4649b934ca495991b7852b855\n.osrel:\n  size: 27 bytes\n  sha256: 641842d476070db24875a41877eaf5ca6de3adaa93ab62e2a1db54af853e63ea\n.cmdline:\n  size: 5 bytes\n  sha256: 008f0747f4e27c8462baa991a538025bcc2dd143e78422f1afbdfcd9e757a20f\n.uname:\n  size: 3 bytes\n  sha256: ee7e860a857feb60180ac10dcdabc3afc06f9e45f9d761232cb9f8aed33162a6\n.splash:\n  size: 1 bytes\n  sha256: 50e721e49c013f00c62cf59f2163542a9d8df02464efeb615d31051b0fddc326\n.initrd:\n  size: 12 bytes\n  sha256: 2bc9f2bb7cfa8849d466e0276f794b96f5466931a3d614ccc2f3e62f9cb05623\n.linux:\n  size: 14000000 bytes\n  sha256: 718d5df856bf9d9ed7a2b37cffc3ef9f2b6a63673df28f8274f5d7987f309cca\n",
             value: "56441e906f6de195e75b59e25520c856b17d2f4e7256903877c2c28ed3aaaf86",
             whole: "0bfcdc61b351d5dbf0a6b85fef27c8267232caa456eb1a5d69b88d86495d93ea",
         },
@@ -401,18 +439,15 @@ const MEASURED: [(&str, u64, &str); 4] = [
 fn measured_builds(rt: HostRuntime) -> Result<(), Fail> {
     let alloc = rt.alloc();
     for (more, size, lines) in MEASURED {
-        let mut machine = machine_with_stubs(alloc)?;
-        let script = format!(in alloc; "{PLAIN} {more}\nmeasure image out.efi\n")?;
-        machine.set_input(script.into_bytes());
-        let status = run(alloc, &words_of(alloc, "script")?, &mut machine);
-        assert_eq!(rt; status, 0, "of {more}");
-        let out = format!(in alloc; "built /out.efi, {size} bytes\n{lines}ok 1\n{lines}ok 2\n")?;
-        let printed = printed_on(alloc, &machine, Channel::Out)?;
-        assert_eq!(rt;
-            str::from_utf8(printed.as_slice()),
-            Ok(out.as_str()),
-            "of {more}"
-        );
+        let built = format!(in alloc; "built /out.efi, {size} bytes\n{lines}")?;
+        check_script(
+            &rt,
+            alloc,
+            more,
+            built.as_str(),
+            "measure image out.efi",
+            lines,
+        )?;
     }
     Ok(())
 }
