@@ -1,13 +1,14 @@
 //! Paths of boot files and of temporary ones, and names of files.
 ghost use Rattle.std.specs.Prelude.{◌≡◌, ◌++◌, false, true, not, length, Some, None, IfOk, OnOk, string_bytes, if◌then◌else◌, ◌==◌, ◌∷◌, []};
 ghost use Rattle.std.specs.List.{list_any};
-ghost use Rattle.boot_base.specs.Paths.{temp_end, is_temp, is_slash, components, is_kept, is_refused, normal_of, is_path_text, path_of, path_below, file_name_of, beside, is_component, sibling_of, is_file_name, leftover_of};
+ghost use Rattle.std.specs.Str.{is_utf8};
+ghost use Rattle.boot_base.specs.Paths.{IsFree, intent, is_form, is_named, is_normal, temp_end, is_temp, is_slash, components, is_kept, is_refused, normal_of, is_path_text, path_of, path_below, file_name_of, beside, is_component, sibling_of, is_file_name, leftover_of};
 
 use crate::append::{AppendText, append_displayed};
 use std::alloc::{AllocError, Global};
 use std::cmp::Ordering;
-use std::fmt;
 use std::marker::Model;
+use std::{fmt, str};
 use thiserror::Error;
 
 /// The most bytes of a component of a path. A temporary file's name has four more.
@@ -18,6 +19,9 @@ const NAME_LIMIT: usize = 255;
 
 /// The most bytes of a path.
 const PATH_LIMIT: usize = 1024;
+
+/// The path of the file that names a rename while it is made.
+const INTENT: &str = "boot_tools.intent";
 
 /// Why there is no path or name.
 #[derive(Debug, PartialEq, Eq, Drop, Error)]
@@ -49,14 +53,14 @@ pub struct BootPath {
 }
 
 impl Model for BootPath {
-    ghost use Rattle.std.specs.Prelude.{◌≡◌, false, List, ℕ, string_bytes};
-    ghost use Rattle.boot_base.specs.Paths.{is_temp};
+    ghost use Rattle.std.specs.Prelude.{◌≡◌, true, List, ℕ, string_bytes};
+    ghost use Rattle.boot_base.specs.Paths.{is_normal};
 
     ghost Value = { List ℕ };
 
     ghost view = { λ p. string_bytes p.text };
 
-    ghost invariant = { λ p. is_temp (string_bytes p.text) ≡ false };
+    ghost invariant = { λ p. is_normal (string_bytes p.text) ≡ true };
 }
 
 impl BootPath {
@@ -65,9 +69,11 @@ impl BootPath {
     /// # Errors
     ///
     /// `BadPath` exactly where a component is `..` or has more than 251 bytes, a NUL is there, or what is
-    /// left is empty, has more than 1,024 bytes or ends in `.tmp`; `Memory` where there is no memory.
+    /// left is empty, has more than 1,024 bytes, ends in `.tmp` or is `boot_tools.intent`; `Memory` where there
+    /// is no memory.
     pub fn read(alloc: Global, text: &str) -> Result<BootPath, PathFault>
         ensures ok { IfOk result (λ path. path_of text.now ≡ Some path) }
+        ensures free { IfOk result (λ path. IsFree path) }
         ensures bad { result ≡ Err PathFault.BadPath → path_of text.now ≡ None }
     {
         if has_nul(text) || has_refused_component(text) {
@@ -78,6 +84,34 @@ impl BootPath {
             return Err(PathFault::BadPath);
         }
         Ok(BootPath { text })
+    }
+
+    /// `boot_tools.intent`, the path of the file that names a rename while it is made. No word names it.
+    pub fn intent(alloc: Global) -> Result<BootPath, AllocError>
+        ensures { IfOk result (λ path. path ≡ intent) }
+    {
+        let text = String::from_str(alloc, INTENT)?;
+        Ok(BootPath { text })
+    }
+
+    /// The path whose text these bytes are, and None where they aren't the normal form of a path that a word may
+    /// name. An intent's names are read by it.
+    pub fn named(alloc: Global, bytes: &[u8]) -> Result<Option<BootPath>, AllocError>
+        ensures { IfOk result (λ path. path ≡ (if is_named bytes.now then Some bytes.now else None)) }
+    {
+        let Ok(text) = str::from_utf8(bytes) else {
+            return Ok(None);
+        };
+        match BootPath::read(alloc, text) {
+            Ok(path) => {
+                if path.as_str() == text {
+                    return Ok(Some(path));
+                }
+                Ok(None)
+            }
+            Err(PathFault::BadPath) => Ok(None),
+            Err(PathFault::Memory) => Err(AllocError),
+        }
     }
 
     /// The path's text, without a leading `/`.
@@ -105,6 +139,7 @@ impl BootPath {
     /// As of `read`; a `below` without a component is no path.
     pub fn under(alloc: Global, folder: &BootPath, below: &str) -> Result<BootPath, PathFault>
         ensures ok { IfOk result (λ path. path_below folder.now below.now ≡ Some path) }
+        ensures free { IfOk result (λ path. IsFree path) }
         ensures bad { result ≡ Err PathFault.BadPath → path_below folder.now below.now ≡ None }
     {
         if !has_component(below) {
@@ -121,6 +156,7 @@ impl BootPath {
     /// `BadPath` exactly where `name` is empty, is `.` or holds `/`, or the new text is no path by `read`.
     pub fn sibling(&self, alloc: Global, name: &str) -> Result<BootPath, PathFault>
         ensures ok { IfOk result (λ path. sibling_of self.now name.now ≡ Some path) }
+        ensures free { IfOk result (λ path. IsFree path) }
         ensures bad { result ≡ Err PathFault.BadPath → sibling_of self.now name.now ≡ None }
     {
         if !is_one_component(name) {
@@ -151,6 +187,14 @@ impl BootPath {
     /// It says that the path isn't that of a temporary file, and does nothing.
     pub fn know(&self)
         ensures { is_temp self.now ≡ false }
+    {
+        let _ = &self.text;
+    }
+
+    /// It says that the path is a text in normal form, and does nothing.
+    pub fn know_normal(&self)
+        ensures normal { is_normal self.now ≡ true }
+        ensures text { is_utf8 self.now ≡ true }
     {
         let _ = &self.text;
     }
@@ -403,7 +447,7 @@ fn has_refused_component(text: &str) -> bool
 fn is_boot_text(text: &str) -> bool
     ensures { result ≡ is_path_text text.now }
 {
-    !(text.is_empty() || text.len() > PATH_LIMIT || ends_as_temp(text))
+    !(text.is_empty() || text.len() > PATH_LIMIT || ends_as_temp(text)) && text != INTENT
 }
 
 fn normal(alloc: Global, text: &str) -> Result<String, AllocError>
