@@ -4,27 +4,27 @@ use Rattle.std.specs.Prelude.{Result}
 use Rattle.std.specs.FinMap as maps
 use Rattle.std.specs.FinSet as set
 use Rattle.boot_base.specs.Paths.{Path, is_temp}
-use Rattle.boot_machine.specs.Disk.{Files, State, IsCandidate, view}
+use Rattle.boot_machine.specs.Disk.{Files, State, IsCandidate, recovered_view}
 use Rattle.boot_machine.specs.Images.{IsImage}
 use Rattle.boot_machine.specs.Moments.{IsMoment, Elapses, EachSince}
 use Rattle.boot_machine.specs.declared.machine.Printed.{Printed}
 use Rattle.boot_machine.proofs.Printing.{not_printed}
-use Rattle.boot_machine.proofs.Views.{view_of_image}
-use Rattle.boot_machine.specs.Rows.{move_in, created, renamed, unlinked, CreateRow, AppendRow, SyncFileRow, RenameRow, UnlinkRow, SyncNamesRow}
-use Rattle.boot_machine.proofs.Soft.{AreTemp, Stands, by_done_or_not, by_append, by_sync_file, by_sync_names, stands-created, stands-appended, stands-file_synced, stands-renamed, stands-unlinked, stands-names_synced}
+use Rattle.boot_machine.proofs.Recovering.{recovered_view_of_image}
+use Rattle.boot_machine.specs.Rows.{contents, move_in, created, unlinked, CreateRow, AppendRow, SyncFileRow, RenameRow, UnlinkRow, SyncNamesRow}
+use Rattle.boot_machine.proofs.Soft.{AreTemp, Stands, by_done_or_not, by_rename, by_append, by_sync_file, by_sync_names, stands-created, stands-half_renamed, stands-appended, stands-file_synced, stands-renamed, stands-unlinked, stands-names_synced}
 
-pub image_sees : (old : State) (P : Files → Type 0) (s : State) → Stands old P s → (m : Files) → IsImage s m → P (view m)
+pub image_sees : (old : State) (P : Files → Type 0) (s : State) → Stands old P s → (m : Files) → IsImage s m → P (recovered_view m)
 image_sees old P s stands m image =
-    subst P (sym (view_of_image s.soft image.of m stands.temps image.image)) (stands.views image.of image.candidate)
+    subst P (sym (recovered_view_of_image s.soft image.of m stands.temps image.image)) (stands.views image.of image.candidate)
 
-pub moment_sees : (old : State) (P : Files → Type 0) (s t : State) → Stands old P s → Stands old P t → (m : Files) (o : List Printed) → IsMoment s t m o → P (view m) × (o ≡ old.printed)
+pub moment_sees : (old : State) (P : Files → Type 0) (s t : State) → Stands old P s → Stands old P t → (m : Files) (o : List Printed) → IsMoment s t m o → P (recovered_view m) × (o ≡ old.printed)
 moment_sees old P s t before after m o moment = (
   ⊎_elim (image_sees old P s before m) (image_sees old P t after m) moment.image,
   not_printed s.printed o t.printed (after.printed ∙ sym before.printed) moment.printed ∙ before.printed,
 )
 
 abbrev pub Seen : State → (Files → Type 0) → Files → List Printed → Type 0
-Seen old P m o = P (view m) × (o ≡ old.printed)
+Seen old P m o = P (recovered_view m) × (o ≡ old.printed)
 
 module _ {D : Type 0} (clock : D → ℕ) (since : D → ℕ → Files → List Printed → Type 0) (state : D → State) where
   -- what holds since old, while calls are made
@@ -34,7 +34,7 @@ module _ {D : Type 0} (clock : D → ℕ) (since : D → ℕ → Files → List 
 
   -- before the first call
   pub started : (P : Files → Type 0) (old : D) → ((m : Files) (o : List Printed) → since old (clock old) m o → IsImage (state old) m × (o ≡ (state old).printed))
-      → AreTemp (state old).soft → ((c : Files) → IsCandidate (state old) c → P (view c)) → During P old old
+      → AreTemp (state old).soft → ((c : Files) → IsCandidate (state old) c → P (recovered_view c)) → During P old old
   started P old only_now temps views =
       let stands : Stands (state old) P (state old) = record { temps = temps; views = views; printed = refl; input = refl } in
       record {
@@ -74,10 +74,12 @@ module _ {D E : Type 0} (clock : D → ℕ) (since : D → ℕ → Files → Lis
   pub goes-sync_file : (p : Path) → SyncFileRow (state mid) (state new) p r → During clock since state P old new
   goes-sync_file p row = goes (by_sync_file (λ s. Stands (state old) P s) (state mid) (state new) p r so_far.stands (stands-file_synced (state old) P (state mid) so_far.stands p) row)
 
-  pub goes-rename : (from to : Path) → set.contains (state mid).soft from ≡ false → P (view (move_in from to (state mid).files)) → RenameRow (state mid) (state new) from to r → During clock since state P old new
-  goes-rename from to synced sees row = goes (by_done_or_not (λ s. Stands (state old) P s) (state mid) (renamed from to (state mid)) (state new) r so_far.stands (stands-renamed (state old) P (state mid) so_far.stands from to synced sees) row)
+  pub goes-rename : (from to : Path) → set.contains (state mid).soft from ≡ false → P (recovered_view (maps.insert (state mid).files to (contents (state mid).files from))) → P (recovered_view (move_in from to (state mid).files)) → RenameRow (state mid) (state new) from to r → During clock since state P old new
+  goes-rename from to synced half sees row =
+      goes (by_rename (λ s. Stands (state old) P s) (state mid) (state new) from to r so_far.stands (stands-half_renamed (state old) P (state mid) so_far.stands from to synced half)
+      (stands-renamed (state old) P (state mid) so_far.stands from to synced half sees) row)
 
-  pub goes-unlink : (p : Path) → P (view (maps.remove (state mid).files p)) → UnlinkRow (state mid) (state new) p r → During clock since state P old new
+  pub goes-unlink : (p : Path) → P (recovered_view (maps.remove (state mid).files p)) → UnlinkRow (state mid) (state new) p r → During clock since state P old new
   goes-unlink p sees row = goes (by_done_or_not (λ s. Stands (state old) P s) (state mid) (unlinked p (state mid)) (state new) r so_far.stands (stands-unlinked (state old) P (state mid) so_far.stands p sees) row)
 
   pub goes-sync_names : SyncNamesRow (state mid) (state new) r → During clock since state P old new

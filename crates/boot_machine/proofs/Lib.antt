@@ -5,6 +5,7 @@ pub mod Going
 pub mod Listing
 pub mod Printing
 pub mod Reading
+pub mod Recovering
 pub mod Seeing
 pub mod Settled
 pub mod Soft

@@ -1,31 +1,62 @@
 -- How candidates and soft paths go on from call to call.
-use Rattle.std.proofs.Common.{◌≡◌, ◌⊎◌, inl, inr, ⊎_elim, ℕ, true, false, not, ◌&&◌, List, [], ◌∷◌, ◌++◌, map, take, refl, sym, ap, ◌∙◌, subst}
-use Rattle.std.proofs.lemmas.Bool.{or_cases, and_parts, and_left, and_right, not-false}
+use Rattle.std.proofs.Common.{Some, None, cond, is_some, ◌||◌, ◌≡◌, ◌⊎◌, inl, inr, ⊎_elim, ℕ, true, false, not, ◌&&◌, List, [], ◌∷◌, ◌++◌, map, take, refl, sym, ap, ◌∙◌, subst, Option, Bool}
+use Rattle.std.proofs.lemmas.Bool.{or_cases, and_parts, and_left, or_left}
 use Rattle.std.specs.Prelude.{Result, Ok, Err}
 use Rattle.std.specs.FinMap as maps
 use Rattle.std.specs.FinSet as set
-use Rattle.boot_base.specs.Paths.{Path, is_temp}
-use Rattle.boot_machine.specs.Disk.{Files, Paths, State, has, is_shown, matters, view, candidates, IsIn, IsCandidate, IsSound, same}
+use Rattle.boot_base.specs.Paths.{Path, is_temp, intent}
+use Rattle.boot_machine.specs.Disk.{of_intent, intended, is_left, is_intended, is_recovered, Files, Paths, State, has, recovered_view, candidates, IsIn, IsCandidate, IsSound, same}
 use Rattle.boot_machine.specs.Images.{IsImage, IsFirm}
-use Rattle.boot_machine.specs.Rows.{append_to, move_in, with_files, created, appended, file_synced, renamed, unlinked, names_synced, DoneOrNot, AppendRow, SyncFileRow, SyncNamesRow}
+use Rattle.boot_machine.specs.Rows.{half_renamed, RenameRow, contents, append_to, move_in, with_files, created, appended, file_synced, renamed, unlinked, names_synced, DoneOrNot, AppendRow, SyncFileRow, SyncNamesRow}
 use Rattle.boot_machine.specs.Maps.{same-true, contains-insert, contains-remove, contains-retain}
-use Rattle.boot_machine.proofs.Views.{view-insert_temp, view-append_to}
+use Rattle.boot_machine.proofs.Recovering.{AreShown, get-recovered_view, temp_not_recovered, shown_names, intent_shown, off_temp, recovered_view-insert_temp, recovered_view-append_to}
 
 abbrev pub AreTemp : Paths → Type 0
 AreTemp soft = (q : Path) → set.contains soft q ≡ true → is_temp q ≡ true
 
+left_intended : (o : Option (Path × Path)) (m : Files) (q : Path) → of_intent o (λ a b. same q a && has m a && has m b) ≡ true → of_intent o (λ a b. same q a || same q b) ≡ true
+left_intended None m q e = cc
+left_intended (Some p) m q e = or_left (same q p.0) (same q p.1) (and_parts (same q p.0) (has m p.0) (and_parts (same q p.0 && has m p.0) (has m p.1) e).0).0
+
+temp_not_intended : (o : Option (Path × Path)) (q : Path) → AreShown o → is_temp q ≡ true → of_intent o (λ a b. same q a || same q b) ≡ false
+temp_not_intended None q shown temp = refl
+temp_not_intended (Some p) q shown temp = rw (off_temp q p.0 temp shown.first_lasts, off_temp q p.1 temp shown.second_lasts) refl
+
 -- on a firm machine the soft paths are those of temporary files
 pub soft_of_firm : (s : State) → IsSound s → IsFirm s → AreTemp s.soft
-unfolding matters is_shown
+unfolding is_recovered is_left is_intended
 soft_of_firm s sound firm q is_soft =
     let there = sound.somewhere q is_soft in
-    let hidden : (has there.0 q && not (is_temp q)) ≡ false = firm.synced there.0 there.1 q is_soft in
-    let shown : not (is_temp q) ≡ false = rw there.2 at hidden in
-    not-false (is_temp q) shown
+    let c = there.0 in
+    let left = of_intent (intended c) (λ a b. same q a && has c a && has c b) in
+    let hidden : is_some (cond (not (is_temp q) && not (same q intent) && not left) (maps.get c q) None) ≡ false = sym (ap is_some (get-recovered_view c q)) ∙ firm.unseen c there.1 q is_soft in
+    by_tests (is_temp q) (same q intent) left (maps.get c q) there.2 hidden
+    (λ is. let here : q ≡ intent = same-true q intent is in clash (firm.intent c there.1 (ap (has c) (sym here) ∙ there.2)) (ap (set.contains s.soft) (sym here) ∙ is_soft))
+    (λ is. clash (firm.unnamed c there.1 q is_soft) (left_intended (intended c) c q is))
+  where
+    clash : {b : Bool} → b ≡ false → b ≡ true → ⊥
+    clash e f = cc
+
+    by_tests : (t i l : Bool) (o : Option (List ℕ)) → is_some o ≡ true → is_some (cond (not t && not i && not l) o None) ≡ false → (i ≡ true → ⊥) → (l ≡ true → ⊥) → t ≡ true
+    by_tests true i l o some none not_intent not_left = refl
+    by_tests false true l o some none not_intent not_left = absurd (not_intent refl)
+    by_tests false false true o some none not_intent not_left = absurd (not_left refl)
+    by_tests false false false o some none not_intent not_left = cc
 
 pub firm_of_soft : (s : State) → AreTemp s.soft → IsFirm s
-unfolding matters is_shown
-firm_of_soft s temps = record { synced = λ c candidate q is_soft. and_right (has c q) (not (is_temp q)) (rw (temps q is_soft) refl) }
+unfolding is_intended
+firm_of_soft s temps = record {
+  unseen = λ c candidate q is_soft. ap is_some (get-recovered_view c q ∙ ap (λ (b : Bool). cond b (maps.get c q) None) (temp_not_recovered c q (temps q is_soft)));
+  intent = λ c candidate there. not_true (set.contains s.soft intent) (λ is_soft. both (temps intent is_soft) intent_shown);
+  unnamed = λ c candidate q is_soft. temp_not_intended (intended c) q (shown_names c) (temps q is_soft);
+}
+  where
+    both : {b : Bool} → b ≡ true → b ≡ false → ⊥
+    both e f = cc
+
+    not_true : (b : Bool) → (b ≡ true → ⊥) → b ≡ false
+    not_true true no_more = absurd (no_more refl)
+    not_true false no_more = refl
 
 pub last_in : (cs : List Files) (m : Files) → IsIn m (cs ++ m ∷ [])
 last_in [] m = inl refl
@@ -46,7 +77,7 @@ in_map f (c ∷ cs) d m (inr there) = let found = in_map f cs d m there in (foun
 -- Of each candidate boot sees what has P, only temporary files are soft, and nothing is printed or taken since old.
 pub record Stands (old : State) (P : Files → Type 0) (s : State) : Type 0 where
   pub temps : AreTemp s.soft
-  pub views : (c : Files) → IsCandidate s c → P (view c)
+  pub views : (c : Files) → IsCandidate s c → P (recovered_view c)
   pub printed : s.printed ≡ old.printed
   pub input : s.input ≡ old.input
 
@@ -57,19 +88,19 @@ module _ (old : State) (P : Files → Type 0) (s : State) (so_far : Stands old P
     | inr before ↦ so_far.temps q before
   ]
 
-  views_push : (m : Files) → P (view m) → (c : Files) → IsCandidate (with_files s m) c → P (view c)
+  views_push : (m : Files) → P (recovered_view m) → (c : Files) → IsCandidate (with_files s m) c → P (recovered_view c)
   views_push m new c candidate = elim (in_push (candidates s) m c candidate) [
     | inl before ↦ so_far.views c before
-    | inr is ↦ subst (λ (d : Files). P (view d)) (sym is) new
+    | inr is ↦ subst (λ (d : Files). P (recovered_view d)) (sym is) new
   ]
 
-  pub now_sees : P (view s.files)
+  pub now_sees : P (recovered_view s.files)
   now_sees = so_far.views s.files (last_in s.earlier s.files)
 
   pub stands-created : (p : Path) → is_temp p ≡ true → Stands old P (created p s)
   stands-created p temp = record {
     temps = temps_insert p temp;
-    views = views_push (maps.insert s.files p []) (subst P (sym (view-insert_temp s.files p [] temp)) now_sees);
+    views = views_push (maps.insert s.files p []) (subst P (sym (recovered_view-insert_temp s.files p [] temp)) now_sees);
     printed = so_far.printed;
     input = so_far.input;
   }
@@ -78,7 +109,7 @@ module _ (old : State) (P : Files → Type 0) (s : State) (so_far : Stands old P
   stands-appended p bytes temp = record {
     temps = temps_insert p temp;
     views = λ c candidate. let from = in_map (append_to p bytes) s.earlier s.files c candidate in
-        subst P (sym (ap view from.2 ∙ view-append_to from.0 p bytes temp)) (so_far.views from.0 from.1);
+        subst P (sym (ap recovered_view from.2 ∙ recovered_view-append_to from.0 p bytes temp)) (so_far.views from.0 from.1);
     printed = so_far.printed;
     input = so_far.input;
   }
@@ -91,15 +122,15 @@ module _ (old : State) (P : Files → Type 0) (s : State) (so_far : Stands old P
     input = so_far.input;
   }
 
-  pub stands-renamed : (from to : Path) → set.contains s.soft from ≡ false → P (view (move_in from to s.files)) → Stands old P (renamed from to s)
-  stands-renamed from to synced new = record {
+  pub stands-half_renamed : (from to : Path) → set.contains s.soft from ≡ false → P (recovered_view (maps.insert s.files to (contents s.files from))) → Stands old P (half_renamed from to s)
+  stands-half_renamed from to synced new = record {
     temps = λ q is_soft. so_far.temps q (rw synced at is_soft);
-    views = views_push (move_in from to s.files) new;
+    views = views_push (maps.insert s.files to (contents s.files from)) new;
     printed = so_far.printed;
     input = so_far.input;
   }
 
-  pub stands-unlinked : (p : Path) → P (view (maps.remove s.files p)) → Stands old P (unlinked p s)
+  pub stands-unlinked : (p : Path) → P (recovered_view (maps.remove s.files p)) → Stands old P (unlinked p s)
   stands-unlinked p new = record {
     temps = so_far.temps;
     views = views_push (maps.remove s.files p) new;
@@ -110,10 +141,26 @@ module _ (old : State) (P : Files → Type 0) (s : State) (so_far : Stands old P
   pub stands-names_synced : Stands old P (names_synced s)
   stands-names_synced = record {
     temps = λ q is_soft. so_far.temps q (and_parts (set.contains s.soft q) (has s.files q) (sym (contains-retain s.soft (has s.files) q) ∙ is_soft)).0;
-    views = λ c candidate. elim candidate [ inl is ↦ subst (λ (d : Files). P (view d)) (sym is) now_sees | inr none ↦ absurd none ];
+    views = λ c candidate. elim candidate [ inl is ↦ subst (λ (d : Files). P (recovered_view d)) (sym is) now_sees | inr none ↦ absurd none ];
     printed = so_far.printed;
     input = so_far.input;
   }
+
+pub stands-renamed : (old : State) (P : Files → Type 0) (s : State) → Stands old P s → (from to : Path) → set.contains s.soft from ≡ false → P (recovered_view (maps.insert s.files to (contents s.files from))) → P (recovered_view (move_in from to s.files)) → Stands old P (renamed from to s)
+stands-renamed old P s so_far from to synced half new =
+    let at_half = stands-half_renamed old P s so_far from to synced half in
+    record {
+      temps = at_half.temps;
+      views = views_push old P (half_renamed from to s) at_half (move_in from to s.files) new;
+      printed = at_half.printed;
+      input = at_half.input;
+    }
+
+pub by_rename : {E : Type 0} (Q : State → Type 0) (s t : State) (from to : Path) (r : Result Unit E) → Q s → Q (half_renamed from to s) → Q (renamed from to s) → RenameRow s t from to r → Q t
+by_rename Q s t from to (Ok u) before half after is = subst Q (sym is) after
+by_rename Q s t from to (Err e) before half after (inl is) = subst Q (sym is) before
+by_rename Q s t from to (Err e) before half after (inr (inl is)) = subst Q (sym is) half
+by_rename Q s t from to (Err e) before half after (inr (inr is)) = subst Q (sym is) after
 
 -- a row at either answer
 pub by_done_or_not : {E : Type 0} (Q : State → Type 0) (s done t : State) (r : Result Unit E) → Q s → Q done → DoneOrNot s done t r → Q t
@@ -136,9 +183,14 @@ by_sync_names Q s t (Err e) before after is = subst Q (sym is) before
 
 pub firm-names_synced : (s : State) → IsFirm s → IsFirm (names_synced s)
 firm-names_synced s firm = record {
-  synced = λ c candidate q is_soft. firm.synced c (at_end s c candidate) q (and_parts (set.contains s.soft q) (has s.files q) (sym (contains-retain s.soft (has s.files) q) ∙ is_soft)).0;
+  unseen = λ c candidate q is_soft. firm.unseen c (at_end s c candidate) q (soft_before q is_soft);
+  intent = λ c candidate there. contains-retain s.soft (has s.files) intent ∙ and_left (set.contains s.soft intent) (has s.files intent) (firm.intent c (at_end s c candidate) there);
+  unnamed = λ c candidate q is_soft. firm.unnamed c (at_end s c candidate) q (soft_before q is_soft);
 }
   where
+    soft_before : (q : Path) → set.contains (names_synced s).soft q ≡ true → set.contains s.soft q ≡ true
+    soft_before q is_soft = (and_parts (set.contains s.soft q) (has s.files q) (sym (contains-retain s.soft (has s.files) q) ∙ is_soft)).0
+
     at_end : (s : State) (c : Files) → IsCandidate (names_synced s) c → IsCandidate s c
     at_end s c (inl is) = subst (λ (d : Files). IsCandidate s d) (sym is) (last_in s.earlier s.files)
     at_end s c (inr none) = absurd none

@@ -25,7 +25,7 @@ view_from m n alike =
       | inr not_temp ↦ rw (get-view m q, get-view n q, shown_if_not_temp m q, shown_if_not_temp n q, not_temp) (alike q not_temp)
     ])
 
-temp_apart : (q p : Path) → is_temp p ≡ true → is_temp q ≡ false → same q p ≡ false
+pub temp_apart : (q p : Path) → is_temp p ≡ true → is_temp q ≡ false → same q p ≡ false
 temp_apart q p temp not_temp = elim (cases_same q p) [ inl is ↦ absurd (cc (temp, not_temp, ap is_temp is)) | inr apart ↦ apart ]
 
 pub view-insert_temp : (m : Files) (p : Path) (v : List ℕ) → is_temp p ≡ true → view (map.insert m p v) ≡ view m

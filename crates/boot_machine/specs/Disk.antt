@@ -1,11 +1,11 @@
 -- The files of a machine, what boot sees of them, and the state that a machine tells.
-use Rattle.std.specs.Prelude.{◌≡◌, ◌⊎◌, ℕ, Bool, true, not, ◌&&◌, List, [], ◌∷◌, ◌++◌}
+use Rattle.std.specs.Prelude.{◌≡◌, ◌⊎◌, ℕ, Bool, true, false, not, ◌&&◌, ◌||◌, List, [], ◌∷◌, ◌++◌, Option, Some, None, option_and_then}
 use Rattle.std.specs.Ordering.{nat_cmp, eq_by_cmp}
 use Rattle.std.specs.declared.cmp.Ordering.{Ordering}
 use Rattle.std.specs.Cmp.Lexicographic.{slice_cmp}
 use Rattle.std.specs.FinMap as map
 use Rattle.std.specs.FinSet as set
-use Rattle.boot_base.specs.Paths.{Path, is_temp}
+use Rattle.boot_base.specs.Paths.{Path, is_temp, intent, read_intent}
 use Rattle.boot_machine.specs.declared.machine.Printed.{Printed}
 
 abbrev pub path_cmp : Path → Path → Ordering
@@ -25,17 +25,43 @@ Paths = set.FinSet path_cmp
 abbrev pub has : Files → Path → Bool
 has files path = map.contains_key files path
 
--- boot sees the file at this path, if one is there
+-- the file at this path isn't a temporary one
 unfoldable pub is_shown : Files → Path → Bool
 is_shown files path = not (is_temp path)
 
--- what boot sees: the files without the temporary ones
+-- the files without the temporary ones, as every command reads them
 unfoldable pub view : Files → Files
 view files = map.retain_keys files (is_shown files)
 
--- what stands at this path bears on the view
-unfoldable pub matters : Files → Path → Bool
-matters files path = has files path && is_shown files path
+-- what an intent says of its two names; false where there is none in the right form
+abbrev pub of_intent : Option (Path × Path) → (Path → Path → Bool) → Bool
+of_intent None test = false
+of_intent (Some names) test = test names.0 names.1
+
+-- the two names of the intent, the old and the new one, where an intent is there in the right form
+abbrev pub intended : Files → Option (Path × Path)
+intended files = option_and_then read_intent (map.get files intent)
+
+-- the rename that the intent names has left both names, and this is the old one
+unfoldable pub is_left : Files → Path → Bool
+is_left files path = of_intent (intended files) (λ from to. same path from && has files from && has files to)
+
+-- no rename is half done
+pub record IsWhole (files : Files) : Type 0 where
+  pub none : (path : Path) → is_left files path ≡ false
+
+-- the file at this path is there still once a recovery has run, and isn't a temporary one
+unfoldable pub is_recovered : Files → Path → Bool
+is_recovered files path = not (is_temp path) && not (same path intent) && not (is_left files path)
+
+-- The recovered view: what `view` will be once a recovery has run. It has neither the intent nor the old name of a rename
+-- that is half done. What a stop may leave counts by it. Where no intent is there, as whenever a command reads, it is `view`.
+unfoldable pub recovered_view : Files → Files
+recovered_view files = map.retain_keys files (is_recovered files)
+
+-- the intent names this path
+unfoldable pub is_intended : Files → Path → Bool
+is_intended files path = of_intent (intended files) (λ from to. same path from || same path to)
 
 pub record State : Type 0 where
   pub files : Files
@@ -65,6 +91,6 @@ HasOneCandidate s = s.earlier ≡ []
 pub record IsSound (s : State) : Type 0 where
   pub somewhere : (q : Path) → set.contains s.soft q ≡ true → (c : Files) × IsCandidate s c × (has c q ≡ true)
 
--- nothing of a step that was begun is left to be undone
+-- no intent is there, so that no rename waits for a recovery
 abbrev pub IsRested : State → Type 0
-IsRested s = Unit {0}
+IsRested s = has s.files intent ≡ false

@@ -28,8 +28,8 @@ pub shown_count : List Entry → ℕ
 shown_count [] = 0
 shown_count (e ∷ es) = cond (counts_once e es) 1 0 + shown_count es
 
-view_empty : view maps.empty ≡ maps.empty
-view_empty = same_files _ _ (λ q. get-view maps.empty q ∙ nothing _ _ (maps.get-empty path_cmp q) ∙ sym (maps.get-empty path_cmp q))
+lasting_empty : view maps.empty ≡ maps.empty
+lasting_empty = same_files _ _ (λ q. get-view maps.empty q ∙ nothing _ _ (maps.get-empty path_cmp q) ∙ sym (maps.get-empty path_cmp q))
   where
     nothing : (b : Bool) (o : Option (List ℕ)) → o ≡ None → cond b o None ≡ None
     nothing true o e = e
@@ -42,7 +42,7 @@ counted false n k e = omega arith
 -- as many as boot sees
 pub shown-files_of : (es : List Entry) → maps.len (view (files_of es)) ≡ shown_count es
 unfolding shown_count
-shown-files_of [] = ap maps.len view_empty ∙ maps.len-empty path_cmp (List ℕ)
+shown-files_of [] = ap maps.len lasting_empty ∙ maps.len-empty path_cmp (List ℕ)
 shown-files_of (e ∷ es) = elim (cases_Bool (is_temp e.path)) [
   | inl temp ↦ rw temp (ap maps.len (view-insert_temp (files_of es) e.path e.bytes.items temp) ∙ shown-files_of es ∙ omega arith)
   | inr shown ↦ ap maps.len (view-insert (files_of es) e.path e.bytes.items shown)

@@ -275,6 +275,22 @@ impl FileList {
         Ok(())
     }
 
+    // The file at `from`, if one is there, stands at `to` too after it.
+    pub(crate) fn link(&mut self, from: &str, to: &str) -> Result<(), AllocError>
+        ensures { OnOk result (self.new ≡ (if has self.old from.now then map.insert self.old to.now (contents self.old from.now) else self.old)) }
+    {
+        let Some(at) = place(&self.entries, from) else {
+            return Ok(());
+        };
+        let alloc = *self.entries.allocator();
+        let path = Text::of(alloc, to)?;
+        let bytes = self.entries[at].bytes.to_vec(alloc)?;
+        self.entries.reserve(1)?;
+        drop_all(&mut self.entries, to);
+        self.entries.push_reserved(Entry { path, bytes });
+        Ok(())
+    }
+
     // An empty file at that path.
     pub(crate) fn create(&mut self, path: &str) -> Result<(), AllocError>
         ensures ok { OnOk result (self.new ≡ map.insert self.old path.now []) }

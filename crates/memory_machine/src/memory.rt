@@ -1,6 +1,6 @@
 //! A machine in memory. It keeps the files of its start and all that it did since, so that it can
 //! tell each moment.
-ghost use Rattle.std.specs.Prelude.{◌≡◌, ◌≢◌, ◌⊎◌, ◌∷◌, ◌++◌, [], ◌≤◌, ℕ, true, length, vec_len, map, drop, bytes_eq, Some, None, Ok, Err, IfOk, IfErr, OnOk, OnErr, MatchResult};
+ghost use Rattle.std.specs.Prelude.{◌≡◌, ◌≢◌, ◌⊎◌, ◌∷◌, ◌++◌, [], ◌≤◌, ℕ, true, length, vec_len, map, drop, bytes_eq, Some, None, Ok, Err, IfOk, IfErr, OnOk, OnErr, IsErrOf, MatchResult};
 ghost use Rattle.std.specs.List.{IsDistinct};
 ghost use Rattle.std.specs.FinMap as maps;
 ghost use Rattle.boot_machine.specs.Disk.{State, has, view};
@@ -10,7 +10,8 @@ ghost use Rattle.boot_machine.specs.Images.{IsImage, IsSettled};
 ghost use Rattle.boot_machine.specs.Maps.{same_files_prop};
 ghost use Rattle.boot_machine.specs.Rows.{tagged};
 ghost use Rattle.memory_machine.specs.Stops.{IsLeft};
-ghost use Rattle.memory_machine.specs.Plan.{mode_of, one_more};
+ghost use Rattle.memory_machine.specs.Plan.{mode_of};
+ghost use Rattle.boot_machine.specs.Counts.{one_more};
 
 use crate::disk::Disk;
 use crate::event::Event;
@@ -138,11 +139,11 @@ fn mode_at(failures: &[Failure], call: u64) -> Option<FailMode>
 }
 
 impl MemMachine {
-    ghost use Rattle.memory_machine.specs.Memory.{mem_start, mem_events, mem_input, mem_state, mem_clock, mem_since, mem_counts, mem_reads, mem_starved, mem_calls, mem_plan, next_mode, SameOrders, TellsTheSame, TellsOneMore, IsNextCall, IsStarved, AsTold, NamesAsTold};
+    ghost use Rattle.memory_machine.specs.Memory.{mem_start, mem_events, mem_input, mem_state, mem_clock, mem_since, mem_counts, mem_reads, mem_starved, mem_calls, mem_plan, next_mode, SameOrders, TellsTheSame, TellsOneMore, IsNextCall, IsStarved, RecordsCall, AsTold, NamesAsTold};
     ghost use Rattle.memory_machine.specs.Events.{step, say, start_state, stopped};
     ghost use Rattle.boot_machine.specs.Moments.{Elapses};
     ghost use Rattle.boot_machine.specs.Rows.{DoneOrNot, SizeRow, ReadRow, NamesRow, CreateRow, AppendRow, SyncFileRow, RenameRow, UnlinkRow, SyncNamesRow, PrintRow, InputRow, created, appended, file_synced, renamed, unlinked, names_synced, with_printed, input_taken};
-    ghost use Rattle.boot_machine.specs.Counts.{CountsDisk, CountsPipe, CountsNames, DiskFailed, PipeFailed};
+    ghost use Rattle.boot_machine.specs.Counts.{CountsDisk, CountsPipe, CountsNames, DiskFailed, DiskFailsOnce, PipeFailed, PipeFailsOnce};
     ghost use Rattle.memory_machine.specs.declared.event.Event.TheVariants.{Look as look};
 
     /// A machine with these files and nothing else: all of them synced, nothing printed, no input, and no
@@ -271,6 +272,7 @@ impl MemMachine {
     fn note(&mut self, event: Event) -> Result<(), AllocError>
         ensures ok { OnOk result (TellsOneMore event self.old self.new) }
         ensures err { OnErr result (TellsTheSame self.old self.new) }
+        ensures records { RecordsCall self.old self.new }
         ensures counts { mem_counts self.new ≡ mem_counts self.old }
         ensures calls { mem_calls self.new ≡ mem_calls self.old }
         ensures fed { OnOk result (mem_starved self.new ≡ mem_starved self.old) }
@@ -291,6 +293,7 @@ impl MemMachine {
         ensures state { mem_state self.new ≡ mem_state self.old }
         ensures plan { mem_plan self.new ≡ mem_plan self.old }
         ensures moments { Elapses mem_clock mem_since mem_state self.old self.new }
+        ensures records { RecordsCall self.old self.new }
         ensures counts { mem_counts self.new ≡ mem_counts self.old }
         ensures reads { mem_reads self.new ≡ mem_reads self.old }
         ensures calls { mem_calls self.new ≡ mem_calls self.old }
@@ -330,6 +333,7 @@ impl MemMachine {
         ensures starved { mem_starved self.new ≡ mem_starved self.old }
         ensures calls { mem_calls self.new ≡ mem_calls self.old }
         ensures counts { DiskFailed (mem_counts self.old) (mem_counts self.new) }
+        ensures once { DiskFailsOnce (mem_counts self.old) (mem_counts self.new) }
     {
         self.disk_faults = self.disk_faults.saturating_add(1);
         DiskFault
@@ -340,6 +344,7 @@ impl MemMachine {
         ensures starved { mem_starved self.new ≡ mem_starved self.old }
         ensures calls { mem_calls self.new ≡ mem_calls self.old }
         ensures counts { PipeFailed (mem_counts self.old) (mem_counts self.new) }
+        ensures once { PipeFailsOnce (mem_counts self.old) (mem_counts self.new) }
     {
         self.pipe_faults = self.pipe_faults.saturating_add(1);
         PipeFault
@@ -352,6 +357,8 @@ impl MemMachine {
         ensures starved { IsStarved self.old self.new }
         ensures moments { Elapses mem_clock mem_since mem_state self.old self.new }
         ensures counts { DiskFailed (mem_counts self.old) (mem_counts self.new) }
+        ensures once { DiskFailsOnce (mem_counts self.old) (mem_counts self.new) }
+        ensures records { RecordsCall self.old self.new }
         ensures reads { mem_reads self.new ≡ mem_reads self.old }
     {
         self.next_call();
@@ -366,6 +373,8 @@ impl MemMachine {
         ensures starved { IsStarved self.old self.new }
         ensures moments { Elapses mem_clock mem_since mem_state self.old self.new }
         ensures counts { PipeFailed (mem_counts self.old) (mem_counts self.new) }
+        ensures once { PipeFailsOnce (mem_counts self.old) (mem_counts self.new) }
+        ensures records { RecordsCall self.old self.new }
         ensures reads { mem_reads self.new ≡ mem_reads self.old }
     {
         self.next_call();
@@ -380,6 +389,7 @@ impl MemMachine {
             ⊎ ((mem_state self.new ≡ mem_state self.old) × IsStarved self.old self.new) }
         ensures plan { mem_plan self.new ≡ mem_plan self.old }
         ensures moments { Elapses mem_clock mem_since mem_state self.old self.new }
+        ensures records { RecordsCall self.old self.new }
         ensures counts { mem_counts self.new ≡ mem_counts self.old }
         ensures reads { mem_reads self.new ≡ mem_reads self.old }
         ensures calls { mem_calls self.new ≡ mem_calls self.old }
@@ -394,6 +404,8 @@ impl MemMachine {
         ensures told { AsTold self.old self.new (mem_state self.old) (step event (mem_state self.old)) result }
         ensures moments { Elapses mem_clock mem_since mem_state self.old self.new }
         ensures counts { CountsDisk result (mem_counts self.old) (mem_counts self.new) }
+        ensures once { OnErr result (DiskFailsOnce (mem_counts self.old) (mem_counts self.new)) }
+        ensures records { RecordsCall self.old self.new }
         ensures reads { mem_reads self.new ≡ mem_reads self.old }
     {
         let mode = self.next_call();
@@ -418,6 +430,8 @@ impl MemMachine {
             (appended path [] (mem_state self.old)) (appended path bytes.items (mem_state self.old)) result }
         ensures moments { Elapses mem_clock mem_since mem_state self.old self.new }
         ensures counts { CountsDisk result (mem_counts self.old) (mem_counts self.new) }
+        ensures once { OnErr result (DiskFailsOnce (mem_counts self.old) (mem_counts self.new)) }
+        ensures records { RecordsCall self.old self.new }
         ensures reads { mem_reads self.new ≡ mem_reads self.old }
     {
         let mode = self.next_call();
@@ -440,6 +454,8 @@ impl MemMachine {
         ensures told { AsTold self.old self.new (mem_state self.old) (say text.items (mem_state self.old)) result }
         ensures moments { Elapses mem_clock mem_since mem_state self.old self.new }
         ensures counts { CountsPipe result (mem_counts self.old) (mem_counts self.new) }
+        ensures once { OnErr result (PipeFailsOnce (mem_counts self.old) (mem_counts self.new)) }
+        ensures records { RecordsCall self.old self.new }
         ensures reads { mem_reads self.new ≡ mem_reads self.old }
     {
         let mode = self.next_call();
@@ -463,6 +479,8 @@ impl MemMachine {
         ensures told { AsTold self.old self.new (mem_state self.old) (mem_state self.old) result }
         ensures moments { Elapses mem_clock mem_since mem_state self.old self.new }
         ensures counts { CountsDisk result (mem_counts self.old) (mem_counts self.new) }
+        ensures once { OnErr result (DiskFailsOnce (mem_counts self.old) (mem_counts self.new)) }
+        ensures records { RecordsCall self.old self.new }
         ensures reads { mem_reads self.new ≡ mem_reads self.old }
     {
         if self.next_call().is_some() {
@@ -482,6 +500,8 @@ impl MemMachine {
         ensures told { AsTold self.old self.new (mem_state self.old) (mem_state self.old) result }
         ensures moments { Elapses mem_clock mem_since mem_state self.old self.new }
         ensures counts { CountsPipe result (mem_counts self.old) (mem_counts self.new) }
+        ensures once { OnErr result (PipeFailsOnce (mem_counts self.old) (mem_counts self.new)) }
+        ensures records { RecordsCall self.old self.new }
         ensures reads { mem_reads self.new ≡ mem_reads self.old }
     {
         if self.next_call().is_some() {
@@ -496,12 +516,12 @@ impl MemMachine {
 }
 
 impl Machine for MemMachine {
-    ghost use Rattle.memory_machine.specs.Memory.{mem_start, mem_events, mem_input, mem_state, mem_clock, mem_since, mem_counts, mem_reads, mem_taken, KeepsRead, mem_starved, mem_calls, mem_plan, next_mode, TellsTheSame, TellsOneMore, IsNextCall, IsStarved, AsTold, NamesAsTold};
+    ghost use Rattle.memory_machine.specs.Memory.{mem_start, mem_events, mem_input, mem_state, mem_clock, mem_since, mem_counts, mem_reads, mem_taken, KeepsRead, mem_starved, mem_calls, mem_plan, next_mode, TellsTheSame, TellsOneMore, IsNextCall, IsStarved, RecordsCall, AsTold, NamesAsTold};
     ghost use Rattle.memory_machine.specs.EventLaws.{now_counts, now_only, sound_held, sound-input, image-input, image_input};
     ghost use Rattle.memory_machine.specs.Events.{step};
     ghost use Rattle.boot_machine.specs.Moments.{Elapses};
     ghost use Rattle.boot_machine.specs.Rows.{DoneOrNot, SizeRow, ReadRow, NamesRow, CreateRow, AppendRow, SyncFileRow, RenameRow, UnlinkRow, SyncNamesRow, PrintRow, InputRow, created, appended, file_synced, renamed, unlinked, names_synced, with_printed, input_taken};
-    ghost use Rattle.boot_machine.specs.Counts.{CountsDisk, CountsPipe, CountsNames};
+    ghost use Rattle.boot_machine.specs.Counts.{CountsDisk, CountsPipe, CountsNames, DiskFailsOnce, PipeFailsOnce};
     ghost use Rattle.boot_machine.specs.Taken.{TakesNone, TakesRead};
 
     ghost tells = { true };
@@ -528,6 +548,8 @@ impl Machine for MemMachine {
         ensures told { AsTold self.old self.new (mem_state self.old) (mem_state self.old) result }
         ensures moments { Elapses mem_clock mem_since mem_state self.old self.new }
         ensures counts { CountsDisk result (mem_counts self.old) (mem_counts self.new) }
+        ensures once { OnErr result (DiskFailsOnce (mem_counts self.old) (mem_counts self.new)) }
+        ensures records { RecordsCall self.old self.new }
         ensures taken { TakesNone (mem_taken self.old) (mem_taken self.new) }
         ensures reads { mem_reads self.new ≡ mem_reads self.old }
     {
@@ -542,6 +564,8 @@ impl Machine for MemMachine {
         ensures told { AsTold self.old self.new (mem_state self.old) (mem_state self.old) result }
         ensures moments { Elapses mem_clock mem_since mem_state self.old self.new }
         ensures counts { CountsDisk result (mem_counts self.old) (mem_counts self.new) }
+        ensures once { OnErr result (DiskFailsOnce (mem_counts self.old) (mem_counts self.new)) }
+        ensures records { RecordsCall self.old self.new }
         ensures taken { TakesRead result (mem_taken self.old) (mem_taken self.new) }
         ensures reads { KeepsRead path.now at result (mem_reads self.old) (mem_reads self.new) }
     {
@@ -559,6 +583,8 @@ impl Machine for MemMachine {
         ensures told { NamesAsTold self.old self.new result }
         ensures moments { Elapses mem_clock mem_since mem_state self.old self.new }
         ensures counts { CountsNames result (mem_counts self.old) (mem_counts self.new) }
+        ensures once { IsErrOf result NamesFault.Disk → DiskFailsOnce (mem_counts self.old) (mem_counts self.new) }
+        ensures records { RecordsCall self.old self.new }
         ensures taken { TakesNone (mem_taken self.old) (mem_taken self.new) }
         ensures reads { mem_reads self.new ≡ mem_reads self.old }
     {
@@ -576,6 +602,8 @@ impl Machine for MemMachine {
         ensures told { AsTold self.old self.new (mem_state self.old) (created path.now (mem_state self.old)) result }
         ensures moments { Elapses mem_clock mem_since mem_state self.old self.new }
         ensures counts { CountsDisk result (mem_counts self.old) (mem_counts self.new) }
+        ensures once { OnErr result (DiskFailsOnce (mem_counts self.old) (mem_counts self.new)) }
+        ensures records { RecordsCall self.old self.new }
         ensures taken { TakesNone (mem_taken self.old) (mem_taken self.new) }
         ensures reads { mem_reads self.new ≡ mem_reads self.old }
     {
@@ -592,6 +620,8 @@ impl Machine for MemMachine {
             (appended path.now [] (mem_state self.old)) (appended path.now bytes.now (mem_state self.old)) result }
         ensures moments { Elapses mem_clock mem_since mem_state self.old self.new }
         ensures counts { CountsDisk result (mem_counts self.old) (mem_counts self.new) }
+        ensures once { OnErr result (DiskFailsOnce (mem_counts self.old) (mem_counts self.new)) }
+        ensures records { RecordsCall self.old self.new }
         ensures taken { TakesNone (mem_taken self.old) (mem_taken self.new) }
         ensures reads { mem_reads self.new ≡ mem_reads self.old }
     {
@@ -606,6 +636,8 @@ impl Machine for MemMachine {
         ensures told { AsTold self.old self.new (mem_state self.old) (mem_state self.old) result }
         ensures moments { Elapses mem_clock mem_since mem_state self.old self.new }
         ensures counts { CountsDisk result (mem_counts self.old) (mem_counts self.new) }
+        ensures once { OnErr result (DiskFailsOnce (mem_counts self.old) (mem_counts self.new)) }
+        ensures records { RecordsCall self.old self.new }
         ensures taken { TakesNone (mem_taken self.old) (mem_taken self.new) }
         ensures reads { mem_reads self.new ≡ mem_reads self.old }
     {
@@ -622,6 +654,8 @@ impl Machine for MemMachine {
         ensures told { AsTold self.old self.new (mem_state self.old) (renamed from.now to.now (mem_state self.old)) result }
         ensures moments { Elapses mem_clock mem_since mem_state self.old self.new }
         ensures counts { CountsDisk result (mem_counts self.old) (mem_counts self.new) }
+        ensures once { OnErr result (DiskFailsOnce (mem_counts self.old) (mem_counts self.new)) }
+        ensures records { RecordsCall self.old self.new }
         ensures taken { TakesNone (mem_taken self.old) (mem_taken self.new) }
         ensures reads { mem_reads self.new ≡ mem_reads self.old }
     {
@@ -638,6 +672,8 @@ impl Machine for MemMachine {
         ensures told { AsTold self.old self.new (mem_state self.old) (renamed from.now to.now (mem_state self.old)) result }
         ensures moments { Elapses mem_clock mem_since mem_state self.old self.new }
         ensures counts { CountsDisk result (mem_counts self.old) (mem_counts self.new) }
+        ensures once { OnErr result (DiskFailsOnce (mem_counts self.old) (mem_counts self.new)) }
+        ensures records { RecordsCall self.old self.new }
         ensures taken { TakesNone (mem_taken self.old) (mem_taken self.new) }
         ensures reads { mem_reads self.new ≡ mem_reads self.old }
     {
@@ -652,6 +688,8 @@ impl Machine for MemMachine {
         ensures told { AsTold self.old self.new (mem_state self.old) (unlinked path.now (mem_state self.old)) result }
         ensures moments { Elapses mem_clock mem_since mem_state self.old self.new }
         ensures counts { CountsDisk result (mem_counts self.old) (mem_counts self.new) }
+        ensures once { OnErr result (DiskFailsOnce (mem_counts self.old) (mem_counts self.new)) }
+        ensures records { RecordsCall self.old self.new }
         ensures taken { TakesNone (mem_taken self.old) (mem_taken self.new) }
         ensures reads { mem_reads self.new ≡ mem_reads self.old }
     {
@@ -666,6 +704,8 @@ impl Machine for MemMachine {
         ensures told { AsTold self.old self.new (mem_state self.old) (unlinked path.now (mem_state self.old)) result }
         ensures moments { Elapses mem_clock mem_since mem_state self.old self.new }
         ensures counts { CountsDisk result (mem_counts self.old) (mem_counts self.new) }
+        ensures once { OnErr result (DiskFailsOnce (mem_counts self.old) (mem_counts self.new)) }
+        ensures records { RecordsCall self.old self.new }
         ensures taken { TakesNone (mem_taken self.old) (mem_taken self.new) }
         ensures reads { mem_reads self.new ≡ mem_reads self.old }
     {
@@ -680,6 +720,8 @@ impl Machine for MemMachine {
         ensures told { AsTold self.old self.new (mem_state self.old) (mem_state self.old) result }
         ensures moments { Elapses mem_clock mem_since mem_state self.old self.new }
         ensures counts { CountsDisk result (mem_counts self.old) (mem_counts self.new) }
+        ensures once { OnErr result (DiskFailsOnce (mem_counts self.old) (mem_counts self.new)) }
+        ensures records { RecordsCall self.old self.new }
         ensures taken { TakesNone (mem_taken self.old) (mem_taken self.new) }
         ensures reads { mem_reads self.new ≡ mem_reads self.old }
     {
@@ -691,6 +733,8 @@ impl Machine for MemMachine {
         ensures told { AsTold self.old self.new (mem_state self.old) (with_printed to bytes.now (mem_state self.old)) result }
         ensures moments { Elapses mem_clock mem_since mem_state self.old self.new }
         ensures counts { CountsPipe result (mem_counts self.old) (mem_counts self.new) }
+        ensures once { OnErr result (PipeFailsOnce (mem_counts self.old) (mem_counts self.new)) }
+        ensures records { RecordsCall self.old self.new }
         ensures taken { TakesNone (mem_taken self.old) (mem_taken self.new) }
         ensures reads { mem_reads self.new ≡ mem_reads self.old }
     {
@@ -706,6 +750,8 @@ impl Machine for MemMachine {
         ensures told { AsTold self.old self.new (mem_state self.old) (mem_state self.old) result }
         ensures moments { Elapses mem_clock mem_since mem_state self.old self.new }
         ensures counts { CountsPipe result (mem_counts self.old) (mem_counts self.new) }
+        ensures once { OnErr result (PipeFailsOnce (mem_counts self.old) (mem_counts self.new)) }
+        ensures records { RecordsCall self.old self.new }
         ensures taken { TakesNone (mem_taken self.old) (mem_taken self.new) }
         ensures reads { mem_reads self.new ≡ mem_reads self.old }
     {
