@@ -5,23 +5,26 @@ use Rattle.std.proofs.lemmas.List.{take_all}
 use Rattle.std.specs.Option.{option_map}
 use Rattle.std.specs.FinMap as map
 use Rattle.boot_base.specs.Paths.{Path, is_temp}
-use Rattle.boot_machine.specs.Disk.{Files, has, view, same}
+use Rattle.boot_machine.specs.Disk.{Files, has, recovered_view, same}
 use Rattle.boot_machine.specs.Reading.{zero_filled}
 use Rattle.boot_machine.specs.Rows.{contents, append_to, move_in}
 use Rattle.boot_machine.specs.Maps.{cases_same, same_self, same_files, get-insert_here, get-insert_apart}
 use Rattle.boot_machine.proofs.Filling.{zero_filled-inside}
-use Rattle.boot_machine.proofs.Views.{get-append_to, get-view_shown}
-use Rattle.boot_machine.proofs.Written.{view-written}
+use Rattle.boot_machine.proofs.Views.{get-append_to}
+use Rattle.boot_machine.proofs.Recovering.{IsCalm, get-recovered_view_there, has-recovered_view}
+use Rattle.boot_base.specs.Paths.{intent}
+use Rattle.boot_machine.proofs.Written.{recovered_view-written}
 use Rattle.install_steps.specs.Steps.{copied}
+use Rattle.install_steps.proofs.RefusedLemmas.{copied_there}
 
 -- a new file with these bytes
 abbrev pub with_file : Path → List ℕ → Files → Files
 with_file p bytes m = append_to p bytes (map.insert m p [])
 
-with_file_here : (m : Files) (p : Path) (bytes : List ℕ) → map.get (with_file p bytes m) p ≡ Some bytes
+pub with_file_here : (m : Files) (p : Path) (bytes : List ℕ) → map.get (with_file p bytes m) p ≡ Some bytes
 with_file_here m p bytes = rw (get-append_to (map.insert m p []) p bytes p, same_self p, get-insert_here m p []) refl
 
-with_file_apart : (m : Files) (p : Path) (bytes : List ℕ) (q : Path) → same q p ≡ false → map.get (with_file p bytes m) q ≡ map.get m q
+pub with_file_apart : (m : Files) (p : Path) (bytes : List ℕ) (q : Path) → same q p ≡ false → map.get (with_file p bytes m) q ≡ map.get m q
 with_file_apart m p bytes q apart = rw (get-append_to (map.insert m p []) p bytes q, apart) (get-insert_apart m p [] q apart)
 
 -- a file that is made is empty
@@ -64,13 +67,14 @@ copies_piece m now temp from size at count piece is_temporary shown long inside 
 pub copies_all : (m now : Files) (temp from : Path) (size at : ℕ) → size ≡ length (contents m from) → size ≤ at → now ≡ with_file temp (take at (contents m from)) m → now ≡ with_file temp (contents m from) m
 copies_all m now temp from size at long end so_far = so_far ∙ ap (λ (l : List ℕ). with_file temp l m) (take_all at (contents m from) (omega (arith, long, end)))
 
-pub contents-view : (m : Files) (q : Path) → is_temp q ≡ false → contents (view m) q ≡ contents m q
-contents-view m q shown = ap (λ (o : Option (List ℕ)). unwrap_or o []) (get-view_shown m q shown)
+pub contents-recovered_view : (m : Files) (q : Path) → IsCalm m → is_temp q ≡ false → contents (recovered_view m) q ≡ contents m q
+contents-recovered_view m q calm shown = ap (λ (o : Option (List ℕ)). unwrap_or o []) (get-recovered_view_there m q calm shown)
 
 -- boot sees the copy in its place
-pub sees_copy : (m now : Files) (temp from to : Path) → is_temp temp ≡ true → is_temp from ≡ false → is_temp to ≡ false → now ≡ with_file temp (contents m from) m → view (move_in temp to now) ≡ copied from to (view m)
-sees_copy m now temp from to is_temporary from_shown to_shown is =
-    ap (λ (n : Files). view (move_in temp to n)) is ∙ view-written m temp to (contents m from) is_temporary to_shown ∙ ap (λ (l : List ℕ). map.insert (view m) to l) (sym (contents-view m from from_shown))
+pub sees_copy : (m now : Files) (temp from to : Path) → IsCalm m → same intent to ≡ false → is_temp temp ≡ true → is_temp from ≡ false → is_temp to ≡ false → has m from ≡ true → now ≡ with_file temp (contents m from) m → recovered_view (move_in temp to now) ≡ copied from to (recovered_view m)
+sees_copy m now temp from to calm free is_temporary from_shown to_shown there is =
+    ap (λ (n : Files). recovered_view (move_in temp to n)) is ∙ recovered_view-written m temp to (contents m from) calm is_temporary to_shown free ∙ ap (λ (l : List ℕ). map.insert (recovered_view m) to l) (sym (contents-recovered_view m from calm from_shown))
+    ∙ sym (copied_there from to (recovered_view m) (has-recovered_view m from calm from_shown ∙ there))
 
 size_at : (o : Option (List ℕ)) (size : ℕ) → option_map length o ≡ Some size → (size ≡ length (unwrap_or o [])) × (is_some o ≡ true)
 size_at None size is = cc
@@ -81,15 +85,15 @@ pub size_there : (m : Files) (q : Path) (found : Option ℕ) (size : ℕ) → fo
 size_there m q found size row is = size_at (map.get m q) size (sym row ∙ is)
 
 -- its size is within the limit
-pub size_within : (m : Files) (q : Path) (found : Option ℕ) (size limited : ℕ) → is_temp q ≡ false → length (contents (view m) q) ≤ 268435456 → found ≡ option_map length (map.get m q) → found ≡ Some size → (size ≤ 268435456 → limited ≡ size) → limited ≡ length (contents m q)
-size_within m q found size limited shown small row is within =
+pub size_within : (m : Files) (q : Path) (found : Option ℕ) (size limited : ℕ) → IsCalm m → is_temp q ≡ false → length (contents (recovered_view m) q) ≤ 268435456 → found ≡ option_map length (map.get m q) → found ≡ Some size → (size ≤ 268435456 → limited ≡ size) → limited ≡ length (contents m q)
+size_within m q found size limited calm shown small row is within =
     let long = (size_there m q found size row is).0 in
-    within (omega (arith, long, small, ap length (contents-view m q shown))) ∙ long
+    within (omega (arith, long, small, ap length (contents-recovered_view m q calm shown))) ∙ long
 
 length_or_none : (o : Option (List ℕ)) → unwrap_or (option_map length o) 0 ≡ length (unwrap_or o [])
 length_or_none None = refl
 length_or_none (Some bytes) = refl
 
 -- the size of a file that may be there
-pub size_or_none : (m : Files) (q : Path) (found : Option ℕ) → is_temp q ≡ false → found ≡ option_map length (map.get m q) → unwrap_or found 0 ≡ length (contents (view m) q)
-size_or_none m q found shown row = ap (λ (o : Option ℕ). unwrap_or o 0) row ∙ length_or_none (map.get m q) ∙ ap length (sym (contents-view m q shown))
+pub size_or_none : (m : Files) (q : Path) (found : Option ℕ) → IsCalm m → is_temp q ≡ false → found ≡ option_map length (map.get m q) → unwrap_or found 0 ≡ length (contents (recovered_view m) q)
+size_or_none m q found calm shown row = ap (λ (o : Option ℕ). unwrap_or o 0) row ∙ length_or_none (map.get m q) ∙ ap length (sym (contents-recovered_view m q calm shown))

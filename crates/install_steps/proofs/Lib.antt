@@ -1,4 +1,9 @@
+pub mod AppendLemmas
 pub mod CopyLemmas
 pub mod LeftoverLemmas
-pub mod PlannedLemmas
+pub mod MoveLemmas
+pub mod QuietLemmas
+pub mod RecoverLemmas
+pub mod RefusedLemmas
 pub mod StepLemmas
+pub mod WrittenIntent

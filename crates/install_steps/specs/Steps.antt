@@ -1,22 +1,24 @@
 -- What the steps of an installation do to what boot sees.
-use Rattle.std.specs.Prelude.{◌≡◌, ◌⊎◌, ℕ, true, if◌then◌else◌, List, None, Result, MatchResult}
+use Rattle.std.specs.Prelude.{if◌then◌else◌, None, ◌≡◌, ◌≢◌, ◌⊎◌, ◌&&◌, not, ℕ, true, false, List, Some, Result, MatchResult}
 use Rattle.std.specs.FinMap as map
-use Rattle.boot_base.specs.Paths.{Path, is_temp}
-use Rattle.boot_machine.specs.Disk.{Files, State, HasOneCandidate, has, view}
+use Rattle.boot_base.specs.Paths.{Path, intent, is_temp}
+use Rattle.boot_machine.specs.Disk.{Files, State, HasOneCandidate, IsRested, has, intended, same, recovered_view}
 use Rattle.boot_machine.specs.Images.{IsImage, IsFirm}
 use Rattle.boot_machine.specs.Moments.{EachSince}
 use Rattle.boot_machine.specs.Listed.{is_listed}
-use Rattle.boot_machine.specs.Rows.{contents}
+use Rattle.boot_machine.specs.Rows.{contents, move_in}
 use Rattle.boot_machine.specs.Counts.{Counts, DiskFailed}
 use Rattle.install_steps.specs.declared.faults.MoveFault.{MoveFault}
 use Rattle.install_steps.specs.declared.faults.MoveFault.TheVariants.{Disk as MDisk, NotFound as MNotFound, TargetExists}
+use Rattle.install_steps.specs.declared.faults.RecoverFault.{RecoverFault}
+use Rattle.install_steps.specs.declared.faults.RecoverFault.TheVariants.{Disk as RDisk, Memory as RMemory}
 use Rattle.install_steps.specs.declared.faults.StepFault.{StepFault}
 use Rattle.install_steps.specs.declared.faults.StepFault.TheVariants.{Disk as SDisk, NotFound as SNotFound}
 use Rattle.boot_machine.specs.declared.machine.Printed.{Printed}
 
 -- boot sees what it saw before the step, or what it is to see, and nothing more is printed
 abbrev pub Sees : State → Files → Files → List Printed → Type 0
-Sees old next m o = ((view m ≡ view old.files) ⊎ (view m ≡ next)) × (o ≡ old.printed)
+Sees old next m o = ((recovered_view m ≡ recovered_view old.files) ⊎ (recovered_view m ≡ next)) × (o ≡ old.printed)
 
 -- what a step doesn't touch
 pub record Keeps (old new : State) : Type 0 where
@@ -27,18 +29,30 @@ pub record Keeps (old new : State) : Type 0 where
 pub record IsDone (new : State) (next : Files) : Type 0 where
   pub one : HasOneCandidate new
   pub firm : IsFirm new
-  pub images : (m : Files) → IsImage new m → view m ≡ next
-  pub files : view new.files ≡ next
+  pub images : (m : Files) → IsImage new m → recovered_view m ≡ next
+  pub files : recovered_view new.files ≡ next
 
 -- Each moment of a step and what it leaves, whatever its answer.
 pub record StepsTo {D : Type 0} (clock : D → ℕ) (since : D → ℕ → Files → List Printed → Type 0) (state : D → State) (next : Files) (old new : D) : Type 0 where
   pub moments : EachSince clock since old new (Sees (state old) next)
   pub firm : IsFirm (state new)
-  pub files : (view (state new).files ≡ view (state old).files) ⊎ (view (state new).files ≡ next)
+  pub files : (recovered_view (state new).files ≡ recovered_view (state old).files) ⊎ (recovered_view (state new).files ≡ next)
 
--- the files with the bytes of the file at `from` at `to` too
+-- the files with the bytes of the file at `from` at `to` too, or as they are where no file is at `from`
 abbrev pub copied : Path → Path → Files → Files
-copied from to files = map.insert files to (contents files from)
+copied from to files = if has files from then map.insert files to (contents files from) else files
+
+-- the files with the one at `from` at `to` alone, or as they are where none is at `from` or one is at `to`
+abbrev pub moved : Path → Path → Files → Files
+moved from to files = if has files from && not (has files to) then move_in from to files else files
+
+-- no moment since old has anything printed that wasn't printed then
+abbrev pub PrintsNothing : {D : Type 0} → (D → ℕ) → (D → ℕ → Files → List Printed → Type 0) → (D → State) → D → D → Type 0
+PrintsNothing clock since state old new = EachSince clock since old new (λ m o. o ≡ (state old).printed)
+
+-- the machine is rested after every answer but this fault
+abbrev pub RestsUnless : {T E : Type 0} → E → Result T E → State → Type 0
+RestsUnless fault result new = MatchResult result (λ _. IsRested new) (λ other. other ≢ fault → IsRested new)
 
 -- no temporary file is there that wasn't
 abbrev pub NoNewTemp : State → State → Type 0
@@ -59,6 +73,19 @@ step_fault SNotFound old new = new ≡ old
 
 abbrev pub CountsStep : {T : Type 0} → Result T StepFault → Counts → Counts → Type 0
 CountsStep result old new = MatchResult result (λ _. new ≡ old) (λ fault. step_fault fault old new)
+
+-- the files with an intent that names these two, and but for temporary ones nothing else
+pub record Intends (from to : Path) (old new : Files) : Type 0 where
+  pub named : intended new ≡ Some (from, to)
+  pub alike : (q : Path) → is_temp q ≡ false → same q intent ≡ false → map.get new q ≡ map.get old q
+
+-- the disk failed, or the counts stay
+abbrev pub recover_fault : RecoverFault → Counts → Counts → Type 0
+recover_fault RDisk old new = DiskFailed old new
+recover_fault RMemory old new = new ≡ old
+
+abbrev pub CountsRecover : {T : Type 0} → Result T RecoverFault → Counts → Counts → Type 0
+CountsRecover result old new = MatchResult result (λ _. new ≡ old) (λ fault. recover_fault fault old new)
 
 -- the files without these paths, and nothing else
 pub record Lacks (paths : List Path) (old new : Files) : Type 0 where

@@ -1,17 +1,26 @@
-//! The steps that change boot files. Whatever fails and wherever it is stopped, a step shows the files as
-//! they were before it or as they are after it.
+//! The steps that change boot files, on a disk on which a stop in the middle of a rename may leave the old name, the
+//! new one or both. Whatever fails and wherever it is stopped, a step shows the files as they were before it or as
+//! they are after it, and a step that refuses shows them as they were.
 //!
-//! A file is written under a temporary name, synced, renamed to its place, and the names are synced. Each
-//! step needs a machine on which no earlier change of names can be undone by a stop, which `settle` gives.
-//! No step takes memory.
+//! A file that is written stands under a temporary name first, which boot doesn't see, so that both names do no harm.
+//! A file that is moved has two names that boot sees. So `move_name` first puts an intent in its place, the file
+//! `boot_tools.intent` with both names, and takes it away at the end. An intent that a stop has left says what counts:
+//! where both files are there, boot sees the one at the new name alone. `recover` takes the old one away then, and the
+//! intent in any case. It is to run before the first step. Each step asks for a machine that is rested, which has no
+//! intent, and leaves it so after every answer but a fault of the disk.
 #![tactic(auto)]
 
 mod faults;
+mod intent;
+mod moves;
+mod recovery;
 mod steps;
 mod write;
 
-pub use faults::{MoveFault, StepFault};
-pub use steps::{drop_leftovers, drop_name, move_name, settle};
+pub use faults::{MoveFault, RecoverFault, StepFault};
+pub use moves::move_name;
+pub use recovery::recover;
+pub use steps::{drop_leftovers, drop_name, settle};
 pub use write::{write_bytes, write_planned, write_whole};
 
 #[cfg(test)]

@@ -1,15 +1,15 @@
-//! Settling the names, and moving and dropping files.
-ghost use Rattle.std.specs.Prelude.{◌≡◌, true, false, IsTrue, OnOk, OnErr, IsErrOf, All, bytes_eq};
+//! Settling the names, and the small steps: one change of names that is synced.
+ghost use Rattle.std.specs.Prelude.{◌≡◌, ◌≢◌, true, false, IsTrue, OnOk, OnErr, IsErrOf, All, bytes_eq};
 ghost use Rattle.std.specs.List.{IsDistinct};
 ghost use Rattle.std.specs.FinMap as map;
-ghost use Rattle.boot_machine.specs.Disk.{HasOneCandidate, IsRested, has, view};
+ghost use Rattle.boot_base.specs.Paths.{IsFree};
+ghost use Rattle.boot_machine.specs.Disk.{HasOneCandidate, IsRested, has, recovered_view};
 ghost use Rattle.boot_machine.specs.Images.{IsImage, IsFirm, IsSettled};
-ghost use Rattle.boot_machine.specs.Rows.{move_in};
 ghost use Rattle.boot_machine.specs.Moments.{EachSince};
 ghost use Rattle.boot_machine.specs.Counts.{CountsDisk};
-ghost use Rattle.install_steps.specs.Steps.{Keeps, StepsTo, IsDone, NoNewTemp, Lacks, CountsMove, CountsStep};
+ghost use Rattle.install_steps.specs.Steps.{Keeps, StepsTo, IsDone, NoNewTemp, Lacks, PrintsNothing, RestsUnless, CountsStep};
 
-use crate::{MoveFault, StepFault};
+use crate::StepFault;
 use boot_base::{BootPath, TempPath};
 use boot_machine::{DiskFault, Machine};
 
@@ -30,62 +30,24 @@ pub fn settle<M: Machine>(machine: &mut M) -> Result<(), DiskFault>
     machine.sync_names()
 }
 
-/// Moves a boot file to a path at which none is. A stop at any moment leaves what boot saw before, or the
-/// file at its new path alone. `NotFound` comes exactly where `from` isn't there, and is looked at first;
-/// `TargetExists` where both paths are. After both nothing has changed. After a fault of the disk the file
-/// is at one of the two paths.
-pub fn move_name<M: Machine>(
-    machine: &mut M,
-    from: &BootPath,
-    to: &BootPath,
-) -> Result<(), MoveFault>
-    requires one { IsTrue M.tells → HasOneCandidate (M.state machine.old) }
-    requires rested { IsTrue M.tells → IsRested (M.state machine.old) }
-    ensures done { OnOk result (IsTrue M.tells → IsFirm (M.state machine.old)
-        → IsDone (M.state machine.new) (move_in from.now to.now (view (M.state machine.old).files))) }
-    ensures step { IsTrue M.tells → IsFirm (M.state machine.old) → StepsTo M.clock M.since M.state
-        (move_in from.now to.now (view (M.state machine.old).files)) machine.old machine.new }
-    ensures found { OnOk result (IsTrue M.tells → (has (view (M.state machine.old).files) from.now ≡ true)
-        × (has (view (M.state machine.old).files) to.now ≡ false)) }
-    ensures not_found { IsErrOf result MoveFault.NotFound → IsTrue M.tells
-        → (has (view (M.state machine.old).files) from.now ≡ false) × (M.state machine.new ≡ M.state machine.old) }
-    ensures exists { IsErrOf result MoveFault.TargetExists → IsTrue M.tells
-        → (has (view (M.state machine.old).files) from.now ≡ true)
-        × (has (view (M.state machine.old).files) to.now ≡ true)
-        × (M.state machine.new ≡ M.state machine.old) }
-    ensures keeps { IsTrue M.tells → Keeps (M.state machine.old) (M.state machine.new) }
-    ensures rests { OnOk result (IsTrue M.tells → IsRested (M.state machine.new)) }
-    ensures temps { OnOk result (IsTrue M.tells → NoNewTemp (M.state machine.old) (M.state machine.new)) }
-    ensures counts { CountsMove result (M.counts machine.old) (M.counts machine.new) }
-{
-    from.know();
-    to.know();
-    if machine.size(from)?.is_none() {
-        return Err(MoveFault::NotFound);
-    }
-    if machine.size(to)?.is_some() {
-        return Err(MoveFault::TargetExists);
-    }
-    machine.rename_name(from, to)?;
-    machine.sync_names()?;
-    Ok(())
-}
-
 /// Takes a boot file away. A stop at any moment leaves what boot saw before, or that without the file.
 /// `NotFound` comes exactly where no such file is there, and nothing has changed then. After a fault of the
 /// disk the file may be there or not.
 pub fn drop_name<M: Machine>(machine: &mut M, path: &BootPath) -> Result<(), StepFault>
+    requires free { IsFree path.now }
     requires one { IsTrue M.tells → HasOneCandidate (M.state machine.old) }
     requires rested { IsTrue M.tells → IsRested (M.state machine.old) }
     ensures done { OnOk result (IsTrue M.tells → IsFirm (M.state machine.old)
-        → IsDone (M.state machine.new) (map.remove (view (M.state machine.old).files) path.now)) }
+        → IsDone (M.state machine.new) (map.remove (recovered_view (M.state machine.old).files) path.now)) }
     ensures step { IsTrue M.tells → IsFirm (M.state machine.old) → StepsTo M.clock M.since M.state
-        (map.remove (view (M.state machine.old).files) path.now) machine.old machine.new }
-    ensures found { OnOk result (IsTrue M.tells → has (view (M.state machine.old).files) path.now ≡ true) }
+        (map.remove (recovered_view (M.state machine.old).files) path.now) machine.old machine.new }
+    ensures found { OnOk result (IsTrue M.tells → has (recovered_view (M.state machine.old).files) path.now ≡ true) }
     ensures not_found { IsErrOf result StepFault.NotFound → IsTrue M.tells
-        → (has (view (M.state machine.old).files) path.now ≡ false) × (M.state machine.new ≡ M.state machine.old) }
+        → (has (recovered_view (M.state machine.old).files) path.now ≡ false)
+        × (M.state machine.new ≡ M.state machine.old) }
     ensures keeps { IsTrue M.tells → Keeps (M.state machine.old) (M.state machine.new) }
-    ensures rests { OnOk result (IsTrue M.tells → IsRested (M.state machine.new)) }
+    ensures quiet { IsTrue M.tells → PrintsNothing M.clock M.since M.state machine.old machine.new }
+    ensures rests { IsTrue M.tells → RestsUnless StepFault.Disk result (M.state machine.new) }
     ensures temps { OnOk result (IsTrue M.tells → NoNewTemp (M.state machine.old) (M.state machine.new)) }
     ensures counts { CountsStep result (M.counts machine.old) (M.counts machine.new) }
 {
@@ -93,8 +55,7 @@ pub fn drop_name<M: Machine>(machine: &mut M, path: &BootPath) -> Result<(), Ste
     if machine.size(path)?.is_none() {
         return Err(StepFault::NotFound);
     }
-    machine.unlink(path)?;
-    machine.sync_names()?;
+    unlink_synced(machine, path)?;
     Ok(())
 }
 
@@ -106,12 +67,13 @@ pub fn drop_leftovers<M: Machine>(machine: &mut M, paths: &[TempPath]) -> Result
     requires distinct { IsDistinct bytes_eq paths.now }
     requires there { IsTrue M.tells → All (λ path. has (M.state machine.old).files path ≡ true) paths.now }
     ensures done { OnOk result (IsTrue M.tells → IsFirm (M.state machine.old)
-        → IsDone (M.state machine.new) (view (M.state machine.old).files)) }
+        → IsDone (M.state machine.new) (recovered_view (M.state machine.old).files)) }
     ensures step { IsTrue M.tells → IsFirm (M.state machine.old) → StepsTo M.clock M.since M.state
-        (view (M.state machine.old).files) machine.old machine.new }
+        (recovered_view (M.state machine.old).files) machine.old machine.new }
     ensures gone { OnOk result (IsTrue M.tells
         → Lacks paths.now (M.state machine.old).files (M.state machine.new).files) }
     ensures keeps { IsTrue M.tells → Keeps (M.state machine.old) (M.state machine.new) }
+    ensures quiet { IsTrue M.tells → PrintsNothing M.clock M.since M.state machine.old machine.new }
     ensures rests { OnOk result (IsTrue M.tells → IsRested (M.state machine.new)) }
     ensures temps { OnOk result (IsTrue M.tells → NoNewTemp (M.state machine.old) (M.state machine.new)) }
     ensures counts { CountsDisk result (M.counts machine.old) (M.counts machine.new) }
@@ -122,4 +84,22 @@ pub fn drop_leftovers<M: Machine>(machine: &mut M, paths: &[TempPath]) -> Result
     }
     machine.sync_names()?;
     Ok(())
+}
+
+/// Takes the file at that path away, whatever it is, and syncs the names.
+pub(crate) fn unlink_synced<M: Machine>(machine: &mut M, path: &BootPath) -> Result<(), DiskFault>
+    requires one { IsTrue M.tells → HasOneCandidate (M.state machine.old) }
+    requires there { IsTrue M.tells → has (M.state machine.old).files path.now ≡ true }
+    ensures step { IsTrue M.tells → IsFirm (M.state machine.old) → StepsTo M.clock M.since M.state
+        (recovered_view (map.remove (M.state machine.old).files path.now)) machine.old machine.new }
+    ensures files { OnOk result (IsTrue M.tells
+        → (M.state machine.new).files ≡ map.remove (M.state machine.old).files path.now) }
+    ensures one { OnOk result (IsTrue M.tells → HasOneCandidate (M.state machine.new)) }
+    ensures keeps { IsTrue M.tells → Keeps (M.state machine.old) (M.state machine.new) }
+    ensures quiet { IsTrue M.tells → PrintsNothing M.clock M.since M.state machine.old machine.new }
+    ensures temps { IsTrue M.tells → NoNewTemp (M.state machine.old) (M.state machine.new) }
+    ensures counts { CountsDisk result (M.counts machine.old) (M.counts machine.new) }
+{
+    machine.unlink(path)?;
+    machine.sync_names()
 }

@@ -1,12 +1,13 @@
 //! Writing files: bytes at hand, copies of whole files, and images by a plan.
 ghost use Rattle.std.specs.Prelude.{◌≡◌, ◌≤◌, ℕ, List, true, false, length, IsTrue, OnOk, IsErrOf};
 ghost use Rattle.std.specs.FinMap as map;
-ghost use Rattle.boot_machine.specs.Disk.{HasOneCandidate, IsRested, has, view};
+ghost use Rattle.boot_machine.specs.Disk.{HasOneCandidate, IsRested, has, recovered_view, view};
 ghost use Rattle.boot_machine.specs.Images.{IsFirm, IsSettled};
 ghost use Rattle.boot_machine.specs.Rows.{contents, move_in};
 ghost use Rattle.boot_machine.specs.Counts.{CountsDisk};
+ghost use Rattle.boot_base.specs.Paths.{IsFree};
 ghost use Rattle.image_writer.specs.Sourced.{IsSourced, IsPlannedImage};
-ghost use Rattle.install_steps.specs.Steps.{Keeps, StepsTo, IsDone, NoNewTemp, CountsStep, copied};
+ghost use Rattle.install_steps.specs.Steps.{Keeps, StepsTo, IsDone, NoNewTemp, PrintsNothing, RestsUnless, CountsStep, copied};
 
 use crate::StepFault;
 use boot_base::{BootPath, Target};
@@ -28,13 +29,16 @@ pub fn write_bytes<M: Machine>(
     target: &Target,
     bytes: &[u8],
 ) -> Result<(), DiskFault>
+    requires free { IsFree target.now.path }
     requires one { IsTrue M.tells → HasOneCandidate (M.state machine.old) }
     requires rested { IsTrue M.tells → IsRested (M.state machine.old) }
     ensures done { OnOk result (IsTrue M.tells → IsFirm (M.state machine.old)
-        → IsDone (M.state machine.new) (map.insert (view (M.state machine.old).files) target.now.path bytes.now)) }
+        → IsDone (M.state machine.new)
+        (map.insert (recovered_view (M.state machine.old).files) target.now.path bytes.now)) }
     ensures step { IsTrue M.tells → IsFirm (M.state machine.old) → StepsTo M.clock M.since M.state
-        (map.insert (view (M.state machine.old).files) target.now.path bytes.now) machine.old machine.new }
+        (map.insert (recovered_view (M.state machine.old).files) target.now.path bytes.now) machine.old machine.new }
     ensures keeps { IsTrue M.tells → Keeps (M.state machine.old) (M.state machine.new) }
+    ensures quiet { IsTrue M.tells → PrintsNothing M.clock M.since M.state machine.old machine.new }
     ensures rests { OnOk result (IsTrue M.tells → IsRested (M.state machine.new)) }
     ensures temps { OnOk result (IsTrue M.tells → NoNewTemp (M.state machine.old) (M.state machine.new)) }
     ensures counts { CountsDisk result (M.counts machine.old) (M.counts machine.new) }
@@ -57,18 +61,22 @@ pub fn write_whole<M: Machine>(
     target: &Target,
     buffer: &mut [u8; 65536],
 ) -> Result<(), StepFault>
+    requires free { IsFree target.now.path }
     requires one { IsTrue M.tells → HasOneCandidate (M.state machine.old) }
     requires rested { IsTrue M.tells → IsRested (M.state machine.old) }
-    requires small { IsTrue M.tells → length (contents (view (M.state machine.old).files) from.now) ≤ 268435456 }
+    requires small { IsTrue M.tells
+        → length (contents (recovered_view (M.state machine.old).files) from.now) ≤ 268435456 }
     ensures done { OnOk result (IsTrue M.tells → IsFirm (M.state machine.old)
-        → IsDone (M.state machine.new) (copied from.now target.now.path (view (M.state machine.old).files))) }
+        → IsDone (M.state machine.new) (copied from.now target.now.path (recovered_view (M.state machine.old).files))) }
     ensures step { IsTrue M.tells → IsFirm (M.state machine.old) → StepsTo M.clock M.since M.state
-        (copied from.now target.now.path (view (M.state machine.old).files)) machine.old machine.new }
-    ensures found { OnOk result (IsTrue M.tells → has (view (M.state machine.old).files) from.now ≡ true) }
+        (copied from.now target.now.path (recovered_view (M.state machine.old).files)) machine.old machine.new }
+    ensures found { OnOk result (IsTrue M.tells → has (recovered_view (M.state machine.old).files) from.now ≡ true) }
     ensures not_found { IsErrOf result StepFault.NotFound → IsTrue M.tells
-        → (has (view (M.state machine.old).files) from.now ≡ false) × (M.state machine.new ≡ M.state machine.old) }
+        → (has (recovered_view (M.state machine.old).files) from.now ≡ false)
+        × (M.state machine.new ≡ M.state machine.old) }
     ensures keeps { IsTrue M.tells → Keeps (M.state machine.old) (M.state machine.new) }
-    ensures rests { OnOk result (IsTrue M.tells → IsRested (M.state machine.new)) }
+    ensures quiet { IsTrue M.tells → PrintsNothing M.clock M.since M.state machine.old machine.new }
+    ensures rests { IsTrue M.tells → RestsUnless StepFault.Disk result (M.state machine.new) }
     ensures temps { OnOk result (IsTrue M.tells → NoNewTemp (M.state machine.old) (M.state machine.new)) }
     ensures counts { CountsStep result (M.counts machine.old) (M.counts machine.new) }
 {
@@ -95,8 +103,8 @@ pub fn write_whole<M: Machine>(
 /// Writes the finished image by a plan of these sources at the target, in place of a file that is there, which may be
 /// one of the sources (UAPI Unified Kernel Image). Its bytes go through the buffer in pieces, and no memory is taken. A
 /// stop at any moment leaves what boot saw before, or that with the whole image. After a fault of the disk either
-/// stands, and a temporary file may be left. The plan was made for these sources; zeros stand for bytes that the machine
-/// doesn't give.
+/// stands, and a temporary file may be left. The plan was made for these sources; zeros stand for bytes that the
+/// machine doesn't give.
 pub fn write_planned<M: Machine>(
     machine: &mut M,
     plan: &Plan,
@@ -104,17 +112,20 @@ pub fn write_planned<M: Machine>(
     target: &Target,
     buffer: &mut [u8; 65536],
 ) -> Result<(), DiskFault>
+    requires free { IsFree target.now.path }
     requires one { IsTrue M.tells → HasOneCandidate (M.state machine.old) }
     requires rested { IsTrue M.tells → IsRested (M.state machine.old) }
     requires sourced { IsTrue M.tells → IsSourced plan.now sources.now (view (M.state machine.old).files) }
     ensures done { OnOk result (IsTrue M.tells → IsFirm (M.state machine.old)
         → (image : List ℕ) → IsPlannedImage plan.now sources.now (view (M.state machine.old).files) image
-        → IsDone (M.state machine.new) (map.insert (view (M.state machine.old).files) target.now.path image)) }
+        → IsDone (M.state machine.new)
+        (map.insert (recovered_view (M.state machine.old).files) target.now.path image)) }
     ensures step { IsTrue M.tells → IsFirm (M.state machine.old)
         → (image : List ℕ) → IsPlannedImage plan.now sources.now (view (M.state machine.old).files) image
         → StepsTo M.clock M.since M.state
-        (map.insert (view (M.state machine.old).files) target.now.path image) machine.old machine.new }
+        (map.insert (recovered_view (M.state machine.old).files) target.now.path image) machine.old machine.new }
     ensures keeps { IsTrue M.tells → Keeps (M.state machine.old) (M.state machine.new) }
+    ensures quiet { IsTrue M.tells → PrintsNothing M.clock M.since M.state machine.old machine.new }
     ensures rests { OnOk result (IsTrue M.tells → IsRested (M.state machine.new)) }
     ensures temps { OnOk result (IsTrue M.tells → NoNewTemp (M.state machine.old) (M.state machine.new)) }
     ensures counts { CountsDisk result (M.counts machine.old) (M.counts machine.new) }
@@ -126,17 +137,20 @@ pub fn write_planned<M: Machine>(
     finish(machine, target)
 }
 
-// Puts a temporary file that is written in its place: syncs it, renames it, and syncs the names.
-fn finish<M: Machine>(machine: &mut M, target: &Target) -> Result<(), DiskFault>
+/// Puts a temporary file that is written in its place: syncs it, renames it, and syncs the names.
+pub(crate) fn finish<M: Machine>(machine: &mut M, target: &Target) -> Result<(), DiskFault>
     requires there { IsTrue M.tells → has (M.state machine.old).files target.now.temp ≡ true }
     ensures done { OnOk result (IsTrue M.tells → IsFirm (M.state machine.old) → IsSettled (M.state machine.old)
-        → IsDone (M.state machine.new) (view (move_in target.now.temp target.now.path (M.state machine.old).files))) }
+        → IsDone (M.state machine.new)
+        (recovered_view (move_in target.now.temp target.now.path (M.state machine.old).files))) }
     ensures step { IsTrue M.tells → IsFirm (M.state machine.old) → IsSettled (M.state machine.old)
         → StepsTo M.clock M.since M.state
-        (view (move_in target.now.temp target.now.path (M.state machine.old).files)) machine.old machine.new }
+        (recovered_view (move_in target.now.temp target.now.path (M.state machine.old).files)) machine.old machine.new }
     ensures files { OnOk result (IsTrue M.tells
         → (M.state machine.new).files ≡ move_in target.now.temp target.now.path (M.state machine.old).files) }
+    ensures one { OnOk result (IsTrue M.tells → HasOneCandidate (M.state machine.new)) }
     ensures keeps { IsTrue M.tells → Keeps (M.state machine.old) (M.state machine.new) }
+    ensures quiet { IsTrue M.tells → PrintsNothing M.clock M.since M.state machine.old machine.new }
     ensures counts { CountsDisk result (M.counts machine.old) (M.counts machine.new) }
 {
     target.path.know();

@@ -1,11 +1,12 @@
 use Rattle.std.proofs.Common.{◌≡◌, subst}
 use Rattle.std.specs.FinMap as map
-use Rattle.boot_machine.specs.Disk.{Files, view}
+use Rattle.boot_machine.specs.Disk.{Files, recovered_view}
 use Rattle.boot_machine.specs.Rows.{move_in}
 use Rattle.boot_machine.proofs.Going.{goes-create, goes-append}
-use Rattle.boot_machine.proofs.Written.{has-created, has-appended, view-written, temps-written}
+use Rattle.boot_machine.proofs.Written.{has-created, has-appended, calm-written, recovered_view-written, temps-written}
 use Rattle.install_steps.specs.Steps.{StepsTo, IsDone}
-use Rattle.install_steps.proofs.StepLemmas.{begins_same, firm_so_far, settled_so_far, steps_same, steps_on, ok_then}
+use Rattle.install_steps.proofs.StepLemmas.{begins_same, firm_so_far, settled_so_far, steps_same, steps_on, ok_then, off_intent}
+use Rattle.install_steps.proofs.QuietLemmas.{quiet-append, quiet-create, quiet_start, quiet_then}
 use Rattle.install_steps.proofs.write.write_bytes.Goals as goal
 
 pub returns-in_err-create-clause-step : goal.returns-in_err-create-clause-step
@@ -37,8 +38,8 @@ returns-clause-step g c told firm =
     let start = begins_same g.M.Machine.clock g.M.Machine.since g.M.Machine.state c.args.machine.now (λ m o. g.met.M.Machine.only_now c.args.machine.now m o told) (g.met.M.Machine.sound c.args.machine.now told) firm (c.requires.one told) in
     let made = goes-create _ _ _ _ _ _ _ c.create.result start (c.create.ensures.moments told) c.args.target.now.temp c.know-2.ensures (c.create.ensures.row told) in
     let written = goes-append _ _ _ _ _ _ _ c.append.result made (c.append.ensures.moments told) c.args.target.now.temp c.args.bytes.now c.know-2.ensures (c.append.ensures.row told) in
-    let next = map.insert (view s.files) c.args.target.now.path c.args.bytes.now in
-    let is : view (move_in c.args.target.now.temp c.args.target.now.path (g.M.Machine.state c.append.new.self).files) ≡ next = rw (c.in_ok-append.ensures.row told, c.in_ok-create.ensures.row told) (view-written s.files c.args.target.now.temp c.args.target.now.path c.args.bytes.now c.know-2.ensures c.know.ensures) in
+    let next = map.insert (recovered_view s.files) c.args.target.now.path c.args.bytes.now in
+    let is : recovered_view (move_in c.args.target.now.temp c.args.target.now.path (g.M.Machine.state c.append.new.self).files) ≡ next = rw (c.in_ok-append.ensures.row told, c.in_ok-create.ensures.row told) (recovered_view-written s.files c.args.target.now.temp c.args.target.now.path c.args.bytes.now (c.requires.rested told) c.know-2.ensures c.know.ensures (off_intent c.args.target.now.path c.requires.free)) in
     let finished = c.finish.ensures.step told (firm_so_far _ _ _ _ _ _ written) (settled_so_far _ _ _ _ _ written) in
     steps_on _ _ _ _ _ _ _ written (subst (λ (v : Files). StepsTo g.M.Machine.clock g.M.Machine.since g.M.Machine.state v c.append.new.self c.finish.new.machine) is finished)
 
@@ -48,11 +49,37 @@ returns-clause-done g c = ok_then c.finish.result c.finish.ensures.done (λ done
     let start = begins_same g.M.Machine.clock g.M.Machine.since g.M.Machine.state c.args.machine.now (λ m o. g.met.M.Machine.only_now c.args.machine.now m o told) (g.met.M.Machine.sound c.args.machine.now told) firm (c.requires.one told) in
     let made = goes-create _ _ _ _ _ _ _ c.create.result start (c.create.ensures.moments told) c.args.target.now.temp c.know-2.ensures (c.create.ensures.row told) in
     let written = goes-append _ _ _ _ _ _ _ c.append.result made (c.append.ensures.moments told) c.args.target.now.temp c.args.bytes.now c.know-2.ensures (c.append.ensures.row told) in
-    let next = map.insert (view s.files) c.args.target.now.path c.args.bytes.now in
-    let is : view (move_in c.args.target.now.temp c.args.target.now.path (g.M.Machine.state c.append.new.self).files) ≡ next = rw (c.in_ok-append.ensures.row told, c.in_ok-create.ensures.row told) (view-written s.files c.args.target.now.temp c.args.target.now.path c.args.bytes.now c.know-2.ensures c.know.ensures) in
+    let next = map.insert (recovered_view s.files) c.args.target.now.path c.args.bytes.now in
+    let is : recovered_view (move_in c.args.target.now.temp c.args.target.now.path (g.M.Machine.state c.append.new.self).files) ≡ next = rw (c.in_ok-append.ensures.row told, c.in_ok-create.ensures.row told) (recovered_view-written s.files c.args.target.now.temp c.args.target.now.path c.args.bytes.now (c.requires.rested told) c.know-2.ensures c.know.ensures (off_intent c.args.target.now.path c.requires.free)) in
     subst (IsDone (g.M.Machine.state c.finish.new.machine)) is (done told (firm_so_far _ _ _ _ _ _ written) (settled_so_far _ _ _ _ _ written)))
 
 pub returns-clause-temps : goal.returns-clause-temps
 returns-clause-temps g c = ok_then c.finish.result c.finish.ensures.files (λ files told q temp there.
     temps-written (g.M.Machine.state c.args.machine.now).files c.args.target.now.temp c.args.target.now.path c.args.bytes.now c.know-2.ensures c.know.ensures q temp
     (rw (files told, c.in_ok-append.ensures.row told, c.in_ok-create.ensures.row told) at there))
+
+pub returns-clause-rests : goal.returns-clause-rests
+returns-clause-rests g c = ok_then c.finish.result c.finish.ensures.files (λ files told.
+    rw (files told, c.in_ok-append.ensures.row told, c.in_ok-create.ensures.row told)
+    (calm-written (g.M.Machine.state c.args.machine.now).files c.args.target.now.temp c.args.target.now.path c.args.bytes.now (c.requires.rested told) c.know-2.ensures (off_intent c.args.target.now.path c.requires.free)))
+
+pub returns-in_err-create-clause-quiet : goal.returns-in_err-create-clause-quiet
+returns-in_err-create-clause-quiet g c told =
+    let start = quiet_start g.M.Machine.clock g.M.Machine.since g.M.Machine.state c.args.machine.now (λ m o. g.met.M.Machine.only_now c.args.machine.now m o told) in
+    let made = quiet-create _ _ _ _ _ _ start (λ m o. g.met.M.Machine.only_now c.args.machine.now m o told) (c.create.ensures.moments told) c.create.result c.args.target.now.temp (c.create.ensures.row told) in
+    made.moments
+
+pub returns-in_err-append-clause-quiet : goal.returns-in_err-append-clause-quiet
+returns-in_err-append-clause-quiet g c told =
+    let start = quiet_start g.M.Machine.clock g.M.Machine.since g.M.Machine.state c.args.machine.now (λ m o. g.met.M.Machine.only_now c.args.machine.now m o told) in
+    let made = quiet-create _ _ _ _ _ _ start (λ m o. g.met.M.Machine.only_now c.args.machine.now m o told) (c.create.ensures.moments told) c.create.result c.args.target.now.temp (c.create.ensures.row told) in
+    let written = quiet-append _ _ _ _ _ _ made (λ m o. g.met.M.Machine.only_now c.create.new.self m o told) (c.append.ensures.moments told) c.append.result c.args.target.now.temp c.args.bytes.now (c.append.ensures.row told) in
+    written.moments
+
+pub returns-clause-quiet : goal.returns-clause-quiet
+returns-clause-quiet g c told =
+    let start = quiet_start g.M.Machine.clock g.M.Machine.since g.M.Machine.state c.args.machine.now (λ m o. g.met.M.Machine.only_now c.args.machine.now m o told) in
+    let made = quiet-create _ _ _ _ _ _ start (λ m o. g.met.M.Machine.only_now c.args.machine.now m o told) (c.create.ensures.moments told) c.create.result c.args.target.now.temp (c.create.ensures.row told) in
+    let written = quiet-append _ _ _ _ _ _ made (λ m o. g.met.M.Machine.only_now c.create.new.self m o told) (c.append.ensures.moments told) c.append.result c.args.target.now.temp c.args.bytes.now (c.append.ensures.row told) in
+    let ended = quiet_then _ _ _ _ _ _ written (c.finish.ensures.quiet told) (c.finish.ensures.keeps told) in
+    ended.moments

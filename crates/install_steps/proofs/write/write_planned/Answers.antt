@@ -1,6 +1,6 @@
 use Rattle.std.proofs.Common.{◌≡◌, true, [], refl, sym, ap, ◌∙◌, subst}
 use Rattle.std.specs.FinMap as map
-use Rattle.boot_machine.specs.Disk.{Files, has, view}
+use Rattle.boot_machine.specs.Disk.{Files, has, recovered_view, view}
 use Rattle.boot_machine.specs.Rows.{contents, move_in}
 use Rattle.boot_machine.proofs.Going.{goes-create}
 use Rattle.boot_machine.proofs.Views.{view-insert_temp}
@@ -9,8 +9,9 @@ use Rattle.image_writer.specs.Sourced.{IsSourced, IsPlannedImage, new_sbat, part
 use Rattle.image_writer.proofs.Appending.{appends-there}
 use Rattle.image_writer.proofs.Assembled.{one_image}
 use Rattle.install_steps.specs.Steps.{StepsTo, IsDone}
-use Rattle.install_steps.proofs.PlannedLemmas.{goes-appends, contents-created, sees_written, temps_left}
-use Rattle.install_steps.proofs.StepLemmas.{begins_same, firm_so_far, settled_so_far, steps_same, steps_on, ok_then}
+use Rattle.install_steps.proofs.AppendLemmas.{goes-appends, contents-created, sees_written, calm_left, temps_left}
+use Rattle.install_steps.proofs.StepLemmas.{begins_same, firm_so_far, settled_so_far, steps_same, steps_on, ok_then, off_intent}
+use Rattle.install_steps.proofs.QuietLemmas.{quiet-create, quiet_appends, quiet_start, quiet_then}
 use Rattle.install_steps.proofs.write.write_planned.Goals as goal
 
 pub returns-in_err-create-clause-step : goal.returns-in_err-create-clause-step
@@ -58,8 +59,8 @@ returns-clause-step g c told firm image finished =
     let is_image = subst (λ (v : Files). IsPlannedImage c.args.plan.now c.args.sources.now v bytes) seen (c.in_ok-write_image.ensures.image told) in
     let same : bytes ≡ image =
     one_image c.args.plan.now stub (new_sbat c.args.sources.now) (parts_bytes (contents files) (part_list c.args.sources.now)) bytes image (c.requires.sourced told).plan_is is_image finished in
-    let is : view (move_in c.args.target.now.temp c.args.target.now.path (g.M.Machine.state c.write_image.new.machine).files) ≡ map.insert files c.args.target.now.path image =
-    sees_written (g.M.Machine.state c.args.machine.now).files c.args.target.now.temp c.args.target.now.path (g.M.Machine.state c.create.new.self) (g.M.Machine.state c.write_image.new.machine) image c.know-2.ensures c.know.ensures created (c.write_image.ensures.appends told).left same in
+    let is : recovered_view (move_in c.args.target.now.temp c.args.target.now.path (g.M.Machine.state c.write_image.new.machine).files) ≡ map.insert (recovered_view (g.M.Machine.state c.args.machine.now).files) c.args.target.now.path image =
+    sees_written (g.M.Machine.state c.args.machine.now).files c.args.target.now.temp c.args.target.now.path (g.M.Machine.state c.create.new.self) (g.M.Machine.state c.write_image.new.machine) image (c.requires.rested told) (off_intent c.args.target.now.path c.requires.free) c.know-2.ensures c.know.ensures created (c.write_image.ensures.appends told).left same in
     let finishes = c.finish.ensures.step told (firm_so_far _ _ _ _ _ _ written) (settled_so_far _ _ _ _ _ written) in
     steps_on _ _ _ _ _ _ _ written (subst (λ (v : Files). StepsTo g.M.Machine.clock g.M.Machine.since g.M.Machine.state v c.write_image.new.machine c.finish.new.machine) is finishes)
 
@@ -76,11 +77,38 @@ returns-clause-done g c = ok_then c.finish.result c.finish.ensures.done (λ done
     let is_image = subst (λ (v : Files). IsPlannedImage c.args.plan.now c.args.sources.now v bytes) seen (c.in_ok-write_image.ensures.image told) in
     let same : bytes ≡ image =
     one_image c.args.plan.now stub (new_sbat c.args.sources.now) (parts_bytes (contents files) (part_list c.args.sources.now)) bytes image (c.requires.sourced told).plan_is is_image finished in
-    let is : view (move_in c.args.target.now.temp c.args.target.now.path (g.M.Machine.state c.write_image.new.machine).files) ≡ map.insert files c.args.target.now.path image =
-    sees_written (g.M.Machine.state c.args.machine.now).files c.args.target.now.temp c.args.target.now.path (g.M.Machine.state c.create.new.self) (g.M.Machine.state c.write_image.new.machine) image c.know-2.ensures c.know.ensures created (c.write_image.ensures.appends told).left same in
+    let is : recovered_view (move_in c.args.target.now.temp c.args.target.now.path (g.M.Machine.state c.write_image.new.machine).files) ≡ map.insert (recovered_view (g.M.Machine.state c.args.machine.now).files) c.args.target.now.path image =
+    sees_written (g.M.Machine.state c.args.machine.now).files c.args.target.now.temp c.args.target.now.path (g.M.Machine.state c.create.new.self) (g.M.Machine.state c.write_image.new.machine) image (c.requires.rested told) (off_intent c.args.target.now.path c.requires.free) c.know-2.ensures c.know.ensures created (c.write_image.ensures.appends told).left same in
     subst (IsDone (g.M.Machine.state c.finish.new.machine)) is (done told (firm_so_far _ _ _ _ _ _ written) (settled_so_far _ _ _ _ _ written)))
 
 pub returns-clause-temps : goal.returns-clause-temps
 returns-clause-temps g c = ok_then c.finish.result c.finish.ensures.files (λ files told q temp there.
     let created : (g.M.Machine.state c.create.new.self).files ≡ map.insert (g.M.Machine.state c.args.machine.now).files c.args.target.now.temp [] = rw (c.in_ok-create.ensures.row told) refl in
     temps_left (g.M.Machine.state c.args.machine.now).files c.args.target.now.temp c.args.target.now.path (g.M.Machine.state c.create.new.self) (g.M.Machine.state c.write_image.new.machine) c.know-2.ensures c.know.ensures created (c.write_image.ensures.appends told).left q temp (rw (files told) at there))
+
+pub returns-in_err-create-clause-quiet : goal.returns-in_err-create-clause-quiet
+returns-in_err-create-clause-quiet g c told =
+    let start = quiet_start g.M.Machine.clock g.M.Machine.since g.M.Machine.state c.args.machine.now (λ m o. g.met.M.Machine.only_now c.args.machine.now m o told) in
+    let made = quiet-create _ _ _ _ _ _ start (λ m o. g.met.M.Machine.only_now c.args.machine.now m o told) (c.create.ensures.moments told) c.create.result c.args.target.now.temp (c.create.ensures.row told) in
+    made.moments
+
+pub returns-in_err-write_image-clause-quiet : goal.returns-in_err-write_image-clause-quiet
+returns-in_err-write_image-clause-quiet g c told =
+    let start = quiet_start g.M.Machine.clock g.M.Machine.since g.M.Machine.state c.args.machine.now (λ m o. g.met.M.Machine.only_now c.args.machine.now m o told) in
+    let made = quiet-create _ _ _ _ _ _ start (λ m o. g.met.M.Machine.only_now c.args.machine.now m o told) (c.create.ensures.moments told) c.create.result c.args.target.now.temp (c.create.ensures.row told) in
+    let written = quiet_appends _ _ _ c.args.target.now.temp _ _ _ made (c.write_image.ensures.appends told) in
+    written.moments
+
+pub returns-clause-quiet : goal.returns-clause-quiet
+returns-clause-quiet g c told =
+    let start = quiet_start g.M.Machine.clock g.M.Machine.since g.M.Machine.state c.args.machine.now (λ m o. g.met.M.Machine.only_now c.args.machine.now m o told) in
+    let made = quiet-create _ _ _ _ _ _ start (λ m o. g.met.M.Machine.only_now c.args.machine.now m o told) (c.create.ensures.moments told) c.create.result c.args.target.now.temp (c.create.ensures.row told) in
+    let written = quiet_appends _ _ _ c.args.target.now.temp _ _ _ made (c.write_image.ensures.appends told) in
+    let ended = quiet_then _ _ _ _ _ _ written (c.finish.ensures.quiet told) (c.finish.ensures.keeps told) in
+    ended.moments
+
+pub returns-clause-rests : goal.returns-clause-rests
+returns-clause-rests g c = ok_then c.finish.result c.finish.ensures.files (λ files told.
+    let created : (g.M.Machine.state c.create.new.self).files ≡ map.insert (g.M.Machine.state c.args.machine.now).files c.args.target.now.temp [] = rw (c.in_ok-create.ensures.row told) refl in
+    rw (files told)
+    (calm_left (g.M.Machine.state c.args.machine.now).files c.args.target.now.temp c.args.target.now.path (g.M.Machine.state c.create.new.self) (g.M.Machine.state c.write_image.new.machine) (c.requires.rested told) (off_intent c.args.target.now.path c.requires.free) c.know-2.ensures created (c.write_image.ensures.appends told).left))

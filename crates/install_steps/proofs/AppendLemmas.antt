@@ -1,16 +1,17 @@
 -- A file that is appended to under a temporary name.
 use Rattle.std.proofs.Common.{◌≡◌, inl, inr, ℕ, true, false, List, [], ◌++◌, Option, unwrap_or, sym, ap, ◌∙◌, subst}
 use Rattle.std.specs.FinMap as map
-use Rattle.boot_base.specs.Paths.{Path, is_temp}
-use Rattle.boot_machine.specs.Disk.{Files, State, has, view}
+use Rattle.boot_base.specs.Paths.{Path, intent, is_temp}
+use Rattle.boot_machine.specs.Disk.{Files, State, has, same, recovered_view}
 use Rattle.boot_machine.specs.Maps.{get-insert_here}
 use Rattle.boot_machine.specs.Reading.{Stays}
 use Rattle.boot_machine.specs.Rows.{contents, append_to, move_in}
 use Rattle.boot_machine.specs.declared.machine.Printed.{Printed}
 use Rattle.boot_machine.proofs.Elapsing.{joined, weaken}
 use Rattle.boot_machine.proofs.Going.{During, Seen, image_sees}
+use Rattle.boot_machine.proofs.Recovering.{IsCalm}
 use Rattle.boot_machine.proofs.Soft.{Stands, stands-appended}
-use Rattle.boot_machine.proofs.Written.{has-created, view-written, temps-written}
+use Rattle.boot_machine.proofs.Written.{has-created, calm-written, recovered_view-written, temps-written}
 use Rattle.image_writer.specs.Appends.{softened, HasAppended, AppendsOnly}
 use Rattle.image_writer.proofs.Appending.{contents-append_to}
 use Rattle.install_steps.specs.Steps.{Keeps}
@@ -55,11 +56,16 @@ written_file m p mid new e (inr more) =
     files ∙ ap (λ (l : List ℕ). with_file p l m) (sym is)
 
 -- boot sees it in its place
-pub sees_written : (m : Files) (p to : Path) (mid new : State) (image : List ℕ) → is_temp p ≡ true → is_temp to ≡ false → mid.files ≡ map.insert m p [] → HasAppended p mid new
-    → contents new.files p ≡ image → view (move_in p to new.files) ≡ map.insert (view m) to image
-sees_written m p to mid new image temp shown e left is =
-    ap (λ (n : Files). view (move_in p to n)) (written_file m p mid new e left) ∙ view-written m p to (contents new.files p) temp shown
-    ∙ ap (λ (l : List ℕ). map.insert (view m) to l) is
+pub sees_written : (m : Files) (p to : Path) (mid new : State) (image : List ℕ) → IsCalm m → same intent to ≡ false → is_temp p ≡ true → is_temp to ≡ false → mid.files ≡ map.insert m p [] → HasAppended p mid new
+    → contents new.files p ≡ image → recovered_view (move_in p to new.files) ≡ map.insert (recovered_view m) to image
+sees_written m p to mid new image calm free temp shown e left is =
+    ap (λ (n : Files). recovered_view (move_in p to n)) (written_file m p mid new e left) ∙ recovered_view-written m p to (contents new.files p) calm temp shown free
+    ∙ ap (λ (l : List ℕ). map.insert (recovered_view m) to l) is
+
+-- and no intent
+pub calm_left : (m : Files) (p to : Path) (mid new : State) → IsCalm m → same intent to ≡ false → is_temp p ≡ true → mid.files ≡ map.insert m p [] → HasAppended p mid new → IsCalm (move_in p to new.files)
+calm_left m p to mid new calm free temp e left =
+    subst (λ (n : Files). IsCalm (move_in p to n)) (sym (written_file m p mid new e left)) (calm-written m p to (contents new.files p) calm temp free)
 
 -- and no other temporary file
 pub temps_left : (m : Files) (p to : Path) (mid new : State) → is_temp p ≡ true → is_temp to ≡ false → mid.files ≡ map.insert m p [] → HasAppended p mid new

@@ -1,0 +1,164 @@
+//! Moving a file under an intent, which says at a stop which of its two names counts.
+ghost use Rattle.std.specs.Prelude.{◌≡◌, ◌≢◌, ◌++◌, ◌∷◌, [], true, false, IsTrue, OnOk, IsErrOf, Some};
+ghost use Rattle.boot_base.specs.Paths.{IsFree, intent as intent_path};
+ghost use Rattle.boot_machine.specs.Disk.{HasOneCandidate, IsRested, has, intended, recovered_view};
+ghost use Rattle.boot_machine.specs.Images.{IsFirm};
+ghost use Rattle.boot_machine.specs.Rows.{move_in};
+ghost use Rattle.boot_machine.specs.Counts.{CountsDisk};
+ghost use Rattle.image_writer.specs.Appends.{AppendsOnly, Grown};
+ghost use Rattle.install_steps.specs.Steps.{Keeps, StepsTo, IsDone, NoNewTemp, Intends, PrintsNothing, RestsUnless, CountsMove, moved};
+
+use crate::MoveFault;
+use crate::steps::unlink_synced;
+use crate::write::finish;
+use boot_base::{BootPath, Target, TempPath};
+use boot_machine::{DiskFault, Machine};
+
+// Writes a path and a NUL behind what the intent's temporary file has.
+fn append_name<M: Machine>(
+    machine: &mut M,
+    temp: &TempPath,
+    name: &BootPath,
+) -> Result<(), DiskFault>
+    requires there { IsTrue M.tells → has (M.state machine.old).files temp.now ≡ true }
+    ensures appends { IsTrue M.tells → AppendsOnly M.clock M.since M.state temp.now machine.old machine.new }
+    ensures grown { OnOk result (IsTrue M.tells
+        → Grown temp.now (name.now ++ 0 ∷ []) (M.state machine.old) (M.state machine.new)) }
+    ensures counts { CountsDisk result (M.counts machine.old) (M.counts machine.new) }
+{
+    machine.append(temp, name.as_str().as_bytes())?;
+    machine.append(temp, &[0])
+}
+
+// Puts the intent in its place. Boot sees the same all the while.
+fn put_intent<M: Machine>(
+    machine: &mut M,
+    from: &BootPath,
+    to: &BootPath,
+    intent: &Target,
+) -> Result<(), DiskFault>
+    requires at_intent { intent.now.path ≡ intent_path }
+    requires free_from { IsFree from.now }
+    requires free_to { IsFree to.now }
+    requires differ { IsTrue M.tells → from.now ≢ to.now }
+    requires one { IsTrue M.tells → HasOneCandidate (M.state machine.old) }
+    requires rested { IsTrue M.tells → IsRested (M.state machine.old) }
+    requires none { IsTrue M.tells → has (M.state machine.old).files to.now ≡ false }
+    ensures step { IsTrue M.tells → IsFirm (M.state machine.old) → StepsTo M.clock M.since M.state
+        (recovered_view (M.state machine.old).files) machine.old machine.new }
+    ensures intends { OnOk result (IsTrue M.tells
+        → Intends from.now to.now (M.state machine.old).files (M.state machine.new).files) }
+    ensures one { OnOk result (IsTrue M.tells → HasOneCandidate (M.state machine.new)) }
+    ensures temps { OnOk result (IsTrue M.tells → NoNewTemp (M.state machine.old) (M.state machine.new)) }
+    ensures keeps { IsTrue M.tells → Keeps (M.state machine.old) (M.state machine.new) }
+    ensures quiet { IsTrue M.tells → PrintsNothing M.clock M.since M.state machine.old machine.new }
+    ensures counts { CountsDisk result (M.counts machine.old) (M.counts machine.new) }
+{
+    from.know_normal();
+    to.know_normal();
+    intent.temp.know();
+    machine.create(&intent.temp)?;
+    append_name(machine, &intent.temp, from)?;
+    append_name(machine, &intent.temp, to)?;
+    finish(machine, intent)
+}
+
+// Renames a file as the intent says, and syncs the names. While both names are there boot sees the new one alone.
+fn rename_synced<M: Machine>(
+    machine: &mut M,
+    from: &BootPath,
+    to: &BootPath,
+) -> Result<(), DiskFault>
+    requires one { IsTrue M.tells → HasOneCandidate (M.state machine.old) }
+    requires there { IsTrue M.tells → has (M.state machine.old).files from.now ≡ true }
+    requires named { IsTrue M.tells → intended (M.state machine.old).files ≡ Some (from.now, to.now) }
+    ensures step { IsTrue M.tells → IsFirm (M.state machine.old) → StepsTo M.clock M.since M.state
+        (recovered_view (move_in from.now to.now (M.state machine.old).files)) machine.old machine.new }
+    ensures files { OnOk result (IsTrue M.tells
+        → (M.state machine.new).files ≡ move_in from.now to.now (M.state machine.old).files) }
+    ensures one { OnOk result (IsTrue M.tells → HasOneCandidate (M.state machine.new)) }
+    ensures keeps { IsTrue M.tells → Keeps (M.state machine.old) (M.state machine.new) }
+    ensures quiet { IsTrue M.tells → PrintsNothing M.clock M.since M.state machine.old machine.new }
+    ensures counts { CountsDisk result (M.counts machine.old) (M.counts machine.new) }
+{
+    from.know();
+    machine.rename_name(from, to)?;
+    machine.sync_names()
+}
+
+// The move of a file that is there to a path at which none is.
+fn move_intended<M: Machine>(
+    machine: &mut M,
+    from: &BootPath,
+    to: &BootPath,
+    intent: &Target,
+) -> Result<(), DiskFault>
+    requires at_intent { intent.now.path ≡ intent_path }
+    requires free_from { IsFree from.now }
+    requires free_to { IsFree to.now }
+    requires one { IsTrue M.tells → HasOneCandidate (M.state machine.old) }
+    requires rested { IsTrue M.tells → IsRested (M.state machine.old) }
+    requires there { IsTrue M.tells → has (M.state machine.old).files from.now ≡ true }
+    requires none { IsTrue M.tells → has (M.state machine.old).files to.now ≡ false }
+    ensures done { OnOk result (IsTrue M.tells → IsFirm (M.state machine.old)
+        → IsDone (M.state machine.new) (move_in from.now to.now (recovered_view (M.state machine.old).files))) }
+    ensures step { IsTrue M.tells → IsFirm (M.state machine.old) → StepsTo M.clock M.since M.state
+        (move_in from.now to.now (recovered_view (M.state machine.old).files)) machine.old machine.new }
+    ensures keeps { IsTrue M.tells → Keeps (M.state machine.old) (M.state machine.new) }
+    ensures quiet { IsTrue M.tells → PrintsNothing M.clock M.since M.state machine.old machine.new }
+    ensures rests { OnOk result (IsTrue M.tells → IsRested (M.state machine.new)) }
+    ensures temps { OnOk result (IsTrue M.tells → NoNewTemp (M.state machine.old) (M.state machine.new)) }
+    ensures counts { CountsDisk result (M.counts machine.old) (M.counts machine.new) }
+{
+    from.know();
+    to.know();
+    put_intent(machine, from, to, intent)?;
+    rename_synced(machine, from, to)?;
+    unlink_synced(machine, &intent.path)
+}
+
+/// Moves a boot file to a path at which none is. A stop at any moment leaves what boot saw before, or the
+/// file at its new path alone: the intent says which of two names counts. `NotFound` comes exactly where `from`
+/// isn't there, and is looked at first; `TargetExists` where both paths are. After both nothing has changed.
+/// After a fault of the disk boot sees the file at one of the two paths, and the intent may be left.
+pub fn move_name<M: Machine>(
+    machine: &mut M,
+    from: &BootPath,
+    to: &BootPath,
+    intent: &Target,
+) -> Result<(), MoveFault>
+    requires at_intent { intent.now.path ≡ intent_path }
+    requires free_from { IsFree from.now }
+    requires free_to { IsFree to.now }
+    requires one { IsTrue M.tells → HasOneCandidate (M.state machine.old) }
+    requires rested { IsTrue M.tells → IsRested (M.state machine.old) }
+    ensures done { OnOk result (IsTrue M.tells → IsFirm (M.state machine.old)
+        → IsDone (M.state machine.new) (moved from.now to.now (recovered_view (M.state machine.old).files))) }
+    ensures step { IsTrue M.tells → IsFirm (M.state machine.old) → StepsTo M.clock M.since M.state
+        (moved from.now to.now (recovered_view (M.state machine.old).files)) machine.old machine.new }
+    ensures found { OnOk result (IsTrue M.tells → (has (recovered_view (M.state machine.old).files) from.now ≡ true)
+        × (has (recovered_view (M.state machine.old).files) to.now ≡ false)) }
+    ensures not_found { IsErrOf result MoveFault.NotFound → IsTrue M.tells
+        → (has (recovered_view (M.state machine.old).files) from.now ≡ false)
+        × (M.state machine.new ≡ M.state machine.old) }
+    ensures exists { IsErrOf result MoveFault.TargetExists → IsTrue M.tells
+        → (has (recovered_view (M.state machine.old).files) from.now ≡ true)
+        × (has (recovered_view (M.state machine.old).files) to.now ≡ true)
+        × (M.state machine.new ≡ M.state machine.old) }
+    ensures keeps { IsTrue M.tells → Keeps (M.state machine.old) (M.state machine.new) }
+    ensures quiet { IsTrue M.tells → PrintsNothing M.clock M.since M.state machine.old machine.new }
+    ensures rests { IsTrue M.tells → RestsUnless MoveFault.Disk result (M.state machine.new) }
+    ensures temps { OnOk result (IsTrue M.tells → NoNewTemp (M.state machine.old) (M.state machine.new)) }
+    ensures counts { CountsMove result (M.counts machine.old) (M.counts machine.new) }
+{
+    from.know();
+    to.know();
+    if machine.size(from)?.is_none() {
+        return Err(MoveFault::NotFound);
+    }
+    if machine.size(to)?.is_some() {
+        return Err(MoveFault::TargetExists);
+    }
+    move_intended(machine, from, to, intent)?;
+    Ok(())
+}

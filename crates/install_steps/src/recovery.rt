@@ -1,0 +1,150 @@
+//! Finishing or undoing the rename that a stop has left half done.
+ghost use Rattle.std.specs.Prelude.{◌≡◌, ◌⊎◌, true, false, length, IsTrue, IfOk, OnOk, Some};
+ghost use Rattle.std.specs.Option.{option_map};
+ghost use Rattle.boot_base.specs.Paths.{intent as intent_path};
+ghost use Rattle.boot_machine.specs.Disk.{HasOneCandidate, IsRested, IsWhole, has, intended, recovered_view};
+ghost use Rattle.boot_machine.specs.Images.{IsFirm, IsSettled};
+ghost use Rattle.boot_machine.specs.Moments.{EachSince};
+ghost use Rattle.boot_machine.specs.Reading.{OnlyReads};
+ghost use Rattle.boot_machine.specs.Rows.{contents};
+ghost use Rattle.boot_machine.specs.Counts.{CountsDisk};
+ghost use Rattle.install_steps.specs.Names.{names_of};
+ghost use Rattle.install_steps.specs.Recovery.{RecoversTo, SameFrom, SeesSame};
+ghost use Rattle.install_steps.specs.Steps.{Keeps, StepsTo, NoNewTemp, PrintsNothing, CountsRecover};
+
+use crate::RecoverFault;
+use crate::intent::{Names, read_names};
+use crate::steps::{settle, unlink_synced};
+use boot_base::Target;
+use boot_machine::{DiskFault, Machine, read_part};
+use std::alloc::{AllocError, Global};
+
+/// The most bytes of an intent: two paths, each with a NUL.
+const INTENT_LIMIT: u64 = 2050;
+
+// So many zeros.
+fn zeros(alloc: Global, count: usize) -> Result<Vec<u8>, AllocError>
+    ensures { IfOk result (λ bytes. length bytes.items ≡ count) }
+{
+    vec![in alloc; 0u8; count]
+}
+
+// The names in the intent of that size, where it is in the right form. A longer file is not.
+fn left_names<M: Machine>(
+    alloc: Global,
+    machine: &mut M,
+    intent: &Target,
+    size: u64,
+) -> Result<Option<Names>, RecoverFault>
+    requires at_intent { intent.now.path ≡ intent_path }
+    requires there { IsTrue M.tells → has (M.state machine.old).files intent_path ≡ true }
+    requires size { IsTrue M.tells → size ≡ length (contents (M.state machine.old).files intent_path) }
+    ensures names { IfOk result (λ found. IsTrue M.tells
+        → option_map names_of found ≡ intended (M.state machine.old).files) }
+    ensures reads { IsTrue M.tells → OnlyReads M.clock M.since M.state machine.old machine.new }
+    ensures counts { CountsRecover result (M.counts machine.old) (M.counts machine.new) }
+{
+    if size > INTENT_LIMIT {
+        return Ok(None);
+    }
+    let mut bytes = zeros(alloc, size as usize)?;
+    read_part(machine, &intent.path, 0, &mut bytes)?;
+    Ok(read_names(alloc, &bytes)?)
+}
+
+// Takes the first name away where both are there. Boot sees the same all the while.
+fn drop_left<M: Machine>(machine: &mut M, names: &Names) -> Result<(), DiskFault>
+    requires named { IsTrue M.tells → intended (M.state machine.old).files ≡ Some (names_of names.now) }
+    requires one { IsTrue M.tells → HasOneCandidate (M.state machine.old) }
+    ensures step { IsTrue M.tells → IsFirm (M.state machine.old) → StepsTo M.clock M.since M.state
+        (recovered_view (M.state machine.old).files) machine.old machine.new }
+    ensures whole { OnOk result (IsTrue M.tells → IsWhole (M.state machine.new).files) }
+    ensures there { OnOk result (IsTrue M.tells → has (M.state machine.new).files intent_path ≡ true) }
+    ensures one { OnOk result (IsTrue M.tells → HasOneCandidate (M.state machine.new)) }
+    ensures keeps { IsTrue M.tells → Keeps (M.state machine.old) (M.state machine.new) }
+    ensures quiet { IsTrue M.tells → PrintsNothing M.clock M.since M.state machine.old machine.new }
+    ensures temps { IsTrue M.tells → NoNewTemp (M.state machine.old) (M.state machine.new) }
+    ensures counts { CountsDisk result (M.counts machine.old) (M.counts machine.new) }
+{
+    if machine.size(&names.from)?.is_none() {
+        return Ok(());
+    }
+    if machine.size(&names.to)?.is_none() {
+        return Ok(());
+    }
+    unlink_synced(machine, &names.from)
+}
+
+// Takes away an intent that is there, once its rename isn't half done.
+fn drop_intent<M: Machine>(machine: &mut M, intent: &Target) -> Result<(), DiskFault>
+    requires at_intent { intent.now.path ≡ intent_path }
+    requires whole { IsTrue M.tells → IsWhole (M.state machine.old).files }
+    requires there { IsTrue M.tells → has (M.state machine.old).files intent_path ≡ true }
+    requires one { IsTrue M.tells → HasOneCandidate (M.state machine.old) }
+    ensures step { IsTrue M.tells → IsFirm (M.state machine.old) → StepsTo M.clock M.since M.state
+        (recovered_view (M.state machine.old).files) machine.old machine.new }
+    ensures rests { OnOk result (IsTrue M.tells → IsRested (M.state machine.new)) }
+    ensures one { OnOk result (IsTrue M.tells → HasOneCandidate (M.state machine.new)) }
+    ensures keeps { IsTrue M.tells → Keeps (M.state machine.old) (M.state machine.new) }
+    ensures quiet { IsTrue M.tells → PrintsNothing M.clock M.since M.state machine.old machine.new }
+    ensures temps { IsTrue M.tells → NoNewTemp (M.state machine.old) (M.state machine.new) }
+    ensures counts { CountsDisk result (M.counts machine.old) (M.counts machine.new) }
+{
+    unlink_synced(machine, &intent.path)
+}
+
+// The same where the names are synced.
+fn finish_left<M: Machine>(
+    alloc: Global,
+    machine: &mut M,
+    intent: &Target,
+) -> Result<(), RecoverFault>
+    requires at_intent { intent.now.path ≡ intent_path }
+    requires one { IsTrue M.tells → HasOneCandidate (M.state machine.old) }
+    ensures step { IsTrue M.tells → IsFirm (M.state machine.old) → StepsTo M.clock M.since M.state
+        (recovered_view (M.state machine.old).files) machine.old machine.new }
+    ensures rests { OnOk result (IsTrue M.tells → IsRested (M.state machine.new)) }
+    ensures one { OnOk result (IsTrue M.tells → HasOneCandidate (M.state machine.new)) }
+    ensures keeps { IsTrue M.tells → Keeps (M.state machine.old) (M.state machine.new) }
+    ensures quiet { IsTrue M.tells → PrintsNothing M.clock M.since M.state machine.old machine.new }
+    ensures temps { IsTrue M.tells → NoNewTemp (M.state machine.old) (M.state machine.new) }
+    ensures counts { CountsRecover result (M.counts machine.old) (M.counts machine.new) }
+{
+    let Some(size) = machine.size(&intent.path)? else {
+        return Ok(());
+    };
+    let Some(names) = left_names(alloc, machine, intent, size)? else {
+        drop_intent(machine, intent)?;
+        return Ok(());
+    };
+    drop_left(machine, &names)?;
+    drop_intent(machine, intent)?;
+    Ok(())
+}
+
+/// Finishes or undoes the rename that a stop has left half done: where the intent names two files that are both
+/// there, the first is taken away, and then the intent is. From the sync of the names with which it begins, boot sees
+/// the same at every moment. After a fault or want of memory what a stop had left may be left still.
+pub fn recover<M: Machine>(
+    alloc: Global,
+    machine: &mut M,
+    intent: &Target,
+) -> Result<(), RecoverFault>
+    requires at_intent { intent.now.path ≡ intent_path }
+    ensures recovers { IsTrue M.tells → IsFirm (M.state machine.old)
+        → RecoversTo M.clock M.since M.state machine.old machine.new }
+    ensures same { IsTrue M.tells → IsSettled (M.state machine.old)
+        → EachSince M.clock M.since machine.old machine.new (SeesSame (M.state machine.old)) }
+    ensures synced { OnOk result (IsTrue M.tells → IsFirm (M.state machine.old)
+        → SameFrom M.clock M.since M.state machine.old machine.new) }
+    ensures settled { OnOk result (IsTrue M.tells → IsFirm (M.state machine.old) → IsSettled (M.state machine.new)) }
+    ensures one { OnOk result (IsTrue M.tells → HasOneCandidate (M.state machine.new)) }
+    ensures rests { OnOk result (IsTrue M.tells → IsRested (M.state machine.new)) }
+    ensures keeps { IsTrue M.tells → Keeps (M.state machine.old) (M.state machine.new) }
+    ensures quiet { IsTrue M.tells → PrintsNothing M.clock M.since M.state machine.old machine.new }
+    ensures temps { IsTrue M.tells → NoNewTemp (M.state machine.old) (M.state machine.new) }
+    ensures counts { CountsRecover result (M.counts machine.old) (M.counts machine.new) }
+{
+    settle(machine)?;
+    finish_left(alloc, machine, intent)
+}
