@@ -1,3 +1,5 @@
+mod Freeing
 pub mod Later
 mod Leftovers
 pub mod Replies
+mod Tidies

@@ -1,11 +1,14 @@
 -- What each command comes to on a view: the first refusal that holds, in the order of its row, or what it does.
+use Rattle.std.specs.Prelude.{◌≢◌, Result, MatchResult}
 use Rattle.boot_base.specs.declared.refusal.Refusal.TheVariants as refusals
-use Rattle.boot_machine.specs.Disk.{Files}
+use Rattle.boot_machine.specs.Disk.{Files, State}
 use Rattle.tool_words.specs.declared.command.Command.{Command}
 use Rattle.tool_words.specs.declared.command.Command.TheVariants as command
 use Rattle.command_plans.specs.Answers.{Answer, refusal, said}
 use Rattle.command_plans.specs.Deeds.{Deed, made}
 use Rattle.command_plans.specs.Refusing.{unless_refused}
+use Rattle.command_plans.specs.declared.outcome.Stop.{Stop}
+use Rattle.command_plans.specs.declared.outcome.Stop.TheVariants as stops
 use Rattle.image_build.specs.Building.{build_answer}
 use Rattle.image_commands.specs.Calculating.{calculate_said}
 use Rattle.image_commands.specs.Said.{identify_said, image_said, inspect_said}
@@ -50,3 +53,12 @@ Tidied (command.Install file name tries esp) files = Unit {0}
 Tidied (command.Bless verb path esp) files = Unit {0}
 Tidied command.Script files = Unit {0}
 Tidied (command.Demo seed count) files = Unit {0}
+
+-- a command has tidied that is done, or that printed a part of its reply before a pipe failed
+abbrev pub stop_tidies : Stop → Command → State → State → Type 0
+stop_tidies stops.Disk c old new = Unit {0}
+stop_tidies stops.Pipe c old new = new.printed ≢ old.printed → Tidied c new.files
+stop_tidies stops.Memory c old new = Unit {0}
+
+abbrev pub TidiesTo : {T : Type 0} → Result T Stop → Command → State → State → Type 0
+TidiesTo result c old new = MatchResult result (λ _. Tidied c new.files) (λ stop. stop_tidies stop c old new)

@@ -1,11 +1,11 @@
 //! One command, from its reads to the end of its reply.
-ghost use Rattle.std.specs.Prelude.{◌≡◌, IfOk, OnOk, IsTrue};
+ghost use Rattle.std.specs.Prelude.{◌≡◌, IfOk, IsTrue};
 ghost use Rattle.boot_machine.specs.Disk.{Files, IsRested};
 ghost use Rattle.boot_machine.specs.Images.{IsFirm};
 ghost use Rattle.boot_machine.specs.Sent.{seen};
-ghost use Rattle.boot_commands.specs.Commands.{Tidied, answer_of, deed_of};
+ghost use Rattle.boot_commands.specs.Commands.{Tidied, TidiesTo, answer_of, deed_of};
 ghost use Rattle.boot_machine.specs.Reading.{OnlyReads};
-ghost use Rattle.command_plans.specs.Performs.{CountsStop, LeavesNoTemp, Performs, Syncs, end_of};
+ghost use Rattle.command_plans.specs.Performs.{CountsStop, LeavesNoTemp, LeavesRested, Performs, Syncs, end_of};
 ghost use Rattle.command_plans.specs.Plans.{Drops, IsMakeable, Plans};
 
 use crate::tidy::plan_tidy;
@@ -71,8 +71,9 @@ pub fn plain_step<M: Machine>(
     // Once the names are synced, what a stop leaves began with the files as they were.
     ensures syncs { IsTrue M.tells → IsFirm (M.state machine.old) → Syncs M.clock M.since M.state machine.old machine.new
         (deed_of (seen (M.state machine.old)) command.now) result }
-    ensures tidies { OnOk result (IsTrue M.tells → Tidied command.now (M.state machine.new).files) }
+    ensures tidies { IsTrue M.tells → TidiesTo result command.now (M.state machine.old) (M.state machine.new) }
     ensures input { IsTrue M.tells → (M.state machine.new).input ≡ (M.state machine.old).input }
+    ensures rests { IsTrue M.tells → LeavesRested result (M.state machine.new) }
     ensures temps { IsTrue M.tells → LeavesNoTemp result (M.state machine.old) (M.state machine.new) }
     ensures counts { CountsStop result (M.counts machine.old) (M.counts machine.new) }
 {

@@ -2,6 +2,7 @@
 ghost use Rattle.std.specs.Prelude.{◌≡◌, length, string_bytes, IfOk, IsTrue};
 ghost use Rattle.std.specs.Option.{option_map};
 ghost use Rattle.std.specs.FinMap.{get};
+ghost use Rattle.boot_base.specs.Paths.{IsFree};
 ghost use Rattle.boot_machine.specs.Disk.{State};
 ghost use Rattle.boot_machine.specs.Sent.{seen};
 ghost use Rattle.boot_machine.specs.Reading.{OnlyReads};
@@ -13,7 +14,7 @@ ghost use Rattle.boot_commands.specs.Unlinking.{entry_below, entry_path, entry_u
 use boot_base::{BootPath, Bytes, FileName, PathFault, Refusal, Text};
 use boot_machine::Machine;
 use command_plans::{
-    Change, Declined, Outcome, Plan, Stop, not_there, path_in, path_under, refusal_line, refused,
+    Change, Declined, Outcome, Plan, RefusalLine, Stop, not_there, path_in, path_under, refused,
     seen_size,
 };
 use std::alloc::{AllocError, Global};
@@ -64,6 +65,7 @@ fn entry_path(alloc: Global, name: &str, esp: &str) -> Result<BootPath, Declined
 
 // The plan for the entry at a path, by the length of the file there.
 fn removal(alloc: Global, path: BootPath, size: Option<u64>) -> Result<Plan, AllocError>
+    requires free { IsFree path }
     ensures plans { IfOk result (λ plan. (s : State) → option_map length (get (seen s) path) ≡ size
         → Plans s plan (unlink_answer (seen s) path)) }
     ensures makeable { IfOk result (λ plan. IsMakeable plan.change) }
@@ -72,7 +74,7 @@ fn removal(alloc: Global, path: BootPath, size: Option<u64>) -> Result<Plan, All
     if size.is_none() {
         return refused(alloc, &missing);
     }
-    let gone = refusal_line(alloc, &missing)?;
+    let gone = RefusalLine::of(alloc, &missing)?;
     let text = format!(in alloc; "unlinked {path}\n")?;
     Ok(Plan {
         change: Change::Remove { path, gone },

@@ -2,15 +2,15 @@
 use Rattle.std.proofs.Common.{◌≡◌, ◌⊎◌, inl, inr, ⊎_elim, ℕ, true, List, [], ◌∷◌, ◌++◌, take, refl, sym, ap, ◌∙◌, subst, Result, Ok, Err}
 use Rattle.std.specs.Prelude.{IsErr, IsErrAnd, IfOk, IfErr}
 use Rattle.std.proofs.lemmas.List.{append-nil}
-use Rattle.boot_machine.specs.Disk.{Files, State, IsIn, candidates, view}
+use Rattle.boot_machine.specs.Disk.{Files, State, IsIn, candidates, recovered_view}
 use Rattle.boot_machine.specs.Images.{IsImage, IsFirm}
 use Rattle.boot_machine.specs.Moments.{EachSince}
 use Rattle.boot_machine.specs.Rows.{tagged, with_printed}
-use Rattle.boot_machine.specs.Sent.{Sent, Adds, PrintsPart, latest, views}
+use Rattle.boot_machine.specs.Sent.{Sent, Adds, PrintsPart, latest, recovered_views}
 use Rattle.boot_machine.specs.declared.machine.Channel.{Channel}
 use Rattle.boot_machine.proofs.Elapsing.{weaken, joined}
 use Rattle.boot_machine.proofs.Printing.{tagged_part}
-use Rattle.boot_machine.proofs.Seeing.{latest-views, one_view, seen_in, from_views, candidate_image}
+use Rattle.boot_machine.proofs.Seeing.{latest-recovered_views, one_view, recovered_now_in, from_views, candidate_image}
 use Rattle.install_steps.specs.Steps.{Keeps, Sees, IsDone as IsInstalled}
 use Rattle.command_plans.specs.Deeds.{Deed, Stopped, Stays, Breaks}
 use Rattle.boot_machine.specs.Reading.{OnlyReads}
@@ -27,42 +27,42 @@ module _ {D : Type 0} (clock : D → ℕ) (since : D → ℕ → Files → Sent 
   deed = record { settles = true; outcome = outcome; after = after; sent = tagged to bytes }
 
   abbrev At : Files → Sent → Type 0
-  At image sent = Adds (state old).printed sent (λ part. Breaks deed (views (state old)) (view image ∷ []) part Stopped)
+  At image sent = Adds (state old).printed sent (λ part. Breaks deed (recovered_views (state old)) (recovered_view image ∷ []) part Stopped)
 
   nothing_more : (sent : Sent) → sent ≡ (state old).printed → sent ≡ (state old).printed ++ []
   nothing_more sent is = is ∙ sym (append-nil (state old).printed)
 
-  settle_moments : (mid : D) → ((m : Files) → IsImage (state old) m → IsIn (view m) (views (state old)))
+  settle_moments : (mid : D) → ((m : Files) → IsImage (state old) m → IsIn (recovered_view m) (recovered_views (state old)))
       → EachSince clock since old mid (λ m o. IsImage (state old) m × (o ≡ (state old).printed)) → EachSince clock since old mid At
-  settle_moments mid sees moments = weaken clock since state _ At old mid (λ m o here. ([], nothing_more o here.1, inl (refl, (view m, refl, sees m here.0)))) moments
+  settle_moments mid sees moments = weaken clock since state _ At old mid (λ m o here. ([], nothing_more o here.1, inl (refl, (recovered_view m, refl, sees m here.0)))) moments
 
   apply_moments : (mid new : D) → Keeps (state old) (state mid) → (state mid).files ≡ (state old).files → EachSince clock since mid new (Sees (state mid) after) → EachSince clock since mid new At
   apply_moments mid new keeps files moments = weaken clock since state _ At mid new (λ m o sees. (
     [],
     nothing_more o (sees.1 ∙ keeps.printed),
     ⊎_elim
-        (λ was. inl (refl, (view m, refl, subst (λ v. IsIn v (views (state old))) (sym (was ∙ ap view files)) (seen_in (state old)))))
-        (λ now. inr ((tagged to bytes, refl), (view m, refl, inl now)))
+        (λ was. inl (refl, (recovered_view m, refl, subst (λ v. IsIn v (recovered_views (state old))) (sym (was ∙ ap recovered_view files)) (recovered_now_in (state old)))))
+        (λ now. inr ((tagged to bytes, refl), (recovered_view m, refl, inl now)))
         sees.0,
   )) moments
 
   reply_moments : (mid new : D) → (state mid).printed ≡ (state old).printed → IsInstalled (state mid) after → EachSince clock since mid new (PrintsPart (state mid) (tagged to bytes)) → EachSince clock since mid new At
   reply_moments mid new printed installed moments = weaken clock since state _ At mid new (λ m o prints.
-      (prints.part.0, prints.part.1 ∙ ap (λ (l : Sent). l ++ prints.part.0) printed, inr (prints.part.2, (view m, refl, inl (installed.images m prints.stands))))) moments
+      (prints.part.0, prints.part.1 ∙ ap (λ (l : Sent). l ++ prints.part.0) printed, inr (prints.part.2, (recovered_view m, refl, inl (installed.images m prints.stands))))) moments
 
   -- the names couldn't be synced
-  pub settle_failed : (new : D) (result : Result Outcome MachineFault) → IsErr result → IsErrAnd result (λ stop. stop ≡ Disk) → ((m : Files) → IsImage (state old) m → IsIn (view m) (views (state old)))
+  pub settle_failed : (new : D) (result : Result Outcome MachineFault) → IsErr result → IsErrAnd result (λ stop. stop ≡ Disk) → ((m : Files) → IsImage (state old) m → IsIn (recovered_view m) (recovered_views (state old)))
       → state new ≡ state old → IsFirm (state new) → EachSince clock since old new (λ m o. IsImage (state old) m × (o ≡ (state old).printed))
       → Performs clock since state end_by old new deed result
   settle_failed new result failed is sees same firm moments = record {
     firm = firm;
     ok = if_ok result _ failed;
-    err = if_err result Disk _ is ([], nothing_more _ (ap (λ (s : State). s.printed) same), inl (refl, ap views same));
+    err = if_err result Disk _ is ([], nothing_more _ (ap (λ (s : State). s.printed) same), inl (refl, ap recovered_views same));
     moments = settle_moments new sees moments;
   }
 
   -- the change failed
-  pub change_failed : (mid new : D) (result : Result Outcome MachineFault) → IsErr result → IsErrAnd result (λ stop. stop ≡ Disk) → ((m : Files) → IsImage (state old) m → IsIn (view m) (views (state old)))
+  pub change_failed : (mid new : D) (result : Result Outcome MachineFault) → IsErr result → IsErrAnd result (λ stop. stop ≡ Disk) → ((m : Files) → IsImage (state old) m → IsIn (recovered_view m) (recovered_views (state old)))
       → ((m : Files) → IsImage (state new) m → since new (clock mid) m (state new).printed)
       → Keeps (state old) (state mid) → (state mid).files ≡ (state old).files → EachSince clock since old mid (λ m o. IsImage (state old) m × (o ≡ (state old).printed))
       → Keeps (state mid) (state new) → IsFirm (state new) → EachSince clock since mid new (Sees (state mid) after)
@@ -74,14 +74,14 @@ module _ {D : Type 0} (clock : D → ℕ) (since : D → ℕ → Files → Sent 
     moments = joined clock since state At old mid new (settle_moments mid sees settling) (apply_moments mid new keeps files moments);
   }
     where
-      one_of_two : (v : Files) → IsIn v (views (state new)) → (v ≡ latest (views (state old))) ⊎ (v ≡ after)
+      one_of_two : (v : Files) → IsIn v (recovered_views (state new)) → (v ≡ latest (recovered_views (state old))) ⊎ (v ≡ after)
       one_of_two v is =
           let from = from_views (candidates (state new)) v is in
           let seen_then = moments.each from.0 _ (counts_now from.0 (candidate_image (state new) from.0 from.1)) in
-          ⊎_elim (λ was. inl (from.2 ∙ was ∙ ap view files ∙ sym (latest-views (state old)))) (λ now. inr (from.2 ∙ now)) seen_then.0
+          ⊎_elim (λ was. inl (from.2 ∙ was ∙ ap recovered_view files ∙ sym (latest-recovered_views (state old)))) (λ now. inr (from.2 ∙ now)) seen_then.0
 
   -- up to the reply, all is done
-  until_reply : (mid done new : D) → ((m : Files) → IsImage (state old) m → IsIn (view m) (views (state old)))
+  until_reply : (mid done new : D) → ((m : Files) → IsImage (state old) m → IsIn (recovered_view m) (recovered_views (state old)))
       → Keeps (state old) (state mid) → (state mid).files ≡ (state old).files → EachSince clock since old mid (λ m o. IsImage (state old) m × (o ≡ (state old).printed))
       → Keeps (state mid) (state done) → IsInstalled (state done) after → EachSince clock since mid done (Sees (state mid) after)
       → EachSince clock since done new (PrintsPart (state done) (tagged to bytes)) → EachSince clock since old new At
@@ -90,14 +90,14 @@ module _ {D : Type 0} (clock : D → ℕ) (since : D → ℕ → Files → Sent 
       (joined clock since state At old mid done (settle_moments mid sees settling) (apply_moments mid done keeps files moments))
       (reply_moments done new (keeps_too.printed ∙ keeps.printed) installed printing)
 
-  one_left : (done new : D) (shown : (List ℕ)) → IsInstalled (state done) after → state new ≡ with_printed to shown (state done) → views (state new) ≡ after ∷ []
-  one_left done new shown installed is = ap views is ∙ one_view (state done) installed.one ∙ ap (λ (v : Files). v ∷ []) installed.files
+  one_left : (done new : D) (shown : (List ℕ)) → IsInstalled (state done) after → state new ≡ with_printed to shown (state done) → recovered_views (state new) ≡ after ∷ []
+  one_left done new shown installed is = ap recovered_views is ∙ one_view (state done) installed.one ∙ ap (λ (v : Files). v ∷ []) installed.files
 
   same_firm : (s : State) (shown : (List ℕ)) → IsFirm s → IsFirm (with_printed to shown s)
-  same_firm s shown firm = record { synced = firm.synced }
+  same_firm s shown firm = record { unseen = firm.unseen; intent = firm.intent; unnamed = firm.unnamed }
 
   -- the reply couldn't be printed
-  pub reply_failed : (mid done new : D) (result : Result Outcome MachineFault) → IsErr result → IsErrAnd result (λ stop. stop ≡ Pipe) → ((m : Files) → IsImage (state old) m → IsIn (view m) (views (state old)))
+  pub reply_failed : (mid done new : D) (result : Result Outcome MachineFault) → IsErr result → IsErrAnd result (λ stop. stop ≡ Pipe) → ((m : Files) → IsImage (state old) m → IsIn (recovered_view m) (recovered_views (state old)))
       → Keeps (state old) (state mid) → (state mid).files ≡ (state old).files → EachSince clock since old mid (λ m o. IsImage (state old) m × (o ≡ (state old).printed))
       → Keeps (state mid) (state done) → IsInstalled (state done) after → EachSince clock since mid done (Sees (state mid) after)
       → EachSince clock since done new (PrintsPart (state done) (tagged to bytes)) → (k : ℕ) × (state new ≡ with_printed to (take k bytes) (state done))
@@ -114,7 +114,7 @@ module _ {D : Type 0} (clock : D → ℕ) (since : D → ℕ → Files → Sent 
   }
 
   -- the command is done
-  pub all_done : (mid done new : D) → ((m : Files) → IsImage (state old) m → IsIn (view m) (views (state old)))
+  pub all_done : (mid done new : D) → ((m : Files) → IsImage (state old) m → IsIn (recovered_view m) (recovered_views (state old)))
       → Keeps (state old) (state mid) → (state mid).files ≡ (state old).files → EachSince clock since old mid (λ m o. IsImage (state old) m × (o ≡ (state old).printed))
       → Keeps (state mid) (state done) → IsInstalled (state done) after → EachSince clock since mid done (Sees (state mid) after)
       → EachSince clock since done new (PrintsPart (state done) (tagged to bytes)) → state new ≡ with_printed to bytes (state done)
@@ -128,33 +128,33 @@ module _ {D : Type 0} (clock : D → ℕ) (since : D → ℕ → Files → Sent 
 
 module _ {D : Type 0} (clock : D → ℕ) (since : D → ℕ → Files → Sent → Type 0) (state : D → State) (old : D) (deed : Deed) where
   abbrev Within : State → Files → Sent → Type 0
-  Within s image sent = Adds s.printed sent (λ part. Breaks deed (views s) (view image ∷ []) part Stopped)
+  Within s image sent = Adds s.printed sent (λ part. Breaks deed (recovered_views s) (recovered_view image ∷ []) part Stopped)
 
-  read_moments : (mid : D) → ((m : Files) → IsImage (state old) m → IsIn (view m) (views (state old))) → EachSince clock since old mid (λ m o. IsImage (state old) m × (o ≡ (state old).printed)) → EachSince clock since old mid (Within (state old))
-  read_moments mid sees moments = weaken clock since state _ (Within (state old)) old mid (λ m o here. ([], here.1 ∙ sym (append-nil (state old).printed), inl (refl, (view m, refl, sees m here.0)))) moments
+  read_moments : (mid : D) → ((m : Files) → IsImage (state old) m → IsIn (recovered_view m) (recovered_views (state old))) → EachSince clock since old mid (λ m o. IsImage (state old) m × (o ≡ (state old).printed)) → EachSince clock since old mid (Within (state old))
+  read_moments mid sees moments = weaken clock since state _ (Within (state old)) old mid (λ m o here. ([], here.1 ∙ sym (append-nil (state old).printed), inl (refl, (recovered_view m, refl, sees m here.0)))) moments
 
-  stays : (stop : Stop) (new : List Files) → new ≡ views (state old) → Stays (views (state old)) new (end_of stop)
+  stays : (stop : Stop) (new : List Files) → new ≡ recovered_views (state old) → Stays (recovered_views (state old)) new (end_of stop)
   stays stops.Memory new same = same
   stays stops.Disk new same = same
   stays stops.Pipe new same = same
 
   -- no plan was made
-  pub plan_failed : (new : D) (stop : Stop) (result : Result Outcome Stop) → IsErr result → IsErrAnd result (λ e. e ≡ stop) → ((m : Files) → IsImage (state old) m → IsIn (view m) (views (state old)))
+  pub plan_failed : (new : D) (stop : Stop) (result : Result Outcome Stop) → IsErr result → IsErrAnd result (λ e. e ≡ stop) → ((m : Files) → IsImage (state old) m → IsIn (recovered_view m) (recovered_views (state old)))
       → IsFirm (state old) → OnlyReads clock since state old new → Performs clock since state end_of old new deed result
   plan_failed new stop result failed is sees firm reads = record {
     firm = subst IsFirm (sym reads.same) firm;
     ok = if_ok result _ failed;
-    err = if_err result stop _ is ([], ap (λ (s : State). s.printed) reads.same ∙ sym (append-nil (state old).printed), inl (refl, stays stop _ (ap views reads.same)));
+    err = if_err result stop _ is ([], ap (λ (s : State). s.printed) reads.same ∙ sym (append-nil (state old).printed), inl (refl, stays stop _ (ap recovered_views reads.same)));
     moments = read_moments new sees reads.moments;
   }
 
   -- what is performed after the reads
-  pub after_reads : (mid new : D) (result : Result Outcome Stop) → ((m : Files) → IsImage (state old) m → IsIn (view m) (views (state old)))
+  pub after_reads : (mid new : D) (result : Result Outcome Stop) → ((m : Files) → IsImage (state old) m → IsIn (recovered_view m) (recovered_views (state old)))
       → OnlyReads clock since state old mid → Performs clock since state end_of mid new deed result → Performs clock since state end_of old new deed result
   after_reads mid new result sees reads performs = record {
     firm = performs.firm;
     ok = subst (λ (s : State). IfOk result (IsDone deed s (state new))) reads.same performs.ok;
-    err = subst (λ (s : State). IfErr result (λ stop. Adds s.printed (state new).printed (λ part. Breaks deed (views s) (views (state new)) part (end_of stop)))) reads.same performs.err;
+    err = subst (λ (s : State). IfErr result (λ stop. Adds s.printed (state new).printed (λ part. Breaks deed (recovered_views s) (recovered_views (state new)) part (end_of stop)))) reads.same performs.err;
     moments = joined clock since state (Within (state old)) old mid new (read_moments mid sees reads.moments) (subst (λ (s : State). EachSince clock since mid new (Within s)) reads.same performs.moments);
   }
 

@@ -2,12 +2,12 @@
 use Rattle.std.proofs.Common.{◌≡◌, inl, inr, ⊎_elim, ℕ, ◌≤◌, true, List, [], ◌∷◌, ◌++◌, refl, sym, ap, ◌∙◌, subst, arith, Result, Ok, Err}
 use Rattle.std.proofs.lemmas.List.{append-nil}
 use Rattle.std.specs.Prelude.{IsErr}
-use Rattle.boot_machine.specs.Disk.{Files, State, view}
+use Rattle.boot_machine.specs.Disk.{Files, State, recovered_view}
 use Rattle.boot_machine.specs.Moments.{EachSince}
 use Rattle.boot_machine.specs.Rows.{tagged}
-use Rattle.boot_machine.specs.Sent.{Sent, Adds, PrintsPart, latest, views}
+use Rattle.boot_machine.specs.Sent.{Sent, Adds, PrintsPart, latest, recovered_views}
 use Rattle.boot_machine.specs.declared.machine.Channel.{Channel}
-use Rattle.boot_machine.proofs.Seeing.{latest-views}
+use Rattle.boot_machine.proofs.Seeing.{latest-recovered_views}
 use Rattle.install_steps.specs.Steps.{Keeps, Sees, IsDone as IsInstalled}
 use Rattle.command_plans.specs.Deeds.{Deed, Stopped, Breaks}
 use Rattle.boot_machine.specs.Reading.{OnlyReads}
@@ -20,21 +20,21 @@ module _ {D : Type 0} (clock : D → ℕ) (since : D → ℕ → Files → Sent 
   deed = record { settles = true; outcome = outcome; after = after; sent = tagged to bytes }
 
   abbrev Late : Files → Sent → Type 0
-  Late image sent = Adds (state old).printed sent (λ part. Breaks deed (latest (views (state old)) ∷ []) (view image ∷ []) part Stopped)
+  Late image sent = Adds (state old).printed sent (λ part. Breaks deed (latest (recovered_views (state old)) ∷ []) (recovered_view image ∷ []) part Stopped)
 
   sees_late : (mid : D) (m : Files) (o : Sent) → Keeps (state old) (state mid) → (state mid).files ≡ (state old).files → Sees (state mid) after m o → Late m o
   sees_late mid m o keeps files sees = (
     [],
     sees.1 ∙ keeps.printed ∙ sym (append-nil (state old).printed),
     ⊎_elim
-        (λ was. inl (refl, (view m, refl, inl (was ∙ ap view files ∙ sym (latest-views (state old))))))
-        (λ now. inr ((tagged to bytes, refl), (view m, refl, inl now)))
+        (λ was. inl (refl, (recovered_view m, refl, inl (was ∙ ap recovered_view files ∙ sym (latest-recovered_views (state old))))))
+        (λ now. inr ((tagged to bytes, refl), (recovered_view m, refl, inl now)))
         sees.0,
   )
 
   prints_late : (done : D) (m : Files) (o : Sent) → (state done).printed ≡ (state old).printed → IsInstalled (state done) after → PrintsPart (state done) (tagged to bytes) m o → Late m o
   prints_late done m o printed installed prints =
-      (prints.part.0, prints.part.1 ∙ ap (λ (l : Sent). l ++ prints.part.0) printed, inr (prints.part.2, (view m, refl, inl (installed.images m prints.stands))))
+      (prints.part.0, prints.part.1 ∙ ap (λ (l : Sent). l ++ prints.part.0) printed, inr (prints.part.2, (recovered_view m, refl, inl (installed.images m prints.stands))))
 
   pub change_late : (mid new : D) → Keeps (state old) (state mid) → (state mid).files ≡ (state old).files → clock old ≤ clock mid
       → EachSince clock since mid new (Sees (state mid) after) → LateFrom clock since state old new deed
@@ -59,12 +59,12 @@ module _ {D : Type 0} (clock : D → ℕ) (since : D → ℕ → Files → Sent 
     late.0,
     omega (arith, reads.moments.later, late.1),
     late.2,
-    subst (λ (s : State). (m : Files) (o : Sent) → since new late.0 m o → Adds s.printed o (λ part. Breaks deed (latest (views s) ∷ []) (view m ∷ []) part Stopped)) reads.same late.3,
+    subst (λ (s : State). (m : Files) (o : Sent) → since new late.0 m o → Adds s.printed o (λ part. Breaks deed (latest (recovered_views s) ∷ []) (recovered_view m ∷ []) part Stopped)) reads.same late.3,
   )
 
   pub syncs_after_reads : {E : Type 0} (mid new : D) (result : Result Outcome E) → OnlyReads clock since state old mid → Syncs clock since state mid new deed result → Syncs clock since state old new deed result
   syncs_after_reads mid new (Ok outcome) reads syncs = record { ok = λ settles. late_after_reads mid new reads (syncs.ok settles); err = tt }
-  syncs_after_reads mid new (Err stop) reads syncs = record { ok = tt; err = ⊎_elim (λ same. inl (same ∙ ap views reads.same)) (λ late. inr (late_after_reads mid new reads late)) syncs.err }
+  syncs_after_reads mid new (Err stop) reads syncs = record { ok = tt; err = ⊎_elim (λ same. inl (same ∙ ap recovered_views reads.same)) (λ late. inr (late_after_reads mid new reads late)) syncs.err }
 
 -- given up with the same clause
 abbrev given : {E : Type 0} → E → Result Outcome E

@@ -1,17 +1,20 @@
 -- A plan: the change that a command is going to make, and its whole reply.
-use Rattle.std.specs.Prelude.{◌≡◌, true, All, bytes_eq}
+use Rattle.std.specs.Prelude.{◌≡◌, true, false, All, Result, MatchResult, bytes_eq}
 use Rattle.std.specs.List.{IsDistinct}
 use Rattle.std.specs.FinMap.{insert, remove}
-use Rattle.boot_base.specs.Paths.{Path}
+use Rattle.boot_base.specs.Paths.{Path, IsFree, intent as intent_path}
 use Rattle.boot_machine.specs.Disk.{Files, State, has}
+use Rattle.boot_machine.specs.Rows.{move_in}
 use Rattle.boot_machine.specs.Sent.{seen}
 use Rattle.pe_builder.specs.declared.plan.Plan.{Plan as ImagePlan}
 use Rattle.image_writer.specs.declared.sources.Sources.{Sources}
 use Rattle.image_writer.specs.Sourced.{IsSourced, planned_image}
 use Rattle.install_steps.specs.Steps.{Lacks}
 use Rattle.command_plans.specs.Answers.{Answer}
+use Rattle.command_plans.specs.declared.outcome.MachineFault.{MachineFault}
+use Rattle.command_plans.specs.declared.outcome.MachineFault.TheVariants as faults
 use Rattle.command_plans.specs.declared.plan.Change.{Change}
-use Rattle.command_plans.specs.declared.plan.Change.TheVariants.{Nothing, Remove, Leftovers, Write}
+use Rattle.command_plans.specs.declared.plan.Change.TheVariants.{Nothing, Remove, Leftovers, Write, Move}
 use Rattle.command_plans.specs.declared.plan.Plan.{Plan}
 
 -- the view with the finished image by a plan of these sources at a path
@@ -24,20 +27,25 @@ effect view Nothing = view
 effect view (Remove path gone) = remove view path
 effect view (Leftovers temps) = view
 effect view (Write image sources target) = written image sources target.path view
+effect view (Move from to intent gone exists) = move_in from to view
 
--- the change can be made on any machine: the temporary files to be dropped differ
+-- The change can be made on any machine: it names the intent in no other way than a move does, and the temporary files to
+-- be dropped differ.
 abbrev pub IsMakeable : Change → Type 0
 IsMakeable Nothing = Unit {0}
-IsMakeable (Remove path gone) = Unit {0}
+IsMakeable (Remove path gone) = IsFree path
 IsMakeable (Leftovers temps) = IsDistinct bytes_eq temps.items
-IsMakeable (Write image sources target) = Unit {0}
+IsMakeable (Write image sources target) = IsFree target.path
+IsMakeable (Move from to intent gone exists) = IsFree from × IsFree to × (intent.path ≡ intent_path)
 
--- what the change takes away is there, and a plan of an image was made for its sources
+-- what the change takes away or moves is there, nothing stands where it is moved, and a plan of an image was made for its
+-- sources
 abbrev pub CanMake : State → Change → Type 0
 CanMake s Nothing = Unit {0}
 CanMake s (Remove path gone) = has (seen s) path ≡ true
 CanMake s (Leftovers temps) = All (λ temp. has s.files temp ≡ true) temps.items
 CanMake s (Write image sources target) = IsSourced image sources (seen s)
+CanMake s (Move from to intent gone exists) = (has (seen s) from ≡ true) × (has (seen s) to ≡ false)
 
 -- what of the temporary files is gone after a change
 abbrev pub Drops : Change → Files → Files → Type 0
@@ -45,6 +53,15 @@ Drops Nothing old new = Unit {0}
 Drops (Remove path gone) old new = Unit {0}
 Drops (Leftovers temps) old new = Lacks temps.items old new
 Drops (Write image sources target) old new = Unit {0}
+Drops (Move from to intent gone exists) old new = Unit {0}
+
+-- the same where the machine failed: the change is made where the reply alone couldn't be printed
+abbrev pub fault_drops : MachineFault → Change → Files → Files → Type 0
+fault_drops faults.Disk change old new = Unit {0}
+fault_drops faults.Pipe change old new = Drops change old new
+
+abbrev pub DropsBy : {T : Type 0} → Result T MachineFault → Change → Files → Files → Type 0
+DropsBy result change old new = MatchResult result (λ _. Drops change old new) (λ fault. fault_drops fault change old new)
 
 -- what a plan comes to
 abbrev pub planned : Files → Plan → Answer

@@ -14,6 +14,6 @@ mod refusing;
 
 pub use outcome::{MachineFault, Outcome, Stop};
 pub use performing::perform;
-pub use plan::{Change, Plan};
+pub use plan::{Change, Plan, RefusalLine};
 pub use reading::seen_size;
 pub use refusing::{Declined, not_there, path_in, path_under, printed, refusal_line, refused};

@@ -4,16 +4,23 @@ use crate::outcome::Outcome;
 use boot_base::{BootPath, Bytes, Target, TempPath};
 use image_writer::Sources;
 
+/// A refusal as it is printed: its number, and the whole line.
+#[derive(Debug, Drop)]
+pub struct RefusalLine {
+    pub number: u8,
+    pub line: Bytes,
+}
+
 /// What a command changes.
 #[derive(Debug, Drop)]
 pub enum Change {
     /// Nothing.
     Nothing,
-    /// The boot file at `path` goes. `gone` is the line of the refusal that is printed instead where a
-    /// machine has no such file any more, though it has told of one.
+    /// The boot file at `path` goes. `gone` is the refusal that is printed instead where a machine has no such file
+    /// any more, though it has told of one.
     Remove {
         path: BootPath,
-        gone: Bytes,
+        gone: RefusalLine,
     },
     /// These temporary files go.
     Leftovers(Vec<TempPath>),
@@ -23,6 +30,17 @@ pub enum Change {
         image: pe_builder::Plan,
         sources: Sources,
         target: Target,
+    },
+    /// The boot file at `from` comes to stand at `to`, where none is. While it is moved, the intent says which of
+    /// the two names counts after a stop. `gone` is the refusal that is printed instead where a machine has no file
+    /// at `from` any more, though it has told of one, and `exists` that where it has one at `to`, though it has told
+    /// of none.
+    Move {
+        from: BootPath,
+        to: BootPath,
+        intent: Target,
+        gone: RefusalLine,
+        exists: RefusalLine,
     },
 }
 

@@ -4,11 +4,11 @@ ghost use Rattle.boot_machine.specs.Disk.{State};
 ghost use Rattle.boot_machine.specs.Sent.{seen};
 ghost use Rattle.command_plans.specs.Answers.{refusal};
 ghost use Rattle.command_plans.specs.Plans.{IsMakeable, Plans};
-ghost use Rattle.boot_base.specs.Refusals.{line_of};
+ghost use Rattle.boot_base.specs.Refusals.{line_of, number_of};
 ghost use Rattle.command_plans.specs.Refusing.{Means, PlansDeclined, path_in, path_under, printed_path};
 
 use crate::outcome::Outcome;
-use crate::plan::{Change, Plan};
+use crate::plan::{Change, Plan, RefusalLine};
 use boot_base::{BootPath, Bytes, PathFault, Refusal, Text};
 use std::alloc::{AllocError, Global};
 
@@ -88,6 +88,19 @@ pub fn refusal_line(alloc: Global, why: &Refusal) -> Result<Bytes, AllocError>
 {
     let line = why.line(alloc)?;
     Ok(Bytes::from(line.into_string().into_bytes()))
+}
+
+impl RefusalLine {
+    /// What is printed of that refusal.
+    pub fn of(alloc: Global, why: &Refusal) -> Result<RefusalLine, AllocError>
+        ensures number { IfOk result (λ refusal. refusal.number ≡ number_of why.now) }
+        ensures line { IfOk result (λ refusal. refusal.line ≡ line_of why.now) }
+    {
+        Ok(RefusalLine {
+            number: why.number(),
+            line: refusal_line(alloc, why)?,
+        })
+    }
 }
 
 /// The plan of a refusal: nothing is changed, and its line is the reply.

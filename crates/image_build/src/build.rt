@@ -1,7 +1,7 @@
 //! `ukify build`: the plan of what its words mean.
 ghost use Rattle.std.specs.Prelude.{◌≡◌, Bool, IfErr, IfOk, IsTrue, Ok, Result};
 ghost use Rattle.std.specs.List.{flat_map};
-ghost use Rattle.boot_base.specs.Paths.{Path};
+ghost use Rattle.boot_base.specs.Paths.{IsFree, Path};
 ghost use Rattle.boot_base.specs.declared.refusal.Refusal.{Refusal};
 ghost use Rattle.boot_machine.specs.Counts.{Counts};
 ghost use Rattle.boot_machine.specs.Disk.{Files, State};
@@ -77,6 +77,7 @@ fn plan_parts(alloc: Global, built: BuildParts) -> Result<PlannedBuild, Unsaid>
         → Says (built_as view) result (image_of built.output (material_as (contents view) built)) }
     ensures planned { IfOk result (λ plan. (view : Files) → BuiltHasSizes (contents view) built → pe_of (contents view built.stub) ≡ Ok (headers_of built.head)
         → IsPlannedOn view plan) }
+    ensures output { IfOk result (λ plan. plan.output ≡ built.output) }
     ensures counts { (counts : Counts) → CountsUnsaid result counts counts }
 {
     let BuildParts {
@@ -106,6 +107,7 @@ fn planned<M: Machine>(
 ) -> Result<PlannedBuild, Unsaid>
     ensures says { IsTrue M.tells → Says (built_as (seen (M.state machine.old))) result (build_of (seen (M.state machine.old)) words.now) }
     ensures planned { IfOk result (λ plan. IsTrue M.tells → IsPlannedOn (seen (M.state machine.old)) plan) }
+    ensures free { IfOk result (λ plan. IsFree plan.output) }
     ensures reads { IsTrue M.tells → OnlyReads M.clock M.since M.state machine.old machine.new }
     ensures counts { CountsUnsaid result (M.counts machine.old) (M.counts machine.new) }
 {
@@ -144,6 +146,7 @@ fn reply<M: Machine>(
 
 // The plan that writes the image and says this.
 fn writing(alloc: Global, build: PlannedBuild, text: Vec<u8>) -> Result<Plan, AllocError>
+    requires free { IsFree build.output }
     ensures plans { IfOk result (λ plan. (s : State) (measure : Bool) → IsSourced build.image.plan build.image.sources (seen s)
         → text.items ≡ built_text measure (built_as (seen s) build) → Plans s plan (built_answer (seen s) measure (Ok (built_as (seen s) build)))) }
     ensures makeable { IfOk result (λ plan. IsMakeable plan.change) }

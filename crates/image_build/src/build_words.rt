@@ -1,6 +1,7 @@
 //! What the words of a build name: its files, its texts, and where the image is to stand.
 ghost use Rattle.std.specs.Prelude.{◌≡◌, ◌++◌, ◌∷◌, [], List, ℕ, Some, IfOk, IsTrue, OnOk, codes, is_some, map};
 ghost use Rattle.std.specs.Option.{option_map};
+ghost use Rattle.boot_base.specs.Paths.{IsFree};
 ghost use Rattle.command_plans.specs.Refusing.{Means};
 ghost use Rattle.tool_words.specs.declared.command.Given.TheVariants.{Inline, File};
 ghost use Rattle.uki_parts.specs.declared.kind.PartKind.TheVariants as kinds;
@@ -312,7 +313,8 @@ fn optional_source(alloc: Global, given: &Option<Given>) -> Result<Option<Source
 /// The files and texts that the words of a build name, and the path of its output, or the first refusal: of a value of
 /// `--section=`, and then of a word that is no path.
 pub fn build_sources(alloc: Global, words: &BuildWords) -> Result<BuildSources, Declined>
-    ensures { Means named_as result (named_of words.now) }
+    ensures means { Means named_as result (named_of words.now) }
+    ensures free { IfOk result (λ sources. IsFree sources.output) }
 {
     let sections = sections_of(alloc, words.sections.as_slice())?;
     let stub = path_in(alloc, words.stub.as_str())?;

@@ -9,6 +9,7 @@ use Rattle.command_plans.specs.Plans.{planned}
 use Rattle.command_plans.specs.declared.outcome.MachineFault.{MachineFault}
 use Rattle.command_plans.proofs.Performed.{plan_failed, after_reads, stopped_by, done_by}
 use Rattle.command_plans.proofs.Syncing.{syncs_after_reads, syncs_stopped, syncs_done}
+use Rattle.boot_commands.proofs.Tidies.{tidies_failed, tidies_unplanned}
 use Rattle.boot_commands.proofs.stepping.plain_step.Goals as goal
 
 pub returns-in_err-plan-clause-performs : goal.returns-in_err-plan-clause-performs
@@ -63,3 +64,13 @@ returns-clause-syncs g c told firm =
     syncs_after_reads g.M.Machine.clock g.M.Machine.since g.M.Machine.state old deed c.plan_of.new.machine c.perform.new.machine (Ok c.in_ok-perform.field-0) reads
     (syncs_done {E = MachineFault} g.M.Machine.clock g.M.Machine.since g.M.Machine.state c.plan_of.new.machine c.perform.new.machine deed c.in_ok-perform.field-0
     (subst (λ d. Syncs {E = MachineFault} g.M.Machine.clock g.M.Machine.since g.M.Machine.state c.plan_of.new.machine c.perform.new.machine d (Ok c.in_ok-perform.field-0)) same synced))
+
+pub returns-in_err-plan-clause-tidies : goal.returns-in_err-plan-clause-tidies
+returns-in_err-plan-clause-tidies g c told =
+    tidies_unplanned c.from_residual.result c.in_err-plan.field-0.0 c.args.command.now (g.M.Machine.state c.args.machine.now) (g.M.Machine.state c.plan_of.new.machine) c.from_residual.ensures.0 c.from_residual.ensures.1
+    (c.plan_of.ensures.reads told).same
+
+pub returns-in_err-perform-clause-tidies : goal.returns-in_err-perform-clause-tidies
+returns-in_err-perform-clause-tidies g c told =
+    tidies_failed c.from_residual-in_err-perform.result c.in_err-perform.field-0.0 c.in_ok-plan.plan.change c.args.command.now (g.M.Machine.state c.args.machine.now) (g.M.Machine.state c.plan_of.new.machine) (g.M.Machine.state c.perform.new.machine)
+    c.from_residual-in_err-perform.ensures.0 c.from_residual-in_err-perform.ensures.1 (c.plan_of.ensures.reads told).same (c.in_ok-plan.ensures.tidies told) (c.in_err-perform.ensures.drops told)

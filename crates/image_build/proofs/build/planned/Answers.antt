@@ -10,7 +10,7 @@ returns-in_err-sources-clause-reads g c told =
     reads_none g.M.Machine.clock g.M.Machine.since g.M.Machine.state c.args.machine.now (λ m o left. g.met.M.Machine.only_now c.args.machine.now m o told left)
 
 pub plan_parts-requires : goal.plan_parts-requires
-plan_parts-requires g c = plannable c.args.words.now c.in_ok-sources.sources c.in_ok-built.built c.in_ok-sources.ensures c.in_ok-built.ensures.from
+plan_parts-requires g c = plannable c.args.words.now c.in_ok-sources.sources c.in_ok-built.built c.in_ok-sources.ensures.means c.in_ok-built.ensures.from
 
 pub returns-clause-planned : goal.returns-clause-planned
 returns-clause-planned g c =

@@ -1,0 +1,52 @@
+-- What the steps of an installation come to on a rested machine, where boot sees what every command reads.
+use Rattle.std.proofs.Common.{◌≡◌, true, false, sym, ap, ◌∙◌, subst}
+use Rattle.std.specs.FinMap.{insert, remove}
+use Rattle.boot_base.specs.Paths.{Path}
+use Rattle.boot_base.specs.declared.path.Target.{Target}
+use Rattle.boot_machine.specs.Disk.{Files, State, IsRested, has, recovered_view}
+use Rattle.boot_machine.specs.Sent.{seen}
+use Rattle.boot_machine.proofs.Recovering.{recovered_view-calm}
+use Rattle.image_writer.specs.Sourced.{planned_image}
+use Rattle.image_writer.specs.declared.sources.Sources.{Sources}
+use Rattle.pe_builder.specs.declared.plan.Plan.{Plan as ImagePlan}
+use Rattle.install_steps.specs.Steps.{moved}
+use Rattle.install_steps.proofs.RefusedLemmas.{moved_there}
+use Rattle.command_plans.specs.Plans.{CanMake, effect, written}
+use Rattle.command_plans.specs.declared.plan.Change.{Change}
+use Rattle.command_plans.specs.declared.plan.Change.TheVariants.{Leftovers, Move, Remove}
+use Rattle.command_plans.specs.declared.plan.RefusalLine.{RefusalLine}
+
+clash : {x : _} → x ≡ true → x ≡ false → ⊥
+clash e f = cc
+
+pub written_rested : (s : State) (image : ImagePlan) (sources : Sources) (path : Path) → IsRested s → insert (recovered_view s.files) path (planned_image image sources (seen s)) ≡ written image sources path (seen s)
+written_rested s image sources path rested = ap (λ (v : Files). insert v path (planned_image image sources (seen s))) (recovered_view-calm s.files rested)
+
+module _ (s : State) (change : Change) (rested : IsRested s) where
+  calm : recovered_view s.files ≡ seen s
+  calm = recovered_view-calm s.files rested
+
+  pub removed_rested : (path : Path) (gone : RefusalLine) → change ≡ Remove path gone → remove (recovered_view s.files) path ≡ effect (seen s) change
+  removed_rested path gone is = ap (λ (v : Files). remove v path) calm ∙ ap (effect (seen s)) (sym is)
+
+  -- the file to be removed is there
+  pub removes : (path : Path) (gone : RefusalLine) → change ≡ Remove path gone → CanMake s change → has (recovered_view s.files) path ≡ false → ⊥
+  removes path gone is can none = clash (subst (CanMake s) is can) (ap (λ (v : Files). has v path) (sym calm) ∙ none)
+
+  pub left_rested : (temps : _) → change ≡ Leftovers temps → recovered_view s.files ≡ effect (seen s) change
+  left_rested temps is = calm ∙ ap (effect (seen s)) (sym is)
+
+  module _ (from to : Path) (intent : Target) (gone exists : RefusalLine) (is : change ≡ Move from to intent gone exists) (can : CanMake s change) where
+    can_move : (has (seen s) from ≡ true) × (has (seen s) to ≡ false)
+    can_move = subst (CanMake s) is can
+
+    pub moved_rested : moved from to (recovered_view s.files) ≡ effect (seen s) change
+    moved_rested = ap (moved from to) calm ∙ moved_there from to (seen s) can_move.0 can_move.1 ∙ ap (effect (seen s)) (sym is)
+
+    -- the file to be moved is there
+    pub moves : has (recovered_view s.files) from ≡ false → ⊥
+    moves none = clash can_move.0 (ap (λ (v : Files). has v from) (sym calm) ∙ none)
+
+    -- and none where it is moved
+    pub moves_over_none : has (recovered_view s.files) to ≡ true → ⊥
+    moves_over_none there = clash (ap (λ (v : Files). has v to) (sym calm) ∙ there) can_move.1
