@@ -2,11 +2,11 @@
 use Rattle.std.proofs.Common.{◌≡◌, inl, inr, ℕ, List, [], ◌∷◌, ◌++◌, take, refl, sym, ap, ◌∙◌, subst, append_assoc, Result, Ok, Err}
 use Rattle.std.specs.Prelude.{IsErr, IsErrAnd}
 use Rattle.std.proofs.lemmas.List.{append-nil}
-use Rattle.boot_machine.specs.Disk.{Files, State, IsIn, view}
+use Rattle.boot_machine.specs.Disk.{Files, State, IsIn, recovered_view}
 use Rattle.boot_machine.specs.Images.{IsImage, IsFirm}
 use Rattle.boot_machine.specs.Moments.{EachSince}
 use Rattle.boot_machine.specs.Rows.{tagged, with_printed}
-use Rattle.boot_machine.specs.Sent.{Sent, Adds, PrintsPart, views, seen}
+use Rattle.boot_machine.specs.Sent.{Sent, Adds, PrintsPart, recovered_views, recovered_now}
 use Rattle.boot_machine.specs.declared.machine.Channel.TheVariants.{Out, Err as ErrChannel}
 use Rattle.boot_machine.proofs.Elapsing.{weaken, joined, at_once}
 use Rattle.boot_machine.proofs.Printing.{prefix_more, prefix_behind, tagged_part}
@@ -17,7 +17,8 @@ use Rattle.command_plans.specs.declared.outcome.Outcome.TheVariants.{Refused}
 use Rattle.command_plans.specs.declared.outcome.Stop.{Stop}
 use Rattle.command_plans.specs.declared.outcome.Stop.TheVariants.{Pipe, Memory}
 use Rattle.command_plans.proofs.Exits.{if_ok, if_err}
-use Rattle.boot_run.specs.Lines.{unread}
+use Rattle.boot_run.specs.Lines.{Prints, unread}
+use Rattle.boot_run.proofs.Staying.{image_stays}
 
 -- a deed that says this behind its reply
 abbrev pub behind : Deed → (List ℕ) → Deed
@@ -34,40 +35,40 @@ breaks_more deed ack old new part Finished (inr acts) = absurd acts
 
 module _ {D : Type 0} (clock : D → ℕ) (since : D → ℕ → Files → Sent → Type 0) (state : D → State) (old : D) where
   abbrev Within : Deed → Files → Sent → Type 0
-  Within deed image sent = Adds (state old).printed sent (λ part. Breaks deed (views (state old)) (view image ∷ []) part Stopped)
+  Within deed image sent = Adds (state old).printed sent (λ part. Breaks deed (recovered_views (state old)) (recovered_view image ∷ []) part Stopped)
 
   -- there was no memory for the texts
   pub no_memory_yet : (deed : Deed) (result : Result Outcome Stop) → IsErr result → IsErrAnd result (λ stop. stop ≡ Memory) → IsFirm (state old)
-      → ((m : Files) (o : Sent) → since old (clock old) m o → IsIn (view m) (views (state old)) × (o ≡ (state old).printed)) → Performs clock since state end_of old old deed result
+      → ((m : Files) (o : Sent) → since old (clock old) m o → IsIn (recovered_view m) (recovered_views (state old)) × (o ≡ (state old).printed)) → Performs clock since state end_of old old deed result
   no_memory_yet deed result failed is firm at_start = record {
     firm = firm;
     ok = if_ok result _ failed;
     err = if_err result Memory _ is ([], sym (append-nil (state old).printed), inl (refl, refl));
-    moments = at_once clock since state (Within deed) old (λ m o left. let now = at_start m o left in ([], now.1 ∙ sym (append-nil (state old).printed), inl (refl, (view m, refl, now.0))));
+    moments = at_once clock since state (Within deed) old (λ m o left. let now = at_start m o left in ([], now.1 ∙ sym (append-nil (state old).printed), inl (refl, (recovered_view m, refl, now.0))));
   }
 
   -- the reply to a line that is no command
-  pub refused_unread : (new : D) (number : ℕ) (text : (List ℕ)) (result : Result Outcome Stop) (k : ℕ) → ((m : Files) → IsImage (state old) m → IsIn (view m) (views (state old))) → IsFirm (state old)
+  pub refused_unread : (new : D) (number : ℕ) (text : (List ℕ)) (result : Result Outcome Stop) (k : ℕ) → ((m : Files) → IsImage (state old) m → IsIn (recovered_view m) (recovered_views (state old))) → IsFirm (state old)
       → EachSince clock since old new (PrintsPart (state old) (tagged ErrChannel text)) → state new ≡ with_printed ErrChannel (take k text) (state old)
-      → IsErr result → IsErrAnd result (λ stop. stop ≡ Pipe) → Performs clock since state end_of old new (unread number text (seen (state old))) result
+      → IsErr result → IsErrAnd result (λ stop. stop ≡ Pipe) → Performs clock since state end_of old new (unread number text (recovered_now (state old))) result
   refused_unread new number text result k sees firm moments shown failed is = record {
-    firm = subst IsFirm (sym shown) (record { synced = firm.synced });
+    firm = subst IsFirm (sym shown) (record { unseen = firm.unseen; intent = firm.intent; unnamed = firm.unnamed });
     ok = if_ok result _ failed;
-    err = if_err result Pipe _ is (tagged ErrChannel (take k text), ap (λ (s : State). s.printed) shown, inr (tagged_part ErrChannel k text, ap views shown));
+    err = if_err result Pipe _ is (tagged ErrChannel (take k text), ap (λ (s : State). s.printed) shown, inr (tagged_part ErrChannel k text, ap recovered_views shown));
     moments = unread_moments new number text sees moments;
   }
     where
-      unread_moments : (new : D) (number : ℕ) (text : (List ℕ)) → ((m : Files) → IsImage (state old) m → IsIn (view m) (views (state old))) → EachSince clock since old new (PrintsPart (state old) (tagged ErrChannel text)) → EachSince clock since old new (Within (unread number text (seen (state old))))
-      unread_moments new number text sees moments = weaken clock since state _ (Within (unread number text (seen (state old)))) old new (λ m o prints. (prints.part.0, prints.part.1, inr (prints.part.2, (view m, refl, sees m prints.stands)))) moments
+      unread_moments : (new : D) (number : ℕ) (text : (List ℕ)) → ((m : Files) → IsImage (state old) m → IsIn (recovered_view m) (recovered_views (state old))) → EachSince clock since old new (PrintsPart (state old) (tagged ErrChannel text)) → EachSince clock since old new (Within (unread number text (recovered_now (state old))))
+      unread_moments new number text sees moments = weaken clock since state _ (Within (unread number text (recovered_now (state old)))) old new (λ m o prints. (prints.part.0, prints.part.1, inr (prints.part.2, (recovered_view m, refl, sees m prints.stands)))) moments
 
-  pub told_unread : (new : D) (number : ℕ) (text : (List ℕ)) → ((m : Files) → IsImage (state old) m → IsIn (view m) (views (state old))) → IsFirm (state old)
+  pub told_unread : (new : D) (number : ℕ) (text : (List ℕ)) → ((m : Files) → IsImage (state old) m → IsIn (recovered_view m) (recovered_views (state old))) → IsFirm (state old)
       → EachSince clock since old new (PrintsPart (state old) (tagged ErrChannel text)) → state new ≡ with_printed ErrChannel text (state old)
-      → Performs clock since state end_of old new (unread number text (seen (state old))) (Ok (Refused number))
+      → Performs clock since state end_of old new (unread number text (recovered_now (state old))) (Ok (Refused number))
   told_unread new number text sees firm moments shown = record {
-    firm = subst IsFirm (sym shown) (record { synced = firm.synced });
-    ok = (refl, ap views shown, ap (λ (s : State). s.printed) shown);
+    firm = subst IsFirm (sym shown) (record { unseen = firm.unseen; intent = firm.intent; unnamed = firm.unnamed });
+    ok = (refl, ap recovered_views shown, ap (λ (s : State). s.printed) shown);
     err = tt;
-    moments = weaken clock since state _ (Within (unread number text (seen (state old)))) old new (λ m o prints. (prints.part.0, prints.part.1, inr (prints.part.2, (view m, refl, sees m prints.stands)))) moments;
+    moments = weaken clock since state _ (Within (unread number text (recovered_now (state old)))) old new (λ m o prints. (prints.part.0, prints.part.1, inr (prints.part.2, (recovered_view m, refl, sees m prints.stands)))) moments;
   }
 
   module _ (deed : Deed) (ack : (List ℕ)) where
@@ -83,37 +84,62 @@ module _ {D : Type 0} (clock : D → ℕ) (since : D → ℕ → Files → Sent 
       moments = earlier new performs.moments;
     }
 
-    both_moments : (mid new : D) (outcome : Outcome) → Performs clock since state end_of old mid deed (Ok outcome) → ((m : Files) → IsImage (state mid) m → IsIn (view m) (views (state mid)))
+    both_moments : (mid new : D) (outcome : Outcome) → Performs clock since state end_of old mid deed (Ok outcome) → ((m : Files) → IsImage (state mid) m → IsIn (recovered_view m) (recovered_views (state mid)))
         → EachSince clock since mid new (PrintsPart (state mid) (tagged Out ack)) → EachSince clock since old new (Within (behind deed ack))
     both_moments mid new outcome performs sees moments = joined clock since state (Within (behind deed ack)) old mid new (earlier mid performs.moments)
         (weaken clock since state _ (Within (behind deed ack)) mid new (λ m o prints. (
           deed.sent ++ prints.part.0,
           prints.part.1 ∙ ap (λ (l : Sent). l ++ prints.part.0) performs.ok.2 ∙ append_assoc (state old).printed deed.sent prints.part.0,
-          inr (prefix_behind deed.sent prints.part.0 (tagged Out ack) prints.part.2, (view m, refl, subst (λ (l : List Files). IsIn (view m) l) performs.ok.1 (sees m prints.stands))),
+          inr (prefix_behind deed.sent prints.part.0 (tagged Out ack) prints.part.2, (recovered_view m, refl, subst (λ (l : List Files). IsIn (recovered_view m) l) performs.ok.1 (sees m prints.stands))),
         )) moments)
 
     -- the line behind it couldn't be printed
     pub behind_failed : (mid new : D) (outcome : Outcome) (result : Result Outcome Stop) → IsErr result → IsErrAnd result (λ stop. stop ≡ Pipe) → Performs clock since state end_of old mid deed (Ok outcome)
-        → ((m : Files) → IsImage (state mid) m → IsIn (view m) (views (state mid))) → EachSince clock since mid new (PrintsPart (state mid) (tagged Out ack)) → (k : ℕ) × (state new ≡ with_printed Out (take k ack) (state mid))
+        → ((m : Files) → IsImage (state mid) m → IsIn (recovered_view m) (recovered_views (state mid))) → EachSince clock since mid new (PrintsPart (state mid) (tagged Out ack)) → (k : ℕ) × (state new ≡ with_printed Out (take k ack) (state mid))
         → Performs clock since state end_of old new (behind deed ack) result
     behind_failed mid new outcome result failed is performs sees moments shown = record {
-      firm = subst IsFirm (sym shown.1) (record { synced = performs.firm.synced });
+      firm = subst IsFirm (sym shown.1) (record { unseen = performs.firm.unseen; intent = performs.firm.intent; unnamed = performs.firm.unnamed });
       ok = if_ok result _ failed;
       err = if_err result Pipe _ is (
         deed.sent ++ tagged Out (take shown.0 ack),
         ap (λ (s : State). s.printed) shown.1 ∙ ap (λ (l : Sent). l ++ tagged Out (take shown.0 ack)) performs.ok.2 ∙ append_assoc (state old).printed deed.sent (tagged Out (take shown.0 ack)),
-        inr (prefix_behind deed.sent (tagged Out (take shown.0 ack)) (tagged Out ack) (tagged_part Out shown.0 ack), ap views shown.1 ∙ performs.ok.1),
+        inr (prefix_behind deed.sent (tagged Out (take shown.0 ack)) (tagged Out ack) (tagged_part Out shown.0 ack), ap recovered_views shown.1 ∙ performs.ok.1),
       );
       moments = both_moments mid new outcome performs sees moments;
     }
 
     -- reply and line are printed
     pub behind_done : (mid new : D) (outcome : Outcome) → Performs clock since state end_of old mid deed (Ok outcome)
-        → ((m : Files) → IsImage (state mid) m → IsIn (view m) (views (state mid))) → EachSince clock since mid new (PrintsPart (state mid) (tagged Out ack)) → state new ≡ with_printed Out ack (state mid)
+        → ((m : Files) → IsImage (state mid) m → IsIn (recovered_view m) (recovered_views (state mid))) → EachSince clock since mid new (PrintsPart (state mid) (tagged Out ack)) → state new ≡ with_printed Out ack (state mid)
         → Performs clock since state end_of old new (behind deed ack) (Ok outcome)
     behind_done mid new outcome performs sees moments shown = record {
-      firm = subst IsFirm (sym shown) (record { synced = performs.firm.synced });
-      ok = (performs.ok.0, ap views shown ∙ performs.ok.1, ap (λ (s : State). s.printed) shown ∙ ap (λ (l : Sent). l ++ tagged Out ack) performs.ok.2 ∙ append_assoc (state old).printed deed.sent (tagged Out ack));
+      firm = subst IsFirm (sym shown) (record { unseen = performs.firm.unseen; intent = performs.firm.intent; unnamed = performs.firm.unnamed });
+      ok = (performs.ok.0, ap recovered_views shown ∙ performs.ok.1, ap (λ (s : State). s.printed) shown ∙ ap (λ (l : Sent). l ++ tagged Out ack) performs.ok.2 ∙ append_assoc (state old).printed deed.sent (tagged Out ack));
       err = tt;
       moments = both_moments mid new outcome performs sees moments;
     }
+
+  -- nothing is printed yet of a text
+  pub printed_not : (text : Sent) → ((m : Files) (o : Sent) → since old (clock old) m o → IsImage (state old) m × (o ≡ (state old).printed)) → EachSince clock since old old (PrintsPart (state old) text)
+  printed_not text at_start = at_once clock since state (PrintsPart (state old) text) old
+      (λ m o left. let now = at_start m o left in record { stands = now.0; part = ([], now.1 ∙ sym (append-nil (state old).printed), (text, refl)) })
+
+  -- a part of it is printed, with more behind
+  pub printed_first : (new : D) (text more : Sent) → EachSince clock since old new (PrintsPart (state old) text) → EachSince clock since old new (PrintsPart (state old) (text ++ more))
+  printed_first new text more moments = weaken clock since state (PrintsPart (state old) text) (PrintsPart (state old) (text ++ more)) old new
+      (λ m o prints. record { stands = prints.stands; part = (prints.part.0, prints.part.1, prefix_more prints.part.0 text more prints.part.2) }) moments
+
+  -- it is printed, and then a part of what is behind
+  pub printed_both : (mid new : D) (text more : Sent) → Prints (state old) (state mid) → (state mid).printed ≡ (state old).printed ++ text
+      → EachSince clock since old mid (PrintsPart (state old) text) → EachSince clock since mid new (PrintsPart (state mid) more) → EachSince clock since old new (PrintsPart (state old) (text ++ more))
+  printed_both mid new text more same printed first second = joined clock since state (PrintsPart (state old) (text ++ more)) old mid new
+      (printed_first mid text more first)
+      (weaken clock since state (PrintsPart (state mid) more) (PrintsPart (state old) (text ++ more)) mid new
+      (λ m o prints. record {
+        stands = image_stays (state old) (state mid) same m prints.stands;
+        part = (
+          text ++ prints.part.0,
+          prints.part.1 ∙ ap (λ (l : Sent). l ++ prints.part.0) printed ∙ append_assoc (state old).printed text prints.part.0,
+          prefix_behind text prints.part.0 more prints.part.2,
+        );
+      }) second)

@@ -1,8 +1,11 @@
+mod Acked
 mod Acknowledging
-mod BehindSync
+mod Recovering
+pub mod Replying
 mod Running
 mod ScriptLines
 mod Staying
-mod Stepping
+pub mod Stepping
+mod Synced
 mod Taken
 mod Topping

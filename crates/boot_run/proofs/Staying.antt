@@ -2,16 +2,21 @@
 use Rattle.std.proofs.Common.{◌≡◌, ℕ, Bool, true, false, List, take, refl, sym, ap, ◌∙◌, subst, Result, Ok, Err}
 use Rattle.std.proofs.lemmas.List.Elements.{All-weaker}
 use Rattle.std.specs.Prelude.{OnOk, OnErr, IsErr, IsErrAnd}
-use Rattle.boot_machine.specs.Disk.{Files, State, has}
+use Rattle.boot_machine.specs.Disk.{Files, IsRested, State, has}
+use Rattle.boot_machine.specs.Images.{IsImage}
+use Rattle.boot_base.specs.Paths.{intent}
 use Rattle.boot_machine.specs.Rows.{with_printed}
 use Rattle.boot_machine.specs.declared.machine.Channel.{Channel}
 use Rattle.install_steps.specs.Steps.{NoNewTemp}
-use Rattle.command_plans.specs.Performs.{LeavesNoTemp, stop_temps}
+use Rattle.command_plans.specs.Performs.{LeavesNoTemp, LeavesRested, stop_rests, stop_temps}
 use Rattle.boot_commands.proofs.Later.{tidied_later}
 use Rattle.command_plans.specs.declared.outcome.Stop.{Stop}
 use Rattle.command_plans.specs.declared.outcome.Stop.TheVariants as stops
 use Rattle.boot_run.specs.Endings.{AllTidied, UnlessDisk, ended_by}
 use Rattle.boot_run.specs.Lines.{Prints, TidiedBy}
+use Rattle.boot_run.specs.RunsTo.{WherePrinted, at_part}
+use Rattle.boot_commands.specs.Commands.{Tidied, TidiesTo}
+use Rattle.tool_words.specs.declared.command.Command.{Command}
 use Rattle.boot_run.specs.declared.line.Line.{Line}
 use Rattle.boot_run.specs.declared.line.Line.TheVariants.{Plain, Numbered, Unread, TooLong}
 
@@ -35,6 +40,68 @@ files_stay s now prints = ap (λ (t : State). t.files) prints.stays
 
 pub input_stays : (s now : State) → Prints s now → now.input ≡ s.input
 input_stays s now prints = ap (λ (t : State). t.input) prints.stays
+
+-- a print leaves the images
+pub image_stays : (s now : State) → Prints s now → (m : Files) → IsImage now m → IsImage s m
+image_stays s now prints m image =
+    let moved = subst (λ (x : State). IsImage x m) prints.stays image in
+    record { of = moved.of; candidate = moved.candidate; image = moved.image }
+
+-- where the files stay, so does a machine that is rested
+pub rested_stays : (s now : State) → now.files ≡ s.files → IsRested s → IsRested now
+rested_stays s now same rested = ap (λ (files : Files). has files intent) same ∙ rested
+
+-- whatever the answer
+pub leaves_rested : {T : Type 0} (result : Result T Stop) (now : State) → IsRested now → LeavesRested result now
+leaves_rested (Ok value) now rested = rested
+leaves_rested (Err stops.Disk) now rested = tt
+leaves_rested (Err stops.Pipe) now rested = rested
+leaves_rested (Err stops.Memory) now rested = rested
+
+-- given up for the same stop
+pub rested_so : {T U : Type 0} (given : Result T Stop) (result : Result U Stop) (stop : Stop) (now : State) → given ≡ Err stop → IsErr result → IsErrAnd result (λ e. e ≡ stop) → LeavesRested given now → LeavesRested result now
+rested_so given (Ok value) stop now is failed same leaves = cc
+rested_so given (Err e) stop now is failed same leaves = subst (λ (x : Stop). stop_rests x now) (sym same) (subst (λ r. LeavesRested r now) is leaves)
+
+-- what is so whatever the answer
+pub where_so : {T : Type 0} (result : Result T Stop) (old new : State) (P : Type 0) → P → WherePrinted result old new P
+where_so (Ok value) old new P p = p
+where_so (Err stops.Disk) old new P p = tt
+where_so (Err stops.Pipe) old new P p = λ differs. p
+where_so (Err stops.Memory) old new P p = tt
+
+-- nothing was printed
+pub where_none : {T : Type 0} (result : Result T Stop) (old new : State) (P : Type 0) → IsErr result → new.printed ≡ old.printed → WherePrinted result old new P
+where_none (Ok value) old new P failed same = cc
+where_none (Err stops.Disk) old new P failed same = tt
+where_none (Err stops.Pipe) old new P failed same = λ differs. absurd (differs same)
+where_none (Err stops.Memory) old new P failed same = tt
+
+-- given up for the same stop
+pub where_given : {T U : Type 0} (given : Result T Stop) (result : Result U Stop) (stop : Stop) (old new : State) (P : Type 0) → given ≡ Err stop → IsErr result → IsErrAnd result (λ e. e ≡ stop) → WherePrinted given old new P → WherePrinted result old new P
+where_given given (Ok value) stop old new P is failed same so = cc
+where_given given (Err e) stop old new P is failed same so = subst (λ (x : Stop). at_part x old new P) (sym same) (subst (λ r. WherePrinted r old new P) is so)
+
+-- more is known, and nothing was printed before
+pub where_more : {T : Type 0} (result : Result T Stop) (old mid new : State) (P Q : Type 0) → mid.printed ≡ old.printed → (P → Q) → WherePrinted result mid new P → WherePrinted result old new Q
+where_more (Ok value) old mid new P Q same so p = so p
+where_more (Err stops.Disk) old mid new P Q same so p = tt
+where_more (Err stops.Pipe) old mid new P Q same so p = λ differs. so (p (λ is. differs (is ∙ same)))
+where_more (Err stops.Memory) old mid new P Q same so p = tt
+
+-- of a command
+pub where_tidied : {T : Type 0} (result : Result T Stop) (c : Command) (old new : State) → TidiesTo result c old new → WherePrinted result old new (Tidied c new.files)
+where_tidied (Ok value) c old new tidies = tidies
+where_tidied (Err stops.Disk) c old new tidies = tt
+where_tidied (Err stops.Pipe) c old new tidies = tidies
+where_tidied (Err stops.Memory) c old new tidies = tt
+
+-- a machine that is rested after each answer
+pub where_rested : {T : Type 0} (result : Result T Stop) (old new : State) → LeavesRested result new → WherePrinted result old new (IsRested new)
+where_rested (Ok value) old new rests = rests
+where_rested (Err stops.Disk) old new rests = tt
+where_rested (Err stops.Pipe) old new rests = λ differs. rests
+where_rested (Err stops.Memory) old new rests = tt
 
 -- temporary files
 pub no_more_temps : (s t u : State) → NoNewTemp s t → NoNewTemp t u → NoNewTemp s u

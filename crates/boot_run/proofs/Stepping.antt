@@ -5,9 +5,9 @@ use Rattle.boot_machine.specs.Disk.{Files, IsIn}
 use Rattle.boot_machine.specs.Sent.{Sent, IsPrefix, latest}
 use Rattle.boot_machine.proofs.Printing.{prefix_behind}
 use Rattle.command_plans.specs.Deeds.{End, Stopped, Finished, NoMemory, DiskFails, PipeFails, left_by, Stays, Breaks}
-use Rattle.boot_run.specs.History.{states, said, EndsBefore, Runs}
+use Rattle.boot_run.specs.History.{AllAre, states, said, EndsBefore, Recovers, Runs}
 use Rattle.boot_run.specs.Lines.{line_deed, is_unread}
-use Rattle.boot_run.specs.Step.{replies, view_after, joined, Acknowledges, AllUnread, Keeps, Early, Late, Step, NoneEmpty, IsOneView, SeesBegun, Leaves}
+use Rattle.boot_run.specs.Step.{replies, view_after, joined, Acknowledges, AllUnread, KeepsViews, Early, Late, Step, NoneEmpty, IsOneView, SeesBegun, Leaves}
 use Rattle.boot_run.specs.declared.line.Line.{Line}
 use Rattle.boot_run.specs.declared.line.Line.TheVariants.{Plain, Numbered, Unread, TooLong}
 
@@ -26,7 +26,7 @@ settles_or old (Unread number) = inr (refl, refl)
 settles_or old TooLong = inr (refl, refl)
 
 -- unread lines leave the view
-unread_after : (view : Files) (lines : List Line) (k j : ℕ) → k ≤ j → AllUnread (take j lines) → view_after view (take k lines) ≡ view
+pub unread_after : (view : Files) (lines : List Line) (k j : ℕ) → k ≤ j → AllUnread (take j lines) → view_after view (take k lines) ≡ view
 unread_after view lines zero j le all = refl
 unread_after view [] (suc k) j le all = refl
 unread_after view (line ∷ lines) (suc k) zero le all = absurd (omega arith)
@@ -35,10 +35,10 @@ unread_after view (Numbered number command ∷ lines) (suc k) (suc j) le all = c
 unread_after view (Unread number ∷ lines) (suc k) (suc j) le all = unread_after view lines k j (omega arith) all.1
 unread_after view (TooLong ∷ lines) (suc k) (suc j) le all = unread_after view lines k j (omega arith) all.1
 
-length-prefix : (a b : Sent) → IsPrefix a b → length a ≤ length b
+pub length-prefix : (a b : Sent) → IsPrefix a b → length a ≤ length b
 length-prefix a b p = omega (arith, length-append a p.0, ap length p.1)
 
-some_length : (reply : Sent) → reply ≢ [] → 0 < length reply
+pub some_length : (reply : Sent) → reply ≢ [] → 0 < length reply
 some_length [] some = absurd (some refl)
 some_length (x ∷ xs) some = omega arith
 
@@ -85,7 +85,7 @@ whole_or_part : (a b : Sent) → IsPrefix a b → (a ≡ b) ⊎ (length a < leng
 whole_or_part a b ([], is) = inl (sym (append-nil a) ∙ is)
 whole_or_part a b (x ∷ rest, is) = inr (omega (arith, length-append a (x ∷ rest), ap length is))
 
-keeps_if_stays : (old new : List Files) (end : End) → Stays old new end → Keeps old new end
+keeps_if_stays : (old new : List Files) (end : End) → Stays old new end → KeepsViews old new end
 keeps_if_stays old new Stopped stays = stays
 keeps_if_stays old new NoMemory stays = stays
 keeps_if_stays old new DiskFails stays = stays
@@ -103,18 +103,43 @@ stays_step old line lines new end some stays = record {
   front = prefix_nil _;
   finished = λ is. absurd (not_finished old new end stays is);
   no_memory = λ is. refl;
+  disk = λ is. refl;
   case = inl (record { leading = 0; unread = tt; enough = omega arith; front = prefix_nil _; kept = keeps_if_stays old new end stays });
 }
 
+-- before the first line of some, what a stop had left was finished
+recovers_step : (old : List Files) (line : Line) (lines : List Line) (new : List Files) (end : End) → (line_deed (latest old) line).sent ≢ [] → Recovers old new end → Step old (line ∷ lines) new [] end
+recovers_step old line lines new end some recovers = record {
+  acked = 0;
+  is_acked = none_acked (replies (line_deed (latest old) line).after lines) (line_deed (latest old) line).sent [] (omega (arith, some_length _ some));
+  front = prefix_nil _;
+  finished = λ is. absurd (subst (Recovers old new) is recovers);
+  no_memory = λ is. refl;
+  disk = λ is. refl;
+  case = inr (record {
+    views = λ v is. inl (all_are end recovers v is);
+    equal = λ not_disk v w is_v is_w. all_are end recovers v is_v ∙ sym (all_are end recovers w is_w);
+    no_memory = λ is v v_in. all_are end recovers v v_in;
+  });
+}
+  where
+    all_are : (end : End) → Recovers old new end → AllAre (latest old) new
+    all_are NoMemory recovers = recovers
+    all_are DiskFails recovers = recovers
+    all_are PipeFails recovers = recovers
+    all_are Stopped recovers = absurd recovers
+    all_are Finished recovers = absurd recovers
+
 -- one line was begun, and all views are that which it leaves
 left_step : (old : List Files) (line : Line) (lines : List Line) (new : List Files) (sent : Sent) (end : End) → (line_deed (latest old) line).sent ≢ [] → NoneEmpty (line_deed (latest old) line).after lines
-    → end ≢ Finished → end ≢ NoMemory → IsPrefix sent (line_deed (latest old) line).sent → Keeps (left_by (line_deed (latest old) line) old) new end → Step old (line ∷ lines) new sent end
-left_step old line lines new sent end some others not_done not_memory part kept = record {
+    → end ≢ Finished → end ≢ NoMemory → end ≢ DiskFails → IsPrefix sent (line_deed (latest old) line).sent → KeepsViews (left_by (line_deed (latest old) line) old) new end → Step old (line ∷ lines) new sent end
+left_step old line lines new sent end some others not_done not_memory not_disk part kept = record {
   acked = how.0;
   is_acked = how.2;
   front = (part.0 ++ joined (replies (line_deed (latest old) line).after lines), sym (append_assoc sent part.0 (joined (replies (line_deed (latest old) line).after lines))) ∙ ap (λ (l : Sent). l ++ joined (replies (line_deed (latest old) line).after lines)) part.1);
   finished = λ is. absurd (not_done is);
   no_memory = λ is. absurd (not_memory is);
+  disk = λ is. absurd (not_disk is);
   case = ⊎_elim late early (settles_or old line);
 }
   where
@@ -124,7 +149,7 @@ left_step old line lines new sent end some others not_done not_memory part kept 
         (λ short. (0, omega arith, none_acked (replies (line_deed (latest old) line).after lines) (line_deed (latest old) line).sent sent short))
         (whole_or_part sent (line_deed (latest old) line).sent part)
 
-    is_after : (new : List Files) (end : End) → Keeps ((line_deed (latest old) line).after ∷ []) new end → (v : Files) → IsIn v new → v ≡ (line_deed (latest old) line).after
+    is_after : (new : List Files) (end : End) → KeepsViews ((line_deed (latest old) line).after ∷ []) new end → (v : Files) → IsIn v new → v ≡ (line_deed (latest old) line).after
     is_after new Stopped kept v is = ⊎_elim (λ here. here ∙ ⊎_elim (λ one. one) (λ none. absurd none) kept.2) (λ none. absurd none) (subst (IsIn v) kept.1 is)
     is_after new Finished kept v is = ⊎_elim (λ here. here) (λ none. absurd none) (subst (IsIn v) kept is)
     is_after new NoMemory kept v is = ⊎_elim (λ here. here) (λ none. absurd none) (subst (IsIn v) kept is)
@@ -138,7 +163,7 @@ left_step old line lines new sent end some others not_done not_memory part kept 
 
     late : left_by (line_deed (latest old) line) old ≡ (line_deed (latest old) line).after ∷ [] → Early old (line ∷ lines) new sent end how.0 ⊎ Late old (line ∷ lines) new end how.0
     late left =
-        let each : (v : Files) → IsIn v new → v ≡ (line_deed (latest old) line).after = is_after new end (subst (λ (s : List Files). Keeps s new end) left kept) in
+        let each : (v : Files) → IsIn v new → v ≡ (line_deed (latest old) line).after = is_after new end (subst (λ (s : List Files). KeepsViews s new end) left kept) in
         inr (record {
           views = λ v is. one_or_none how.0 how.1 v (each v is);
           equal = λ not_disk v w is_v is_w. each v is_v ∙ sym (each w is_w);
@@ -151,15 +176,15 @@ left_step old line lines new sent end some others not_done not_memory part kept 
       unread = (unread.0, tt);
       enough = how.1;
       front = (part.0, part.1 ∙ sym (append-nil (line_deed (latest old) line).sent));
-      kept = subst (λ (s : List Files). Keeps s new end) unread.1 kept;
+      kept = subst (λ (s : List Files). KeepsViews s new end) unread.1 kept;
     })
 
 -- a run that breaks off in the first line
 breaks_step : (old : List Files) (line : Line) (lines : List Line) (new : List Files) (sent : Sent) (end : End) → (line_deed (latest old) line).sent ≢ [] → NoneEmpty (line_deed (latest old) line).after lines
     → Breaks (line_deed (latest old) line) old new sent end → Step old (line ∷ lines) new sent end
 breaks_step old line lines new sent end some others (inl stays) = subst (λ (l : Sent). Step old (line ∷ lines) new l end) (sym stays.0) (stays_step old line lines new end some stays.1)
-breaks_step old line lines new sent Stopped some others (inr acts) = left_step old line lines new sent Stopped some others (λ is. cc) (λ is. cc) acts.0 acts.1
-breaks_step old line lines new sent PipeFails some others (inr acts) = left_step old line lines new sent PipeFails some others (λ is. cc) (λ is. cc) acts.0 acts.1
+breaks_step old line lines new sent Stopped some others (inr acts) = left_step old line lines new sent Stopped some others (λ is. cc) (λ is. cc) (λ is. cc) acts.0 acts.1
+breaks_step old line lines new sent PipeFails some others (inr acts) = left_step old line lines new sent PipeFails some others (λ is. cc) (λ is. cc) (λ is. cc) acts.0 acts.1
 breaks_step old line lines new sent NoMemory some others (inr acts) = absurd acts
 breaks_step old line lines new sent Finished some others (inr acts) = absurd acts
 breaks_step old line lines new sent DiskFails some others (inr acts) = subst (λ (l : Sent). Step old (line ∷ lines) new l DiskFails) (sym acts.0) (record {
@@ -168,6 +193,7 @@ breaks_step old line lines new sent DiskFails some others (inr acts) = subst (λ
   front = prefix_nil _;
   finished = λ is. cc;
   no_memory = λ is. cc;
+  disk = λ is. refl;
   case = inr (record {
     views = λ v is. ⊎_elim (λ was. inl was) (λ now. inr (omega arith, now)) (acts.1 v is);
     equal = λ not_disk. absurd (not_disk refl);
@@ -184,6 +210,7 @@ more_step old line lines new rest end step = record {
   front = prefix_behind (line_deed (latest old) line).sent rest _ (subst (λ v. IsPrefix rest (joined (replies v lines))) last step.front);
   finished = λ is. ap (λ (l : Sent). (line_deed (latest old) line).sent ++ l) (subst (λ v. rest ≡ joined (replies v lines)) last (step.finished is));
   no_memory = λ is. ap (λ (l : Sent). (line_deed (latest old) line).sent ++ l) (subst (λ v. rest ≡ joined (take step.acked (replies v lines))) last (step.no_memory is));
+  disk = λ is. ap (λ (l : Sent). (line_deed (latest old) line).sent ++ l) (subst (λ v. rest ≡ joined (take step.acked (replies v lines))) last (step.disk is));
   case = ⊎_elim early late step.case;
 }
   where
@@ -203,7 +230,7 @@ more_step old line lines new rest end step = record {
         one_further : view_after (line_deed (latest old) line).after (take (step.acked + 1) lines) ≡ view_after (latest old) (take (suc step.acked + 1) (line ∷ lines))
         one_further = let more : suc step.acked + 1 ≡ suc (step.acked + 1) = omega arith in ap (λ n. view_after (latest old) (take n (line ∷ lines))) (sym more)
 
-    only_after : (new : List Files) (end : End) → Keeps ((line_deed (latest old) line).after ∷ []) new end → (v : Files) → IsIn v new → v ≡ (line_deed (latest old) line).after
+    only_after : (new : List Files) (end : End) → KeepsViews ((line_deed (latest old) line).after ∷ []) new end → (v : Files) → IsIn v new → v ≡ (line_deed (latest old) line).after
     only_after new Stopped kept v is = ⊎_elim (λ here. here ∙ ⊎_elim (λ one. one) (λ none. absurd none) kept.2) (λ none. absurd none) (subst (IsIn v) kept.1 is)
     only_after new Finished kept v is = ⊎_elim (λ here. here) (λ none. absurd none) (subst (IsIn v) kept is)
     only_after new NoMemory kept v is = ⊎_elim (λ here. here) (λ none. absurd none) (subst (IsIn v) kept is)
@@ -213,7 +240,7 @@ more_step old line lines new rest end step = record {
     early : Early (left_by (line_deed (latest old) line) old) lines new rest end step.acked → Early old (line ∷ lines) new ((line_deed (latest old) line).sent ++ rest) end (suc step.acked) ⊎ Late old (line ∷ lines) new end (suc step.acked)
     early rest_early = ⊎_elim
         (λ left.
-        let each : (v : Files) → IsIn v new → v ≡ (line_deed (latest old) line).after = only_after new end (subst (λ (s : List Files). Keeps s new end) left rest_early.kept) in
+        let each : (v : Files) → IsIn v new → v ≡ (line_deed (latest old) line).after = only_after new end (subst (λ (s : List Files). KeepsViews s new end) left rest_early.kept) in
         let same = unread_after (line_deed (latest old) line).after lines step.acked rest_early.leading rest_early.enough rest_early.unread in
         inr (record {
           views = λ v is. inl (each v is ∙ sym same);
@@ -225,22 +252,23 @@ more_step old line lines new rest end step = record {
           unread = (unread.0, rest_early.unread);
           enough = omega (arith, rest_early.enough);
           front = prefix_behind (line_deed (latest old) line).sent rest _ (subst (λ v. IsPrefix rest (joined (take rest_early.leading (replies v lines)))) last rest_early.front);
-          kept = subst (λ (s : List Files). Keeps s new end) unread.1 rest_early.kept;
+          kept = subst (λ (s : List Files). KeepsViews s new end) unread.1 rest_early.kept;
         }))
         (settles_or old line)
 
 -- no line is left
-none_step : (old new : List Files) (end : End) → Keeps old new end → Step old [] new [] end
+none_step : (old new : List Files) (end : End) → KeepsViews old new end → Step old [] new [] end
 none_step old new end kept = record {
   acked = 0;
   is_acked = record { within = omega arith; whole = prefix_nil []; most = λ j le p. le };
   front = prefix_nil [];
   finished = λ is. refl;
   no_memory = λ is. refl;
+  disk = λ is. refl;
   case = inl (record { leading = 0; unread = tt; enough = omega arith; front = prefix_nil []; kept = kept });
 }
 
-ended : (old new : List Files) (part : Sent) (end : End) → EndsBefore [] old new part end → (part ≡ []) × Keeps old new end
+ended : (old new : List Files) (part : Sent) (end : End) → EndsBefore [] old new part end → (part ≡ []) × KeepsViews old new end
 ended old new part Stopped ends = ends
 ended old new part Finished ends = ends
 ended old new part NoMemory ends = ends
@@ -252,7 +280,8 @@ pub step_of_run : (old : List Files) (lines : List Line) (new : List Files) (end
     → EndsBefore (drop whole lines) (states old (take whole lines)) new part end → Step old lines new (said old (take whole lines) ++ part) end
 step_of_run old [] new end some zero le part ends = let is = ended old new part end ends in subst (λ (l : Sent). Step old [] new l end) (sym is.0) (none_step old new end is.1)
 step_of_run old [] new end some (suc whole) le part ends = absurd (omega arith)
-step_of_run old (line ∷ lines) new end some zero le part ends = breaks_step old line lines new part end some.0 some.1 ends
+step_of_run old (line ∷ lines) new end some zero le part ends = ⊎_elim (breaks_step old line lines new part end some.0 some.1)
+    (λ done. subst (λ (l : Sent). Step old (line ∷ lines) new l end) (sym done.0) (recovers_step old line lines new end some.0 done.1)) ends
 step_of_run old (line ∷ lines) new end some (suc whole) le part ends =
     subst (λ (l : Sent). Step old (line ∷ lines) new l end) (sym (append_assoc (line_deed (latest old) line).sent (said (left_by (line_deed (latest old) line) old) (take whole lines)) part))
     (more_step old line lines new (said (left_by (line_deed (latest old) line) old) (take whole lines) ++ part) end
@@ -300,11 +329,11 @@ begun_more old line lines v rest some settled step inner zero within begun =
     let acked = subst (λ w. Acknowledges (replies w lines) rest step.acked) (latest_left old line) step.is_acked in
     let nothing : step.acked ≡ 0 = no_reply_in_none _ lines step.acked some acked.within (subst (λ (l : Sent). IsPrefix (joined (take step.acked (replies (line_deed (latest old) line).after lines))) l) none acked.whole) in
     let whole : reply ++ rest ≡ reply ++ [] = ap (λ (l : Sent). reply ++ l) none in
-    first_or_second whole (subst (λ k. (v ≡ view_after (line_deed (latest old) line).after (take k lines)) ⊎ ((k < length lines) × (v ≡ view_after (line_deed (latest old) line).after (take (k + 1) lines)))) nothing (seen step))
+    first_or_second whole (subst (λ k. (v ≡ view_after (line_deed (latest old) line).after (take k lines)) ⊎ ((k < length lines) × (v ≡ view_after (line_deed (latest old) line).after (take (k + 1) lines)))) nothing (recovered_now step))
   where
-    seen : (step : Step (left_by (line_deed (latest old) line) old) lines (v ∷ []) rest Stopped)
+    recovered_now : (step : Step (left_by (line_deed (latest old) line) old) lines (v ∷ []) rest Stopped)
         → (v ≡ view_after (line_deed (latest old) line).after (take step.acked lines)) ⊎ ((step.acked < length lines) × (v ≡ view_after (line_deed (latest old) line).after (take (step.acked + 1) lines)))
-    seen step = subst (λ w. (v ≡ view_after w (take step.acked lines)) ⊎ ((step.acked < length lines) × (v ≡ view_after w (take (step.acked + 1) lines)))) (latest_left old line)
+    recovered_now step = subst (λ w. (v ≡ view_after w (take step.acked lines)) ⊎ ((step.acked < length lines) × (v ≡ view_after w (take (step.acked + 1) lines)))) (latest_left old line)
         (stop_views (left_by (line_deed (latest old) line) old) lines v rest (one_view_left old line settled) step)
 
     first_or_second : (line_deed (latest old) line).sent ++ rest ≡ (line_deed (latest old) line).sent ++ [] → (v ≡ (line_deed (latest old) line).after) ⊎ ((0 < length lines) × (v ≡ view_after (line_deed (latest old) line).after (take (0 + 1) lines)))
@@ -332,7 +361,7 @@ begun_more old line lines v rest some settled step inner (suc i) within begun =
 begun_of_run : (old : List Files) (lines : List Line) (v : Files) → NoneEmpty (latest old) lines → IsOneView old → (whole : ℕ) → whole ≤ length lines → (part : Sent)
     → EndsBefore (drop whole lines) (states old (take whole lines)) (v ∷ []) part Stopped → SeesBegun (latest old) lines v (said old (take whole lines) ++ part)
 begun_of_run old [] v some settled whole le part ends = λ i within begun. absurd (omega arith)
-begun_of_run old (line ∷ lines) v some settled zero le part ends = begun_first old line lines v part settled ends
+begun_of_run old (line ∷ lines) v some settled zero le part ends = begun_first old line lines v part settled (⊎_elim (λ broke. broke) (λ none. absurd none.1) ends)
 begun_of_run old (line ∷ lines) v some settled (suc whole) le part ends =
     let left = left_by (line_deed (latest old) line) old in
     let others = subst (λ w. NoneEmpty w lines) (sym (latest_left old line)) some.1 in
@@ -362,7 +391,7 @@ one_view_after old lines new sent end settled not_disk not_stopped step v w is_v
     (λ late. late.equal not_disk v w is_v is_w)
     step.case
   where
-    kept_same : (old new : List Files) (end : End) → end ≢ Stopped → Keeps old new end → new ≡ old
+    kept_same : (old new : List Files) (end : End) → end ≢ Stopped → KeepsViews old new end → new ≡ old
     kept_same old new Stopped not kept = absurd (not refl)
     kept_same old new Finished not kept = kept
     kept_same old new NoMemory not kept = kept

@@ -97,3 +97,7 @@ lines_or (Err reason) = []
 pub lines_are : (input : List ℕ) (meant : Result Command UsageReason) (c : Command) (lines : List Line) → meant ≡ Ok c → lines_of input meant ≡ Ok lines → lines_for input c ≡ lines
 unfolding lines_or
 lines_are input meant c lines is asks = ap lines_or (sym (ap (lines_of input) is) ∙ asks)
+
+-- words that are no command ask for none
+pub no_lines : (input : List ℕ) (meant : Result Command UsageReason) (reason : UsageReason) (lines : List Line) → meant ≡ Err reason → lines_of input meant ≡ Ok lines → ⊥
+no_lines input meant reason lines is asks = cc (sym (ap (lines_of input) is) ∙ asks)

@@ -2,6 +2,8 @@
 use Rattle.std.specs.Prelude.{ℕ, suc, ◌+◌, ◌==◌, Bool, true, false, not, ◌&&◌, ◌||◌, List, [], ◌∷◌, ◌++◌, codes, length, take, nat_lt, Option, Some, None, Result, Ok, Err, if◌then◌else◌}
 use Rattle.std.specs.List.{slice_split}
 use Rattle.std.specs.Str.{chars, is_utf8}
+use Rattle.boot_machine.specs.Disk.{Files, State}
+use Rattle.boot_machine.specs.Sent.{latest, recovered_views}
 use Rattle.tool_words.specs.Grammar.{Word}
 use Rattle.tool_words.specs.Line.{is_open, line_words}
 use Rattle.tool_words.specs.Meaning.{meaning}
@@ -85,9 +87,13 @@ abbrev pub lines_of : List ℕ → Result Command UsageReason → Result (List L
 lines_of input (Err reason) = Err reason
 lines_of input (Ok c) = Ok (lines_for input c)
 
--- what a run is to do: the lines of its words
-abbrev pub asked : List Word → List ℕ → Result (List Line) UsageReason
-asked words input = lines_of input (meaning words)
+-- What a run is to do: the lines of its words, asked at what boot sees at its start. No command's lines depend on that yet.
+abbrev pub asked : List Word → List ℕ → Files → Result (List Line) UsageReason
+asked words input view = lines_of input (meaning words)
+
+-- the same of a machine in this state
+abbrev pub asked_of : List Word → State → Result (List Line) UsageReason
+asked_of words s = asked words s.input (latest (recovered_views s))
 
 -- how much a run that comes to its end takes of standard input
 abbrev pub taken_by : Result Command UsageReason → ℕ

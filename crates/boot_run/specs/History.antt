@@ -1,10 +1,10 @@
 -- What a run over a list of lines may print, leave and answer. A state is the list of the views that a stop may leave, the last
 -- that of the files.
-use Rattle.std.specs.Prelude.{◌≡◌, ℕ, ◌≤◌, Bool, false, ◌||◌, List, [], ◌∷◌, ◌++◌, length, take, drop}
-use Rattle.boot_machine.specs.Disk.{Files}
+use Rattle.std.specs.Prelude.{◌≡◌, ◌⊎◌, ℕ, ◌≤◌, Bool, false, ◌||◌, List, [], ◌∷◌, ◌++◌, length, take, drop}
+use Rattle.boot_machine.specs.Disk.{Files, IsIn}
 use Rattle.boot_machine.specs.Sent.{Sent, latest}
 use Rattle.command_plans.specs.Answers.{is_refusal}
-use Rattle.command_plans.specs.Deeds.{End, Finished, left_by, Stays, Breaks}
+use Rattle.command_plans.specs.Deeds.{Deed, End, Finished, Stopped, NoMemory, DiskFails, PipeFails, left_by, Stays, Breaks}
 use Rattle.boot_run.specs.Lines.{line_deed}
 use Rattle.boot_run.specs.declared.line.Line.{Line}
 
@@ -23,11 +23,27 @@ abbrev pub any_refused : List Files → List Line → Bool
 any_refused state [] = false
 any_refused state (line ∷ lines) = let deed = line_deed (latest state) line in is_refusal deed.outcome || any_refused (left_by deed state) lines
 
+-- the views are all this one
+abbrev pub AllAre : Files → List Files → Type 0
+AllAre view state = (v : Files) → IsIn v state → v ≡ view
+
+-- the run is given up, and no more was done than to recover: boot sees the same whatever a stop leaves
+abbrev pub Recovers : List Files → List Files → End → Type 0
+Recovers old new NoMemory = AllAre (latest old) new
+Recovers old new DiskFails = AllAre (latest old) new
+Recovers old new PipeFails = AllAre (latest old) new
+Recovers old new Stopped = ⊥
+Recovers old new Finished = ⊥
+
+-- it came no further than into this deed, which a recovery may have come before
+abbrev pub BreaksBehind : Deed → List Files → List Files → Sent → End → Type 0
+BreaksBehind deed old new part end = Breaks deed old new part end ⊎ ((part ≡ []) × Recovers old new end)
+
 -- the run ends here, before these lines
 abbrev pub EndsBefore : List Line → List Files → List Files → Sent → End → Type 0
 EndsBefore [] old new part Finished = (part ≡ []) × (new ≡ old)
 EndsBefore [] old new part end = (part ≡ []) × Stays old new end
-EndsBefore (line ∷ lines) old new part end = Breaks (line_deed (latest old) line) old new part end
+EndsBefore (line ∷ lines) old new part end = BreaksBehind (line_deed (latest old) line) old new part end
 
 -- From a state a run over these lines may print this, end or be stopped so, and leave this state:
 -- some lines were done whole, and it came no further than into the next.

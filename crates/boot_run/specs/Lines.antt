@@ -1,5 +1,5 @@
 -- The lines of a run: commands on their own, lines of a script, and what is no command.
-use Rattle.std.specs.Prelude.{◌≡◌, ℕ, ◌+◌, Bool, true, false, List, ◌++◌, codes, if◌then◌else◌}
+use Rattle.std.specs.Prelude.{◌≡◌, ℕ, ◌+◌, Bool, true, false, not, ◌||◌, List, [], ◌∷◌, ◌++◌, codes, if◌then◌else◌}
 use Rattle.std.specs.Fmt.{decimal}
 use Rattle.boot_base.specs.Refusals.{line_of}
 use Rattle.boot_base.specs.declared.refusal.Refusal.TheVariants as refusals
@@ -57,6 +57,11 @@ is_unread (Plain command) = false
 is_unread (Numbered number command) = false
 is_unread (Unread number) = true
 is_unread TooLong = true
+
+-- some line is a command
+abbrev pub has_command : List Line → Bool
+has_command [] = false
+has_command (line ∷ lines) = not (is_unread line) || has_command lines
 
 -- what a line leaves that the view doesn't show
 abbrev pub TidiedBy : Files → Line → Type 0

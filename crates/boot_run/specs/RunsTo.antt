@@ -1,30 +1,94 @@
 -- The clauses of a run over a list of lines.
-use Rattle.std.specs.Prelude.{◌≡◌, ◌⊎◌, ◌≤◌, ℕ, Bool, List, [], ◌∷◌, ◌++◌, Result, IfOk, IfErr}
-use Rattle.boot_machine.specs.Disk.{Files, State, view}
-use Rattle.boot_machine.specs.Images.{IsFirm}
+use Rattle.std.specs.Prelude.{◌≡◌, ◌≢◌, ◌⊎◌, ℕ, Bool, List, [], ◌∷◌, ◌++◌, Result, MatchResult, IfOk, IfErr, OnOk, OnErr}
+use Rattle.boot_machine.specs.Disk.{Files, HasOneCandidate, State, recovered_view}
+use Rattle.boot_machine.specs.Images.{IsImage, IsFirm}
 use Rattle.boot_machine.specs.Moments.{EachSince}
-use Rattle.boot_machine.specs.Sent.{Sent, Adds, latest, views}
-use Rattle.command_plans.specs.Deeds.{Stopped}
-use Rattle.command_plans.specs.Performs.{end_of}
+use Rattle.boot_machine.specs.Reading.{OnlyReads, Stays}
+use Rattle.boot_machine.specs.Sent.{Sent, Adds, PrintsPart, latest, recovered_now, recovered_views}
+use Rattle.command_plans.specs.Deeds.{Breaks, Deed, Stopped}
+use Rattle.command_plans.specs.Performs.{IsDone, end_of}
+use Rattle.command_plans.specs.declared.outcome.Outcome.{Outcome}
 use Rattle.command_plans.specs.declared.outcome.Stop.{Stop}
-use Rattle.boot_run.specs.History.{Runs, states, said, any_refused}
+use Rattle.command_plans.specs.declared.outcome.Stop.TheVariants as stops
+use Rattle.boot_run.specs.History.{BreaksBehind, Runs, states, said, any_refused}
+use Rattle.boot_run.specs.Lines.{Prints}
+use Rattle.boot_run.specs.Step.{PrintsUnread}
 use Rattle.boot_run.specs.declared.line.Line.{Line}
+
+-- it is so after Ok, and after a pipe's failure where something was printed
+abbrev pub at_part : Stop → State → State → Type 0 → Type 0
+at_part stops.Disk old new P = Unit {0}
+at_part stops.Pipe old new P = new.printed ≢ old.printed → P
+at_part stops.Memory old new P = Unit {0}
+
+abbrev pub WherePrinted : {T : Type 0} → Result T Stop → State → State → Type 0 → Type 0
+WherePrinted result old new P = MatchResult result (λ _. P) (λ stop. at_part stop old new P)
+
+-- At some time the names were all synced. Each moment up to it has one property, and each from it on the other.
+pub record FromSync {M : Type 0} (clock : M → ℕ) (since : M → ℕ → Files → Sent → Type 0) (state : M → State) (old new : M)
+    (Before After : Files → Sent → Type 0) : Type 0 where
+  pub synced : M
+  pub one : HasOneCandidate (state synced)
+  pub before : EachSince clock since old synced Before
+  pub after : EachSince clock since synced new After
+
+-- What is printed of this is all that changes, and at each moment it was so.
+pub record OnlyPrints {M : Type 0} (clock : M → ℕ) (since : M → ℕ → Files → Sent → Type 0) (state : M → State) (old new : M) (text : Sent) : Type 0 where
+  pub same : Prints (state old) (state new)
+  pub moments : EachSince clock since old new (PrintsPart (state old) text)
+
+-- One line on a firm machine, with a recovery before it or none: as a deed is performed, but that at a fault or want of
+-- memory the recovery may be all that was done.
+pub record PerformsBehind {M : Type 0} (clock : M → ℕ) (since : M → ℕ → Files → Sent → Type 0) (state : M → State) (old new : M) (deed : Deed)
+    (result : Result Outcome Stop) : Type 0 where
+  pub firm : IsFirm (state new)
+  pub ok : IfOk result (IsDone deed (state old) (state new))
+  pub err : IfErr result (λ stop. Adds (state old).printed (state new).printed
+      (λ part. BreaksBehind deed (recovered_views (state old)) (recovered_views (state new)) part (end_of stop)))
+  pub moments : EachSince clock since old new (λ image sent. Adds (state old).printed sent
+      (λ part. Breaks deed (recovered_views (state old)) (recovered_view image ∷ []) part Stopped))
+
+-- The names are synced before the deed: until then a stop leaves what it would have left, and from then on the deed
+-- began with the files as they were.
+abbrev pub SyncsBefore : {M : Type 0} → (M → ℕ) → (M → ℕ → Files → Sent → Type 0) → (M → State) → M → M → Deed → Type 0
+SyncsBefore clock since state old new deed =
+    FromSync clock since state old new (Stays (state old)) (λ image sent. Adds (state old).printed sent
+    (λ part. Breaks deed (latest (recovered_views (state old)) ∷ []) (recovered_view image ∷ []) part Stopped))
+
+-- the same of the first command of a run, by its answer: it may be given up with nothing done
+pub record SyncsFirst {M : Type 0} (clock : M → ℕ) (since : M → ℕ → Files → Sent → Type 0) (state : M → State) (old new : M) (deed : Deed)
+    (result : Result Outcome Stop) : Type 0 where
+  pub ok : OnOk result (SyncsBefore clock since state old new deed)
+  pub err : OnErr result (OnlyReads clock since state old new ⊎ SyncsBefore clock since state old new deed)
+
+-- A stop leaves what it would have left at the start, and no more is printed than replies to leading lines that are no
+-- command.
+pub record IsUnsynced (s : State) (lines : List Line) (image : Files) (printed : Sent) : Type 0 where
+  pub stands : IsImage s image
+  pub part : Adds s.printed printed (PrintsUnread (recovered_now s) lines)
 
 -- From here these lines were all done, all their replies were printed, and some was a refusal or none.
 pub record AllDone (s now : State) (lines : List Line) (refused : Bool) : Type 0 where
-  pub state : views now ≡ states (views s) lines
-  pub printed : now.printed ≡ s.printed ++ said (views s) lines
-  pub answer : refused ≡ any_refused (views s) lines
+  pub state : recovered_views now ≡ states (recovered_views s) lines
+  pub printed : now.printed ≡ s.printed ++ said (recovered_views s) lines
+  pub answer : refused ≡ any_refused (recovered_views s) lines
 
 -- Over these lines, from old to new, at every moment.
-pub record RunsTo {M : Type 0} (clock : M → ℕ) (since : M → ℕ → Files → Sent → Type 0) (state : M → State) (old new : M) (lines : List Line) (result : Result Bool Stop) : Type 0 where
+pub record RunsTo {M : Type 0} (clock : M → ℕ) (since : M → ℕ → Files → Sent → Type 0) (state : M → State) (old new : M) (lines : List Line)
+    (result : Result Bool Stop) : Type 0 where
   pub firm : IsFirm (state new)
   pub ok : IfOk result (AllDone (state old) (state new) lines)
-  pub err : IfErr result (λ stop. Adds (state old).printed (state new).printed (λ sent. Runs (views (state old)) lines (views (state new)) sent (end_of stop)))
-  pub moments : EachSince clock since old new (λ image printed. Adds (state old).printed printed (λ sent. Runs (views (state old)) lines (view image ∷ []) sent Stopped))
+  pub err : IfErr result (λ stop. Adds (state old).printed (state new).printed
+      (λ sent. Runs (recovered_views (state old)) lines (recovered_views (state new)) sent (end_of stop)))
+  pub moments : EachSince clock since old new (λ image printed. Adds (state old).printed printed
+      (λ sent. Runs (recovered_views (state old)) lines (recovered_view image ∷ []) sent Stopped))
 
--- no line has settled yet, or from some moment on the run is one from the view of the files at the start
+-- a stop of a run that began with the files as they were
+abbrev pub RunsAfresh : State → List Line → Files → Sent → Type 0
+RunsAfresh s lines image printed = Adds s.printed printed (λ sent. Runs (latest (recovered_views s) ∷ []) lines (recovered_view image ∷ []) sent Stopped)
+
+-- no names were synced, or from their sync on the run is one that began with the files as they were
 abbrev pub IsSyncedBy : {M : Type 0} → (M → ℕ) → (M → ℕ → Files → Sent → Type 0) → (M → State) → M → M → List Line → Type 0
 IsSyncedBy clock since state old new lines =
-    (views (state new) ≡ views (state old)) ⊎ ((t : ℕ) × (clock old ≤ t) × (t ≤ clock new) × ((image : Files) (printed : Sent) → since new t image printed
-    → Adds (state old).printed printed (λ sent. Runs (latest (views (state old)) ∷ []) lines (view image ∷ []) sent Stopped)))
+    EachSince clock since old new (IsUnsynced (state old) lines)
+    ⊎ FromSync clock since state old new (IsUnsynced (state old) lines) (RunsAfresh (state old) lines)

@@ -1,9 +1,13 @@
 -- A run in the words of the reference: its replies, the views between them, and how many of them are acknowledged.
-use Rattle.std.specs.Prelude.{◌≡◌, ◌≢◌, ◌⊎◌, ℕ, ◌+◌, ◌≤◌, ◌<◌, ◌||◌, Bool, true, false, List, [], ◌∷◌, ◌++◌, length, take}
+use Rattle.std.specs.Prelude.{◌≡◌, ◌≢◌, ◌⊎◌, ℕ, ◌+◌, ◌≤◌, ◌<◌, ◌||◌, Bool, true, false, List, [], ◌∷◌, ◌++◌, length, take, Result, Ok, Err}
 use Rattle.boot_machine.specs.Disk.{Files, IsIn}
+use Rattle.boot_machine.specs.Rows.{tagged}
 use Rattle.boot_machine.specs.Sent.{Sent, IsPrefix, latest}
+use Rattle.boot_machine.specs.declared.machine.Channel.TheVariants.{Err as ErrChannel}
 use Rattle.command_plans.specs.Answers.{is_refusal}
-use Rattle.command_plans.specs.Deeds.{End, Stopped, Finished, NoMemory, DiskFails}
+use Rattle.command_plans.specs.Deeds.{End, Stopped, Finished, NoMemory, DiskFails, PipeFails, Stays}
+use Rattle.tool_words.specs.declared.fault.UsageReason.{UsageReason}
+use Rattle.boot_run.specs.Asked.{usage_line}
 use Rattle.boot_run.specs.Lines.{line_deed, is_unread}
 use Rattle.boot_run.specs.declared.line.Line.{Line}
 
@@ -32,10 +36,19 @@ abbrev pub AllUnread : List Line → Type 0
 AllUnread [] = Unit {0}
 AllUnread (line ∷ lines) = (is_unread line ≡ true) × AllUnread lines
 
--- the state is the same, or a stop left one of its views
-abbrev pub Keeps : List Files → List Files → End → Type 0
-Keeps old new Stopped = (view : Files) × (new ≡ view ∷ []) × IsIn view old
-Keeps old new end = new ≡ old
+-- no more is printed than the replies to leading lines that are no command
+pub record PrintsUnread (view : Files) (lines : List Line) (sent : Sent) : Type 0 where
+  pub leading : ℕ
+  pub unread : AllUnread (take leading lines)
+  pub front : IsPrefix sent (joined (replies view (take leading lines)))
+
+-- the state is the same, also where the run came to its end, or a stop left one of its views
+abbrev pub KeepsViews : List Files → List Files → End → Type 0
+KeepsViews old new Finished = new ≡ old
+KeepsViews old new Stopped = Stays old new Stopped
+KeepsViews old new NoMemory = Stays old new NoMemory
+KeepsViews old new DiskFails = Stays old new DiskFails
+KeepsViews old new PipeFails = Stays old new PipeFails
 
 -- Early: no more is printed than replies to leading lines that are no command, and the state is that of the start.
 pub record Early (old : List Files) (lines : List Line) (new : List Files) (sent : Sent) (end : End) (k : ℕ) : Type 0 where
@@ -43,7 +56,7 @@ pub record Early (old : List Files) (lines : List Line) (new : List Files) (sent
   pub unread : AllUnread (take leading lines)
   pub enough : k ≤ leading
   pub front : IsPrefix sent (joined (take leading (replies (latest old) lines)))
-  pub kept : Keeps old new end
+  pub kept : KeepsViews old new end
 
 -- Late: each view is S(k) or S(k+1), and S(k) where k = n. After a status other than 3 they are equal, after 5 they are S(k).
 pub record Late (old : List Files) (lines : List Line) (new : List Files) (end : End) (k : ℕ) : Type 0 where
@@ -58,7 +71,25 @@ pub record Step (old : List Files) (lines : List Line) (new : List Files) (sent 
   pub front : IsPrefix sent (joined (replies (latest old) lines))
   pub finished : end ≡ Finished → sent ≡ joined (replies (latest old) lines)
   pub no_memory : end ≡ NoMemory → sent ≡ joined (take acked (replies (latest old) lines))
+  pub disk : end ≡ DiskFails → sent ≡ joined (take acked (replies (latest old) lines))
   pub case : Early old lines new sent end acked ⊎ Late old lines new end acked
+
+-- Words that are no command: a part of this line is printed, and the state stays.
+pub record UsageStep (old : List Files) (line : Sent) (new : List Files) (sent : Sent) (end : End) : Type 0 where
+  pub front : IsPrefix sent line
+  pub finished : end ≡ Finished → sent ≡ line
+  pub no_memory : end ≡ NoMemory → sent ≡ []
+  pub kept : KeepsViews old new end
+
+-- a step by what the words ask for
+abbrev pub StepBy : List Files → Result (List Line) UsageReason → List Files → Sent → End → Type 0
+StepBy old (Ok lines) new sent end = Step old lines new sent end
+StepBy old (Err reason) new sent end = UsageStep old (tagged ErrChannel (usage_line reason)) new sent end
+
+-- A run whose words ask for this leads from one state to the next, in which some view is left.
+pub record Leads (old : List Files) (asks : Result (List Line) UsageReason) (new : List Files) (sent : Sent) (end : End) : Type 0 where
+  pub some : new ≢ []
+  pub step : StepBy old asks new sent end
 
 -- no reply is empty
 abbrev pub NoneEmpty : Files → List Line → Type 0

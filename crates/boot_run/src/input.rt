@@ -18,9 +18,12 @@ const PIECE: usize = 4_096;
 
 /// Standard input to its end, or one byte more than a script may have. No more is taken.
 pub fn read_all<M: Machine>(alloc: Global, machine: &mut M) -> Result<Vec<u8>, Stop>
-    ensures bytes { IfOk result (λ bytes. IsTrue M.tells → bytes.items ≡ take (script_limit + 1) (M.state machine.old).input) }
-    ensures rest { OnOk result (IsTrue M.tells → (M.state machine.new).input ≡ drop (script_limit + 1) (M.state machine.old).input) }
-    ensures taken { IsTrue M.tells → (k : ℕ) × (k ≤ script_limit + 1) × ((M.state machine.new).input ≡ drop k (M.state machine.old).input) }
+    ensures bytes { IfOk result (λ bytes. IsTrue M.tells
+        → bytes.items ≡ take (script_limit + 1) (M.state machine.old).input) }
+    ensures rest { OnOk result (IsTrue M.tells
+        → (M.state machine.new).input ≡ drop (script_limit + 1) (M.state machine.old).input) }
+    ensures taken { IsTrue M.tells
+        → (k : ℕ) × (k ≤ script_limit + 1) × ((M.state machine.new).input ≡ drop k (M.state machine.old).input) }
     ensures same { IsTrue M.tells → SameButInput (M.state machine.old) (M.state machine.new) }
     ensures moments { IsTrue M.tells → EachSince M.clock M.since machine.old machine.new
         (λ m o. IsImage (M.state machine.old) m × (o ≡ (M.state machine.old).printed)) }

@@ -5,6 +5,7 @@ mod ended;
 mod input;
 mod line;
 mod lines;
+mod recovery;
 mod script;
 mod top;
 

@@ -1,4 +1,6 @@
 //! What a run does, one after the other.
+ghost use Rattle.std.specs.Prelude.{◌≡◌};
+ghost use Rattle.boot_run.specs.Lines.{is_unread};
 
 use tool_words::Command;
 
@@ -13,4 +15,16 @@ pub enum Line {
     Unread(u64),
     /// A script that is too long, which is refused whole.
     TooLong,
+}
+
+impl Line {
+    /// Whether this is no command.
+    pub fn is_unread(&self) -> bool
+        ensures { result ≡ is_unread self.now }
+    {
+        match self {
+            Line::Plain(_) | Line::Numbered(..) => false,
+            Line::Unread(_) | Line::TooLong => true,
+        }
+    }
 }

@@ -1,21 +1,24 @@
 //! A run over a list of lines.
-ghost use Rattle.std.specs.Prelude.{◌≡◌, ◌||◌, ◌++◌, [], ◌∷◌, IfOk, OnOk, OnErr, ℕ, take, IsTrue};
+ghost use Rattle.std.specs.Prelude.{◌≡◌, ◌||◌, true, false, not, IfOk, OnOk, OnErr, ℕ, take, IsTrue};
 ghost use Rattle.boot_base.specs.Refusals.{line_of};
 ghost use Rattle.boot_machine.specs.Counts.{CountsPipe};
+ghost use Rattle.boot_machine.specs.Disk.{IsRested};
 ghost use Rattle.boot_machine.specs.Images.{IsFirm};
 ghost use Rattle.boot_machine.specs.Moments.{EachSince};
 ghost use Rattle.boot_machine.specs.Rows.{tagged, with_printed};
-ghost use Rattle.boot_machine.specs.Sent.{PrintsPart, seen, views};
-ghost use Rattle.boot_machine.specs.declared.machine.Channel.TheVariants.{Out};
+ghost use Rattle.boot_machine.specs.Sent.{PrintsPart, recovered_now, seen};
+ghost use Rattle.boot_machine.specs.declared.machine.Channel.TheVariants.{Err, Out};
 ghost use Rattle.command_plans.specs.Answers.{is_refusal};
 ghost use Rattle.boot_commands.specs.Commands.{Tidied, deed_of};
-ghost use Rattle.command_plans.specs.Performs.{CountsStop, LeavesNoTemp, Performs, Syncs, end_of};
-ghost use Rattle.boot_run.specs.Endings.{AllTidied};
-ghost use Rattle.boot_run.specs.Lines.{Prints, TidiedBy, acknowledged, acknowledgement, acknowledgement_in, line_deed, no_command_text, too_long_text, unread};
-ghost use Rattle.boot_run.specs.RunsTo.{IsSyncedBy, RunsTo};
+ghost use Rattle.command_plans.specs.Performs.{CountsStop, LeavesNoTemp, LeavesRested, Performs, end_of};
+ghost use Rattle.boot_run.specs.Endings.{AllTidied, ended_by};
+ghost use Rattle.boot_run.specs.Lines.{Prints, TidiedBy, acknowledged, acknowledgement, acknowledgement_in, has_command, is_unread, line_deed, no_command_text, too_long_text, unread};
+ghost use Rattle.boot_run.specs.RunBy.{CleanBehind};
+ghost use Rattle.boot_run.specs.RunsTo.{IsSyncedBy, OnlyPrints, PerformsBehind, RunsTo, SyncsFirst, WherePrinted};
 
 use crate::input::SCRIPT_LIMIT;
 use crate::line::Line;
+use crate::recovery::recovered;
 use boot_base::{Bytes, Refusal, Text};
 use boot_commands::plain_step;
 use boot_machine::{Channel, Machine, PipeFault, print_all};
@@ -33,7 +36,8 @@ struct Acknowledgements {
 impl Acknowledgements {
     // Both lines of a script's line of that number.
     fn of(alloc: Global, number: u64) -> Result<Acknowledgements, AllocError>
-        ensures { IfOk result (λ texts. (outcome : Outcome) → acknowledgement_in texts outcome ≡ acknowledgement outcome number) }
+        ensures { IfOk result (λ texts. (outcome : Outcome)
+            → acknowledgement_in texts outcome ≡ acknowledgement outcome number) }
     {
         let ok = format!(in alloc; "ok {number}\n")?;
         let refused = format!(in alloc; "refused {number}\n")?;
@@ -50,9 +54,14 @@ fn acknowledge<M: Machine>(
     texts: &Acknowledgements,
     machine: &mut M,
 ) -> Result<(), PipeFault>
-    ensures done { OnOk result (IsTrue M.tells → M.state machine.new ≡ with_printed Out (acknowledgement_in texts.now outcome) (M.state machine.old)) }
-    ensures part { OnErr result (IsTrue M.tells → (k : ℕ) × (M.state machine.new ≡ with_printed Out (take k (acknowledgement_in texts.now outcome)) (M.state machine.old))) }
-    ensures moments { IsTrue M.tells → EachSince M.clock M.since machine.old machine.new (PrintsPart (M.state machine.old) (tagged Out (acknowledgement_in texts.now outcome))) }
+    ensures done { OnOk result (IsTrue M.tells
+        → M.state machine.new ≡ with_printed Out (acknowledgement_in texts.now outcome) (M.state machine.old)) }
+    ensures part { OnErr result (IsTrue M.tells
+        → (k : ℕ) × (M.state machine.new
+        ≡ with_printed Out (take k (acknowledgement_in texts.now outcome)) (M.state machine.old))) }
+    ensures moments { IsTrue M.tells
+        → EachSince M.clock M.since machine.old machine.new
+        (PrintsPart (M.state machine.old) (tagged Out (acknowledgement_in texts.now outcome))) }
     ensures stays { IsTrue M.tells → Prints (M.state machine.old) (M.state machine.new) }
     ensures counts { CountsPipe result (M.counts machine.old) (M.counts machine.new) }
 {
@@ -64,8 +73,11 @@ fn acknowledge<M: Machine>(
 
 // Prints the refusal of what is no command.
 fn refuse_unread<M: Machine>(number: u8, text: &Bytes, machine: &mut M) -> Result<Outcome, Stop>
-    ensures performs { IsTrue M.tells → IsFirm (M.state machine.old) → Performs M.clock M.since M.state end_of machine.old machine.new
-        (unread number text.now (seen (M.state machine.old))) result }
+    ensures performs { IsTrue M.tells → IsFirm (M.state machine.old)
+        → Performs M.clock M.since M.state end_of machine.old machine.new
+        (unread number text.now (recovered_now (M.state machine.old))) result }
+    ensures moments { IsTrue M.tells → EachSince M.clock M.since machine.old machine.new
+        (PrintsPart (M.state machine.old) (tagged Err text.now)) }
     ensures stays { IsTrue M.tells → Prints (M.state machine.old) (M.state machine.new) }
     ensures counts { CountsStop result (M.counts machine.old) (M.counts machine.new) }
 {
@@ -80,12 +92,14 @@ fn numbered<M: Machine>(
     command: &Command,
     machine: &mut M,
 ) -> Result<Outcome, Stop>
-    ensures performs { IsTrue M.tells → IsFirm (M.state machine.old) → Performs M.clock M.since M.state end_of machine.old machine.new
+    requires rested { IsTrue M.tells → IsRested (M.state machine.old) }
+    ensures performs { IsTrue M.tells → IsFirm (M.state machine.old)
+        → Performs M.clock M.since M.state end_of machine.old machine.new
         (acknowledged number (deed_of (seen (M.state machine.old)) command.now)) result }
-    ensures syncs { IsTrue M.tells → IsFirm (M.state machine.old) → Syncs M.clock M.since M.state machine.old machine.new
-        (acknowledged number (deed_of (seen (M.state machine.old)) command.now)) result }
-    ensures tidies { OnOk result (IsTrue M.tells → Tidied command.now (M.state machine.new).files) }
+    ensures tidies { IsTrue M.tells → WherePrinted result (M.state machine.old) (M.state machine.new)
+        (Tidied command.now (M.state machine.new).files) }
     ensures input { IsTrue M.tells → (M.state machine.new).input ≡ (M.state machine.old).input }
+    ensures rests { IsTrue M.tells → LeavesRested result (M.state machine.new) }
     ensures temps { IsTrue M.tells → LeavesNoTemp result (M.state machine.old) (M.state machine.new) }
     ensures counts { CountsStop result (M.counts machine.old) (M.counts machine.new) }
 {
@@ -103,8 +117,13 @@ fn no_command(alloc: Global, number: u64) -> Result<Bytes, AllocError>
 
 // A line of a script that is no command.
 fn unread_line<M: Machine>(alloc: Global, number: u64, machine: &mut M) -> Result<Outcome, Stop>
-    ensures performs { IsTrue M.tells → IsFirm (M.state machine.old) → Performs M.clock M.since M.state end_of machine.old machine.new
-        (acknowledged number (unread 17 (no_command_text number) (seen (M.state machine.old)))) result }
+    ensures performs { IsTrue M.tells → IsFirm (M.state machine.old)
+        → Performs M.clock M.since M.state end_of machine.old machine.new
+        (acknowledged number (unread 17 (no_command_text number) (recovered_now (M.state machine.old)))) result }
+    ensures moments { IsTrue M.tells → IsFirm (M.state machine.old)
+        → EachSince M.clock M.since machine.old machine.new
+        (PrintsPart (M.state machine.old)
+        (acknowledged number (unread 17 (no_command_text number) (recovered_now (M.state machine.old)))).sent) }
     ensures stays { IsTrue M.tells → Prints (M.state machine.old) (M.state machine.new) }
     ensures counts { CountsStop result (M.counts machine.old) (M.counts machine.new) }
 {
@@ -125,8 +144,11 @@ fn too_long_refusal(alloc: Global) -> Result<Bytes, AllocError>
 
 // A script that is too long.
 fn too_long<M: Machine>(alloc: Global, machine: &mut M) -> Result<Outcome, Stop>
-    ensures performs { IsTrue M.tells → IsFirm (M.state machine.old) → Performs M.clock M.since M.state end_of machine.old machine.new
-        (unread 3 too_long_text (seen (M.state machine.old))) result }
+    ensures performs { IsTrue M.tells → IsFirm (M.state machine.old)
+        → Performs M.clock M.since M.state end_of machine.old machine.new
+        (unread 3 too_long_text (recovered_now (M.state machine.old))) result }
+    ensures moments { IsTrue M.tells → EachSince M.clock M.since machine.old machine.new
+        (PrintsPart (M.state machine.old) (tagged Err too_long_text)) }
     ensures stays { IsTrue M.tells → Prints (M.state machine.old) (M.state machine.new) }
     ensures counts { CountsStop result (M.counts machine.old) (M.counts machine.new) }
 {
@@ -134,14 +156,19 @@ fn too_long<M: Machine>(alloc: Global, machine: &mut M) -> Result<Outcome, Stop>
     refuse_unread(3, &text, machine)
 }
 
-// One line.
+// One line. A command asks for a machine that is rested.
 fn run_line<M: Machine>(alloc: Global, line: &Line, machine: &mut M) -> Result<Outcome, Stop>
-    ensures performs { IsTrue M.tells → IsFirm (M.state machine.old) → Performs M.clock M.since M.state end_of machine.old machine.new
-        (line_deed (seen (M.state machine.old)) line.now) result }
-    ensures syncs { IsTrue M.tells → IsFirm (M.state machine.old) → Syncs M.clock M.since M.state machine.old machine.new
-        (line_deed (seen (M.state machine.old)) line.now) result }
-    ensures tidies { OnOk result (IsTrue M.tells → TidiedBy (M.state machine.new).files line.now) }
+    requires rested { IsTrue M.tells → is_unread line.now ≡ false → IsRested (M.state machine.old) }
+    ensures performs { IsTrue M.tells → IsFirm (M.state machine.old)
+        → Performs M.clock M.since M.state end_of machine.old machine.new
+        (line_deed (recovered_now (M.state machine.old)) line.now) result }
+    ensures only_prints { IsTrue M.tells → IsFirm (M.state machine.old) → is_unread line.now ≡ true
+        → OnlyPrints M.clock M.since M.state machine.old machine.new
+        (line_deed (recovered_now (M.state machine.old)) line.now).sent }
+    ensures tidies { IsTrue M.tells → WherePrinted result (M.state machine.old) (M.state machine.new)
+        (TidiedBy (M.state machine.new).files line.now) }
     ensures input { IsTrue M.tells → (M.state machine.new).input ≡ (M.state machine.old).input }
+    ensures rests { IsTrue M.tells → IsRested (M.state machine.old) → LeavesRested result (M.state machine.new) }
     ensures temps { IsTrue M.tells → LeavesNoTemp result (M.state machine.old) (M.state machine.new) }
     ensures counts { CountsStop result (M.counts machine.old) (M.counts machine.new) }
 {
@@ -151,6 +178,66 @@ fn run_line<M: Machine>(alloc: Global, line: &Line, machine: &mut M) -> Result<O
         Line::Unread(number) => unread_line(alloc, *number, machine),
         Line::TooLong => too_long(alloc, machine),
     }
+}
+
+// The first command of a run: what a stop has left is finished before its reads.
+fn first_command<M: Machine>(alloc: Global, line: &Line, machine: &mut M) -> Result<Outcome, Stop>
+    requires command { is_unread line.now ≡ false }
+    ensures performs { IsTrue M.tells → IsFirm (M.state machine.old)
+        → PerformsBehind M.clock M.since M.state machine.old machine.new
+        (line_deed (recovered_now (M.state machine.old)) line.now) result }
+    ensures syncs { IsTrue M.tells → IsFirm (M.state machine.old)
+        → SyncsFirst M.clock M.since M.state machine.old machine.new
+        (line_deed (recovered_now (M.state machine.old)) line.now) result }
+    ensures tidies { IsTrue M.tells → WherePrinted result (M.state machine.old) (M.state machine.new)
+        (TidiedBy (M.state machine.new).files line.now) }
+    ensures input { IsTrue M.tells → (M.state machine.new).input ≡ (M.state machine.old).input }
+    ensures rests { IsTrue M.tells → WherePrinted result (M.state machine.old) (M.state machine.new)
+        (IsRested (M.state machine.new)) }
+    ensures temps { IsTrue M.tells → LeavesNoTemp result (M.state machine.old) (M.state machine.new) }
+    ensures counts { CountsStop result (M.counts machine.old) (M.counts machine.new) }
+{
+    recovered(alloc, machine)?;
+    run_line(alloc, line, machine)
+}
+
+// The next line of a run, in which a command was done or was not.
+fn next_line<M: Machine>(
+    alloc: Global,
+    line: &Line,
+    rested: bool,
+    machine: &mut M,
+) -> Result<Outcome, Stop>
+    requires rested { IsTrue M.tells → rested ≡ true → IsRested (M.state machine.old) }
+    ensures performs { IsTrue M.tells → IsFirm (M.state machine.old)
+        → PerformsBehind M.clock M.since M.state machine.old machine.new
+        (line_deed (recovered_now (M.state machine.old)) line.now) result }
+    ensures only_prints { IsTrue M.tells → IsFirm (M.state machine.old) → is_unread line.now ≡ true
+        → OnlyPrints M.clock M.since M.state machine.old machine.new
+        (line_deed (recovered_now (M.state machine.old)) line.now).sent }
+    ensures syncs { IsTrue M.tells → IsFirm (M.state machine.old) → rested ≡ false → is_unread line.now ≡ false
+        → SyncsFirst M.clock M.since M.state machine.old machine.new
+        (line_deed (recovered_now (M.state machine.old)) line.now) result }
+    ensures tidies { IsTrue M.tells → WherePrinted result (M.state machine.old) (M.state machine.new)
+        (TidiedBy (M.state machine.new).files line.now) }
+    ensures input { IsTrue M.tells → (M.state machine.new).input ≡ (M.state machine.old).input }
+    ensures rests { IsTrue M.tells → WherePrinted result (M.state machine.old) (M.state machine.new)
+        ((rested || not (is_unread line.now)) ≡ true → IsRested (M.state machine.new)) }
+    ensures still { IsTrue M.tells → rested ≡ true → LeavesRested result (M.state machine.new) }
+    ensures temps { IsTrue M.tells → LeavesNoTemp result (M.state machine.old) (M.state machine.new) }
+    ensures counts { CountsStop result (M.counts machine.old) (M.counts machine.new) }
+{
+    if rested || line.is_unread() {
+        return run_line(alloc, line, machine);
+    }
+    first_command(alloc, line, machine)
+}
+
+// Whether some line was a command, this one too.
+fn is_begun(begun: bool, line: &Line) -> bool
+    ensures { result ≡ (begun || not (is_unread line.now)) }
+{
+    begun || !line.is_unread()
 }
 
 // Whether some reply is a refusal, this outcome's too.
@@ -164,18 +251,25 @@ fn some_refused(refused: bool, outcome: Outcome) -> bool
 }
 
 /// All lines, one after the other: whether some reply is a refusal. A refused line doesn't end the run; a
-/// fault of the machine and want of memory do.
+/// fault of the machine and want of memory do. Before the first command what a stop has left is finished.
 pub fn run_lines<M: Machine>(alloc: Global, lines: &[Line], machine: &mut M) -> Result<bool, Stop>
-    ensures runs { IsTrue M.tells → IsFirm (M.state machine.old) → RunsTo M.clock M.since M.state machine.old machine.new lines.now result }
-    ensures synced { IsTrue M.tells → IsFirm (M.state machine.old) → IsSyncedBy M.clock M.since M.state machine.old machine.new lines.now }
+    ensures runs { IsTrue M.tells → IsFirm (M.state machine.old)
+        → RunsTo M.clock M.since M.state machine.old machine.new lines.now result }
+    ensures synced { IsTrue M.tells → IsFirm (M.state machine.old)
+        → IsSyncedBy M.clock M.since M.state machine.old machine.new lines.now }
     ensures tidies { OnOk result (IsTrue M.tells → AllTidied lines.now (M.state machine.new)) }
     ensures input { IsTrue M.tells → (M.state machine.new).input ≡ (M.state machine.old).input }
+    ensures rests { OnOk result (IsTrue M.tells → has_command lines.now ≡ true → IsRested (M.state machine.new)) }
+    ensures behind { IsTrue M.tells → IsFirm (M.state machine.old)
+        → CleanBehind (M.state machine.old) (M.state machine.new) lines.now (ended_by result) }
     ensures temps { IsTrue M.tells → LeavesNoTemp result (M.state machine.old) (M.state machine.new) }
     ensures counts { CountsStop result (M.counts machine.old) (M.counts machine.new) }
 {
     let mut refused = false;
+    let mut rested = false;
     for line in lines {
-        let outcome = run_line(alloc, line, machine)?;
+        let outcome = next_line(alloc, line, rested, machine)?;
+        rested = is_begun(rested, line);
         refused = some_refused(refused, outcome);
     }
     Ok(refused)

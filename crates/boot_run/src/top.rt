@@ -1,21 +1,22 @@
 //! The top call.
-ghost use Rattle.std.specs.Prelude.{◌≡◌, ◌⊎◌, ◌≤◌, ◌++◌, ℕ, List, IfOk, IsErrOf, IsTrue, OnOk, Ok, Err, drop, take, ◌+◌, map, string_bytes};
-ghost use Rattle.boot_machine.specs.Disk.{Files, State, view};
+ghost use Rattle.std.specs.Prelude.{◌≡◌, ◌≤◌, ◌++◌, true, ℕ, List, [], ◌∷◌, IfOk, IsErrOf, IsTrue, OnOk, Ok, Err, drop, take, ◌+◌, map, string_bytes};
+ghost use Rattle.boot_machine.specs.Disk.{IsRested, State, recovered_view};
 ghost use Rattle.boot_machine.specs.Images.{IsImage, IsFirm, IsSettled};
 ghost use Rattle.boot_machine.specs.Moments.{EachSince};
 ghost use Rattle.boot_machine.specs.Rows.{tagged};
-ghost use Rattle.boot_machine.specs.Sent.{Adds, SameButInput, Sent, seen, views};
+ghost use Rattle.boot_machine.specs.Sent.{Adds, SameButInput, recovered_now, recovered_views};
 ghost use Rattle.boot_machine.specs.declared.machine.Channel.TheVariants.{Err as ErrChannel};
 ghost use Rattle.install_steps.specs.Steps.{NoNewTemp};
+ghost use Rattle.command_plans.specs.Deeds.{Stopped};
 ghost use Rattle.command_plans.specs.Performs.{CountsStop, LeavesNoTemp};
 ghost use Rattle.tool_words.specs.Meaning.{meaning};
 ghost use Rattle.tool_words.specs.declared.fault.UsageReason.{UsageReason};
-ghost use Rattle.boot_run.specs.Asked.{asked, lines_for, lines_in, usage_line};
+ghost use Rattle.boot_run.specs.Asked.{asked_of, lines_for, lines_in, usage_line};
 ghost use Rattle.boot_run.specs.Endings.{AllTidied, AnswersRefusals, AnswersUsage, AtEnd, FitsWords, HasCause, TakesInput, UnlessDisk, end_at, ended_by, ended_of, status_of};
-ghost use Rattle.boot_run.specs.Lines.{script_limit};
-ghost use Rattle.boot_run.specs.RunBy.{AllPrinted, RunsBy, RunsUsage};
+ghost use Rattle.boot_run.specs.Lines.{has_command, script_limit};
+ghost use Rattle.boot_run.specs.RunBy.{AllPrinted, CleanBehind, LeavesFromSync, RunsBy, RunsUsage};
 ghost use Rattle.boot_run.specs.RunsTo.{IsSyncedBy, RunsTo};
-ghost use Rattle.boot_run.specs.Step.{Leaves, SeesBegun, Step, StopsIn, some_refused};
+ghost use Rattle.boot_run.specs.Step.{Leads, Leaves, SeesBegun, some_refused};
 ghost use Rattle.boot_run.specs.declared.line.Line.{Line};
 
 use crate::ended::Ended;
@@ -31,9 +32,12 @@ use tool_words::{Command, UsageReason, WordsFault};
 
 /// The lines of a script, taken from standard input.
 fn read_script<M: Machine>(alloc: Global, machine: &mut M) -> Result<Vec<Line>, Stop>
-    ensures lines { IfOk result (λ lines. IsTrue M.tells → lines.items ≡ lines_in (take (script_limit + 1) (M.state machine.old).input)) }
-    ensures rest { OnOk result (IsTrue M.tells → (M.state machine.new).input ≡ drop (script_limit + 1) (M.state machine.old).input) }
-    ensures taken { IsTrue M.tells → (k : ℕ) × (k ≤ script_limit + 1) × ((M.state machine.new).input ≡ drop k (M.state machine.old).input) }
+    ensures lines { IfOk result (λ lines. IsTrue M.tells
+        → lines.items ≡ lines_in (take (script_limit + 1) (M.state machine.old).input)) }
+    ensures rest { OnOk result (IsTrue M.tells
+        → (M.state machine.new).input ≡ drop (script_limit + 1) (M.state machine.old).input) }
+    ensures taken { IsTrue M.tells
+        → (k : ℕ) × (k ≤ script_limit + 1) × ((M.state machine.new).input ≡ drop k (M.state machine.old).input) }
     ensures same { IsTrue M.tells → SameButInput (M.state machine.old) (M.state machine.new) }
     ensures moments { IsTrue M.tells → EachSince M.clock M.since machine.old machine.new
         (λ m o. IsImage (M.state machine.old) m × (o ≡ (M.state machine.old).printed)) }
@@ -46,12 +50,21 @@ fn read_script<M: Machine>(alloc: Global, machine: &mut M) -> Result<Vec<Line>, 
 
 // What a command comes to: its own line, or those of the script.
 fn run_command<M: Machine>(alloc: Global, command: Command, machine: &mut M) -> Result<bool, Stop>
-    ensures runs { IsTrue M.tells → IsFirm (M.state machine.old) → RunsTo M.clock M.since M.state machine.old machine.new
+    ensures runs { IsTrue M.tells → IsFirm (M.state machine.old)
+        → RunsTo M.clock M.since M.state machine.old machine.new
         (lines_for (M.state machine.old).input command) result }
-    ensures synced { IsTrue M.tells → IsFirm (M.state machine.old) → IsSyncedBy M.clock M.since M.state machine.old machine.new
+    ensures synced { IsTrue M.tells → IsFirm (M.state machine.old)
+        → IsSyncedBy M.clock M.since M.state machine.old machine.new
         (lines_for (M.state machine.old).input command) }
-    ensures tidies { OnOk result (IsTrue M.tells → AllTidied (lines_for (M.state machine.old).input command) (M.state machine.new)) }
-    ensures input { IsTrue M.tells → TakesInput (Ok command) (ended_by result) (M.state machine.old).input (M.state machine.new).input }
+    ensures tidies { OnOk result (IsTrue M.tells
+        → AllTidied (lines_for (M.state machine.old).input command) (M.state machine.new)) }
+    ensures rests { OnOk result (IsTrue M.tells → has_command (lines_for (M.state machine.old).input command) ≡ true
+        → IsRested (M.state machine.new)) }
+    ensures behind { IsTrue M.tells → IsFirm (M.state machine.old)
+        → CleanBehind (M.state machine.old) (M.state machine.new)
+        (lines_for (M.state machine.old).input command) (ended_by result) }
+    ensures input { IsTrue M.tells
+        → TakesInput (Ok command) (ended_by result) (M.state machine.old).input (M.state machine.new).input }
     ensures temps { IsTrue M.tells → LeavesNoTemp result (M.state machine.old) (M.state machine.new) }
     ensures counts { CountsStop result (M.counts machine.old) (M.counts machine.new) }
 {
@@ -71,7 +84,8 @@ fn usage_line(alloc: Global, reason: &UsageReason) -> Result<Text, AllocError>
 // Prints the line for words that are no command.
 fn print_usage<M: Machine>(alloc: Global, reason: &UsageReason, machine: &mut M) -> Ended
     ensures status { AnswersUsage result }
-    ensures runs { IsTrue M.tells → RunsUsage M.clock M.since M.state machine.old machine.new (tagged ErrChannel (usage_line reason.now)) result }
+    ensures runs { IsTrue M.tells
+        → RunsUsage M.clock M.since M.state machine.old machine.new (tagged ErrChannel (usage_line reason.now)) result }
     ensures causes { HasCause result (M.counts machine.old) (M.counts machine.new) }
 {
     let Ok(line) = usage_line(alloc, reason) else {
@@ -87,10 +101,19 @@ fn print_usage<M: Machine>(alloc: Global, reason: &UsageReason, machine: &mut M)
 fn run_to_end<M: Machine>(alloc: Global, words: &Vec<String>, machine: &mut M) -> Ended
     ensures fits { FitsWords (meaning (map string_bytes words.now.items)) result }
     ensures runs { IsTrue M.tells → RunsBy M.clock M.since M.state
-        (asked (map string_bytes words.now.items) (M.state machine.old).input) machine.old machine.new result }
-    ensures tidies { IsTrue M.tells → (lines : List Line) → asked (map string_bytes words.now.items) (M.state machine.old).input ≡ Ok lines
+        (asked_of (map string_bytes words.now.items) (M.state machine.old)) machine.old machine.new result }
+    ensures tidies { IsTrue M.tells → (lines : List Line)
+        → asked_of (map string_bytes words.now.items) (M.state machine.old) ≡ Ok lines
         → AtEnd result (AllTidied lines (M.state machine.new)) }
-    ensures input { IsTrue M.tells → TakesInput (meaning (map string_bytes words.now.items)) result (M.state machine.old).input (M.state machine.new).input }
+    ensures rests { IsTrue M.tells → (lines : List Line)
+        → asked_of (map string_bytes words.now.items) (M.state machine.old) ≡ Ok lines
+        → AtEnd result (has_command lines ≡ true → IsRested (M.state machine.new)) }
+    ensures behind { IsTrue M.tells → IsFirm (M.state machine.old)
+        → (lines : List Line) → asked_of (map string_bytes words.now.items) (M.state machine.old) ≡ Ok lines
+        → CleanBehind (M.state machine.old) (M.state machine.new) lines result }
+    ensures input { IsTrue M.tells
+        → TakesInput (meaning (map string_bytes words.now.items)) result
+        (M.state machine.old).input (M.state machine.new).input }
     ensures temps { IsTrue M.tells → UnlessDisk result (NoNewTemp (M.state machine.old) (M.state machine.new)) }
     ensures causes { HasCause result (M.counts machine.old) (M.counts machine.new) }
 {
@@ -108,56 +131,72 @@ fn run_to_end<M: Machine>(alloc: Global, words: &Vec<String>, machine: &mut M) -
 /// - 1: the same, and some reply is a refusal.
 /// - 2: the words are no command. The usage line is printed on Err, and nothing else is changed.
 /// - 3: a disk fault; 4: a fault of input or output; 5: want of memory. Each ends the run at that command.
+///
+/// Before the first line that is a command, a rename that a stop has left half done is finished or undone.
 pub fn run<M: Machine>(alloc: Global, words: &Vec<String>, machine: &mut M) -> u8
     ensures status { result ≡ status_of (ended_of result) }
     // On a settled machine a stop at any moment leaves printed a prefix of the replies, and boot sees the
     // files after the acknowledged commands or one more.
     ensures headline { IsTrue M.tells → IsSettled (M.state machine.old)
-        → (lines : List Line) → asked (map string_bytes words.now.items) (M.state machine.old).input ≡ Ok lines
+        → (lines : List Line) → asked_of (map string_bytes words.now.items) (M.state machine.old) ≡ Ok lines
         → EachSince M.clock M.since machine.old machine.new (λ image printed. Adds (M.state machine.old).printed printed
-        (Leaves (seen (M.state machine.old)) lines (view image))) }
+        (Leaves (recovered_now (M.state machine.old)) lines (recovered_view image))) }
     // No part of a reply is printed before its change.
     ensures after_change { IsTrue M.tells → IsSettled (M.state machine.old)
-        → (lines : List Line) → asked (map string_bytes words.now.items) (M.state machine.old).input ≡ Ok lines
+        → (lines : List Line) → asked_of (map string_bytes words.now.items) (M.state machine.old) ≡ Ok lines
         → EachSince M.clock M.since machine.old machine.new (λ image printed. Adds (M.state machine.old).printed printed
-        (SeesBegun (seen (M.state machine.old)) lines (view image))) }
-    // The same from the first sync of names on, where the machine was only firm.
+        (SeesBegun (recovered_now (M.state machine.old)) lines (recovered_view image))) }
+    // On a machine that is only firm, each moment is one up to the sync of the names, at which a stop leaves what it
+    // would have left at the start and no more is printed than replies to leading lines that are no command, or one
+    // from that sync on, at which all is as on a settled machine.
     ensures from_sync { IsTrue M.tells → IsFirm (M.state machine.old)
-        → (lines : List Line) → asked (map string_bytes words.now.items) (M.state machine.old).input ≡ Ok lines
-        → (views (M.state machine.new) ≡ views (M.state machine.old))
-        ⊎ ((t : ℕ) × (M.clock machine.old ≤ t) × (t ≤ M.clock machine.new) × ((image : Files) (printed : Sent) → M.since machine.new t image printed
-        → Adds (M.state machine.old).printed printed (Leaves (seen (M.state machine.old)) lines (view image)))) }
-    // At its end, and at a stop at any moment, the run is a step of the reference.
-    ensures step { IsTrue M.tells → IsFirm (M.state machine.old)
-        → (lines : List Line) → asked (map string_bytes words.now.items) (M.state machine.old).input ≡ Ok lines
-        → Adds (M.state machine.old).printed (M.state machine.new).printed
-        (λ sent. Step (views (M.state machine.old)) lines (views (M.state machine.new)) sent (end_at (ended_of result))) }
-    ensures moments { IsTrue M.tells → IsFirm (M.state machine.old)
-        → (lines : List Line) → asked (map string_bytes words.now.items) (M.state machine.old).input ≡ Ok lines
+        → (lines : List Line) → asked_of (map string_bytes words.now.items) (M.state machine.old) ≡ Ok lines
+        → LeavesFromSync M.clock M.since M.state machine.old machine.new lines }
+    // Whatever the words, the run leads from the views at its start to those at its end, and a stop at any moment to
+    // one view. These are the steps of a history.
+    ensures leads { IsTrue M.tells → IsFirm (M.state machine.old)
+        → Adds (M.state machine.old).printed (M.state machine.new).printed (λ sent. Leads
+        (recovered_views (M.state machine.old)) (asked_of (map string_bytes words.now.items) (M.state machine.old))
+        (recovered_views (M.state machine.new)) sent (end_at (ended_of result))) }
+    ensures stops { IsTrue M.tells → IsFirm (M.state machine.old)
         → EachSince M.clock M.since machine.old machine.new (λ image printed. Adds (M.state machine.old).printed printed
-        (StopsIn (views (M.state machine.old)) lines (view image))) }
+        (λ sent. Leads (recovered_views (M.state machine.old))
+        (asked_of (map string_bytes words.now.items) (M.state machine.old)) (recovered_view image ∷ []) sent Stopped)) }
     // At 0 and 1 all replies are printed, and boot sees the files after all lines.
     ensures finished { IsTrue M.tells → IsFirm (M.state machine.old)
-        → (lines : List Line) → asked (map string_bytes words.now.items) (M.state machine.old).input ≡ Ok lines
+        → (lines : List Line) → asked_of (map string_bytes words.now.items) (M.state machine.old) ≡ Ok lines
         → AtEnd (ended_of result) (AllPrinted (M.state machine.old) (M.state machine.new) lines) }
     // 1 exactly where some reply is a refusal, unless a fault or want of memory ended the run.
     ensures refused { IsTrue M.tells → IsFirm (M.state machine.old)
-        → (lines : List Line) → asked (map string_bytes words.now.items) (M.state machine.old).input ≡ Ok lines
-        → AnswersRefusals (some_refused (seen (M.state machine.old)) lines) (ended_of result) }
+        → (lines : List Line) → asked_of (map string_bytes words.now.items) (M.state machine.old) ≡ Ok lines
+        → AnswersRefusals (some_refused (recovered_now (M.state machine.old)) lines) (ended_of result) }
     // 2 exactly where the words are no command, unless a pipe failed or memory was wanting.
     ensures fits { FitsWords (meaning (map string_bytes words.now.items)) (ended_of result) }
     ensures usage { IsTrue M.tells → (reason : UsageReason) → meaning (map string_bytes words.now.items) ≡ Err reason
-        → RunsUsage M.clock M.since M.state machine.old machine.new (tagged ErrChannel (usage_line reason)) (ended_of result) }
+        → RunsUsage M.clock M.since M.state machine.old machine.new
+        (tagged ErrChannel (usage_line reason)) (ended_of result) }
     // 3 and 4 only where that count rose, and every other status leaves both.
     ensures causes { HasCause (ended_of result) (M.counts machine.old) (M.counts machine.new) }
     ensures firm { IsTrue M.tells → IsFirm (M.state machine.old) → IsFirm (M.state machine.new) }
-    ensures settled { IsTrue M.tells → UnlessDisk (ended_of result) (IsSettled (M.state machine.old) → IsSettled (M.state machine.new)) }
+    ensures settled { IsTrue M.tells
+        → UnlessDisk (ended_of result) (IsSettled (M.state machine.old) → IsSettled (M.state machine.new)) }
     // Standard input is taken only by a script, and never more than one byte past its limit.
-    ensures input { IsTrue M.tells → TakesInput (meaning (map string_bytes words.now.items)) (ended_of result) (M.state machine.old).input (M.state machine.new).input }
+    ensures input { IsTrue M.tells → TakesInput (meaning (map string_bytes words.now.items)) (ended_of result)
+        (M.state machine.old).input (M.state machine.new).input }
     // No temporary file is left that wasn't there, and at 0 and 1 none in a folder that was tidied.
-    ensures temps { IsTrue M.tells → UnlessDisk (ended_of result) (NoNewTemp (M.state machine.old) (M.state machine.new)) }
-    ensures tidied { IsTrue M.tells → (lines : List Line) → asked (map string_bytes words.now.items) (M.state machine.old).input ≡ Ok lines
+    ensures temps { IsTrue M.tells
+        → UnlessDisk (ended_of result) (NoNewTemp (M.state machine.old) (M.state machine.new)) }
+    ensures tidied { IsTrue M.tells
+        → (lines : List Line) → asked_of (map string_bytes words.now.items) (M.state machine.old) ≡ Ok lines
         → AtEnd (ended_of result) (AllTidied lines (M.state machine.new)) }
+    // Where a line was a command, no rename is left half done at 0 and 1.
+    ensures rests { IsTrue M.tells
+        → (lines : List Line) → asked_of (map string_bytes words.now.items) (M.state machine.old) ≡ Ok lines
+        → AtEnd (ended_of result) (has_command lines ≡ true → IsRested (M.state machine.new)) }
+    // At 4 and 5 both hold of the lines that were acknowledged.
+    ensures behind { IsTrue M.tells → IsFirm (M.state machine.old)
+        → (lines : List Line) → asked_of (map string_bytes words.now.items) (M.state machine.old) ≡ Ok lines
+        → CleanBehind (M.state machine.old) (M.state machine.new) lines (ended_of result) }
 {
     run_to_end(alloc, words, machine).status()
 }

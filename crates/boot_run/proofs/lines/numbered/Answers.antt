@@ -1,16 +1,14 @@
-use Rattle.std.proofs.Common.{refl, sym, List, inl, inr, ⊎_elim, ◌≡◌, ℕ, List, take, ◌∙◌, ap, subst, Ok}
+use Rattle.std.proofs.Common.{refl, sym, ◌≡◌, ℕ, List, take, ◌∙◌, ap, subst, Ok}
 use Rattle.boot_machine.specs.Moments.{EachSince}
 use Rattle.boot_machine.specs.Rows.{tagged, with_printed}
 use Rattle.boot_machine.specs.declared.machine.Channel.TheVariants.{Out}
 use Rattle.boot_machine.specs.Sent.{PrintsPart, seen}
 use Rattle.boot_run.specs.Lines.{acknowledgement, acknowledgement_in, acknowledged}
 use Rattle.command_plans.specs.Performs.{Performs, end_of}
-use Rattle.command_plans.proofs.Exits.{on_err, not_ok}
-use Rattle.boot_run.proofs.BehindSync.{behind_late, broken_late}
 use Rattle.boot_run.proofs.Acknowledging.{no_memory_yet, not_behind, behind_failed, behind_done}
 use Rattle.boot_machine.proofs.Seeing.{sees}
 use Rattle.boot_commands.specs.Commands.{Tidied}
-use Rattle.boot_run.proofs.Staying.{files_stay, input_stays, leaves_none, leaves_so, no_more_temps, temps_stay}
+use Rattle.boot_run.proofs.Staying.{files_stay, input_stays, leaves_none, leaves_rested, leaves_so, no_more_temps, rested_so, rested_stays, temps_stay, where_given, where_none, where_so, where_tidied}
 use Rattle.boot_run.proofs.lines.numbered.Goals as goal
 use Rattle.boot_commands.specs.Commands.{deed_of}
 
@@ -50,40 +48,6 @@ returns-clause-performs g c told firm =
     (subst (λ (bytes : List ℕ). EachSince g.M.Machine.clock g.M.Machine.since c.plain_step.new.machine c.acknowledge.new.machine (PrintsPart (g.M.Machine.state c.plain_step.new.machine) (tagged Out bytes))) ack (c.acknowledge.ensures.moments told))
     (subst (λ (bytes : List ℕ). g.M.Machine.state c.acknowledge.new.machine ≡ with_printed Out bytes (g.M.Machine.state c.plain_step.new.machine)) ack (c.in_ok-acknowledge.ensures.done told))
 
-pub returns-in_err-texts-clause-syncs : goal.returns-in_err-texts-clause-syncs
-returns-in_err-texts-clause-syncs g c told firm = record { ok = not_ok c.from_residual.result _ c.from_residual.ensures.0; err = on_err c.from_residual.result _ (inl refl) }
-
-pub returns-in_err-outcome-clause-syncs : goal.returns-in_err-outcome-clause-syncs
-returns-in_err-outcome-clause-syncs g c told firm =
-    let deed = deed_of (seen (g.M.Machine.state c.args.machine.now)) c.args.command.now in
-    let syncs = c.in_err-outcome.ensures.syncs told firm in
-    record {
-      ok = not_ok c.from_residual-in_err-outcome.result _ c.from_residual-in_err-outcome.ensures.0;
-      err = on_err c.from_residual-in_err-outcome.result _ (⊎_elim (λ same. inl same) (λ late. inr (broken_late g.M.Machine.clock g.M.Machine.since g.M.Machine.state c.args.machine.now deed (acknowledgement deed.outcome c.args.number) c.plain_step.new.machine late)) syncs.err);
-    }
-
-pub returns-in_err-acknowledge-clause-syncs : goal.returns-in_err-acknowledge-clause-syncs
-returns-in_err-acknowledge-clause-syncs g c told firm =
-    let old = c.args.machine.now in
-    let deed = deed_of (seen (g.M.Machine.state c.args.machine.now)) c.args.command.now in
-    let performs : Performs g.M.Machine.clock g.M.Machine.since g.M.Machine.state end_of old c.plain_step.new.machine deed (Ok c.in_ok-outcome.outcome) = (c.in_ok-outcome.ensures.performs told firm) in
-    let ack : acknowledgement_in c.in_ok-texts.texts c.in_ok-outcome.outcome ≡ acknowledgement deed.outcome c.args.number = c.in_ok-texts.ensures c.in_ok-outcome.outcome ∙ ap (λ o. acknowledgement o c.args.number) performs.ok.0 in
-    let late = behind_late g.M.Machine.clock g.M.Machine.since g.M.Machine.state old deed (acknowledgement deed.outcome c.args.number) c.plain_step.new.machine c.acknowledge.new.machine c.in_ok-outcome.outcome refl performs ((c.in_ok-outcome.ensures.syncs told firm).ok refl)
-    (λ m image. sees (g.M.Machine.state c.plain_step.new.machine) (g.met.M.Machine.sound c.plain_step.new.machine told) performs.firm m image)
-    (subst (λ (bytes : List ℕ). EachSince g.M.Machine.clock g.M.Machine.since c.plain_step.new.machine c.acknowledge.new.machine (PrintsPart (g.M.Machine.state c.plain_step.new.machine) (tagged Out bytes))) ack (c.acknowledge.ensures.moments told)) in
-    record { ok = not_ok c.from_residual-in_err-acknowledge.result _ c.from_residual-in_err-acknowledge.ensures.0; err = on_err c.from_residual-in_err-acknowledge.result _ (inr late) }
-
-pub returns-clause-syncs : goal.returns-clause-syncs
-returns-clause-syncs g c told firm =
-    let old = c.args.machine.now in
-    let deed = deed_of (seen (g.M.Machine.state c.args.machine.now)) c.args.command.now in
-    let performs : Performs g.M.Machine.clock g.M.Machine.since g.M.Machine.state end_of old c.plain_step.new.machine deed (Ok c.in_ok-outcome.outcome) = (c.in_ok-outcome.ensures.performs told firm) in
-    let ack : acknowledgement_in c.in_ok-texts.texts c.in_ok-outcome.outcome ≡ acknowledgement deed.outcome c.args.number = c.in_ok-texts.ensures c.in_ok-outcome.outcome ∙ ap (λ o. acknowledgement o c.args.number) performs.ok.0 in
-    let late = behind_late g.M.Machine.clock g.M.Machine.since g.M.Machine.state old deed (acknowledgement deed.outcome c.args.number) c.plain_step.new.machine c.acknowledge.new.machine c.in_ok-outcome.outcome refl performs ((c.in_ok-outcome.ensures.syncs told firm).ok refl)
-    (λ m image. sees (g.M.Machine.state c.plain_step.new.machine) (g.met.M.Machine.sound c.plain_step.new.machine told) performs.firm m image)
-    (subst (λ (bytes : List ℕ). EachSince g.M.Machine.clock g.M.Machine.since c.plain_step.new.machine c.acknowledge.new.machine (PrintsPart (g.M.Machine.state c.plain_step.new.machine) (tagged Out bytes))) ack (c.acknowledge.ensures.moments told)) in
-    record { ok = λ settles. late; err = tt }
-
 pub returns-in_err-texts-clause-temps : goal.returns-in_err-texts-clause-temps
 returns-in_err-texts-clause-temps g c told = leaves_none c.from_residual.result (g.M.Machine.state c.args.machine.now) (g.M.Machine.state c.args.machine.now) (λ q temp there. there)
 
@@ -112,3 +76,37 @@ returns-clause-input g c told = input_stays _ _ (c.acknowledge.ensures.stays tol
 pub returns-clause-tidies : goal.returns-clause-tidies
 returns-clause-tidies g c told =
     subst (Tidied c.args.command.now) (sym (files_stay _ _ (c.acknowledge.ensures.stays told))) (c.in_ok-outcome.ensures.tidies told)
+
+pub returns-in_err-texts-clause-rests : goal.returns-in_err-texts-clause-rests
+returns-in_err-texts-clause-rests g c told = leaves_rested c.from_residual.result (g.M.Machine.state c.args.machine.now) (c.requires.rested told)
+
+pub returns-in_err-outcome-clause-rests : goal.returns-in_err-outcome-clause-rests
+returns-in_err-outcome-clause-rests g c told =
+    rested_so c.plain_step.result c.from_residual-in_err-outcome.result c.in_err-outcome.field-0.0 (g.M.Machine.state c.plain_step.new.machine)
+    c.in_err-outcome.was c.from_residual-in_err-outcome.ensures.0 c.from_residual-in_err-outcome.ensures.1 (c.plain_step.ensures.rests told)
+
+pub returns-in_err-acknowledge-clause-rests : goal.returns-in_err-acknowledge-clause-rests
+returns-in_err-acknowledge-clause-rests g c told =
+    let now = g.M.Machine.state c.acknowledge.new.machine in
+    leaves_rested c.from_residual-in_err-acknowledge.result now
+    (rested_stays (g.M.Machine.state c.plain_step.new.machine) now (files_stay _ _ (c.acknowledge.ensures.stays told)) (c.in_ok-outcome.ensures.rests told))
+
+pub returns-clause-rests : goal.returns-clause-rests
+returns-clause-rests g c told =
+    rested_stays (g.M.Machine.state c.plain_step.new.machine) (g.M.Machine.state c.acknowledge.new.machine) (files_stay _ _ (c.acknowledge.ensures.stays told)) (c.in_ok-outcome.ensures.rests told)
+
+pub returns-in_err-texts-clause-tidies : goal.returns-in_err-texts-clause-tidies
+returns-in_err-texts-clause-tidies g c told = where_none c.from_residual.result (g.M.Machine.state c.args.machine.now) (g.M.Machine.state c.args.machine.now) _ c.from_residual.ensures.0 refl
+
+pub returns-in_err-outcome-clause-tidies : goal.returns-in_err-outcome-clause-tidies
+returns-in_err-outcome-clause-tidies g c told =
+    let old = g.M.Machine.state c.args.machine.now in
+    let now = g.M.Machine.state c.plain_step.new.machine in
+    where_given c.plain_step.result c.from_residual-in_err-outcome.result c.in_err-outcome.field-0.0 old now (Tidied c.args.command.now now.files)
+    c.in_err-outcome.was c.from_residual-in_err-outcome.ensures.0 c.from_residual-in_err-outcome.ensures.1 (where_tidied c.plain_step.result c.args.command.now old now (c.plain_step.ensures.tidies told))
+
+pub returns-in_err-acknowledge-clause-tidies : goal.returns-in_err-acknowledge-clause-tidies
+returns-in_err-acknowledge-clause-tidies g c told =
+    let now = g.M.Machine.state c.acknowledge.new.machine in
+    where_so c.from_residual-in_err-acknowledge.result (g.M.Machine.state c.args.machine.now) now (Tidied c.args.command.now now.files)
+    (subst (Tidied c.args.command.now) (sym (files_stay _ _ (c.acknowledge.ensures.stays told))) (c.in_ok-outcome.ensures.tidies told))

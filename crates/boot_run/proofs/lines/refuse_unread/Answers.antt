@@ -30,3 +30,11 @@ returns-in_err-print_all-clause-stays g c = prints_by c.print_all.result (g.M.Ma
 
 pub returns-clause-stays : goal.returns-clause-stays
 returns-clause-stays g c = prints_by c.print_all.result (g.M.Machine.state c.args.machine.now) (g.M.Machine.state c.print_all.new.machine) Err c.as_slice.result.now c.print_all.ensures.done c.print_all.ensures.part
+
+pub returns-in_err-print_all-clause-moments : goal.returns-in_err-print_all-clause-moments
+returns-in_err-print_all-clause-moments g c told =
+    subst (λ (bytes : List ℕ). EachSince g.M.Machine.clock g.M.Machine.since c.args.machine.now c.print_all.new.machine (PrintsPart (g.M.Machine.state c.args.machine.now) (tagged Err bytes))) c.as_slice.ensures (c.print_all.ensures.moments told)
+
+pub returns-clause-moments : goal.returns-clause-moments
+returns-clause-moments g c told =
+    subst (λ (bytes : List ℕ). EachSince g.M.Machine.clock g.M.Machine.since c.args.machine.now c.print_all.new.machine (PrintsPart (g.M.Machine.state c.args.machine.now) (tagged Err bytes))) c.as_slice.ensures (c.print_all.ensures.moments told)

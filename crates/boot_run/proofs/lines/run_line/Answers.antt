@@ -1,22 +1,37 @@
-use Rattle.std.proofs.Common.{refl, sym, ap, subst}
-use Rattle.boot_machine.specs.Sent.{seen, views}
-use Rattle.boot_run.specs.Lines.{line_deed}
-use Rattle.command_plans.specs.Performs.{Performs, Syncs, end_of}
-use Rattle.boot_run.proofs.BehindSync.{syncs_not}
-use Rattle.boot_run.proofs.Staying.{files_stay, input_stays, leaves_none, temps_stay}
+use Rattle.std.proofs.Common.{ap, sym, subst, ◌∙◌}
+use Rattle.boot_machine.specs.Sent.{recovered_now, seen}
+use Rattle.boot_run.specs.Lines.{TidiedBy, is_unread, line_deed}
+use Rattle.boot_run.specs.RunsTo.{OnlyPrints, WherePrinted}
+use Rattle.command_plans.specs.Performs.{Performs, end_of}
+use Rattle.boot_run.proofs.Recovering.{performed_rested}
+use Rattle.boot_run.proofs.Staying.{files_stay, input_stays, leaves_none, leaves_rested, rested_stays, temps_stay, where_so, where_tidied}
 use Rattle.boot_run.proofs.lines.run_line.Goals as goal
 
-pub returns-in-Plain-clause-syncs : goal.returns-in-Plain-clause-syncs
-returns-in-Plain-clause-syncs g c told firm =
-    subst (λ line. Syncs g.M.Machine.clock g.M.Machine.since g.M.Machine.state c.args.machine.now c.plain_step.new.machine (line_deed (seen (g.M.Machine.state c.args.machine.now)) line) c.plain_step.result) (sym c.in-Plain.is) (c.plain_step.ensures.syncs told firm)
-
-pub returns-in-Numbered-clause-syncs : goal.returns-in-Numbered-clause-syncs
-returns-in-Numbered-clause-syncs g c told firm =
-    subst (λ line. Syncs g.M.Machine.clock g.M.Machine.since g.M.Machine.state c.args.machine.now c.numbered.new.machine (line_deed (seen (g.M.Machine.state c.args.machine.now)) line) c.numbered.result) (sym c.in-Numbered.is) (c.numbered.ensures.syncs told firm)
+pub returns-in-Plain-clause-performs : goal.returns-in-Plain-clause-performs
+returns-in-Plain-clause-performs g c told firm =
+    performed_rested g.M.Machine.clock g.M.Machine.since g.M.Machine.state c.args.machine.now c.plain_step.new.machine c.args.line.now c.plain_step.result (c.requires.rested told (ap is_unread c.in-Plain.is))
+    (subst (λ line. Performs g.M.Machine.clock g.M.Machine.since g.M.Machine.state end_of c.args.machine.now c.plain_step.new.machine (line_deed (seen (g.M.Machine.state c.args.machine.now)) line) c.plain_step.result) (sym c.in-Plain.is) (c.plain_step.ensures.performs told firm))
 
 pub returns-in-Numbered-clause-performs : goal.returns-in-Numbered-clause-performs
 returns-in-Numbered-clause-performs g c told firm =
-    subst (λ line. Performs g.M.Machine.clock g.M.Machine.since g.M.Machine.state end_of c.args.machine.now c.numbered.new.machine (line_deed (seen (g.M.Machine.state c.args.machine.now)) line) c.numbered.result) (sym c.in-Numbered.is) (c.numbered.ensures.performs told firm)
+    performed_rested g.M.Machine.clock g.M.Machine.since g.M.Machine.state c.args.machine.now c.numbered.new.machine c.args.line.now c.numbered.result (c.requires.rested told (ap is_unread c.in-Numbered.is))
+    (subst (λ line. Performs g.M.Machine.clock g.M.Machine.since g.M.Machine.state end_of c.args.machine.now c.numbered.new.machine (line_deed (seen (g.M.Machine.state c.args.machine.now)) line) c.numbered.result) (sym c.in-Numbered.is) (c.numbered.ensures.performs told firm))
+
+pub returns-in-Plain-clause-only_prints : goal.returns-in-Plain-clause-only_prints
+returns-in-Plain-clause-only_prints g c told firm is = cc (sym (ap is_unread c.in-Plain.is) ∙ is)
+
+pub returns-in-Numbered-clause-only_prints : goal.returns-in-Numbered-clause-only_prints
+returns-in-Numbered-clause-only_prints g c told firm is = cc (sym (ap is_unread c.in-Numbered.is) ∙ is)
+
+pub returns-in-Unread-clause-only_prints : goal.returns-in-Unread-clause-only_prints
+returns-in-Unread-clause-only_prints g c told firm is =
+    subst (λ line. OnlyPrints g.M.Machine.clock g.M.Machine.since g.M.Machine.state c.args.machine.now c.unread_line.new.machine (line_deed (recovered_now (g.M.Machine.state c.args.machine.now)) line).sent) (sym c.in-Unread.is)
+    (record { same = c.unread_line.ensures.stays told; moments = c.unread_line.ensures.moments told firm })
+
+pub returns-in-TooLong-clause-only_prints : goal.returns-in-TooLong-clause-only_prints
+returns-in-TooLong-clause-only_prints g c told firm is =
+    subst (λ line. OnlyPrints g.M.Machine.clock g.M.Machine.since g.M.Machine.state c.args.machine.now c.too_long.new.machine (line_deed (recovered_now (g.M.Machine.state c.args.machine.now)) line).sent) (sym c.in-TooLong.is)
+    (record { same = c.too_long.ensures.stays told; moments = c.too_long.ensures.moments told })
 
 pub returns-in-Unread-clause-input : goal.returns-in-Unread-clause-input
 returns-in-Unread-clause-input g c told = input_stays _ _ (c.unread_line.ensures.stays told)
@@ -24,10 +39,8 @@ returns-in-Unread-clause-input g c told = input_stays _ _ (c.unread_line.ensures
 pub returns-in-Unread-clause-temps : goal.returns-in-Unread-clause-temps
 returns-in-Unread-clause-temps g c told = leaves_none c.unread_line.result (g.M.Machine.state c.args.machine.now) (g.M.Machine.state c.unread_line.new.machine) (temps_stay (g.M.Machine.state c.args.machine.now) (g.M.Machine.state c.unread_line.new.machine) (files_stay _ _ (c.unread_line.ensures.stays told)))
 
-pub returns-in-Unread-clause-syncs : goal.returns-in-Unread-clause-syncs
-returns-in-Unread-clause-syncs g c told firm =
-    subst (λ line. Syncs g.M.Machine.clock g.M.Machine.since g.M.Machine.state c.args.machine.now c.unread_line.new.machine (line_deed (seen (g.M.Machine.state c.args.machine.now)) line) c.unread_line.result) (sym c.in-Unread.is)
-    (syncs_not g.M.Machine.clock g.M.Machine.since g.M.Machine.state c.args.machine.now c.unread_line.new.machine _ c.unread_line.result refl (ap views (c.unread_line.ensures.stays told).stays))
+pub returns-in-Unread-clause-rests : goal.returns-in-Unread-clause-rests
+returns-in-Unread-clause-rests g c told rested = leaves_rested c.unread_line.result (g.M.Machine.state c.unread_line.new.machine) (rested_stays (g.M.Machine.state c.args.machine.now) (g.M.Machine.state c.unread_line.new.machine) (files_stay _ _ (c.unread_line.ensures.stays told)) rested)
 
 pub returns-in-TooLong-clause-input : goal.returns-in-TooLong-clause-input
 returns-in-TooLong-clause-input g c told = input_stays _ _ (c.too_long.ensures.stays told)
@@ -35,7 +48,29 @@ returns-in-TooLong-clause-input g c told = input_stays _ _ (c.too_long.ensures.s
 pub returns-in-TooLong-clause-temps : goal.returns-in-TooLong-clause-temps
 returns-in-TooLong-clause-temps g c told = leaves_none c.too_long.result (g.M.Machine.state c.args.machine.now) (g.M.Machine.state c.too_long.new.machine) (temps_stay (g.M.Machine.state c.args.machine.now) (g.M.Machine.state c.too_long.new.machine) (files_stay _ _ (c.too_long.ensures.stays told)))
 
-pub returns-in-TooLong-clause-syncs : goal.returns-in-TooLong-clause-syncs
-returns-in-TooLong-clause-syncs g c told firm =
-    subst (λ line. Syncs g.M.Machine.clock g.M.Machine.since g.M.Machine.state c.args.machine.now c.too_long.new.machine (line_deed (seen (g.M.Machine.state c.args.machine.now)) line) c.too_long.result) (sym c.in-TooLong.is)
-    (syncs_not g.M.Machine.clock g.M.Machine.since g.M.Machine.state c.args.machine.now c.too_long.new.machine _ c.too_long.result refl (ap views (c.too_long.ensures.stays told).stays))
+pub returns-in-TooLong-clause-rests : goal.returns-in-TooLong-clause-rests
+returns-in-TooLong-clause-rests g c told rested = leaves_rested c.too_long.result (g.M.Machine.state c.too_long.new.machine) (rested_stays (g.M.Machine.state c.args.machine.now) (g.M.Machine.state c.too_long.new.machine) (files_stay _ _ (c.too_long.ensures.stays told)) rested)
+
+pub returns-in-Plain-clause-tidies : goal.returns-in-Plain-clause-tidies
+returns-in-Plain-clause-tidies g c told =
+    let old = g.M.Machine.state c.args.machine.now in
+    let now = g.M.Machine.state c.plain_step.new.machine in
+    subst (λ line. WherePrinted c.plain_step.result old now (TidiedBy now.files line)) (sym c.in-Plain.is)
+    (where_tidied c.plain_step.result c.in-Plain.command old now (c.plain_step.ensures.tidies told))
+
+pub returns-in-Numbered-clause-tidies : goal.returns-in-Numbered-clause-tidies
+returns-in-Numbered-clause-tidies g c told =
+    let now = g.M.Machine.state c.numbered.new.machine in
+    subst (λ line. WherePrinted c.numbered.result (g.M.Machine.state c.args.machine.now) now (TidiedBy now.files line)) (sym c.in-Numbered.is) (c.numbered.ensures.tidies told)
+
+pub returns-in-Unread-clause-tidies : goal.returns-in-Unread-clause-tidies
+returns-in-Unread-clause-tidies g c told =
+    let now = g.M.Machine.state c.unread_line.new.machine in
+    subst (λ line. WherePrinted c.unread_line.result (g.M.Machine.state c.args.machine.now) now (TidiedBy now.files line)) (sym c.in-Unread.is)
+    (where_so c.unread_line.result (g.M.Machine.state c.args.machine.now) now Unit tt)
+
+pub returns-in-TooLong-clause-tidies : goal.returns-in-TooLong-clause-tidies
+returns-in-TooLong-clause-tidies g c told =
+    let now = g.M.Machine.state c.too_long.new.machine in
+    subst (λ line. WherePrinted c.too_long.result (g.M.Machine.state c.args.machine.now) now (TidiedBy now.files line)) (sym c.in-TooLong.is)
+    (where_so c.too_long.result (g.M.Machine.state c.args.machine.now) now Unit tt)

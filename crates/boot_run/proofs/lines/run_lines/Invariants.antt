@@ -1,14 +1,19 @@
-use Rattle.std.proofs.Common.{take, ◌≡◌, IsTrue}
+use Rattle.std.proofs.Common.{take, ◌≡◌, true, IsTrue}
+use Rattle.boot_machine.specs.Disk.{IsRested}
 use Rattle.boot_machine.specs.Images.{IsFirm}
 use Rattle.install_steps.specs.Steps.{NoNewTemp}
 use Rattle.boot_run.specs.Endings.{AllTidied}
-use Rattle.boot_run.proofs.Running.{SoFar, Synced}
+use Rattle.boot_run.specs.Lines.{has_command}
+use Rattle.boot_run.proofs.Running.{SoFar}
+use Rattle.boot_run.proofs.Synced.{Synced}
 use Rattle.boot_run.proofs.lines.run_lines.Given as goal
 
 abbrev pub invariant-loop-line : goal.invariant-loop-line
 invariant-loop-line g l = record {
   told : IsTrue g.M.Machine.tells → IsFirm (g.M.Machine.state l.initial.machine) → SoFar g.M.Machine.clock g.M.Machine.since g.M.Machine.state l.initial.machine l.machine l.lines l.line-index l.refused;
-  synced : IsTrue g.M.Machine.tells → IsFirm (g.M.Machine.state l.initial.machine) → Synced g.M.Machine.clock g.M.Machine.since g.M.Machine.state l.initial.machine l.machine l.lines (take l.line-index l.lines);
+  synced : IsTrue g.M.Machine.tells → IsFirm (g.M.Machine.state l.initial.machine) → Synced g.M.Machine.clock g.M.Machine.since g.M.Machine.state l.initial.machine l.machine l.lines l.line-index;
+  begun : l.rested ≡ has_command (take l.line-index l.lines);
+  rests : IsTrue g.M.Machine.tells → l.rested ≡ true → IsRested (g.M.Machine.state l.machine);
   tidied : IsTrue g.M.Machine.tells → AllTidied (take l.line-index l.lines) (g.M.Machine.state l.machine);
   input : IsTrue g.M.Machine.tells → (g.M.Machine.state l.machine).input ≡ (g.M.Machine.state l.initial.machine).input;
   temps : IsTrue g.M.Machine.tells → NoNewTemp (g.M.Machine.state l.initial.machine) (g.M.Machine.state l.machine);

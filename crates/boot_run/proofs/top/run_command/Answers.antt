@@ -1,14 +1,17 @@
 use Rattle.std.proofs.Common.{◌≡◌, true, List, sym, ap, ◌∙◌, subst}
-use Rattle.boot_machine.specs.Disk.{State}
+use Rattle.boot_machine.specs.Disk.{IsRested, State}
 use Rattle.boot_machine.proofs.Seeing.{sees}
 use Rattle.boot_run.specs.Asked.{is_script, lines_for}
-use Rattle.boot_run.specs.Endings.{AllTidied}
+use Rattle.boot_run.specs.Endings.{AllTidied, ended_by}
+use Rattle.boot_run.specs.Lines.{has_command}
 use Rattle.boot_run.specs.RunsTo.{RunsTo, IsSyncedBy}
 use Rattle.boot_run.specs.declared.line.Line.{Line}
-use Rattle.boot_run.proofs.ScriptLines.{lines_script}
+use Rattle.boot_run.specs.RunBy.{CleanBehind}
+use Rattle.boot_run.proofs.Acked.{clean_none, clean_read}
+use Rattle.boot_run.proofs.ScriptLines.{lines_plain, lines_script}
 use Rattle.boot_run.proofs.Staying.{leaves_more, temps_stay}
 use Rattle.boot_run.proofs.Taken.{at_any, on_ok_by, takes_none, takes_script}
-use Rattle.boot_run.proofs.Topping.{script_synced, no_script, script_runs, same_firm}
+use Rattle.boot_run.proofs.Topping.{script_synced, script_unsynced, no_script, script_runs, same_firm}
 use Rattle.boot_run.proofs.top.run_command.Goals as goal
 
 pub returns-then-not-is_script-clause-input : goal.returns-then-not-is_script-clause-input
@@ -41,7 +44,7 @@ returns-clause-synced g c told firm =
     let lines = c.as_slice.ensures.value ∙ c.in_ok-lines.ensures.lines told in
     let synced = c.run_lines-2.ensures.synced told (same_firm g.M.Machine.clock g.M.Machine.since g.M.Machine.state s (g.M.Machine.state c.read_script.new.machine) (c.read_script.ensures.same told) firm) in
     subst (λ (l : List Line). IsSyncedBy g.M.Machine.clock g.M.Machine.since g.M.Machine.state old c.run_lines-2.new.machine l) (sym (lines_script s.input c.args.command is))
-    (script_synced g.M.Machine.clock g.M.Machine.since g.M.Machine.state old c.read_script.new.machine c.run_lines-2.new.machine _ (c.read_script.ensures.same told) (c.read_script.ensures.moments told).later
+    (script_synced g.M.Machine.clock g.M.Machine.since g.M.Machine.state old c.read_script.new.machine c.run_lines-2.new.machine _ (c.read_script.ensures.same told) (c.read_script.ensures.moments told)
     (subst (λ (l : List Line). IsSyncedBy g.M.Machine.clock g.M.Machine.since g.M.Machine.state c.read_script.new.machine c.run_lines-2.new.machine l) lines synced))
 
 pub returns-clause-tidies : goal.returns-clause-tidies
@@ -64,3 +67,37 @@ returns-clause-temps g c told =
     let old = g.M.Machine.state c.args.machine.now in
     let mid = g.M.Machine.state c.read_script.new.machine in
     leaves_more c.run_lines-2.result old mid (g.M.Machine.state c.run_lines-2.new.machine) (temps_stay old mid (ap (λ (s : State). s.files) (c.read_script.ensures.same told))) (c.run_lines-2.ensures.temps told)
+
+pub returns-in_err-lines-clause-synced : goal.returns-in_err-lines-clause-synced
+returns-in_err-lines-clause-synced g c told firm =
+    script_unsynced g.M.Machine.clock g.M.Machine.since g.M.Machine.state c.args.machine.now c.read_script.new.machine
+    (lines_for (g.M.Machine.state c.args.machine.now).input c.args.command) (c.read_script.ensures.moments told)
+
+pub returns-clause-rests : goal.returns-clause-rests
+returns-clause-rests g c =
+    let is : is_script c.args.command ≡ true = sym c.is_script.ensures ∙ c.if-not-is_script.false in
+    on_ok_by c.run_lines-2.result _ _
+    (λ rests told. subst (λ (l : List Line). has_command l ≡ true → IsRested (g.M.Machine.state c.run_lines-2.new.machine))
+    (c.as_slice.ensures.value ∙ c.in_ok-lines.ensures.lines told ∙ sym (lines_script (g.M.Machine.state c.args.machine.now).input c.args.command is)) (rests told))
+    c.run_lines-2.ensures.rests
+
+pub returns-in_err-lines-clause-behind : goal.returns-in_err-lines-clause-behind
+returns-in_err-lines-clause-behind g c told firm =
+    clean_none (g.M.Machine.state c.args.machine.now) (g.M.Machine.state c.read_script.new.machine) (lines_for (g.M.Machine.state c.args.machine.now).input c.args.command) (ended_by c.from_residual.result)
+    (ap (λ (s : State). s.printed) (c.read_script.ensures.same told))
+
+pub returns-clause-behind : goal.returns-clause-behind
+returns-clause-behind g c told firm =
+    let s = g.M.Machine.state c.args.machine.now in
+    let now = g.M.Machine.state c.run_lines-2.new.machine in
+    let is : is_script c.args.command ≡ true = sym c.is_script.ensures ∙ c.if-not-is_script.false in
+    let lines = c.as_slice.ensures.value ∙ c.in_ok-lines.ensures.lines told ∙ sym (lines_script s.input c.args.command is) in
+    let behind = c.run_lines-2.ensures.behind told (same_firm g.M.Machine.clock g.M.Machine.since g.M.Machine.state s (g.M.Machine.state c.read_script.new.machine) (c.read_script.ensures.same told) firm) in
+    clean_read s (g.M.Machine.state c.read_script.new.machine) now (lines_for s.input c.args.command) (ended_by c.run_lines-2.result) (c.read_script.ensures.same told)
+    (subst (λ (l : List Line). CleanBehind (g.M.Machine.state c.read_script.new.machine) now l (ended_by c.run_lines-2.result)) lines behind)
+
+pub returns-then-not-is_script-clause-synced : goal.returns-then-not-is_script-clause-synced
+returns-then-not-is_script-clause-synced g c told firm =
+    let old = c.args.machine.now in
+    subst (λ (l : List Line). IsSyncedBy g.M.Machine.clock g.M.Machine.since g.M.Machine.state old c.run_lines.new.machine l)
+    (sym (lines_plain (g.M.Machine.state old).input c.args.command (sym c.if-not-is_script.ensures))) (c.run_lines.ensures.synced told firm)

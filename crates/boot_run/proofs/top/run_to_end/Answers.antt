@@ -1,13 +1,16 @@
-use Rattle.std.proofs.Common.{◌≡◌, List, Err, map, string_bytes, sym, ap, subst}
+use Rattle.std.proofs.Common.{◌≡◌, true, List, Err, map, string_bytes, refl, sym, ap, subst}
 use Rattle.tool_words.specs.Answers.{FaultIs}
 use Rattle.tool_words.specs.Meaning.{meaning}
 use Rattle.boot_machine.proofs.Seeing.{sees}
 use Rattle.boot_run.specs.Asked.{lines_for, lines_of}
-use Rattle.boot_run.specs.RunBy.{RunsBy, RunsLines}
-use Rattle.boot_machine.specs.Disk.{State}
+use Rattle.boot_run.specs.RunBy.{CleanBehind, RunsBy, RunsLines}
+use Rattle.boot_machine.specs.Disk.{IsRested, State}
 use Rattle.boot_run.specs.Endings.{AllTidied, AtEnd, ended_by}
+use Rattle.boot_run.specs.Lines.{has_command}
+use Rattle.boot_run.specs.declared.ended.Ended.TheVariants.{Memory}
 use Rattle.boot_run.specs.declared.line.Line.{Line}
-use Rattle.boot_run.proofs.Taken.{at_end_by, fits_memory, lines_are, on_ok_by, takes_usage}
+use Rattle.boot_run.proofs.Acked.{clean_none}
+use Rattle.boot_run.proofs.Taken.{no_lines, at_end_by, fits_memory, lines_are, on_ok_by, takes_usage}
 use Rattle.boot_run.proofs.Topping.{runs_lines, runs_nothing}
 use Rattle.boot_run.proofs.top.run_to_end.Goals as goal
 
@@ -40,3 +43,28 @@ returns-in-Err-Usage-clause-input g c told =
     let words = map string_bytes c.args.words.now.items in
     let is : meaning words ≡ Err c.in-Err-Usage.reason = subst (λ fault. FaultIs fault (meaning words)) c.in-Err-Usage.field-0-is c.in-Err-Usage.ensures in
     takes_usage (meaning words) c.in-Err-Usage.reason _ _ _ is (ap (λ (s : State). s.input) (c.print_usage.ensures.runs told).unchanged)
+
+pub returns-in-Ok-clause-rests : goal.returns-in-Ok-clause-rests
+returns-in-Ok-clause-rests g c told lines asks =
+    let are = lines_are (g.M.Machine.state c.args.machine.now).input _ c.in-Ok.command lines c.in-Ok.ensures asks in
+    let now = g.M.Machine.state c.run_command.new.machine in
+    subst (λ ended. AtEnd ended (has_command lines ≡ true → IsRested now)) (sym c.of_lines.ensures)
+    (subst (λ (l : List Line). AtEnd (ended_by c.run_command.result) (has_command l ≡ true → IsRested now)) are
+    (at_end_by c.run_command.result _ (on_ok_by c.run_command.result _ _ (λ rests. rests told) c.run_command.ensures.rests)))
+
+pub returns-in-Ok-clause-behind : goal.returns-in-Ok-clause-behind
+returns-in-Ok-clause-behind g c told firm lines asks =
+    let old = g.M.Machine.state c.args.machine.now in
+    let now = g.M.Machine.state c.run_command.new.machine in
+    let are = lines_are old.input _ c.in-Ok.command lines c.in-Ok.ensures asks in
+    subst (CleanBehind old now lines) (sym c.of_lines.ensures)
+    (subst (λ (l : List Line). CleanBehind old now l (ended_by c.run_command.result)) are (c.run_command.ensures.behind told firm))
+
+pub returns-in-Err-Memory-clause-behind : goal.returns-in-Err-Memory-clause-behind
+returns-in-Err-Memory-clause-behind g c told firm lines asks = clean_none (g.M.Machine.state c.args.machine.now) (g.M.Machine.state c.args.machine.now) lines Memory refl
+
+pub returns-in-Err-Usage-clause-behind : goal.returns-in-Err-Usage-clause-behind
+returns-in-Err-Usage-clause-behind g c told firm lines asks =
+    let words = map string_bytes c.args.words.now.items in
+    let is : meaning words ≡ Err c.in-Err-Usage.reason = subst (λ fault. FaultIs fault (meaning words)) c.in-Err-Usage.field-0-is c.in-Err-Usage.ensures in
+    absurd (no_lines (g.M.Machine.state c.args.machine.now).input (meaning words) c.in-Err-Usage.reason lines is asks)

@@ -1,0 +1,33 @@
+-- No reply is empty.
+use Rattle.std.proofs.Common.{◌≢◌, ℕ, ◌<◌, List, [], ◌∷◌, ◌++◌, length, refl, arith}
+use Rattle.boot_machine.specs.Disk.{Files}
+use Rattle.boot_machine.specs.Rows.{tagged}
+use Rattle.boot_machine.specs.Sent.{Sent}
+use Rattle.boot_machine.specs.declared.machine.Channel.{Channel}
+use Rattle.boot_machine.specs.declared.machine.Channel.TheVariants.{Out, Err as ErrChannel}
+use Rattle.command_plans.specs.Answers.{channel_of}
+use Rattle.boot_commands.specs.Commands.{answer_of, deed_of}
+use Rattle.boot_commands.proofs.Replies.{some_text}
+use Rattle.boot_run.specs.Lines.{acknowledgement, line_deed, no_command_text, too_long_text}
+use Rattle.boot_run.specs.Step.{NoneEmpty}
+use Rattle.boot_run.specs.declared.line.Line.{Line}
+use Rattle.boot_run.specs.declared.line.Line.TheVariants.{Plain, Numbered, Unread, TooLong}
+
+some_sent : (to : Channel) (text : List ℕ) → 0 < length text → tagged to text ≢ []
+some_sent to [] some = absurd (omega arith)
+some_sent to (x ∷ text) some = λ is. cc
+
+some_more : (a b : Sent) → a ≢ [] → a ++ b ≢ []
+some_more [] b some = absurd (some refl)
+some_more (x ∷ a) b some = λ is. cc
+
+some_reply : (view : Files) (line : Line) → (line_deed view line).sent ≢ []
+some_reply view (Plain command) = some_sent (channel_of (answer_of view command).outcome) (answer_of view command).text (some_text view command)
+some_reply view (Numbered number command) = some_more (deed_of view command).sent (tagged Out (acknowledgement (deed_of view command).outcome number))
+    (some_sent (channel_of (answer_of view command).outcome) (answer_of view command).text (some_text view command))
+some_reply view (Unread number) = some_more _ _ (some_sent ErrChannel (no_command_text number) (omega arith))
+some_reply view TooLong = some_sent ErrChannel too_long_text (omega arith)
+
+pub none_empty : (view : Files) (lines : List Line) → NoneEmpty view lines
+none_empty view [] = tt
+none_empty view (line ∷ lines) = (some_reply view line, none_empty (line_deed view line).after lines)

@@ -1,0 +1,35 @@
+//! The recovery with which a run begins, before its first command.
+ghost use Rattle.std.specs.Prelude.{◌≡◌, IsTrue, OnOk};
+ghost use Rattle.boot_machine.specs.Disk.{HasOneCandidate, IsRested};
+ghost use Rattle.boot_machine.specs.Images.{IsFirm};
+ghost use Rattle.install_steps.specs.Recovery.{RecoversTo, SameFrom};
+ghost use Rattle.install_steps.specs.Steps.{Keeps, NoNewTemp};
+ghost use Rattle.command_plans.specs.Performs.{CountsStop};
+
+use boot_base::{BootPath, Target};
+use boot_machine::Machine;
+use command_plans::Stop;
+use install_steps::{RecoverFault, recover};
+use std::alloc::Global;
+
+/// Finishes or undoes the rename that a stop has left half done. Where there is no memory for the intent's path
+/// nothing has changed.
+pub fn recovered<M: Machine>(alloc: Global, machine: &mut M) -> Result<(), Stop>
+    ensures recovers { IsTrue M.tells → IsFirm (M.state machine.old)
+        → RecoversTo M.clock M.since M.state machine.old machine.new }
+    ensures synced { OnOk result (IsTrue M.tells → IsFirm (M.state machine.old)
+        → SameFrom M.clock M.since M.state machine.old machine.new) }
+    ensures one { OnOk result (IsTrue M.tells → HasOneCandidate (M.state machine.new)) }
+    ensures rests { OnOk result (IsTrue M.tells → IsRested (M.state machine.new)) }
+    ensures keeps { IsTrue M.tells → Keeps (M.state machine.old) (M.state machine.new) }
+    ensures temps { IsTrue M.tells → NoNewTemp (M.state machine.old) (M.state machine.new) }
+    ensures counts { CountsStop result (M.counts machine.old) (M.counts machine.new) }
+{
+    let path = BootPath::intent(alloc)?;
+    let intent = Target::of(alloc, path)?;
+    match recover(alloc, machine, &intent) {
+        Ok(()) => Ok(()),
+        Err(RecoverFault::Memory) => Err(Stop::Memory),
+        Err(RecoverFault::Disk) => Err(Stop::Disk),
+    }
+}
