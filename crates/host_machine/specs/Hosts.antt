@@ -1,14 +1,30 @@
 -- What the machine on a real folder tells: its counts, and nothing of what it holds.
-use Rattle.std.specs.Prelude.{[], false, IsTrue}
+use Rattle.std.specs.Prelude.{◌≡◌, [], false, IsTrue, Result, MatchResult}
 use Rattle.std.proofs.lemmas.Bool.{false≢true}
 use Rattle.std.specs.FinMap as map
 use Rattle.std.specs.FinSet as set
-use Rattle.boot_machine.specs.Counts.{Counts}
+use Rattle.boot_machine.specs.Counts.{Counts, DiskFailsOnce, PipeFailsOnce}
 use Rattle.boot_machine.specs.Disk.{State}
-use Rattle.host_machine.specs.declared.host.Faults.{Faults}
+use Rattle.boot_machine.specs.declared.machine.NamesFault.{NamesFault}
+use Rattle.boot_machine.specs.declared.machine.NamesFault.TheVariants.{Memory, Disk}
+use Rattle.host_machine.specs.declared.faults.Faults.{Faults}
 
 abbrev pub counts_of : Faults → Counts
 counts_of faults = record { disk_faults = faults.disk; pipe_faults = faults.pipe }
+
+-- a failed call has raised its own count by one and the other not at all, and another answer leaves both
+abbrev pub CountsDiskOnce : {T E : Type 0} → Result T E → Counts → Counts → Type 0
+CountsDiskOnce result old new = MatchResult result (λ _. new ≡ old) (λ _. DiskFailsOnce old new)
+
+abbrev pub CountsPipeOnce : {T E : Type 0} → Result T E → Counts → Counts → Type 0
+CountsPipeOnce result old new = MatchResult result (λ _. new ≡ old) (λ _. PipeFailsOnce old new)
+
+abbrev pub names_fault_once : NamesFault → Counts → Counts → Type 0
+names_fault_once Memory old new = new ≡ old
+names_fault_once Disk old new = DiskFailsOnce old new
+
+abbrev pub CountsNamesOnce : {T : Type 0} → Result T NamesFault → Counts → Counts → Type 0
+CountsNamesOnce result old new = MatchResult result (λ _. new ≡ old) (λ fault. names_fault_once fault old new)
 
 -- the state that no clause speaks of
 abbrev pub no_state : State

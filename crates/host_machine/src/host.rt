@@ -2,81 +2,99 @@
 //! is proved safe, and to count each failure once.
 ghost use Rattle.std.specs.Prelude.{◌≡◌, IfOk};
 
+use crate::answers::{read_once, write_whole};
+use crate::faults::Faults;
+use crate::reports::Reports;
+use crate::streams::StandIns;
 use crate::system::System;
 use boot_base::{BootPath, FileName, TempPath};
 use boot_machine::{Channel, DiskFault, Machine, NamesFault, PipeFault};
 use std::alloc::Global;
+use std::fs::File;
 use std::io;
 use std::io::ErrorKind;
 use std::rt::Runtime;
 
 /// The folder that the program starts in, as the root of all paths, and the standard streams.
 #[derive(Drop)]
-pub struct HostMachine<R: Runtime + AllocGlobal, E: Print + Drop> {
-    system: System<R, E>,
+pub struct HostMachine<R: Runtime<File = File> + AllocGlobal, E: Print + Drop> {
+    system: System<R>,
+    reports: Reports<E>,
     faults: Faults,
+    stand_ins: StandIns,
 }
 
-impl<R: Runtime + AllocGlobal, E: Print + Drop> HostMachine<R, E> {
-    /// The machine over a runtime, with `err` for what is printed on Err. No call has failed yet.
+impl<R: Runtime<File = File> + AllocGlobal, E: Print + Drop> HostMachine<R, E> {
+    ghost use Rattle.boot_machine.specs.Counts.{CountsDisk, CountsPipe};
+    ghost use Rattle.host_machine.specs.Hosts.{counts_of, CountsDiskOnce, CountsPipeOnce};
+
+    /// The machine over a runtime, with `err` for what is printed on Err. No call has failed yet, and none
+    /// that fails is told of.
     pub fn new(rt: R, err: E) -> Self {
         HostMachine {
-            system: System::new(rt, err),
+            stand_ins: StandIns::new(&rt),
+            system: System::new(rt),
+            reports: Reports::new(err),
             faults: Faults { disk: 0, pipe: 0 },
         }
     }
-}
 
-/// How often the system has failed so far. The counts stand still at the last value of their type.
-#[derive(Drop)]
-struct Faults {
-    disk: u64,
-    pipe: u64,
-}
-
-impl Faults {
-    ghost use Rattle.boot_machine.specs.Counts.{CountsDisk, CountsPipe, DiskFailed};
-    ghost use Rattle.host_machine.specs.Hosts.{counts_of};
-
-    // Counts a failure of the disk.
-    fn disk_failed(&mut self)
-        ensures { DiskFailed (counts_of self.old) (counts_of self.new) }
-    {
-        self.disk = self.disk.saturating_add(1);
+    /// The same machine. Where it is wanted, a line on Err tells of each call that fails, as it is counted:
+    /// the call, the path, and the system's own words. Else nothing is told.
+    pub fn with_reports(mut self, are_wanted: bool) -> Self {
+        self.reports.want(are_wanted);
+        self
     }
 
-    // Passes an answer of the disk on, and counts a failure.
-    fn disk<T: Drop>(&mut self, answer: io::Result<T>) -> Result<T, DiskFault>
-        ensures counted { CountsDisk result (counts_of self.old) (counts_of self.new) }
+    /// How often the disk has failed, up to the last value of a `u64`.
+    pub fn disk_faults(&self) -> u64
+        ensures { result ≡ self.now.faults.disk }
+    {
+        self.faults.disk
+    }
+
+    /// How often a pipe has failed, up to the last value of a `u64`.
+    pub fn pipe_faults(&self) -> u64
+        ensures { result ≡ self.now.faults.pipe }
+    {
+        self.faults.pipe
+    }
+
+    // Passes an answer of the disk on, and tells of a failure and counts it.
+    fn disk<T: Drop>(
+        &mut self,
+        call: &str,
+        path: &str,
+        answer: io::Result<T>,
+    ) -> Result<T, DiskFault>
+        ensures counted { CountsDisk result (counts_of self.old.faults) (counts_of self.new.faults) }
+        ensures once { CountsDiskOnce result (counts_of self.old.faults) (counts_of self.new.faults) }
         ensures value { IfOk result (λ value. answer ≡ Ok value) }
     {
-        match answer {
-            Ok(value) => Ok(value),
-            Err(_) => {
-                self.disk_failed();
-                Err(DiskFault)
-            }
-        }
+        let answer = self.reports.told(call, path, answer);
+        self.faults.disk(answer)
     }
 
     // The same of a pipe.
-    fn pipe<T: Drop>(&mut self, answer: io::Result<T>) -> Result<T, PipeFault>
-        ensures counted { CountsPipe result (counts_of self.old) (counts_of self.new) }
+    fn pipe<T: Drop>(
+        &mut self,
+        call: &str,
+        path: &str,
+        answer: io::Result<T>,
+    ) -> Result<T, PipeFault>
+        ensures counted { CountsPipe result (counts_of self.old.faults) (counts_of self.new.faults) }
+        ensures once { CountsPipeOnce result (counts_of self.old.faults) (counts_of self.new.faults) }
         ensures value { IfOk result (λ value. answer ≡ Ok value) }
     {
-        match answer {
-            Ok(value) => Ok(value),
-            Err(_) => {
-                self.pipe = self.pipe.saturating_add(1);
-                Err(PipeFault)
-            }
-        }
+        let answer = self.reports.told(call, path, answer);
+        self.faults.pipe(answer)
     }
 }
 
-impl<R: Runtime + AllocGlobal, E: Print + Drop> Machine for HostMachine<R, E> {
-    ghost use Rattle.std.specs.Prelude.{false};
-    ghost use Rattle.host_machine.specs.Hosts.{counts_of, no_state, silent};
+impl<R: Runtime<File = File> + AllocGlobal, E: Print + Drop> Machine for HostMachine<R, E> {
+    ghost use Rattle.std.specs.Prelude.{◌≤◌, false, length};
+    ghost use Rattle.boot_machine.specs.Counts.{CountsDisk, CountsNames, CountsPipe};
+    ghost use Rattle.host_machine.specs.Hosts.{counts_of, no_state, silent, CountsDiskOnce, CountsPipeOnce, CountsNamesOnce};
 
     ghost tells = { false };
 
@@ -96,74 +114,123 @@ impl<R: Runtime + AllocGlobal, E: Print + Drop> Machine for HostMachine<R, E> {
 
     ghost only_now = { λ m files printed told left. absurd (silent told) };
 
-    fn size(&mut self, path: &BootPath) -> Result<Option<u64>, DiskFault> {
+    fn size(&mut self, path: &BootPath) -> Result<Option<u64>, DiskFault>
+        ensures counts { CountsDisk result (counts_of self.old.faults) (counts_of self.new.faults) }
+        ensures once { CountsDiskOnce result (counts_of self.old.faults) (counts_of self.new.faults) }
+    {
         let answer = self.system.size_of(path.as_str());
-        self.faults.disk(answer)
+        self.disk("size", path.as_str(), answer)
     }
 
-    fn read_at(&mut self, path: &BootPath, at: u64, into: &mut [u8]) -> Result<usize, DiskFault> {
+    fn read_at(&mut self, path: &BootPath, at: u64, into: &mut [u8]) -> Result<usize, DiskFault>
+        ensures within { IfOk result (λ n. n ≤ length into.new) }
+        ensures counts { CountsDisk result (counts_of self.old.faults) (counts_of self.new.faults) }
+        ensures once { CountsDiskOnce result (counts_of self.old.faults) (counts_of self.new.faults) }
+    {
         let answer = self.system.read_some(path.as_str(), at, into);
-        self.faults.disk(answer)
+        self.disk("read", path.as_str(), answer)
     }
 
-    fn names(&mut self, alloc: Global, folder: &BootPath) -> Result<Vec<FileName>, NamesFault> {
+    fn names(&mut self, alloc: Global, folder: &BootPath) -> Result<Vec<FileName>, NamesFault>
+        ensures counts { CountsNames result (counts_of self.old.faults) (counts_of self.new.faults) }
+        ensures once { CountsNamesOnce result (counts_of self.old.faults) (counts_of self.new.faults) }
+    {
         match self.system.names_in(alloc, folder.as_str()) {
             Ok(names) => Ok(names),
             Err(error) if error.kind() == ErrorKind::OutOfMemory => Err(NamesFault::Memory),
-            Err(_) => {
-                self.faults.disk_failed();
+            Err(error) => {
+                let _ = self.disk::<()>("list", folder.as_str(), Err(error));
                 Err(NamesFault::Disk)
             }
         }
     }
 
-    fn create(&mut self, path: &TempPath) -> Result<(), DiskFault> {
+    fn create(&mut self, path: &TempPath) -> Result<(), DiskFault>
+        ensures counts { CountsDisk result (counts_of self.old.faults) (counts_of self.new.faults) }
+        ensures once { CountsDiskOnce result (counts_of self.old.faults) (counts_of self.new.faults) }
+    {
         let answer = self.system.create_file(path.as_str());
-        self.faults.disk(answer)
+        self.disk("create", path.as_str(), answer)
     }
 
-    fn append(&mut self, path: &TempPath, bytes: &[u8]) -> Result<(), DiskFault> {
+    fn append(&mut self, path: &TempPath, bytes: &[u8]) -> Result<(), DiskFault>
+        ensures counts { CountsDisk result (counts_of self.old.faults) (counts_of self.new.faults) }
+        ensures once { CountsDiskOnce result (counts_of self.old.faults) (counts_of self.new.faults) }
+    {
         let answer = self.system.append_bytes(path.as_str(), bytes);
-        self.faults.disk(answer)
+        self.disk("write", path.as_str(), answer)
     }
 
-    fn sync_file(&mut self, path: &TempPath) -> Result<(), DiskFault> {
+    fn sync_file(&mut self, path: &TempPath) -> Result<(), DiskFault>
+        ensures counts { CountsDisk result (counts_of self.old.faults) (counts_of self.new.faults) }
+        ensures once { CountsDiskOnce result (counts_of self.old.faults) (counts_of self.new.faults) }
+    {
         let answer = self.system.sync_contents(path.as_str());
-        self.faults.disk(answer)
+        self.disk("sync", path.as_str(), answer)
     }
 
-    fn rename_temp(&mut self, from: &TempPath, to: &BootPath) -> Result<(), DiskFault> {
+    fn rename_temp(&mut self, from: &TempPath, to: &BootPath) -> Result<(), DiskFault>
+        ensures counts { CountsDisk result (counts_of self.old.faults) (counts_of self.new.faults) }
+        ensures once { CountsDiskOnce result (counts_of self.old.faults) (counts_of self.new.faults) }
+    {
+        let answer = self.system.move_temp(from.as_str(), to.as_str());
+        self.disk("rename", from.as_str(), answer)
+    }
+
+    fn rename_name(&mut self, from: &BootPath, to: &BootPath) -> Result<(), DiskFault>
+        ensures counts { CountsDisk result (counts_of self.old.faults) (counts_of self.new.faults) }
+        ensures once { CountsDiskOnce result (counts_of self.old.faults) (counts_of self.new.faults) }
+    {
         let answer = self.system.move_file(from.as_str(), to.as_str());
-        self.faults.disk(answer)
+        self.disk("rename", from.as_str(), answer)
     }
 
-    fn rename_name(&mut self, from: &BootPath, to: &BootPath) -> Result<(), DiskFault> {
-        let answer = self.system.move_file(from.as_str(), to.as_str());
-        self.faults.disk(answer)
-    }
-
-    fn unlink(&mut self, path: &BootPath) -> Result<(), DiskFault> {
+    fn unlink(&mut self, path: &BootPath) -> Result<(), DiskFault>
+        ensures counts { CountsDisk result (counts_of self.old.faults) (counts_of self.new.faults) }
+        ensures once { CountsDiskOnce result (counts_of self.old.faults) (counts_of self.new.faults) }
+    {
         let answer = self.system.remove_file(path.as_str());
+        self.disk("remove", path.as_str(), answer)
+    }
+
+    fn unlink_temp(&mut self, path: &TempPath) -> Result<(), DiskFault>
+        ensures counts { CountsDisk result (counts_of self.old.faults) (counts_of self.new.faults) }
+        ensures once { CountsDiskOnce result (counts_of self.old.faults) (counts_of self.new.faults) }
+    {
+        let answer = self.system.remove_temp(path.as_str());
+        self.disk("remove", path.as_str(), answer)
+    }
+
+    fn sync_names(&mut self) -> Result<(), DiskFault>
+        ensures counts { CountsDisk result (counts_of self.old.faults) (counts_of self.new.faults) }
+        ensures once { CountsDiskOnce result (counts_of self.old.faults) (counts_of self.new.faults) }
+    {
+        let answer = self.system.sync_names(&self.reports);
         self.faults.disk(answer)
     }
 
-    fn unlink_temp(&mut self, path: &TempPath) -> Result<(), DiskFault> {
-        let answer = self.system.remove_file(path.as_str());
-        self.faults.disk(answer)
+    fn print(&mut self, to: Channel, bytes: &[u8]) -> Result<(), PipeFault>
+        ensures counts { CountsPipe result (counts_of self.old.faults) (counts_of self.new.faults) }
+        ensures once { CountsPipeOnce result (counts_of self.old.faults) (counts_of self.new.faults) }
+    {
+        match to {
+            Channel::Out => {
+                let answer = self.system.write_out(bytes);
+                self.pipe("print", "standard output", answer)
+            }
+            Channel::Err => {
+                let answer = write_whole(&mut io::writer(self.reports.err()), bytes);
+                self.pipe("print", "standard error", answer)
+            }
+        }
     }
 
-    fn sync_names(&mut self) -> Result<(), DiskFault> {
-        let answer = self.system.sync_folders();
-        self.faults.disk(answer)
-    }
-
-    fn print(&mut self, to: Channel, bytes: &[u8]) -> Result<(), PipeFault> {
-        let answer = self.system.write_to(to, bytes);
-        self.faults.pipe(answer)
-    }
-
-    fn input(&mut self, into: &mut [u8]) -> Result<usize, PipeFault> {
+    fn input(&mut self, into: &mut [u8]) -> Result<usize, PipeFault>
+        ensures within { IfOk result (λ n. n ≤ length into.new) }
+        ensures counts { CountsPipe result (counts_of self.old.faults) (counts_of self.new.faults) }
+        ensures once { CountsPipeOnce result (counts_of self.old.faults) (counts_of self.new.faults) }
+    {
         let answer = self.system.read_input(into);
-        self.faults.pipe(answer)
+        self.pipe("read", "standard input", answer)
     }
 }

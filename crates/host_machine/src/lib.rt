@@ -4,11 +4,19 @@
 //! and to count each failure once; what its calls do is shown by tests.
 #![tactic(auto)]
 
+mod answers;
+mod faults;
 mod host;
+mod kept;
+mod listing;
 mod named;
+mod reports;
+mod streams;
+mod syncs;
 mod system;
 
 pub use host::HostMachine;
+pub use reports::reports_are_wanted;
 
 #[cfg(test)]
 mod tests;

@@ -1,65 +1,125 @@
-//! The folders whose names are to be synced: those that were looked at or changed.
+//! What the next sync of names has to sync: the files that got a new name, the folders that were changed,
+//! and the folders that were only looked at.
 use std::alloc::{AllocError, Global};
 
 /// The most components that a path may have, and so the most folders above a file.
 const DEPTH_LIMIT: usize = 1024;
 
-/// The folders that were named so far. The one that the program starts in takes no memory.
+/// Paths in the order in which they came, each once.
 #[derive(Drop)]
-pub(crate) struct NamedFolders {
-    has_root: bool,
-    below: Vec<String>,
+pub(crate) struct Paths {
+    items: Vec<String>,
 }
 
-impl NamedFolders {
-    // No folder.
-    pub(crate) fn new(alloc: Global) -> Self {
-        NamedFolders {
+impl Paths {
+    fn new(alloc: Global) -> Self {
+        Paths {
+            items: Vec::new(alloc),
+        }
+    }
+
+    pub(crate) fn as_slice(&self) -> &[String] {
+        self.items.as_slice()
+    }
+
+    pub(crate) fn has(&self, path: &str) -> bool {
+        self.items.iter().any(|known| known.as_str() == path)
+    }
+
+    fn add(&mut self, path: &str) -> Result<(), AllocError> {
+        if !self.has(path) {
+            let path = String::from_str(*self.items.allocator(), path)?;
+            self.items.push(path)?;
+        }
+        Ok(())
+    }
+
+    fn clear(&mut self) {
+        self.items.clear();
+    }
+}
+
+/// Some folders. The one that the program starts in takes no memory.
+#[derive(Drop)]
+pub(crate) struct Folders {
+    pub(crate) has_root: bool,
+    pub(crate) below: Paths,
+}
+
+impl Folders {
+    fn new(alloc: Global) -> Self {
+        Folders {
             has_root: false,
-            below: Vec::new(alloc),
+            below: Paths::new(alloc),
         }
     }
 
-    // Whether the folder that the program starts in is among them.
-    pub(crate) fn has_root(&self) -> bool {
-        self.has_root
-    }
-
-    // The others.
-    pub(crate) fn below(&self) -> &[String] {
-        self.below.as_slice()
-    }
-
-    // Keeps a folder.
-    pub(crate) fn add(&mut self, folder: &str) -> Result<(), AllocError> {
-        if !self.below.iter().any(|known| known.as_str() == folder) {
-            let folder = String::from_str(*self.below.allocator(), folder)?;
-            self.below.push(folder)?;
-        }
-        Ok(())
-    }
-
-    // Keeps the folder of a file or of a folder.
-    pub(crate) fn add_folder_of(&mut self, path: &str) -> Result<(), AllocError> {
-        match path.rsplit_once('/') {
-            Some((folder, _)) => self.add(folder),
-            None => {
-                self.has_root = true;
-                Ok(())
-            }
-        }
-    }
-
-    // Keeps each folder above a folder.
-    pub(crate) fn add_all_above(&mut self, folder: &str) -> Result<(), AllocError> {
-        let mut below = folder;
+    // Adds each folder above a path, the nearest first.
+    fn add_above(&mut self, path: &str) -> Result<(), AllocError> {
+        let mut below = path;
         for _ in 0..DEPTH_LIMIT {
-            self.add_folder_of(below)?;
-            match below.rsplit_once('/') {
-                Some((above, _)) => below = above,
-                None => break,
-            }
+            let Some((folder, _)) = below.rsplit_once('/') else {
+                break;
+            };
+            self.below.add(folder)?;
+            below = folder;
         }
+        self.has_root = true;
         Ok(())
+    }
+
+    fn clear(&mut self) {
+        self.has_root = false;
+        self.below.clear();
+    }
+}
+
+/// What was named since the last sync of names that answered Ok.
+#[derive(Drop)]
+pub(crate) struct Named {
+    pub(crate) renamed: Paths,
+    pub(crate) changed: Folders,
+    pub(crate) seen: Folders,
+}
+
+impl Named {
+    // Nothing.
+    pub(crate) fn new(alloc: Global) -> Self {
+        Named {
+            renamed: Paths::new(alloc),
+            changed: Folders::new(alloc),
+            seen: Folders::new(alloc),
+        }
+    }
+
+    // A file was looked at: a name above it that another process changed is synced too.
+    pub(crate) fn look_at(&mut self, path: &str) -> Result<(), AllocError> {
+        self.seen.add_above(path)
+    }
+
+    // The names of a folder were looked at.
+    pub(crate) fn look_into(&mut self, folder: &str) -> Result<(), AllocError> {
+        self.seen.below.add(folder)?;
+        self.seen.add_above(folder)
+    }
+
+    // A name comes or goes, or a folder above it.
+    pub(crate) fn change(&mut self, path: &str) -> Result<(), AllocError> {
+        self.changed.add_above(path)
+    }
+
+    // A file gets a new name. The folder in which that name comes is synced before the one in which the old
+    // one goes.
+    pub(crate) fn rename(&mut self, from: &str, to: &str) -> Result<(), AllocError> {
+        self.renamed.add(to)?;
+        self.changed.add_above(to)?;
+        self.changed.add_above(from)
+    }
+
+    // All of it is synced.
+    pub(crate) fn clear(&mut self) {
+        self.renamed.clear();
+        self.changed.clear();
+        self.seen.clear();
     }
 }

@@ -1,138 +1,230 @@
-//! Files and streams of the system, by the standard library's calls.
+//! Files and names of the system, by the standard library's calls.
 //!
-//! "Not a directory" and "is a directory" mean that no such file is there. A call that is interrupted is
-//! repeated.
+//! What is no regular file, after links, isn't there, and is never opened. "Not a directory", "is a
+//! directory" and a loop of links mean that no such file is there.
 ghost use Rattle.std.specs.Prelude.{◌≤◌, length, IfOk};
 
-use crate::named::NamedFolders;
-use boot_base::{FileName, PathFault};
-use boot_machine::Channel;
+use crate::answers::{if_there, read_once, read_once_at, write_whole};
+use crate::kept::{KeptFile, copy_path, open_locked, require_own_clusters, require_replaceable};
+use crate::listing::names_in;
+use crate::named::Named;
+use crate::reports::Reports;
+use crate::syncs::{sync_changed, sync_seen};
+use boot_base::FileName;
 use std::alloc::Global;
-use std::fs::{DirEntry, OpenFile, OpenOptions};
-use std::io::{ErrorKind, Read, Seek, SeekFrom, Write};
-use std::rt::{Files, Runtime};
+use std::fs::{File, OpenOptions};
+use std::io::ErrorKind;
+use std::rt::Runtime;
 use std::{fs, io};
 
-/// The files below the folder that the program starts in, and the standard streams.
+/// The files below the folder that the program starts in.
 #[derive(Drop)]
-pub(crate) struct System<R: Runtime + AllocGlobal, E: Print + Drop> {
+pub(crate) struct System<R: Runtime<File = File> + AllocGlobal> {
     rt: R,
-    err: E,
-    named: NamedFolders,
+    named: Named,
+    /// the temporary file that is written, with its lock
+    written: Option<KeptFile>,
+    /// the same after its rename, until it is synced there
+    moved: Option<KeptFile>,
+    /// the file that was read last
+    looked: Option<KeptFile>,
+    /// A sync has failed. The system tells of lost bytes once, so no later sync can make good for it.
+    has_lost: bool,
 }
 
-impl<R: Runtime + AllocGlobal, E: Print + Drop> System<R, E> {
-    pub(crate) fn new(rt: R, err: E) -> Self {
-        let named = NamedFolders::new(rt.alloc());
-        System { rt, err, named }
+impl<R: Runtime<File = File> + AllocGlobal> System<R> {
+    pub(crate) fn new(rt: R) -> Self {
+        let named = Named::new(rt.alloc());
+        System {
+            rt,
+            named,
+            written: None,
+            moved: None,
+            looked: None,
+            has_lost: false,
+        }
     }
 
     // The length of a file, and None where none is there.
     pub(crate) fn size_of(&mut self, path: &str) -> io::Result<Option<u64>> {
-        self.named.add_folder_of(path)?;
-        let Some(metadata) = if_there(fs::metadata(&self.rt, path))? else {
-            return Ok(None);
-        };
-        Ok(if metadata.is_dir() {
-            None
-        } else {
-            Some(metadata.len())
-        })
+        self.named.look_at(path)?;
+        let found = if_there(fs::metadata(&self.rt, path))?;
+        Ok(
+            found
+                .filter(|found| found.is_file())
+                .map(|found| found.len()),
+        )
     }
 
     // Some of the file's bytes from that place on, and none where no file is there.
     pub(crate) fn read_some(&mut self, path: &str, at: u64, into: &mut [u8]) -> io::Result<usize>
         ensures { IfOk result (λ n. n ≤ length into.new) }
     {
-        self.named.add_folder_of(path)?;
-        let Some(mut file) = if_there(fs::open(&self.rt, path))? else {
+        let Some(looked) = self.take_looked(path)? else {
             return Ok(0);
         };
-        file.seek(SeekFrom::Start(at))?;
-        read_once(&mut file, into)
+        let answer = read_once_at(&looked.file, at, into);
+        self.looked = Some(looked);
+        answer
+    }
+
+    // The file to read from: the one of the last read, where the path is the same.
+    fn take_looked(&mut self, path: &str) -> io::Result<Option<KeptFile>> {
+        match self.looked.take() {
+            Some(looked) if looked.is_at(path) => Ok(Some(looked)),
+            _ => self.open_looked(path),
+        }
+    }
+
+    fn open_looked(&mut self, path: &str) -> io::Result<Option<KeptFile>> {
+        self.named.look_at(path)?;
+        let kept = copy_path(self.rt.alloc(), path)?;
+        match if_there(fs::metadata(&self.rt, path))? {
+            Some(found) if found.is_file() => {
+                let file = if_there(fs::open(&self.rt, path))?;
+                Ok(file.map(|file| KeptFile::new(kept, file)))
+            }
+            _ => Ok(None),
+        }
     }
 
     // The names of the files directly in a folder. Names that are not UTF-8 are passed over.
     pub(crate) fn names_in(&mut self, alloc: Global, folder: &str) -> io::Result<Vec<FileName>> {
-        self.named.add(folder)?;
-        let mut names = Vec::new(alloc);
-        let Some(entries) = if_there(fs::read_dir(&self.rt, folder))? else {
-            return Ok(names);
-        };
-        for entry in entries {
-            match entry {
-                Ok(entry) => add_name(alloc, &mut names, &entry)?,
-                // a name that isn't UTF-8
-                Err(error) if error.kind() == ErrorKind::InvalidFilename => {}
-                Err(error) => return Err(error),
-            }
-        }
-        Ok(names)
+        self.named.look_into(folder)?;
+        names_in(&self.rt, alloc, folder)
     }
 
-    // An empty file, in folders that are made where they are missing.
+    // An empty temporary file, in folders that are made where they are missing. Nothing is changed where the
+    // path that it is for is a folder, where another run holds it, or where it may be that path's own file.
     pub(crate) fn create_file(&mut self, path: &str) -> io::Result<()> {
+        self.looked = None;
+        self.written = None;
+        let kept = copy_path(self.rt.alloc(), path)?;
+        require_replaceable(&self.rt, path.strip_suffix(".tmp").unwrap_or(path))?;
+        require_own_clusters(&self.rt, path)?;
+        self.named.change(path)?;
         self.make_folders(path)?;
-        fs::create(&self.rt, path)?;
+        let file = open_locked(&self.rt, path, OpenOptions::new().append(true).create(true))?;
+        if file.metadata()?.len() > 0 {
+            file.set_len(0)?;
+        }
+        self.written = Some(KeptFile::new(kept, file));
         Ok(())
     }
 
     // Writes behind what the file has.
     pub(crate) fn append_bytes(&mut self, path: &str, bytes: &[u8]) -> io::Result<()> {
-        self.named.add_folder_of(path)?;
-        let mut file = OpenOptions::new().append(true).open(&self.rt, path)?;
-        write_whole(&mut file, bytes)
+        let mut written = self.take_written(path)?;
+        let answer = write_whole(&mut written.file, bytes);
+        self.written = Some(written);
+        answer
     }
 
     // Syncs a file's contents.
     pub(crate) fn sync_contents(&mut self, path: &str) -> io::Result<()> {
-        self.named.add_folder_of(path)?;
-        sync_path(&self.rt, path)
+        self.require_no_loss()?;
+        let written = self.take_written(path)?;
+        let answer = written.file.sync_all();
+        self.written = Some(written);
+        self.has_lost = answer.is_err();
+        answer
+    }
+
+    // The temporary file that is written, with its lock.
+    fn take_written(&mut self, path: &str) -> io::Result<KeptFile> {
+        match self.written.take() {
+            Some(written) if written.is_at(path) => Ok(written),
+            _ => self.open_written(path),
+        }
+    }
+
+    fn open_written(&self, path: &str) -> io::Result<KeptFile> {
+        let kept = copy_path(self.rt.alloc(), path)?;
+        let file = open_locked(&self.rt, path, OpenOptions::new().append(true))?;
+        Ok(KeptFile::new(kept, file))
+    }
+
+    // Renames a temporary file that no other run holds, under its lock.
+    pub(crate) fn move_temp(&mut self, from: &str, to: &str) -> io::Result<()> {
+        let kept = copy_path(self.rt.alloc(), to)?;
+        let written = self.take_written(from)?;
+        self.move_file(from, to)?;
+        self.moved = Some(written.renamed(kept));
+        Ok(())
     }
 
     // Renames a file, into folders that are made where they are missing.
     pub(crate) fn move_file(&mut self, from: &str, to: &str) -> io::Result<()> {
-        self.named.add_folder_of(from)?;
+        self.looked = None;
+        self.moved = None;
+        require_replaceable(&self.rt, to)?;
+        self.named.rename(from, to)?;
         self.make_folders(to)?;
         fs::rename(&self.rt, from, to)
     }
 
+    // Removes a temporary file that no other run holds, under its lock. A link isn't one.
+    pub(crate) fn remove_temp(&mut self, path: &str) -> io::Result<()> {
+        let found = if_there(fs::symlink_metadata(&self.rt, path))?;
+        let _held = match found {
+            Some(found) if found.is_file() => {
+                require_own_clusters(&self.rt, path)?;
+                Some(self.take_removed(path)?)
+            }
+            _ => None,
+        };
+        self.remove_file(path)
+    }
+
+    fn take_removed(&mut self, path: &str) -> io::Result<File> {
+        match self.written.take() {
+            Some(written) if written.is_at(path) => Ok(written.file),
+            _ => open_locked(&self.rt, path, OpenOptions::new().read(true)),
+        }
+    }
+
     // Removes a file.
     pub(crate) fn remove_file(&mut self, path: &str) -> io::Result<()> {
-        self.named.add_folder_of(path)?;
+        self.looked = None;
+        self.named.change(path)?;
         fs::remove_file(&self.rt, path)
     }
 
-    // Makes the folders above a file that aren't there. Then all of them count as named.
-    fn make_folders(&mut self, path: &str) -> io::Result<()> {
-        self.named.add_folder_of(path)?;
+    // Makes the folders above a file that aren't there.
+    fn make_folders(&self, path: &str) -> io::Result<()> {
         let Some((folder, _)) = path.rsplit_once('/') else {
             return Ok(());
         };
         if if_there(fs::metadata(&self.rt, folder))?.is_some() {
             return Ok(());
         }
-        self.named.add_all_above(folder)?;
         fs::create_dir_all(&self.rt, folder)
     }
 
-    // Syncs each folder that was named and is still there.
-    pub(crate) fn sync_folders(&self) -> io::Result<()> {
-        if self.named.has_root() {
-            sync_path(&self.rt, ".")?;
-        }
-        for folder in self.named.below() {
-            if_there(sync_path(&self.rt, folder.as_str()))?;
+    // Syncs each renamed file, then each changed folder with those above it, and last, as far as it can be
+    // done, the folders that were looked at. After a failure all of it is still to be synced.
+    pub(crate) fn sync_names<E: Print + Drop>(&mut self, reports: &Reports<E>) -> io::Result<()> {
+        self.looked = None;
+        reports.told("sync", ".", self.require_no_loss())?;
+        let answer = sync_changed(&self.rt, &self.named, self.moved.as_ref(), reports);
+        self.has_lost = answer.is_err();
+        answer?;
+        sync_seen(&self.rt, &self.named);
+        self.moved = None;
+        self.named.clear();
+        Ok(())
+    }
+
+    fn require_no_loss(&self) -> io::Result<()> {
+        if self.has_lost {
+            return Err(io::Error::other("an earlier sync failed"));
         }
         Ok(())
     }
 
     // Prints all of the bytes.
-    pub(crate) fn write_to(&self, to: Channel, bytes: &[u8]) -> io::Result<()> {
-        match to {
-            Channel::Out => write_whole(&mut io::writer(&self.rt), bytes),
-            Channel::Err => write_whole(&mut io::writer(&self.err), bytes),
-        }
+    pub(crate) fn write_out(&self, bytes: &[u8]) -> io::Result<()> {
+        write_whole(&mut io::writer(&self.rt), bytes)
     }
 
     // Some of the next bytes of standard input, and none at its end.
@@ -140,73 +232,5 @@ impl<R: Runtime + AllocGlobal, E: Print + Drop> System<R, E> {
         ensures { IfOk result (λ n. n ≤ length into.new) }
     {
         read_once(&mut self.rt.reader(), into)
-    }
-}
-
-// None where the answer is that no such file or folder is there.
-fn if_there<T: Drop>(answer: io::Result<T>) -> io::Result<Option<T>> {
-    match answer {
-        Ok(found) => Ok(Some(found)),
-        Err(error) => match error.kind() {
-            ErrorKind::NotFound | ErrorKind::NotADirectory | ErrorKind::IsADirectory => Ok(None),
-            _ => Err(error),
-        },
-    }
-}
-
-// One read that isn't interrupted. A folder that was opened has no bytes.
-fn read_once<F: Read>(file: &mut F, into: &mut [u8]) -> io::Result<usize>
-    ensures { IfOk result (λ n. n ≤ length into.new) }
-{
-    for _ in 0..u64::MAX {
-        match file.read(into) {
-            Ok(count) => return Ok(count),
-            Err(error) => match error.kind() {
-                ErrorKind::Interrupted => {}
-                ErrorKind::IsADirectory => return Ok(0),
-                _ => return Err(error),
-            },
-        }
-    }
-    Err(io::Error::from(ErrorKind::Interrupted))
-}
-
-// Writes all of the bytes. A write that takes none of them is a failure.
-fn write_whole<W: Write>(writer: &mut W, bytes: &[u8]) -> io::Result<()> {
-    let mut rest = bytes;
-    for _ in 0..u64::MAX {
-        if rest.is_empty() {
-            return Ok(());
-        }
-        match writer.write(rest) {
-            Ok(0) => return Err(io::Error::from(ErrorKind::WriteZero)),
-            Ok(count) => rest = &rest[count..],
-            Err(error) if error.kind() == ErrorKind::Interrupted => {}
-            Err(error) => return Err(error),
-        }
-    }
-    Err(io::Error::from(ErrorKind::Interrupted))
-}
-
-// Syncs a file, or the names of a folder.
-fn sync_path<R: Files>(rt: &R, path: &str) -> io::Result<()> {
-    fs::open(rt, path)?.sync_all()
-}
-
-fn add_name<R: Files>(
-    alloc: Global,
-    names: &mut Vec<FileName>,
-    entry: &DirEntry<R, Global>,
-) -> io::Result<()> {
-    let Some(kind) = if_there(entry.file_type())? else {
-        return Ok(());
-    };
-    if kind.is_dir() {
-        return Ok(());
-    }
-    match FileName::read(alloc, entry.file_name()) {
-        Ok(name) => Ok(names.push(name)?),
-        Err(PathFault::BadPath) => Ok(()),
-        Err(PathFault::Memory) => Err(io::Error::from(ErrorKind::OutOfMemory)),
     }
 }

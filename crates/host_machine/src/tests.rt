@@ -1,10 +1,20 @@
-//! Every changing call on a real folder.
+//! The calls on a real folder, whose answers no clause tells.
 use crate::HostMachine;
 use boot_base::{BootPath, Target};
 use boot_machine::Machine;
-use std::alloc::AllocError;
+use std::alloc::{AllocError, Global};
+use std::io::Stderr;
 use std::test::Fail;
 use std::{env, fs, io, process};
+
+mod contents;
+mod kinds;
+mod naming;
+mod odd;
+mod runs;
+mod telling;
+
+type Host = HostMachine<HostRuntime, Stderr>;
 
 // The name of a folder of this process' own.
 fn own_folder(rt: &HostRuntime) -> Result<String, AllocError> {
@@ -26,44 +36,28 @@ fn remove_own_folder(rt: &HostRuntime) -> io::Result<()> {
     fs::remove_dir_all(rt, own_folder(rt)?.as_str())
 }
 
-type Host = HostMachine<HostRuntime, io::Stderr>;
+fn target(alloc: Global, path: &str) -> Result<Target, Fail> {
+    Ok(Target::of(alloc, BootPath::read(alloc, path)?)?)
+}
 
-// Writes a file in folders that aren't there, by its temporary name.
-fn write_file(machine: &mut Host, target: &Target) -> Result<(), Fail> {
+// Writes a file by its temporary name, in two pieces.
+fn put(machine: &mut Host, target: &Target, first: &[u8], second: &[u8]) -> Result<(), Fail> {
     machine.create(&target.temp)?;
-    machine.append(&target.temp, b"ab")?;
-    machine.append(&target.temp, b"c")?;
+    machine.append(&target.temp, first)?;
+    machine.append(&target.temp, second)?;
     machine.sync_file(&target.temp)?;
     machine.rename_temp(&target.temp, &target.path)?;
     machine.sync_names()?;
     Ok(())
 }
 
-// Moves the file to another name, beside a temporary file, and takes both away.
-fn clear_files(machine: &mut Host, target: &Target, other: &Target) -> Result<(), Fail> {
-    machine.rename_name(&target.path, &other.path)?;
-    machine.create(&other.temp)?;
-    machine.unlink_temp(&other.temp)?;
-    machine.unlink(&other.path)?;
-    machine.sync_names()?;
-    Ok(())
+// How often the disk and the pipes have failed.
+fn counts(machine: &Host) -> (u64, u64) {
+    (machine.disk_faults(), machine.pipe_faults())
 }
 
-#[test]
-fn calls_on_a_folder(rt: HostRuntime) -> Result<(), Fail> {
-    let alloc = rt.alloc();
-    enter_own_folder(&rt)?;
-    let mut machine = HostMachine::new(rt, rt.stderr());
-    let folder = BootPath::read(alloc, "efi/EFI/Linux")?;
-    let target = Target::of(alloc, BootPath::under(alloc, &folder, "a.efi")?)?;
-    let other = Target::of(alloc, target.path.sibling(alloc, "b.efi")?)?;
-    assert_eq!(rt; machine.names(alloc, &folder)?.len(), 0);
-    write_file(&mut machine, &target)?;
-    assert_eq!(rt; machine.size(&target.path)?, Some(3));
-    assert_eq!(rt; machine.size(&folder)?, None);
-    assert_eq!(rt; machine.names(alloc, &folder)?.len(), 1);
-    clear_files(&mut machine, &target, &other)?;
-    assert_eq!(rt; machine.names(alloc, &folder)?.len(), 0);
-    remove_own_folder(&rt)?;
-    Ok(())
+// How many names are in a folder.
+fn count_names(machine: &mut Host, alloc: Global, folder: &str) -> Result<usize, Fail> {
+    let folder = BootPath::read(alloc, folder)?;
+    Ok(machine.names(alloc, &folder)?.len())
 }

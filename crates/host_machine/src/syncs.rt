@@ -1,0 +1,79 @@
+//! The sync of names: each renamed file, then each changed folder with those above it, then what was looked
+//! at.
+//!
+//! On FAT a name's start and length are written with the file and not with the folder, so a renamed file is
+//! synced at its new path before the folders are.
+use crate::answers::if_there;
+use crate::kept::KeptFile;
+use crate::named::{Folders, Named};
+use crate::reports::Reports;
+use std::fs::File;
+use std::rt::Files;
+use std::{fs, io};
+
+// Syncs the renamed files, of which one may still be open, and the changed folders. One that isn't there any
+// longer needs none.
+pub(crate) fn sync_changed<R: Files<File = File>, E: Print + Drop>(
+    rt: &R,
+    named: &Named,
+    moved: Option<&KeptFile>,
+    reports: &Reports<E>,
+) -> io::Result<()> {
+    for path in named.renamed.as_slice() {
+        let path = path.as_str();
+        let answer = match moved {
+            Some(kept) if kept.is_at(path) => kept.file.sync_all(),
+            _ => sync_file(rt, path),
+        };
+        reports.told("sync", path, answer)?;
+    }
+    sync_folders(rt, &named.changed, reports)
+}
+
+fn sync_folders<R: Files<File = File>, E: Print + Drop>(
+    rt: &R,
+    folders: &Folders,
+    reports: &Reports<E>,
+) -> io::Result<()> {
+    for folder in folders.below.as_slice() {
+        let folder = folder.as_str();
+        reports.told("sync", folder, sync_folder(rt, folder))?;
+    }
+    if folders.has_root {
+        reports.told("sync", ".", sync_folder(rt, "."))?;
+    }
+    Ok(())
+}
+
+// Syncs the folders that were only looked at, as far as that can be done.
+pub(crate) fn sync_seen<R: Files<File = File>>(rt: &R, named: &Named) {
+    for folder in named.seen.below.as_slice() {
+        if !named.changed.below.has(folder.as_str()) {
+            let _ = sync_folder(rt, folder.as_str());
+        }
+    }
+    if named.seen.has_root && !named.changed.has_root {
+        let _ = sync_folder(rt, ".");
+    }
+}
+
+fn sync_file<R: Files<File = File>>(rt: &R, path: &str) -> io::Result<()> {
+    match if_there(fs::metadata(rt, path))? {
+        Some(found) if found.is_file() => sync_path(rt, path),
+        _ => Ok(()),
+    }
+}
+
+fn sync_folder<R: Files<File = File>>(rt: &R, path: &str) -> io::Result<()> {
+    match if_there(fs::metadata(rt, path))? {
+        Some(found) if found.is_dir() => sync_path(rt, path),
+        _ => Ok(()),
+    }
+}
+
+fn sync_path<R: Files<File = File>>(rt: &R, path: &str) -> io::Result<()> {
+    match if_there(fs::open(rt, path))? {
+        Some(file) => file.sync_all(),
+        None => Ok(()),
+    }
+}
