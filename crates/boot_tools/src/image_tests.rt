@@ -1,17 +1,14 @@
 // The commands on images over a machine in memory, with values that an outside tool computed by FIPS 180-4's functions.
 use crate::tests::{
-    KERNEL_LINES, Row, ZERO_LINES, check_row, enter_own_folder, machine_with_files, plain,
-    printed_on, put, remove_own_folder, words_of,
+    KERNEL_LINES, Row, ZERO_LINES, check_row, machine_with_files, plain, printed_on, put, words_of,
 };
-use boot_base::BootPath;
-use boot_machine::{Channel, Machine};
+use boot_machine::Channel;
 use boot_run::run;
-use host_machine::HostMachine;
 use memory_machine::MemMachine;
 use std::alloc::{AllocError, Global};
 use std::process::Abort;
+use std::str;
 use std::test::Fail;
-use std::{fs, str};
 
 // The values of a kernel `abc` in all banks, after each of the usual phase paths.
 pub(crate) const ALL_LINES: &str = "# PCR[11] Phase <enter-initrd>\n\
@@ -379,23 +376,5 @@ fn files_past_the_limit(rt: HostRuntime) -> Result<(), Fail> {
             "of {words}"
         );
     }
-    Ok(())
-}
-
-// The image of the small stub and a kernel, built in a real folder.
-#[test]
-fn image_in_a_folder(rt: HostRuntime) -> Result<(), Fail> {
-    let alloc = rt.alloc();
-    enter_own_folder(&rt)?;
-    fs::write(&rt, "stub", front(&image_bytes(&[]), 1024))?;
-    fs::write(&rt, "k", b"abc".as_slice())?;
-    let mut machine = HostMachine::new(rt, rt.stderr());
-    let words = "ukify build --stub=stub --linux=k --output=out.efi";
-    assert_eq!(rt; run(alloc, &words_of(alloc, words)?, &mut machine), 0);
-    let mut bytes = [0; 2048];
-    let output = BootPath::read(alloc, "out.efi")?;
-    assert_eq!(rt; machine.read_at(&output, 0, &mut bytes)?, 1536);
-    assert!(rt; bytes == image_bytes(&[&KERNEL]));
-    remove_own_folder(&rt)?;
     Ok(())
 }

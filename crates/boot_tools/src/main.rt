@@ -6,7 +6,7 @@
 #![tactic(auto)]
 
 use boot_run::{Ended, run};
-use host_machine::HostMachine;
+use host_machine::{HostMachine, reports_are_wanted};
 use std::io::ErrorKind;
 use std::process::ExitCode;
 use std::rt::Env;
@@ -16,7 +16,7 @@ fn main(rt: HostRuntime) -> ExitCode {
     let Ok(words) = given_words(&rt) else {
         return ExitCode::from(Ended::Memory.status());
     };
-    let mut machine = HostMachine::new(rt, rt.stderr());
+    let mut machine = HostMachine::new(rt, rt.stderr()).with_reports(reports_are_wanted(&rt));
     ExitCode::from(run(rt.alloc(), &words, &mut machine))
 }
 
@@ -39,6 +39,12 @@ fn unreadable_words<R: AllocGlobal>(rt: &R) -> io::Result<Vec<String>> {
 #[cfg(test)]
 mod build_tests;
 #[cfg(test)]
+mod host_tests;
+#[cfg(test)]
 mod image_tests;
+#[cfg(test)]
+mod move_tests;
+#[cfg(test)]
+mod recovery_tests;
 #[cfg(test)]
 mod tests;

@@ -2,13 +2,11 @@
 use boot_base::{BootPath, Target, TempPath};
 use boot_machine::{Channel, Fuse, Machine};
 use boot_run::run;
-use host_machine::HostMachine;
-use install_steps::{settle, write_bytes};
+use install_steps::{recover, settle, write_bytes};
 use memory_machine::{CrashChoice, FailMode, MemMachine};
 use std::alloc::{AllocError, Global};
 use std::process::Abort;
 use std::test::Fail;
-use std::{env, fs, io, process};
 
 pub(crate) const KERNEL_LINES: &str =
     "# PCR[11] Phase <:>\n11:sha256=add59ff908ec30e42b7f32f055c9e9831e369067aba40e64693631392fe0166b\n";
@@ -17,7 +15,7 @@ pub(crate) const ZERO_LINES: &str =
     "# PCR[11] Phase <:>\n11:sha256=0000000000000000000000000000000000000000000000000000000000000000\n";
 
 // How many calls of the machine `machine_with_files` makes.
-const CALLS_BEFORE: u64 = 26;
+const CALLS_BEFORE: u64 = 30;
 
 // Writes a file, with the names synced before and after.
 pub(crate) fn put(
@@ -27,7 +25,8 @@ pub(crate) fn put(
     alloc: Global,
 ) -> Result<(), Fail> {
     let target = Target::of(alloc, BootPath::read(alloc, path)?)?;
-    settle(machine)?;
+    let intent = Target::of(alloc, BootPath::intent(alloc)?)?;
+    recover(alloc, machine, &intent)?;
     write_bytes(machine, &target, bytes)?;
     Ok(())
 }
@@ -351,56 +350,13 @@ fn with_fault(alloc: Global, call: u64, mode: FailMode) -> Result<(u8, bool), Fa
 #[test]
 fn single_faults(rt: HostRuntime) -> Result<(), Fail> {
     let alloc = rt.alloc();
-    for call in 1..24 {
+    for call in 1..26 {
         for mode in [FailMode::Before, FailMode::After] {
             let (status, is_right) = with_fault(alloc, call, mode)?;
             assert!(rt; is_right, "call {call}");
             assert!(rt; status == 3 || status == 4, "call {call}: {status}");
         }
     }
-    assert_eq!(rt; with_fault(alloc, 24, FailMode::Before)?, (0, true));
-    Ok(())
-}
-
-// The name of a folder of this process' own.
-fn own_folder(rt: &HostRuntime) -> Result<String, AllocError> {
-    let process = process::id(rt.process());
-    format!(in rt.alloc(); "boot_tools_{process}")
-}
-
-// Makes that folder among the temporary ones, and goes there.
-pub(crate) fn enter_own_folder(rt: &HostRuntime) -> io::Result<()> {
-    let parent = env::temp_dir(rt)?;
-    env::set_current_dir(rt, parent.as_path())?;
-    let folder = own_folder(rt)?;
-    fs::create_dir(rt, folder.as_str())?;
-    env::set_current_dir(rt, folder.as_str())
-}
-
-pub(crate) fn remove_own_folder(rt: &HostRuntime) -> io::Result<()> {
-    env::set_current_dir(rt, "..")?;
-    fs::remove_dir_all(rt, own_folder(rt)?.as_str())
-}
-
-#[test]
-fn host_folder(rt: HostRuntime) -> Result<(), Fail> {
-    let alloc = rt.alloc();
-    enter_own_folder(&rt)?;
-    fs::write(&rt, "k", b"abc".as_slice())?;
-    fs::create_dir_all(&rt, "efi/EFI/Linux")?;
-    fs::write(&rt, "efi/EFI/Linux/a.efi", b"a".as_slice())?;
-    fs::write(&rt, "efi/EFI/Linux/z.efi.tmp", b"z".as_slice())?;
-    let mut machine = HostMachine::new(rt, rt.stderr());
-    for words in [
-        "measure calculate --linux=k --bank=sha256 --phase=",
-        "bootctl unlink a.efi",
-        "tidy",
-    ] {
-        let status = run(alloc, &words_of(alloc, words)?, &mut machine);
-        assert_eq!(rt; status, 0, "of {words}");
-    }
-    let folder = BootPath::read(alloc, "efi/EFI/Linux")?;
-    assert_eq!(rt; machine.names(alloc, &folder)?.len(), 0);
-    remove_own_folder(&rt)?;
+    assert_eq!(rt; with_fault(alloc, 26, FailMode::Before)?, (0, true));
     Ok(())
 }
