@@ -20,6 +20,9 @@ const NAME_LIMIT: usize = 255;
 /// The most bytes of a path.
 const PATH_LIMIT: usize = 1024;
 
+/// What the path of a temporary file has behind that of the file that it is for.
+pub const TEMP_SUFFIX: &str = ".tmp";
+
 /// The path of the file that names a rename while it is made.
 const INTENT: &str = "boot_tools.intent";
 
@@ -245,7 +248,7 @@ impl TempPath {
         ensures { IfOk result (λ temp. temp ≡ path.now ++ temp_end) }
     {
         let mut text = String::from_str(alloc, path.as_str())?;
-        text.push_str(".tmp")?;
+        text.push_str(TEMP_SUFFIX)?;
         Ok(TempPath { text })
     }
 
@@ -425,11 +428,12 @@ fn joined_with(alloc: Global, front: &str, middle: &str, back: &str) -> Result<S
     format!(in alloc; "{front}{middle}{back}")
 }
 
+/// Whether a path is that of a temporary file.
 #[tactic(auto, unfolding(crate::specs::Paths::is_temp))]
-fn ends_as_temp(text: &str) -> bool
+pub fn ends_as_temp(text: &str) -> bool
     ensures { result ≡ is_temp text.now }
 {
-    text.as_bytes().ends_with(b".tmp")
+    text.as_bytes().ends_with(TEMP_SUFFIX.as_bytes())
 }
 
 fn has_nul(text: &str) -> bool

@@ -8,7 +8,7 @@ use std::alloc::{AllocError, Global};
 use thiserror::Error;
 
 /// The most bytes of an entry file.
-const FILE_LIMIT: usize = 65_536;
+const ENTRY_LIMIT: usize = 65_536;
 
 /// Why a file is no entry.
 #[derive(Debug, PartialEq, Eq, Drop, Error)]
@@ -77,7 +77,7 @@ impl Type1 {
         ensures too_long { (result ≡ Err EntryFault.TooLong) ↔ (65536 < length bytes.now) }
         ensures nothing_to_boot { (result ≡ Err EntryFault.NothingToBoot) ↔ ((length bytes.now ≤ 65536) × (boots bytes.now ≡ false)) }
     {
-        if bytes.len() > FILE_LIMIT {
+        if bytes.len() > ENTRY_LIMIT {
             return Err(EntryFault::TooLong);
         }
         if !says_what_to_boot(bytes) {

@@ -6,6 +6,3 @@ mod line;
 
 pub use entry::{EntryFault, Type1};
 pub use line::lines_are_read_in_one_way;
-
-#[cfg(test)]
-mod tests;

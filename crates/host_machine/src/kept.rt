@@ -1,5 +1,6 @@
 //! Open files that are kept from one call to the next, and the lock on a temporary file.
 use crate::answers::if_there;
+use boot_base::TEMP_SUFFIX;
 use std::alloc::{AllocError, Global};
 use std::fs::{File, Metadata, OpenOptions};
 use std::io::ErrorKind;
@@ -80,7 +81,7 @@ pub(crate) fn require_own_clusters<R: Files>(rt: &R, temp: &str) -> io::Result<(
     let Some(left) = if_there(fs::symlink_metadata(rt, temp))? else {
         return Ok(());
     };
-    let target = temp.strip_suffix(".tmp").unwrap_or(temp);
+    let target = temp.strip_suffix(TEMP_SUFFIX).unwrap_or(temp);
     match if_there(fs::symlink_metadata(rt, target))? {
         Some(target) if may_share(&left, &target) => Err(io::Error::other(
             "may be another name of the same file: check the file system",

@@ -17,6 +17,3 @@ mod system;
 
 pub use host::HostMachine;
 pub use reports::reports_are_wanted;
-
-#[cfg(test)]
-mod tests;

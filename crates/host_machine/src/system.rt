@@ -10,7 +10,7 @@ use crate::listing::names_in;
 use crate::named::Named;
 use crate::reports::Reports;
 use crate::syncs::{sync_changed, sync_seen};
-use boot_base::FileName;
+use boot_base::{FileName, TEMP_SUFFIX};
 use std::alloc::Global;
 use std::fs::{File, OpenOptions};
 use std::io::ErrorKind;
@@ -100,7 +100,7 @@ impl<R: Runtime<File = File> + AllocGlobal> System<R> {
         self.looked = None;
         self.written = None;
         let kept = copy_path(self.rt.alloc(), path)?;
-        require_replaceable(&self.rt, path.strip_suffix(".tmp").unwrap_or(path))?;
+        require_replaceable(&self.rt, path.strip_suffix(TEMP_SUFFIX).unwrap_or(path))?;
         require_own_clusters(&self.rt, path)?;
         self.named.change(path)?;
         self.make_folders(path)?;

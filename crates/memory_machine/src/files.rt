@@ -3,7 +3,7 @@ ghost use Rattle.std.specs.Prelude.{◌≡◌, ◌++◌, [], ◌∷◌, true, le
 ghost use Rattle.std.specs.Option.{option_map};
 ghost use Rattle.std.specs.Prelude.{map as all};
 ghost use Rattle.std.specs.FinMap as map;
-ghost use Rattle.boot_base.specs.Paths.{under, is_file_name, is_temp};
+ghost use Rattle.boot_base.specs.Paths.{under, is_file_name};
 ghost use Rattle.boot_machine.specs.Disk.{has, view};
 ghost use Rattle.memory_machine.specs.Entries.{files_of, entries_of, pair_of, left_pair, counts_once};
 ghost use Rattle.memory_machine.specs.declared.files.Entry.{Entry};
@@ -15,7 +15,7 @@ ghost use Rattle.memory_machine.specs.Stops.{IsFilled};
 
 use crate::MemFile;
 use crate::event::Event;
-use boot_base::{FileName, PathFault, Text};
+use boot_base::{FileName, PathFault, Text, ends_as_temp};
 use std::alloc::{AllocError, Global};
 use std::marker::Model;
 
@@ -137,18 +137,12 @@ fn names_in(alloc: Global, folder: &str, entries: &[Entry]) -> Result<Vec<FileNa
     Ok(names)
 }
 
-fn is_temp(path: &str) -> bool
-    ensures { result ≡ is_temp path.now }
-{
-    path.ends_with(".tmp")
-}
-
 // The entry isn't that of a temporary file, and no later one has its path.
 fn counts_once(entry: &Entry, later: &[Entry]) -> bool
     ensures { result ≡ counts_once entry.now later.now }
 {
     let path = entry.path.as_str();
-    !is_temp(path) && !is_there(later, path)
+    !ends_as_temp(path) && !is_there(later, path)
 }
 
 // How many paths of the entries aren't those of temporary files.

@@ -11,7 +11,8 @@ use Rattle.std.proofs.lemmas.List.Sums.{passes_at_first, prefix_len-le-length}
 use Rattle.std.proofs.lemmas.Slice.Eq.{bytes_eq-Decides}
 use Rattle.pe_reader.specs.declared.section.Section.{Section}
 use Rattle.pe_reader.specs.Grammar.{Headers, pe_of}
-use Rattle.pe_reader.specs.Loaded.{short_name, is_named, section_at_index, no_section, loaded}
+use Rattle.boot_base.specs.Names.{short_name}
+use Rattle.pe_reader.specs.Loaded.{is_named, section_at_index, no_section, loaded}
 use Rattle.pe_reader.proofs.Shape.{stages-shape, pe_of-stages}
 use Rattle.pe_builder.proofs.Fits.{FitsSection, HasImage}
 use Rattle.pe_builder.specs.declared.size.WideSize.{WideSize}

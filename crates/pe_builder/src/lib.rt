@@ -24,6 +24,3 @@ pub use laws::{image_by_place, image_loads, image_reads};
 pub use plan::{Plan, SbatPlace};
 pub use refusal::plan_refusal;
 pub use size::{PartSize, WideSize};
-
-#[cfg(test)]
-mod tests;

@@ -12,10 +12,8 @@ ghost use Rattle.pe_builder.specs.Refusals.{part_is_named, is_taken, first_taken
 use crate::extent::{address_after, length_after, sbat_index, stub_end, total, up};
 use crate::fault::PlanFault;
 use crate::size::WideSize;
+use boot_base::FILE_LIMIT;
 use pe_reader::{Pe, Section};
-
-/// The most bytes that an image may have.
-const MAX_IMAGE: u64 = 268_435_456;
 
 /// The bytes that 96 section headers take, which are as many as an image may have.
 const MAX_TABLE: u32 = 3840;
@@ -155,7 +153,7 @@ fn size_refusal(
         return Some(PlanFault::AddressSpace { end: initialized });
     }
     let size = length_after(head, stub_length, parts);
-    if size > MAX_IMAGE {
+    if size > FILE_LIMIT {
         return Some(PlanFault::ImageTooLarge { size });
     }
     None

@@ -2,15 +2,12 @@
 use Rattle.std.specs.Prelude.{ℕ, ◌-◌, ◌==◌, Bool, List, [], ◌++◌, take, min, replicate, get_or, Option, Some, None, Result, Ok, Err, unwrap_or, position}
 use Rattle.std.specs.List.{find}
 use Rattle.std.specs.Str.{bytes_eq}
+use Rattle.boot_base.specs.Names.{short_name}
 use Rattle.pe_reader.specs.declared.fault.FailedCheck.{FailedCheck}
 use Rattle.pe_reader.specs.declared.section.Section.{Section}
 use Rattle.pe_reader.specs.declared.section.LoadedRange.{LoadedRange}
 use Rattle.pe_reader.specs.Fields.{part}
 use Rattle.pe_reader.specs.Grammar.{Headers, pe_of}
-
--- a name in eight bytes: those before the first NUL
-abbrev pub short_name : List ℕ → List ℕ
-short_name name = take (unwrap_or (position (λ b. b == 0) name) 8) name
 
 abbrev pub is_named : List ℕ → Section → Bool
 is_named name s = bytes_eq (short_name s.name) name

@@ -23,7 +23,4 @@ pub use head::Head;
 pub use laws::{grammar_is_the_facts, headers_are_the_fields};
 pub use pe::Pe;
 pub use reason::PeReason;
-pub use section::{LoadedRange, Section, short_name};
-
-#[cfg(test)]
-mod tests;
+pub use section::{LoadedRange, Section};

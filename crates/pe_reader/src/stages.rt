@@ -12,12 +12,9 @@ use crate::fault::HeadFault;
 use crate::head::{Coff, Head, coff_header, optional_header, pe_place};
 use crate::section::Section;
 use crate::table::sections;
-use boot_base::BootPath;
+use boot_base::{BootPath, FILE_LIMIT};
 use boot_machine::{DiskFault, Machine, read_part};
 use std::alloc::{AllocError, Global};
-
-/// The most bytes that a file has.
-const FILE_LIMIT: u64 = 268_435_456;
 
 /// The file's length in bytes: 0 where no such file is there, and at most the limit.
 pub fn known_size<M: Machine>(machine: &mut M, path: &BootPath) -> Result<u64, DiskFault>

@@ -15,7 +15,7 @@ ghost use Rattle.stub_replay.specs.Measured.{section_items, measured_list, measu
 ghost use Rattle.stub_replay.specs.Pieces.{TakesIn, HasTakenIn, TakesPiece};
 
 use crate::measured::{MEASURED_COUNT, after_name, measured_name};
-use boot_base::BootPath;
+use boot_base::{BootPath, Piece};
 use boot_machine::{DiskFault, Machine, read_part};
 use pcr_fold::{Bank, DataHash, Digest, Pcr};
 use pe_reader::{LoadedRange, Pe};
@@ -33,7 +33,7 @@ pub fn replay<M: Machine>(
     path: &BootPath,
     head: &Pe,
     bank: Bank,
-    buffer: &mut [u8; 65536],
+    buffer: &mut Piece,
 ) -> Result<Pcr, DiskFault>
     requires { IsTrue M.tells → pe_of (contents (M.state machine.old).files path.now) ≡ Ok (headers_of head.now) }
     ensures bank { IfOk result (λ pcr. pcr_bank pcr ≡ bank) }

@@ -16,6 +16,3 @@ pub use bytes::replay_bytes;
 pub use file::{range_digest, replay};
 pub use laws::{image_shows_its_parts, prediction_is_replay, prediction_of_parts_is_replay};
 pub use measured::{MEASURED_COUNT, after_name, measured_name};
-
-#[cfg(test)]
-mod tests;

@@ -1,7 +1,7 @@
 -- The names of the sections of an image (Microsoft PE/COFF; the fixed names by the UAPI Unified Kernel Image specification).
 use Rattle.std.specs.Prelude.{ℕ, ◌==◌, ◌-◌, Bool, not, ◌&&◌, List, ◌++◌, length, replicate, nat_le, bytes_eq, codes, Option, Some, None, if◌then◌else◌}
 use Rattle.std.specs.List.{list_all}
-use Rattle.pe_reader.specs.Loaded.{short_name}
+use Rattle.boot_base.specs.Names.{short_name}
 use Rattle.uki_parts.specs.declared.kind.PartKind.{PartKind}
 use Rattle.uki_parts.specs.declared.kind.PartKind.TheVariants as kinds
 use Rattle.uki_parts.specs.declared.name.SectionName.{SectionName}

@@ -23,6 +23,3 @@ pub use part::Part;
 pub use part_list::PartList;
 pub use piece::{Piece, pieces_length};
 pub use sbat::merge_sbat;
-
-#[cfg(test)]
-mod tests;

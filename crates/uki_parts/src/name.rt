@@ -5,7 +5,7 @@ ghost use Rattle.std.specs.List.{list_all};
 ghost use Rattle.uki_parts.specs.Names.{is_name_byte, is_section_name, named, name_bytes, padded_bytes, read_name, fixed_name};
 
 use crate::kind::PartKind;
-use pe_reader::short_name;
+use boot_base::short_name;
 
 /// The name of a section to be added, as a section header of PE/COFF holds it: up to eight bytes of printable ASCII.
 #[derive(Clone, Copy, Debug, PartialEq, Eq)]
