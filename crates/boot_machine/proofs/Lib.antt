@@ -1,6 +1,5 @@
 pub mod Elapsing
 pub mod Filling
-pub mod FuseLemmas
 pub mod Going
 pub mod Listing
 pub mod Printing
