@@ -1,4 +1,3 @@
-pub mod Appending
 pub mod Assembled
 pub mod Filled
 pub mod Padded

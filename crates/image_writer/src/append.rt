@@ -5,7 +5,7 @@ ghost use Rattle.boot_machine.specs.Counts.{CountsDisk};
 ghost use Rattle.boot_machine.specs.Disk.{has};
 ghost use Rattle.boot_machine.specs.Reading.{zero_filled};
 ghost use Rattle.boot_machine.specs.Rows.{contents};
-ghost use Rattle.image_writer.specs.Appends.{AppendsOnly, Grown};
+ghost use Rattle.install_steps.specs.Appends.{AppendsOnly, Grown};
 ghost use Rattle.image_writer.specs.Chunks.{between};
 
 use boot_base::{BootPath, TempPath};

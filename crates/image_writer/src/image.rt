@@ -4,7 +4,7 @@ ghost use Rattle.std.specs.Prelude.{◌≡◌, ◌<◌, [], true, length, IsTrue
 ghost use Rattle.boot_machine.specs.Counts.{CountsDisk};
 ghost use Rattle.boot_machine.specs.Disk.{has, view};
 ghost use Rattle.boot_machine.specs.Rows.{contents};
-ghost use Rattle.image_writer.specs.Appends.{AppendsOnly, Grown};
+ghost use Rattle.install_steps.specs.Appends.{AppendsOnly, Grown};
 ghost use Rattle.image_writer.specs.Chunks.{chunk_bytes, chunks_bytes, headers_bytes, stub_bytes};
 ghost use Rattle.image_writer.specs.Sourced.{IsSourced, IsPlannedImage, stub_path, new_sbat};
 
@@ -12,7 +12,7 @@ use crate::append::{append, copy_part, write_zeros};
 use crate::chunk::{Chunk, number_chunks, rest_chunks, section_chunks, table_chunks};
 use crate::part::write_parts;
 use crate::sources::Sources;
-use boot_base::TempPath;
+use boot_base::{Piece, TempPath};
 use boot_machine::{DiskFault, Machine};
 use pe_builder::Plan;
 use pe_reader::Section;
@@ -28,7 +28,7 @@ use pe_reader::Section;
 pub fn write_image<M: Machine>(
     plan: &Plan,
     sources: &Sources,
-    buffer: &mut [u8; 65536],
+    buffer: &mut Piece,
     temp: &TempPath,
     machine: &mut M,
 ) -> Result<(), DiskFault>

@@ -5,7 +5,7 @@ ghost use Rattle.std.specs.List.{flat_map};
 ghost use Rattle.boot_machine.specs.Counts.{CountsDisk};
 ghost use Rattle.boot_machine.specs.Disk.{has};
 ghost use Rattle.uki_parts.specs.Pieces.{Reading};
-ghost use Rattle.image_writer.specs.Appends.{AppendsOnly, Grown};
+ghost use Rattle.install_steps.specs.Appends.{AppendsOnly, Grown};
 ghost use Rattle.image_writer.specs.Chunks.{Agrees, behind_stub, gap, given_bytes, padded_part};
 
 use crate::append::{append, copy_part, write_zeros};

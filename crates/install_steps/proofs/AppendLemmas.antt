@@ -12,8 +12,8 @@ use Rattle.boot_machine.proofs.Going.{During, Seen, image_sees}
 use Rattle.boot_machine.proofs.Recovering.{IsCalm}
 use Rattle.boot_machine.proofs.Soft.{Stands, stands-appended}
 use Rattle.boot_machine.proofs.Written.{has-created, calm-written, recovered_view-written, temps-written}
-use Rattle.image_writer.specs.Appends.{softened, HasAppended, AppendsOnly}
-use Rattle.image_writer.proofs.Appending.{contents-append_to}
+use Rattle.install_steps.specs.Appends.{softened, HasAppended, AppendsOnly}
+use Rattle.install_steps.proofs.Appending.{contents-append_to}
 use Rattle.install_steps.specs.Steps.{Keeps}
 use Rattle.install_steps.proofs.CopyLemmas.{with_file, with_none}
 

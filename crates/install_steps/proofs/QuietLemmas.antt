@@ -10,7 +10,7 @@ use Rattle.boot_machine.specs.Rows.{CreateRow, AppendRow, SyncFileRow, RenameRow
 use Rattle.boot_machine.specs.declared.machine.Printed.{Printed}
 use Rattle.boot_machine.proofs.Elapsing.{joined, weaken, one_call, at_once}
 use Rattle.boot_machine.proofs.Printing.{not_printed}
-use Rattle.image_writer.specs.Appends.{AppendsOnly}
+use Rattle.install_steps.specs.Appends.{AppendsOnly}
 use Rattle.install_steps.specs.Steps.{Keeps, PrintsNothing}
 
 -- what is printed stays where a row says what a call does

@@ -13,9 +13,9 @@ use Rattle.boot_machine.specs.Maps.{get-insert_here, get-insert_apart, get-remov
 use Rattle.boot_machine.proofs.Views.{temp_apart}
 use Rattle.boot_machine.proofs.Written.{temps-written}
 use Rattle.boot_machine.proofs.Recovering.{intent_shown}
-use Rattle.image_writer.specs.Appends.{HasAppended, Grown}
+use Rattle.install_steps.specs.Appends.{HasAppended, Grown}
 use Rattle.install_steps.specs.Steps.{Intends}
-use Rattle.image_writer.proofs.Appending.{has_appended_on}
+use Rattle.install_steps.proofs.Appending.{has_appended_on}
 use Rattle.install_steps.proofs.AppendLemmas.{written_file}
 use Rattle.install_steps.proofs.CopyLemmas.{with_file, with_file_here, with_file_apart}
 

@@ -21,7 +21,4 @@ pub use faults::{MoveFault, RecoverFault, StepFault};
 pub use moves::move_name;
 pub use recovery::recover;
 pub use steps::{drop_leftovers, drop_name, settle};
-pub use write::{write_bytes, write_planned, write_whole};
-
-#[cfg(test)]
-mod tests;
+pub use write::{put_in_place, write_bytes, write_whole};

@@ -5,12 +5,12 @@ ghost use Rattle.boot_machine.specs.Disk.{HasOneCandidate, IsRested, has, intend
 ghost use Rattle.boot_machine.specs.Images.{IsFirm};
 ghost use Rattle.boot_machine.specs.Rows.{move_in};
 ghost use Rattle.boot_machine.specs.Counts.{CountsDisk};
-ghost use Rattle.image_writer.specs.Appends.{AppendsOnly, Grown};
+ghost use Rattle.install_steps.specs.Appends.{AppendsOnly, Grown};
 ghost use Rattle.install_steps.specs.Steps.{Keeps, StepsTo, IsDone, NoNewTemp, Intends, PrintsNothing, RestsUnless, CountsMove, moved};
 
 use crate::MoveFault;
 use crate::steps::unlink_synced;
-use crate::write::finish;
+use crate::write::put_in_place;
 use boot_base::{BootPath, Target, TempPath};
 use boot_machine::{DiskFault, Machine};
 
@@ -60,7 +60,7 @@ fn put_intent<M: Machine>(
     machine.create(&intent.temp)?;
     append_name(machine, &intent.temp, from)?;
     append_name(machine, &intent.temp, to)?;
-    finish(machine, intent)
+    put_in_place(machine, intent)
 }
 
 // Renames a file as the intent says, and syncs the names. While both names are there boot sees the new one alone.

@@ -1,4 +1,4 @@
-//! Writing files: bytes at hand, copies of whole files, and images by a plan.
+//! Writes files: bytes at hand, and copies of whole files.
 ghost use Rattle.std.specs.Prelude.{◌≡◌, ◌≤◌, ℕ, List, true, false, length, IsTrue, OnOk, IsErrOf};
 ghost use Rattle.std.specs.FinMap as map;
 ghost use Rattle.boot_machine.specs.Disk.{HasOneCandidate, IsRested, has, recovered_view, view};
@@ -6,20 +6,11 @@ ghost use Rattle.boot_machine.specs.Images.{IsFirm, IsSettled};
 ghost use Rattle.boot_machine.specs.Rows.{contents, move_in};
 ghost use Rattle.boot_machine.specs.Counts.{CountsDisk};
 ghost use Rattle.boot_base.specs.Paths.{IsFree};
-ghost use Rattle.image_writer.specs.Sourced.{IsSourced, IsPlannedImage};
 ghost use Rattle.install_steps.specs.Steps.{Keeps, StepsTo, IsDone, NoNewTemp, PrintsNothing, RestsUnless, CountsStep, copied};
 
 use crate::StepFault;
-use boot_base::{BootPath, Target};
+use boot_base::{BootPath, FILE_LIMIT, PIECE_SIZE, Piece, Target};
 use boot_machine::{DiskFault, Machine, read_part};
-use image_writer::{Sources, write_image};
-use pe_builder::Plan;
-
-/// The most bytes that a file has.
-const FILE_LIMIT: u64 = 268_435_456;
-
-/// How many bytes of a file are held at a time.
-const PIECE: u64 = 65_536;
 
 /// Writes these bytes at the target, in place of a file that is there. A stop at any moment leaves what
 /// boot saw before, or that with the whole new file. After a fault of the disk either stands, and a
@@ -47,7 +38,7 @@ pub fn write_bytes<M: Machine>(
     target.temp.know();
     machine.create(&target.temp)?;
     machine.append(&target.temp, bytes)?;
-    finish(machine, target)
+    put_in_place(machine, target)
 }
 
 /// Writes the bytes of the file `from` at the target, in place of a file that is there, which may be `from`
@@ -59,7 +50,7 @@ pub fn write_whole<M: Machine>(
     machine: &mut M,
     from: &BootPath,
     target: &Target,
-    buffer: &mut [u8; 65536],
+    buffer: &mut Piece,
 ) -> Result<(), StepFault>
     requires free { IsFree target.now.path }
     requires one { IsTrue M.tells → HasOneCandidate (M.state machine.old) }
@@ -90,55 +81,20 @@ pub fn write_whole<M: Machine>(
     machine.create(&target.temp)?;
     let mut at = 0;
     while at < size {
-        let count = (size - at).min(PIECE);
+        let count = (size - at).min(PIECE_SIZE as u64);
         let piece = &mut buffer[..count as usize];
         read_part(machine, from, at, piece)?;
         machine.append(&target.temp, piece)?;
         at += count;
     }
-    finish(machine, target)?;
+    put_in_place(machine, target)?;
     Ok(())
 }
 
-/// Writes the finished image by a plan of these sources at the target, in place of a file that is there, which may be
-/// one of the sources (UAPI Unified Kernel Image). Its bytes go through the buffer in pieces, and no memory is taken. A
-/// stop at any moment leaves what boot saw before, or that with the whole image. After a fault of the disk either
-/// stands, and a temporary file may be left. The plan was made for these sources; zeros stand for bytes that the
-/// machine doesn't give.
-pub fn write_planned<M: Machine>(
-    machine: &mut M,
-    plan: &Plan,
-    sources: &Sources,
-    target: &Target,
-    buffer: &mut [u8; 65536],
-) -> Result<(), DiskFault>
-    requires free { IsFree target.now.path }
-    requires one { IsTrue M.tells → HasOneCandidate (M.state machine.old) }
-    requires rested { IsTrue M.tells → IsRested (M.state machine.old) }
-    requires sourced { IsTrue M.tells → IsSourced plan.now sources.now (view (M.state machine.old).files) }
-    ensures done { OnOk result (IsTrue M.tells → IsFirm (M.state machine.old)
-        → (image : List ℕ) → IsPlannedImage plan.now sources.now (view (M.state machine.old).files) image
-        → IsDone (M.state machine.new)
-        (map.insert (recovered_view (M.state machine.old).files) target.now.path image)) }
-    ensures step { IsTrue M.tells → IsFirm (M.state machine.old)
-        → (image : List ℕ) → IsPlannedImage plan.now sources.now (view (M.state machine.old).files) image
-        → StepsTo M.clock M.since M.state
-        (map.insert (recovered_view (M.state machine.old).files) target.now.path image) machine.old machine.new }
-    ensures keeps { IsTrue M.tells → Keeps (M.state machine.old) (M.state machine.new) }
-    ensures quiet { IsTrue M.tells → PrintsNothing M.clock M.since M.state machine.old machine.new }
-    ensures rests { OnOk result (IsTrue M.tells → IsRested (M.state machine.new)) }
-    ensures temps { OnOk result (IsTrue M.tells → NoNewTemp (M.state machine.old) (M.state machine.new)) }
-    ensures counts { CountsDisk result (M.counts machine.old) (M.counts machine.new) }
-{
-    target.path.know();
-    target.temp.know();
-    machine.create(&target.temp)?;
-    write_image(plan, sources, buffer, &target.temp, machine)?;
-    finish(machine, target)
-}
-
-/// Puts a temporary file that is written in its place: syncs it, renames it, and syncs the names.
-pub(crate) fn finish<M: Machine>(machine: &mut M, target: &Target) -> Result<(), DiskFault>
+/// Puts the target's temporary file, which is written, in its place: syncs it, renames it, and syncs the names. A stop at
+/// any moment leaves what boot saw before, or that with the whole new file. After a fault of the disk either stands, and
+/// the temporary file may be left.
+pub fn put_in_place<M: Machine>(machine: &mut M, target: &Target) -> Result<(), DiskFault>
     requires there { IsTrue M.tells → has (M.state machine.old).files target.now.temp ≡ true }
     ensures done { OnOk result (IsTrue M.tells → IsFirm (M.state machine.old) → IsSettled (M.state machine.old)
         → IsDone (M.state machine.new)

@@ -1,4 +1,4 @@
-use Rattle.image_writer.proofs.Appending.{appends_once, grown_once}
+use Rattle.install_steps.proofs.Appending.{appends_once, grown_once}
 use Rattle.image_writer.proofs.append.append.Goals as goal
 
 pub returns-in_err-append-clause-appends : goal.returns-in_err-append-clause-appends

@@ -1,6 +1,6 @@
 use Rattle.std.proofs.Common.{◌≡◌, ◌≤◌, ◌-◌, IsTrue}
 use Rattle.std.specs.Prelude.{replicate}
-use Rattle.image_writer.specs.Appends.{AppendsOnly, Grown}
+use Rattle.install_steps.specs.Appends.{AppendsOnly, Grown}
 use Rattle.image_writer.proofs.append.append_zeros.Given as goal
 
 abbrev pub invariant-loop-done : goal.invariant-loop-done

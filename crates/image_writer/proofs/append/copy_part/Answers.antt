@@ -1,6 +1,6 @@
 use Rattle.std.proofs.Common.{refl, sym, rules, arith}
 use Rattle.boot_machine.specs.Rows.{contents}
-use Rattle.image_writer.proofs.Appending.{appends_none, appends_on, appends-there, appends-source, grown_none, grown_on, grown_as}
+use Rattle.install_steps.proofs.Appending.{appends_none, appends_on, appends-there, appends-source, grown_none, grown_on, grown_as}
 use Rattle.image_writer.proofs.Filled.{between_none, between_more, between_all}
 use Rattle.image_writer.proofs.append.copy_part.Goals as goal
 

@@ -1,6 +1,6 @@
 use Rattle.std.proofs.Common.{◌≡◌, ◌≤◌, ◌-◌, IsTrue, length}
 use Rattle.boot_machine.specs.Rows.{contents}
-use Rattle.image_writer.specs.Appends.{AppendsOnly, Grown}
+use Rattle.install_steps.specs.Appends.{AppendsOnly, Grown}
 use Rattle.image_writer.specs.Chunks.{between}
 use Rattle.image_writer.proofs.append.copy_part.Given as goal
 

@@ -1,4 +1,4 @@
-use Rattle.image_writer.proofs.Appending.{appends_reads, appends_on}
+use Rattle.install_steps.proofs.Appending.{appends_reads, appends_on}
 use Rattle.image_writer.proofs.append.copy_piece.Goals as goal
 
 pub returns-in_err-read_part-clause-appends : goal.returns-in_err-read_part-clause-appends

@@ -1,7 +1,7 @@
 use Rattle.std.proofs.Common.{◌≡◌, IsTrue, length, take}
 use Rattle.std.specs.List.{flat_map}
 use Rattle.boot_machine.specs.Rows.{contents}
-use Rattle.image_writer.specs.Appends.{AppendsOnly, Grown}
+use Rattle.install_steps.specs.Appends.{AppendsOnly, Grown}
 use Rattle.image_writer.specs.Chunks.{chunk_bytes}
 use Rattle.image_writer.specs.Sourced.{stub_path, new_sbat}
 use Rattle.image_writer.proofs.image.write_chunks.Given as goal

@@ -1,6 +1,6 @@
 use Rattle.std.proofs.Common.{◌≡◌, IsTrue, length, take}
 use Rattle.std.specs.List.{flat_map}
-use Rattle.image_writer.specs.Appends.{AppendsOnly, Grown}
+use Rattle.install_steps.specs.Appends.{AppendsOnly, Grown}
 use Rattle.std.proofs.Common.{◌<◌}
 use Rattle.uki_parts.specs.Pieces.{Reading}
 use Rattle.image_writer.specs.Chunks.{Agrees, padded_part}

@@ -5,7 +5,7 @@ use Rattle.boot_machine.specs.Rows.{contents, move_in}
 use Rattle.boot_machine.proofs.Going.{goes-create}
 use Rattle.boot_machine.proofs.Written.{has-created}
 use Rattle.install_steps.specs.Steps.{Intends, StepsTo}
-use Rattle.image_writer.proofs.Appending.{appends-there}
+use Rattle.install_steps.proofs.Appending.{appends-there}
 use Rattle.install_steps.proofs.MoveLemmas.{intended_view}
 use Rattle.install_steps.proofs.StepLemmas.{begins_same, firm_so_far, settled_so_far, steps_same, steps_on, ok_then}
 use Rattle.install_steps.proofs.AppendLemmas.{goes-appends, contents-created}
@@ -49,8 +49,8 @@ returns-in_err-append_name-2-clause-step g c told firm =
     let second = goes-appends _ _ _ _ _ _ _ first c.args.intent.now.temp c.know.ensures (c.append_name-2.ensures.appends told) in
     steps_same _ _ _ _ _ _ second
 
-pub finish-requires : goal.finish-requires
-finish-requires g c = record {
+pub put_in_place-requires : goal.put_in_place-requires
+put_in_place-requires g c = record {
   there = λ told.
       let there : has (g.M.Machine.state c.create.new.self).files c.args.intent.now.temp ≡ true = rw (c.in_ok-create.ensures.row told) (has-created (g.M.Machine.state c.args.machine.now).files c.args.intent.now.temp) in
       appends-there g.M.Machine.clock g.M.Machine.since g.M.Machine.state c.args.intent.now.temp c.append_name.new.machine c.append_name-2.new.machine (c.append_name-2.ensures.appends told)
@@ -74,11 +74,11 @@ returns-clause-step g c told firm =
     intends_written m c.args.intent.now.temp c.args.intent.now.path mid (g.M.Machine.state c.append_name.new.machine) (g.M.Machine.state c.append_name-2.new.machine) c.know.ensures c.requires.at_intent created
     (c.append_name.ensures.appends told).left (c.append_name-2.ensures.appends told).left c.args.from.now c.args.to.now bytes c.know_normal.ensures.normal c.know_normal-2.ensures.normal stand in
     let is : recovered_view (move_in c.args.intent.now.temp c.args.intent.now.path (g.M.Machine.state c.append_name-2.new.machine).files) ≡ recovered_view s.files = intended_view m _ c.args.from.now c.args.to.now (c.requires.rested told) put (c.requires.none told) in
-    let finished = c.finish.ensures.step told (firm_so_far _ _ _ _ _ _ second) (settled_so_far _ _ _ _ _ second) in
-    steps_on _ _ _ _ _ _ _ second (subst (λ (v : Files). StepsTo g.M.Machine.clock g.M.Machine.since g.M.Machine.state v c.append_name-2.new.machine c.finish.new.machine) is finished)
+    let finished = c.put_in_place.ensures.step told (firm_so_far _ _ _ _ _ _ second) (settled_so_far _ _ _ _ _ second) in
+    steps_on _ _ _ _ _ _ _ second (subst (λ (v : Files). StepsTo g.M.Machine.clock g.M.Machine.since g.M.Machine.state v c.append_name-2.new.machine c.put_in_place.new.machine) is finished)
 
 pub returns-clause-intends : goal.returns-clause-intends
-returns-clause-intends g c = ok_then c.finish.result c.finish.ensures.files (λ files told.
+returns-clause-intends g c = ok_then c.put_in_place.result c.put_in_place.ensures.files (λ files told.
     let m = (g.M.Machine.state c.args.machine.now).files in
     let mid = g.M.Machine.state c.create.new.self in
     let created : mid.files ≡ map.insert m c.args.intent.now.temp [] = rw (c.in_ok-create.ensures.row told) refl in
@@ -91,7 +91,7 @@ returns-clause-intends g c = ok_then c.finish.result c.finish.ensures.files (λ 
     subst (Intends c.args.from.now c.args.to.now m) (sym (files told)) put)
 
 pub returns-clause-temps : goal.returns-clause-temps
-returns-clause-temps g c = ok_then c.finish.result c.finish.ensures.files (λ files told q temp there.
+returns-clause-temps g c = ok_then c.put_in_place.result c.put_in_place.ensures.files (λ files told q temp there.
     let m = (g.M.Machine.state c.args.machine.now).files in
     let mid = g.M.Machine.state c.create.new.self in
     let created : mid.files ≡ map.insert m c.args.intent.now.temp [] = rw (c.in_ok-create.ensures.row told) refl in
@@ -125,5 +125,5 @@ returns-clause-quiet g c told =
     let made = quiet-create _ _ _ _ _ _ start (λ m o. g.met.M.Machine.only_now c.args.machine.now m o told) (c.create.ensures.moments told) c.create.result c.args.intent.now.temp (c.create.ensures.row told) in
     let first = quiet_appends _ _ _ c.args.intent.now.temp _ _ _ made (c.append_name.ensures.appends told) in
     let second = quiet_appends _ _ _ c.args.intent.now.temp _ _ _ first (c.append_name-2.ensures.appends told) in
-    let ended = quiet_then _ _ _ _ _ _ second (c.finish.ensures.quiet told) (c.finish.ensures.keeps told) in
+    let ended = quiet_then _ _ _ _ _ _ second (c.put_in_place.ensures.quiet told) (c.put_in_place.ensures.keeps told) in
     ended.moments

@@ -27,8 +27,8 @@ returns-in_err-append-clause-step g c told firm =
     let written = goes-append _ _ _ _ _ _ _ c.append.result made (c.append.ensures.moments told) c.args.target.now.temp c.args.bytes.now c.know-2.ensures (c.append.ensures.row told) in
     steps_same _ _ _ _ _ _ written
 
-pub finish-requires : goal.finish-requires
-finish-requires g c = record {
+pub put_in_place-requires : goal.put_in_place-requires
+put_in_place-requires g c = record {
   there = λ told. rw (c.in_ok-append.ensures.row told, c.in_ok-create.ensures.row told) (has-appended (g.M.Machine.state c.args.machine.now).files c.args.target.now.temp c.args.bytes.now);
 }
 
@@ -40,26 +40,26 @@ returns-clause-step g c told firm =
     let written = goes-append _ _ _ _ _ _ _ c.append.result made (c.append.ensures.moments told) c.args.target.now.temp c.args.bytes.now c.know-2.ensures (c.append.ensures.row told) in
     let next = map.insert (recovered_view s.files) c.args.target.now.path c.args.bytes.now in
     let is : recovered_view (move_in c.args.target.now.temp c.args.target.now.path (g.M.Machine.state c.append.new.self).files) ≡ next = rw (c.in_ok-append.ensures.row told, c.in_ok-create.ensures.row told) (recovered_view-written s.files c.args.target.now.temp c.args.target.now.path c.args.bytes.now (c.requires.rested told) c.know-2.ensures c.know.ensures (off_intent c.args.target.now.path c.requires.free)) in
-    let finished = c.finish.ensures.step told (firm_so_far _ _ _ _ _ _ written) (settled_so_far _ _ _ _ _ written) in
-    steps_on _ _ _ _ _ _ _ written (subst (λ (v : Files). StepsTo g.M.Machine.clock g.M.Machine.since g.M.Machine.state v c.append.new.self c.finish.new.machine) is finished)
+    let finished = c.put_in_place.ensures.step told (firm_so_far _ _ _ _ _ _ written) (settled_so_far _ _ _ _ _ written) in
+    steps_on _ _ _ _ _ _ _ written (subst (λ (v : Files). StepsTo g.M.Machine.clock g.M.Machine.since g.M.Machine.state v c.append.new.self c.put_in_place.new.machine) is finished)
 
 pub returns-clause-done : goal.returns-clause-done
-returns-clause-done g c = ok_then c.finish.result c.finish.ensures.done (λ done told firm.
+returns-clause-done g c = ok_then c.put_in_place.result c.put_in_place.ensures.done (λ done told firm.
     let s = g.M.Machine.state c.args.machine.now in
     let start = begins_same g.M.Machine.clock g.M.Machine.since g.M.Machine.state c.args.machine.now (λ m o. g.met.M.Machine.only_now c.args.machine.now m o told) (g.met.M.Machine.sound c.args.machine.now told) firm (c.requires.one told) in
     let made = goes-create _ _ _ _ _ _ _ c.create.result start (c.create.ensures.moments told) c.args.target.now.temp c.know-2.ensures (c.create.ensures.row told) in
     let written = goes-append _ _ _ _ _ _ _ c.append.result made (c.append.ensures.moments told) c.args.target.now.temp c.args.bytes.now c.know-2.ensures (c.append.ensures.row told) in
     let next = map.insert (recovered_view s.files) c.args.target.now.path c.args.bytes.now in
     let is : recovered_view (move_in c.args.target.now.temp c.args.target.now.path (g.M.Machine.state c.append.new.self).files) ≡ next = rw (c.in_ok-append.ensures.row told, c.in_ok-create.ensures.row told) (recovered_view-written s.files c.args.target.now.temp c.args.target.now.path c.args.bytes.now (c.requires.rested told) c.know-2.ensures c.know.ensures (off_intent c.args.target.now.path c.requires.free)) in
-    subst (IsDone (g.M.Machine.state c.finish.new.machine)) is (done told (firm_so_far _ _ _ _ _ _ written) (settled_so_far _ _ _ _ _ written)))
+    subst (IsDone (g.M.Machine.state c.put_in_place.new.machine)) is (done told (firm_so_far _ _ _ _ _ _ written) (settled_so_far _ _ _ _ _ written)))
 
 pub returns-clause-temps : goal.returns-clause-temps
-returns-clause-temps g c = ok_then c.finish.result c.finish.ensures.files (λ files told q temp there.
+returns-clause-temps g c = ok_then c.put_in_place.result c.put_in_place.ensures.files (λ files told q temp there.
     temps-written (g.M.Machine.state c.args.machine.now).files c.args.target.now.temp c.args.target.now.path c.args.bytes.now c.know-2.ensures c.know.ensures q temp
     (rw (files told, c.in_ok-append.ensures.row told, c.in_ok-create.ensures.row told) at there))
 
 pub returns-clause-rests : goal.returns-clause-rests
-returns-clause-rests g c = ok_then c.finish.result c.finish.ensures.files (λ files told.
+returns-clause-rests g c = ok_then c.put_in_place.result c.put_in_place.ensures.files (λ files told.
     rw (files told, c.in_ok-append.ensures.row told, c.in_ok-create.ensures.row told)
     (calm-written (g.M.Machine.state c.args.machine.now).files c.args.target.now.temp c.args.target.now.path c.args.bytes.now (c.requires.rested told) c.know-2.ensures (off_intent c.args.target.now.path c.requires.free)))
 
@@ -81,5 +81,5 @@ returns-clause-quiet g c told =
     let start = quiet_start g.M.Machine.clock g.M.Machine.since g.M.Machine.state c.args.machine.now (λ m o. g.met.M.Machine.only_now c.args.machine.now m o told) in
     let made = quiet-create _ _ _ _ _ _ start (λ m o. g.met.M.Machine.only_now c.args.machine.now m o told) (c.create.ensures.moments told) c.create.result c.args.target.now.temp (c.create.ensures.row told) in
     let written = quiet-append _ _ _ _ _ _ made (λ m o. g.met.M.Machine.only_now c.create.new.self m o told) (c.append.ensures.moments told) c.append.result c.args.target.now.temp c.args.bytes.now (c.append.ensures.row told) in
-    let ended = quiet_then _ _ _ _ _ _ written (c.finish.ensures.quiet told) (c.finish.ensures.keeps told) in
+    let ended = quiet_then _ _ _ _ _ _ written (c.put_in_place.ensures.quiet told) (c.put_in_place.ensures.keeps told) in
     ended.moments

@@ -92,19 +92,19 @@ loop-at-preserved g c = record {
   counts = search rules;
 }
 
-pub finish-requires : goal.finish-requires
-finish-requires g c = record {
+pub put_in_place-requires : goal.put_in_place-requires
+put_in_place-requires g c = record {
   there = λ told. rw (c.loop-at.invariant.written told) (has-appended (g.M.Machine.state c.args.machine.now).files c.args.target.now.temp _);
 }
 
-pub returns-in_err-finish-clause-step : goal.returns-in_err-finish-clause-step
-returns-in_err-finish-clause-step g c told firm =
+pub returns-in_err-put_in_place-clause-step : goal.returns-in_err-put_in_place-clause-step
+returns-in_err-put_in_place-clause-step g c told firm =
     let s = g.M.Machine.state c.args.machine.now in
     let long = size_within s.files c.args.from.now c.in_ok-size.field-0 c.in-Some.size c.min-size.result (c.requires.rested told) c.know.ensures (c.requires.small told) (c.in_ok-size.ensures.row told).answer c.in-Some.is (λ small. omega (arith, small, c.min-size.ensures)) in
     let all = copies_all s.files (g.M.Machine.state c.loop-at.machine).files c.args.target.now.temp c.args.from.now c.min-size.result c.loop-at.at long (omega (arith, c.loop-at-test.false)) (c.loop-at.invariant.written told) in
     let is = sees_copy s.files (g.M.Machine.state c.loop-at.machine).files c.args.target.now.temp c.args.from.now c.args.target.now.path (c.requires.rested told) (off_intent c.args.target.now.path c.requires.free) c.know-3.ensures c.know.ensures c.know-2.ensures (size_there s.files c.args.from.now c.in_ok-size.field-0 c.in-Some.size (c.in_ok-size.ensures.row told).answer c.in-Some.is).1 all in
     let going = c.loop-at.invariant.going told firm in
-    steps_on _ _ _ _ _ _ _ going (subst (λ (v : Files). StepsTo g.M.Machine.clock g.M.Machine.since g.M.Machine.state v c.loop-at.machine c.finish.new.machine) is (c.finish.ensures.step told (firm_so_far _ _ _ _ _ _ going) (settled_so_far _ _ _ _ _ going)))
+    steps_on _ _ _ _ _ _ _ going (subst (λ (v : Files). StepsTo g.M.Machine.clock g.M.Machine.since g.M.Machine.state v c.loop-at.machine c.put_in_place.new.machine) is (c.put_in_place.ensures.step told (firm_so_far _ _ _ _ _ _ going) (settled_so_far _ _ _ _ _ going)))
 
 pub returns-clause-step : goal.returns-clause-step
 returns-clause-step g c told firm =
@@ -113,7 +113,7 @@ returns-clause-step g c told firm =
     let all = copies_all s.files (g.M.Machine.state c.loop-at.machine).files c.args.target.now.temp c.args.from.now c.min-size.result c.loop-at.at long (omega (arith, c.loop-at-test.false)) (c.loop-at.invariant.written told) in
     let is = sees_copy s.files (g.M.Machine.state c.loop-at.machine).files c.args.target.now.temp c.args.from.now c.args.target.now.path (c.requires.rested told) (off_intent c.args.target.now.path c.requires.free) c.know-3.ensures c.know.ensures c.know-2.ensures (size_there s.files c.args.from.now c.in_ok-size.field-0 c.in-Some.size (c.in_ok-size.ensures.row told).answer c.in-Some.is).1 all in
     let going = c.loop-at.invariant.going told firm in
-    steps_on _ _ _ _ _ _ _ going (subst (λ (v : Files). StepsTo g.M.Machine.clock g.M.Machine.since g.M.Machine.state v c.loop-at.machine c.finish.new.machine) is (c.finish.ensures.step told (firm_so_far _ _ _ _ _ _ going) (settled_so_far _ _ _ _ _ going)))
+    steps_on _ _ _ _ _ _ _ going (subst (λ (v : Files). StepsTo g.M.Machine.clock g.M.Machine.since g.M.Machine.state v c.loop-at.machine c.put_in_place.new.machine) is (c.put_in_place.ensures.step told (firm_so_far _ _ _ _ _ _ going) (settled_so_far _ _ _ _ _ going)))
 
 pub returns-clause-done : goal.returns-clause-done
 returns-clause-done g c told firm =
@@ -122,7 +122,7 @@ returns-clause-done g c told firm =
     let all = copies_all s.files (g.M.Machine.state c.loop-at.machine).files c.args.target.now.temp c.args.from.now c.min-size.result c.loop-at.at long (omega (arith, c.loop-at-test.false)) (c.loop-at.invariant.written told) in
     let is = sees_copy s.files (g.M.Machine.state c.loop-at.machine).files c.args.target.now.temp c.args.from.now c.args.target.now.path (c.requires.rested told) (off_intent c.args.target.now.path c.requires.free) c.know-3.ensures c.know.ensures c.know-2.ensures (size_there s.files c.args.from.now c.in_ok-size.field-0 c.in-Some.size (c.in_ok-size.ensures.row told).answer c.in-Some.is).1 all in
     let going = c.loop-at.invariant.going told firm in
-    subst (IsDone (g.M.Machine.state c.finish.new.machine)) is (c.in_ok-finish.ensures.done told (firm_so_far _ _ _ _ _ _ going) (settled_so_far _ _ _ _ _ going))
+    subst (IsDone (g.M.Machine.state c.put_in_place.new.machine)) is (c.in_ok-put_in_place.ensures.done told (firm_so_far _ _ _ _ _ _ going) (settled_so_far _ _ _ _ _ going))
 
 pub returns-clause-found : goal.returns-clause-found
 returns-clause-found g c told =
@@ -132,11 +132,11 @@ returns-clause-found g c told =
 pub returns-clause-temps : goal.returns-clause-temps
 returns-clause-temps g c told q temp there =
     temps-written (g.M.Machine.state c.args.machine.now).files c.args.target.now.temp c.args.target.now.path _ c.know-3.ensures c.know-2.ensures q temp
-    (rw (c.in_ok-finish.ensures.files told, c.loop-at.invariant.written told) at there)
+    (rw (c.in_ok-put_in_place.ensures.files told, c.loop-at.invariant.written told) at there)
 
 pub returns-clause-rests : goal.returns-clause-rests
 returns-clause-rests g c told =
-    rw (c.in_ok-finish.ensures.files told, c.loop-at.invariant.written told)
+    rw (c.in_ok-put_in_place.ensures.files told, c.loop-at.invariant.written told)
     (calm-written (g.M.Machine.state c.args.machine.now).files c.args.target.now.temp c.args.target.now.path _ (c.requires.rested told) c.know-3.ensures (off_intent c.args.target.now.path c.requires.free))
 
 pub returns-in_err-size-clause-quiet : goal.returns-in_err-size-clause-quiet
@@ -169,12 +169,12 @@ returns-in_err-append-clause-quiet g c told =
     let written = quiet-append _ _ _ _ _ _ read (λ m o. g.met.M.Machine.only_now c.read_part.new.machine m o told) (c.append.ensures.moments told) c.append.result c.args.target.now.temp c.read_part.new.into (c.append.ensures.row told) in
     written.moments
 
-pub returns-in_err-finish-clause-quiet : goal.returns-in_err-finish-clause-quiet
-returns-in_err-finish-clause-quiet g c told =
-    let ended = quiet_then _ _ _ _ _ _ (c.loop-at.invariant.quiet told) (c.finish.ensures.quiet told) (c.finish.ensures.keeps told) in
+pub returns-in_err-put_in_place-clause-quiet : goal.returns-in_err-put_in_place-clause-quiet
+returns-in_err-put_in_place-clause-quiet g c told =
+    let ended = quiet_then _ _ _ _ _ _ (c.loop-at.invariant.quiet told) (c.put_in_place.ensures.quiet told) (c.put_in_place.ensures.keeps told) in
     ended.moments
 
 pub returns-clause-quiet : goal.returns-clause-quiet
 returns-clause-quiet g c told =
-    let ended = quiet_then _ _ _ _ _ _ (c.loop-at.invariant.quiet told) (c.finish.ensures.quiet told) (c.finish.ensures.keeps told) in
+    let ended = quiet_then _ _ _ _ _ _ (c.loop-at.invariant.quiet told) (c.put_in_place.ensures.quiet told) (c.put_in_place.ensures.keeps told) in
     ended.moments

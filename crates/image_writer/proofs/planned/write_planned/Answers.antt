@@ -6,13 +6,13 @@ use Rattle.boot_machine.proofs.Going.{goes-create}
 use Rattle.boot_machine.proofs.Views.{view-insert_temp}
 use Rattle.boot_machine.proofs.Written.{has-created}
 use Rattle.image_writer.specs.Sourced.{IsSourced, IsPlannedImage, new_sbat, part_list, parts_bytes, stub_path}
-use Rattle.image_writer.proofs.Appending.{appends-there}
+use Rattle.install_steps.proofs.Appending.{appends-there}
 use Rattle.image_writer.proofs.Assembled.{one_image}
 use Rattle.install_steps.specs.Steps.{StepsTo, IsDone}
 use Rattle.install_steps.proofs.AppendLemmas.{goes-appends, contents-created, sees_written, calm_left, temps_left}
 use Rattle.install_steps.proofs.StepLemmas.{begins_same, firm_so_far, settled_so_far, steps_same, steps_on, ok_then, off_intent}
 use Rattle.install_steps.proofs.QuietLemmas.{quiet-create, quiet_appends, quiet_start, quiet_then}
-use Rattle.install_steps.proofs.write.write_planned.Goals as goal
+use Rattle.image_writer.proofs.planned.write_planned.Goals as goal
 
 pub returns-in_err-create-clause-step : goal.returns-in_err-create-clause-step
 returns-in_err-create-clause-step g c told firm image finished =
@@ -39,8 +39,8 @@ returns-in_err-write_image-clause-step g c told firm image finished =
     let written = goes-appends _ _ _ _ _ _ _ made c.args.target.now.temp c.know-2.ensures (c.write_image.ensures.appends told) in
     steps_same _ _ _ _ _ _ written
 
-pub finish-requires : goal.finish-requires
-finish-requires g c = record {
+pub put_in_place-requires : goal.put_in_place-requires
+put_in_place-requires g c = record {
   there = λ told.
       let there : has (g.M.Machine.state c.create.new.self).files c.args.target.now.temp ≡ true = rw (c.in_ok-create.ensures.row told) (has-created (g.M.Machine.state c.args.machine.now).files c.args.target.now.temp) in
       appends-there g.M.Machine.clock g.M.Machine.since g.M.Machine.state c.args.target.now.temp c.create.new.self c.write_image.new.machine (c.write_image.ensures.appends told) there;
@@ -61,11 +61,11 @@ returns-clause-step g c told firm image finished =
     one_image c.args.plan.now stub (new_sbat c.args.sources.now) (parts_bytes (contents files) (part_list c.args.sources.now)) bytes image (c.requires.sourced told).plan_is is_image finished in
     let is : recovered_view (move_in c.args.target.now.temp c.args.target.now.path (g.M.Machine.state c.write_image.new.machine).files) ≡ map.insert (recovered_view (g.M.Machine.state c.args.machine.now).files) c.args.target.now.path image =
     sees_written (g.M.Machine.state c.args.machine.now).files c.args.target.now.temp c.args.target.now.path (g.M.Machine.state c.create.new.self) (g.M.Machine.state c.write_image.new.machine) image (c.requires.rested told) (off_intent c.args.target.now.path c.requires.free) c.know-2.ensures c.know.ensures created (c.write_image.ensures.appends told).left same in
-    let finishes = c.finish.ensures.step told (firm_so_far _ _ _ _ _ _ written) (settled_so_far _ _ _ _ _ written) in
-    steps_on _ _ _ _ _ _ _ written (subst (λ (v : Files). StepsTo g.M.Machine.clock g.M.Machine.since g.M.Machine.state v c.write_image.new.machine c.finish.new.machine) is finishes)
+    let finishes = c.put_in_place.ensures.step told (firm_so_far _ _ _ _ _ _ written) (settled_so_far _ _ _ _ _ written) in
+    steps_on _ _ _ _ _ _ _ written (subst (λ (v : Files). StepsTo g.M.Machine.clock g.M.Machine.since g.M.Machine.state v c.write_image.new.machine c.put_in_place.new.machine) is finishes)
 
 pub returns-clause-done : goal.returns-clause-done
-returns-clause-done g c = ok_then c.finish.result c.finish.ensures.done (λ done told firm image finished.
+returns-clause-done g c = ok_then c.put_in_place.result c.put_in_place.ensures.done (λ done told firm image finished.
     let start = begins_same g.M.Machine.clock g.M.Machine.since g.M.Machine.state c.args.machine.now (λ m o. g.met.M.Machine.only_now c.args.machine.now m o told) (g.met.M.Machine.sound c.args.machine.now told) firm (c.requires.one told) in
     let made = goes-create _ _ _ _ _ _ _ c.create.result start (c.create.ensures.moments told) c.args.target.now.temp c.know-2.ensures (c.create.ensures.row told) in
     let written = goes-appends _ _ _ _ _ _ _ made c.args.target.now.temp c.know-2.ensures (c.write_image.ensures.appends told) in
@@ -79,10 +79,10 @@ returns-clause-done g c = ok_then c.finish.result c.finish.ensures.done (λ done
     one_image c.args.plan.now stub (new_sbat c.args.sources.now) (parts_bytes (contents files) (part_list c.args.sources.now)) bytes image (c.requires.sourced told).plan_is is_image finished in
     let is : recovered_view (move_in c.args.target.now.temp c.args.target.now.path (g.M.Machine.state c.write_image.new.machine).files) ≡ map.insert (recovered_view (g.M.Machine.state c.args.machine.now).files) c.args.target.now.path image =
     sees_written (g.M.Machine.state c.args.machine.now).files c.args.target.now.temp c.args.target.now.path (g.M.Machine.state c.create.new.self) (g.M.Machine.state c.write_image.new.machine) image (c.requires.rested told) (off_intent c.args.target.now.path c.requires.free) c.know-2.ensures c.know.ensures created (c.write_image.ensures.appends told).left same in
-    subst (IsDone (g.M.Machine.state c.finish.new.machine)) is (done told (firm_so_far _ _ _ _ _ _ written) (settled_so_far _ _ _ _ _ written)))
+    subst (IsDone (g.M.Machine.state c.put_in_place.new.machine)) is (done told (firm_so_far _ _ _ _ _ _ written) (settled_so_far _ _ _ _ _ written)))
 
 pub returns-clause-temps : goal.returns-clause-temps
-returns-clause-temps g c = ok_then c.finish.result c.finish.ensures.files (λ files told q temp there.
+returns-clause-temps g c = ok_then c.put_in_place.result c.put_in_place.ensures.files (λ files told q temp there.
     let created : (g.M.Machine.state c.create.new.self).files ≡ map.insert (g.M.Machine.state c.args.machine.now).files c.args.target.now.temp [] = rw (c.in_ok-create.ensures.row told) refl in
     temps_left (g.M.Machine.state c.args.machine.now).files c.args.target.now.temp c.args.target.now.path (g.M.Machine.state c.create.new.self) (g.M.Machine.state c.write_image.new.machine) c.know-2.ensures c.know.ensures created (c.write_image.ensures.appends told).left q temp (rw (files told) at there))
 
@@ -104,11 +104,11 @@ returns-clause-quiet g c told =
     let start = quiet_start g.M.Machine.clock g.M.Machine.since g.M.Machine.state c.args.machine.now (λ m o. g.met.M.Machine.only_now c.args.machine.now m o told) in
     let made = quiet-create _ _ _ _ _ _ start (λ m o. g.met.M.Machine.only_now c.args.machine.now m o told) (c.create.ensures.moments told) c.create.result c.args.target.now.temp (c.create.ensures.row told) in
     let written = quiet_appends _ _ _ c.args.target.now.temp _ _ _ made (c.write_image.ensures.appends told) in
-    let ended = quiet_then _ _ _ _ _ _ written (c.finish.ensures.quiet told) (c.finish.ensures.keeps told) in
+    let ended = quiet_then _ _ _ _ _ _ written (c.put_in_place.ensures.quiet told) (c.put_in_place.ensures.keeps told) in
     ended.moments
 
 pub returns-clause-rests : goal.returns-clause-rests
-returns-clause-rests g c = ok_then c.finish.result c.finish.ensures.files (λ files told.
+returns-clause-rests g c = ok_then c.put_in_place.result c.put_in_place.ensures.files (λ files told.
     let created : (g.M.Machine.state c.create.new.self).files ≡ map.insert (g.M.Machine.state c.args.machine.now).files c.args.target.now.temp [] = rw (c.in_ok-create.ensures.row told) refl in
     rw (files told)
     (calm_left (g.M.Machine.state c.args.machine.now).files c.args.target.now.temp c.args.target.now.path (g.M.Machine.state c.create.new.self) (g.M.Machine.state c.write_image.new.machine) (c.requires.rested told) (off_intent c.args.target.now.path c.requires.free) c.know-2.ensures created (c.write_image.ensures.appends told).left))

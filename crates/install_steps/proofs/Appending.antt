@@ -18,7 +18,7 @@ use Rattle.boot_machine.proofs.Elapsing.{weaken, joined, at_once, one_call}
 use Rattle.boot_machine.proofs.Printing.{not_printed}
 use Rattle.boot_machine.proofs.Soft.{in_map, by_append}
 use Rattle.boot_machine.proofs.Views.{get-append_to, get-view_shown}
-use Rattle.image_writer.specs.Appends.{softened, HasAppended, AppendsOnly, Grown}
+use Rattle.install_steps.specs.Appends.{softened, HasAppended, AppendsOnly, Grown}
 
 -- paths are kept
 pub has-append_to : (m : Files) (p : Path) (bytes : List ℕ) (q : Path) → has (append_to p bytes m) q ≡ has m q

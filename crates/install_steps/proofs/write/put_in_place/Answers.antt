@@ -8,7 +8,7 @@ use Rattle.boot_machine.proofs.Recovering.{recovered_view-half_temp}
 use Rattle.boot_machine.proofs.Written.{is_synced}
 use Rattle.install_steps.proofs.StepLemmas.{begins_settled, steps_to, is_done, on_ok}
 use Rattle.install_steps.proofs.QuietLemmas.{quiet-rename, quiet-sync_file, quiet-sync_names, quiet_start}
-use Rattle.install_steps.proofs.write.finish.Goals as goal
+use Rattle.install_steps.proofs.write.put_in_place.Goals as goal
 
 pub returns-in_err-sync_file-clause-step : goal.returns-in_err-sync_file-clause-step
 returns-in_err-sync_file-clause-step g c told firm settled =

@@ -1,0 +1,54 @@
+//! A whole image, from its plan to its place among the boot files.
+
+ghost use Rattle.std.specs.Prelude.{◌≡◌, ℕ, List, IsTrue, OnOk};
+ghost use Rattle.std.specs.FinMap as map;
+ghost use Rattle.boot_base.specs.Paths.{IsFree};
+ghost use Rattle.boot_machine.specs.Counts.{CountsDisk};
+ghost use Rattle.boot_machine.specs.Disk.{HasOneCandidate, IsRested, recovered_view, view};
+ghost use Rattle.boot_machine.specs.Images.{IsFirm};
+ghost use Rattle.install_steps.specs.Steps.{Keeps, StepsTo, IsDone, NoNewTemp, PrintsNothing};
+ghost use Rattle.image_writer.specs.Sourced.{IsSourced, IsPlannedImage};
+
+use crate::image::write_image;
+use crate::sources::Sources;
+use boot_base::{Piece, Target};
+use boot_machine::{DiskFault, Machine};
+use install_steps::put_in_place;
+use pe_builder::Plan;
+
+/// Writes the finished image by a plan of these sources at the target, in place of a file that is there, which may be
+/// one of the sources (UAPI Unified Kernel Image). Its bytes go through the buffer in pieces, and no memory is taken. A
+/// stop at any moment leaves what boot saw before, or that with the whole image. After a fault of the disk either
+/// stands, and a temporary file may be left. The plan was made for these sources; zeros stand for bytes that the
+/// machine doesn't give.
+pub fn write_planned<M: Machine>(
+    machine: &mut M,
+    plan: &Plan,
+    sources: &Sources,
+    target: &Target,
+    buffer: &mut Piece,
+) -> Result<(), DiskFault>
+    requires free { IsFree target.now.path }
+    requires one { IsTrue M.tells → HasOneCandidate (M.state machine.old) }
+    requires rested { IsTrue M.tells → IsRested (M.state machine.old) }
+    requires sourced { IsTrue M.tells → IsSourced plan.now sources.now (view (M.state machine.old).files) }
+    ensures done { OnOk result (IsTrue M.tells → IsFirm (M.state machine.old)
+        → (image : List ℕ) → IsPlannedImage plan.now sources.now (view (M.state machine.old).files) image
+        → IsDone (M.state machine.new)
+        (map.insert (recovered_view (M.state machine.old).files) target.now.path image)) }
+    ensures step { IsTrue M.tells → IsFirm (M.state machine.old)
+        → (image : List ℕ) → IsPlannedImage plan.now sources.now (view (M.state machine.old).files) image
+        → StepsTo M.clock M.since M.state
+        (map.insert (recovered_view (M.state machine.old).files) target.now.path image) machine.old machine.new }
+    ensures keeps { IsTrue M.tells → Keeps (M.state machine.old) (M.state machine.new) }
+    ensures quiet { IsTrue M.tells → PrintsNothing M.clock M.since M.state machine.old machine.new }
+    ensures rests { OnOk result (IsTrue M.tells → IsRested (M.state machine.new)) }
+    ensures temps { OnOk result (IsTrue M.tells → NoNewTemp (M.state machine.old) (M.state machine.new)) }
+    ensures counts { CountsDisk result (M.counts machine.old) (M.counts machine.new) }
+{
+    target.path.know();
+    target.temp.know();
+    machine.create(&target.temp)?;
+    write_image(plan, sources, buffer, &target.temp, machine)?;
+    put_in_place(machine, target)
+}
