@@ -9,11 +9,11 @@
 mod outcome;
 mod performing;
 mod plan;
-mod reading;
 mod refusing;
+mod saying;
 
 pub use outcome::{MachineFault, Outcome, Stop};
 pub use performing::perform;
 pub use plan::{Change, Plan, RefusalLine};
-pub use reading::seen_size;
-pub use refusing::{Declined, not_there, path_in, path_under, printed, refusal_line, refused};
+pub use refusing::{plan_declined, refusal_line, refused};
+pub use saying::{plan_unsaid, said};

@@ -13,12 +13,10 @@ ghost use Rattle.command_plans.specs.Plans.{CanMake, Drops, DropsBy, IsMakeable,
 
 use crate::outcome::{MachineFault, Outcome};
 use crate::plan::{Change, Plan, RefusalLine};
-use boot_base::Target;
+use boot_base::{PIECE_SIZE, Target};
 use boot_machine::{Channel, DiskFault, Machine, print_all};
-use image_writer::Sources;
-use install_steps::{
-    MoveFault, StepFault, drop_leftovers, drop_name, move_name, settle, write_planned,
-};
+use image_writer::{Sources, write_planned};
+use install_steps::{MoveFault, StepFault, drop_leftovers, drop_name, move_name, settle};
 
 /// Writes the finished image by a plan of these sources at the target. The buffer stands here, so that no other change
 /// has to make room for it.
@@ -42,7 +40,7 @@ fn write<M: Machine>(
     ensures temps { OnOk result (IsTrue M.tells → NoNewTemp (M.state machine.old) (M.state machine.new)) }
     ensures counts { CountsDisk result (M.counts machine.old) (M.counts machine.new) }
 {
-    let mut buffer = [0; 65536];
+    let mut buffer = [0; PIECE_SIZE];
     write_planned(machine, image, sources, target, &mut buffer)
 }
 

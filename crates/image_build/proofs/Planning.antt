@@ -16,8 +16,8 @@ use Rattle.command_plans.specs.declared.plan.Plan.{Plan as CommandPlan}
 use Rattle.command_plans.specs.declared.plan.Change.TheVariants as changes
 use Rattle.command_plans.specs.declared.outcome.Outcome.TheVariants as outcomes
 use Rattle.boot_machine.specs.Rows.{contents}
-use Rattle.image_commands.proofs.Each.{bind_ok}
-use Rattle.image_commands.specs.Files.{headers_or}
+use Rattle.command_reads.proofs.Each.{bind_ok}
+use Rattle.command_reads.specs.Files.{headers_or}
 use Rattle.image_writer.specs.Sourced.{IsPieced, IsSourced, new_sbat, part_list, parts_bytes, planned_image, stub_path}
 use Rattle.image_writer.specs.declared.sources.Sources.{Sources}
 use Rattle.image_writer.proofs.PlannedImages.{planned_image-is}
@@ -38,10 +38,11 @@ use Rattle.image_build.specs.Planning.{HasItsLength, IsPlannable, IsPlannedOn, b
 use Rattle.image_build.specs.declared.planned.PlannedBuild.{PlannedBuild}
 use Rattle.boot_phases.specs.Phases.{default_phase_paths}
 use Rattle.stub_replay.specs.Measured.{stub_pcr}
-use Rattle.image_commands.specs.Saying.{PlansUnsaid, UnsaidFor}
-use Rattle.image_commands.specs.Values.{all_banks, value_lines}
-use Rattle.image_commands.specs.declared.saying.Unsaid.{Unsaid}
-use Rattle.image_commands.specs.declared.saying.Unsaid.TheVariants as unsaid
+use Rattle.command_plans.specs.Refusing.{PlansUnsaid}
+use Rattle.command_reads.specs.Saying.{UnsaidFor}
+use Rattle.command_reads.specs.Values.{all_banks, value_lines}
+use Rattle.command_reads.specs.declared.saying.Unsaid.{Unsaid}
+use Rattle.command_reads.specs.declared.saying.Unsaid.TheVariants as unsaid
 use Rattle.image_build.specs.Reads.{BuiltFrom, BuiltHasSizes, PartFrom, PartHasSizes, material_as}
 use Rattle.image_build.specs.declared.build_plan.ImagePlan.{ImagePlan}
 use Rattle.image_build.specs.declared.build_reads.BuildParts.{BuildParts}

@@ -1,40 +1,16 @@
 -- Printed values are a stub's.
-use Rattle.std.proofs.Common.{◌≡◌, ◌++◌, ℕ, List, [], ◌∷◌, Bool, Option, Ok, Result, true, length, refl, sym, ap, subst, ◌∙◌, unwrap_or}
+use Rattle.std.proofs.Common.{◌≡◌, ◌++◌, ℕ, List, [], Bool, Option, Ok, Result, true, length, sym, ap, subst, unwrap_or}
 use Rattle.std.specs.FinMap.{insert}
-use Rattle.std.specs.List.{flat_map, zip}
 use Rattle.boot_base.specs.Paths.{Path}
 use Rattle.boot_base.specs.declared.refusal.Refusal.{Refusal}
 use Rattle.boot_machine.specs.Disk.{Files}
 use Rattle.boot_machine.specs.Maps.{get-insert_here}
 use Rattle.boot_machine.specs.Rows.{contents}
-use Rattle.boot_phases.specs.Lines.{heading_of, value_line}
 use Rattle.boot_phases.specs.Phases.{default_phase_paths}
-use Rattle.command_plans.proofs.Declining.{done_next}
-use Rattle.command_plans.specs.Refusing.{path_in}
-use Rattle.image_commands.specs.Calculating.{calculate_said, if_given, part_words}
-use Rattle.image_commands.specs.Files.{bytes_at, each}
-use Rattle.image_commands.specs.Values.{all_banks, banks_of, paths_of, value_lines}
-use Rattle.pcr_fold.specs.declared.bank.Bank.{Bank}
-use Rattle.pcr_prediction.specs.Ordered.{part_of, present}
-use Rattle.stub_replay.specs.Measured.{Shows, measured_names, predicted_pcr, stub_pcr}
-use Rattle.stub_replay.proofs.Predicting.{predicted_is_replayed}
+use Rattle.command_reads.specs.Values.{all_banks, value_lines}
+use Rattle.stub_replay.specs.Measured.{stub_pcr}
 use Rattle.tool_words.specs.declared.command.BuildWords.{BuildWords}
-use Rattle.tool_words.specs.declared.command.CalculateWords.{CalculateWords}
 use Rattle.image_build.specs.Building.{Built, build_answer, build_of, built_answer, built_line}
-
--- lines of the same values are the same
-same_bank_lines : (v w : Bank → List (List ℕ) → List ℕ) → ((bank : Bank) (path : List (List ℕ)) → v bank path ≡ w bank path) → (path : List (List ℕ)) (banks : List Bank)
-    → flat_map (λ bank. value_line bank (v bank path)) banks ≡ flat_map (λ bank. value_line bank (w bank path)) banks
-same_bank_lines v w same path [] = refl
-same_bank_lines v w same path (bank ∷ banks) =
-    ap (λ (value : List ℕ). value_line bank value ++ flat_map (λ b. value_line b (v b path)) banks) (same bank path)
-    ∙ ap (λ (more : List ℕ). value_line bank (w bank path) ++ more) (same_bank_lines v w same path banks)
-
-same_lines : (v w : Bank → List (List ℕ) → List ℕ) → ((bank : Bank) (path : List (List ℕ)) → v bank path ≡ w bank path) → (banks : List Bank) (paths : List (List (List ℕ))) → value_lines v banks paths ≡ value_lines w banks paths
-same_lines v w same banks [] = refl
-same_lines v w same banks (path ∷ paths) =
-    ap (λ (lines : List ℕ). (heading_of path ++ lines) ++ value_lines v banks paths) (same_bank_lines v w same path banks)
-    ∙ ap (λ (more : List ℕ). (heading_of path ++ flat_map (λ bank. value_line bank (w bank path)) banks) ++ more) (same_lines v w same banks paths)
 
 -- what stands at a path afterwards
 there : (view : Files) (path : Path) (image : List ℕ) → contents (insert view path image) path ≡ image
@@ -46,12 +22,3 @@ built_values view words built asked is =
     subst (λ (r : Result Built Refusal). (built_answer view words.measure r).text ≡ built_line built.output (length built.image) ++ value_lines (stub_pcr (contents (built_answer view words.measure r).after built.output)) all_banks default_phase_paths) (sym is)
     (subst (λ (m : Bool). (built_answer view m (Ok built)).text ≡ built_line built.output (length built.image) ++ value_lines (stub_pcr (contents (built_answer view m (Ok built)).after built.output)) all_banks default_phase_paths) (sym asked)
     (ap (λ (image : List ℕ). built_line built.output (length built.image) ++ value_lines (stub_pcr image) all_banks default_phase_paths) (sym (there view built.output built.image))))
-
-pub calculated_values : (view : Files) (words : CalculateWords) (paths : List (Option Path)) (parts : List (Option (List ℕ))) (image : List ℕ)
-    → each (if_given path_in) (part_words words) ≡ Ok paths → each (if_given (bytes_at view)) paths ≡ Ok parts → Shows image (part_of (present (zip measured_names parts)))
-    → calculate_said view words ≡ Ok (value_lines (stub_pcr image) (banks_of words.banks) (paths_of words.phases))
-calculated_values view words paths parts image paths_are parts_are shows =
-    let given = part_of (present (zip measured_names parts)) in
-    done_next (each (if_given path_in) (part_words words)) paths _ paths_are
-    ∙ done_next (each (if_given (bytes_at view)) paths) parts _ parts_are
-    ∙ ap Ok (same_lines (predicted_pcr given) (stub_pcr image) (λ bank path. predicted_is_replayed image given bank path shows) (banks_of words.banks) (paths_of words.phases))

@@ -11,9 +11,9 @@ use Rattle.boot_base.specs.declared.refusal.Refusal.{Refusal}
 use Rattle.boot_machine.specs.Disk.{Files}
 use Rattle.boot_phases.specs.Lines.{result_text}
 use Rattle.boot_phases.specs.Phases.{default_phase_paths}
-use Rattle.image_commands.proofs.Lines.{lines_join}
-use Rattle.image_commands.proofs.Registers.{AreSaid}
-use Rattle.image_commands.specs.Values.{all_banks, starts_of, value_lines}
+use Rattle.command_reads.proofs.Lines.{lines_join}
+use Rattle.command_reads.proofs.Registers.{AreSaid}
+use Rattle.command_reads.specs.Values.{all_banks, starts_of, value_lines}
 use Rattle.pcr_fold.specs.declared.bank.Bank.{Bank}
 use Rattle.pcr_prediction.specs.Parts.{folded, items_of, named_bytes}
 use Rattle.pcr_prediction.specs.declared.measurable.Measurable.{Measurable}

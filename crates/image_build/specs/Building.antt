@@ -29,15 +29,14 @@ use Rattle.tool_words.specs.declared.command.Given.{Given}
 use Rattle.tool_words.specs.declared.command.Given.TheVariants.{Inline, File}
 use Rattle.tool_words.specs.Meaning.{given}
 use Rattle.command_plans.specs.Answers.{Answer, done, refusal}
-use Rattle.command_plans.specs.Refusing.{◌>>=◌, path_in, printed_path}
+use Rattle.command_reads.specs.Refusing.{◌>>=◌, path_in, printed_path}
 use Rattle.image_build.specs.declared.source.Source.{Source}
 use Rattle.image_build.specs.declared.source.PartSources.{PartSources}
 use Rattle.image_build.specs.declared.source.BuildSources.{BuildSources}
 use Rattle.image_build.specs.declared.source.Source.TheVariants as sources
-use Rattle.image_commands.specs.Calculating.{if_given}
-use Rattle.image_commands.specs.Files.{bytes_at, each, headers_or}
-use Rattle.image_commands.specs.Said.{shown_byte}
-use Rattle.image_commands.specs.Values.{all_banks, value_lines}
+use Rattle.command_reads.specs.Files.{bytes_at, each, headers_or, if_given}
+use Rattle.command_reads.specs.Names.{shown_byte}
+use Rattle.command_reads.specs.Values.{all_banks, value_lines}
 use Rattle.boot_phases.specs.Phases.{default_phase_paths}
 use Rattle.stub_replay.specs.Measured.{stub_pcr}
 

@@ -1,18 +1,11 @@
 -- The printed values of PCR 11 are what a stub comes to that measures an image (systemd's TPM2 PCR document, PCR 11).
-use Rattle.std.specs.Prelude.{◌≡◌, ◌++◌, ℕ, List, true, length, Option, Ok}
-use Rattle.std.specs.List.{zip}
-use Rattle.boot_base.specs.Paths.{Path}
+use Rattle.std.specs.Prelude.{◌≡◌, ◌++◌, true, length, Ok}
 use Rattle.boot_machine.specs.Disk.{Files}
 use Rattle.boot_machine.specs.Rows.{contents}
 use Rattle.boot_phases.specs.Phases.{default_phase_paths}
-use Rattle.command_plans.specs.Refusing.{path_in}
-use Rattle.image_commands.specs.Calculating.{calculate_said, if_given, part_words}
-use Rattle.image_commands.specs.Files.{bytes_at, each}
-use Rattle.image_commands.specs.Values.{all_banks, banks_of, paths_of, value_lines}
-use Rattle.pcr_prediction.specs.Ordered.{part_of, present}
-use Rattle.stub_replay.specs.Measured.{Shows, measured_names, stub_pcr}
+use Rattle.command_reads.specs.Values.{all_banks, value_lines}
+use Rattle.stub_replay.specs.Measured.{stub_pcr}
 use Rattle.tool_words.specs.declared.command.BuildWords.{BuildWords}
-use Rattle.tool_words.specs.declared.command.CalculateWords.{CalculateWords}
 use Rattle.image_build.specs.Building.{Built, build_answer, build_of, built_line}
 
 -- A build that measures prints the values of the bytes that stand at its output afterwards.
@@ -20,10 +13,3 @@ abbrev pub ValuesOfBuilds : Type 0
 ValuesOfBuilds = (view : Files) (words : BuildWords) (built : Built) → words.measure ≡ true → build_of view words ≡ Ok built →
     (build_answer view words).text ≡ built_line built.output (length built.image)
     ++ value_lines (stub_pcr (contents (build_answer view words).after built.output)) all_banks default_phase_paths
-
--- A calculation prints the values of every image that shows the bytes of the files which its words name.
-abbrev pub ValuesOfCalculations : Type 0
-ValuesOfCalculations = (view : Files) (words : CalculateWords) (paths : List (Option Path)) (parts : List (Option (List ℕ))) (image : List ℕ) →
-    each (if_given path_in) (part_words words) ≡ Ok paths → each (if_given (bytes_at view)) paths ≡ Ok parts →
-    Shows image (part_of (present (zip measured_names parts))) →
-    calculate_said view words ≡ Ok (value_lines (stub_pcr image) (banks_of words.banks) (paths_of words.phases))

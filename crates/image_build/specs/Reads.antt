@@ -14,7 +14,7 @@ use Rattle.image_build.specs.declared.source.PartSources.{PartSources}
 use Rattle.image_build.specs.declared.source.Source.{Source}
 use Rattle.image_build.specs.declared.source.Source.TheVariants as sources
 use Rattle.image_build.specs.Building.{Contents, Material}
-use Rattle.image_commands.specs.Files.{file_limit}
+use Rattle.boot_base.specs.Limits.{file_limit}
 
 -- what was read, by the bytes of the files that it names
 abbrev pub part_as : Reading → Part → SectionName × List ℕ

@@ -10,10 +10,10 @@ ghost use Rattle.boot_machine.specs.Rows.{contents};
 ghost use Rattle.boot_machine.specs.Sent.{seen};
 ghost use Rattle.command_plans.specs.Performs.{CountsStop};
 ghost use Rattle.command_plans.specs.Plans.{IsMakeable, Plans};
-ghost use Rattle.command_plans.specs.Refusing.{printed_path};
+ghost use Rattle.command_reads.specs.Refusing.{printed_path};
 ghost use Rattle.image_writer.specs.Sourced.{IsSourced};
-ghost use Rattle.image_commands.specs.Said.{shown_byte};
-ghost use Rattle.image_commands.specs.Saying.{CountsUnsaid, Says, UnsaidFor};
+ghost use Rattle.command_reads.specs.Names.{shown_byte};
+ghost use Rattle.command_reads.specs.Saying.{CountsUnsaid, Says, UnsaidFor};
 ghost use Rattle.image_build.specs.Building.{Built, build_answer, build_of, built_answer, built_line, built_text, image_of};
 ghost use Rattle.image_build.specs.Imaged.{Images};
 ghost use Rattle.image_build.specs.Planning.{built_as, IsPlannable, IsPlannedOn};
@@ -29,8 +29,8 @@ use crate::build_words::build_sources;
 use crate::planned::PlannedBuild;
 use boot_base::{BootPath, Bytes, Refusal, Target, Text};
 use boot_machine::Machine;
-use command_plans::{Change, Outcome, Plan, Stop, printed};
-use image_commands::{Unsaid, shown_name};
+use command_plans::{Change, Outcome, Plan, Stop, plan_unsaid};
+use command_reads::{Unsaid, printed, shown_name};
 use pe_builder::PlanFault;
 use std::alloc::{AllocError, Global};
 use tool_words::BuildWords;
@@ -192,6 +192,6 @@ pub fn plan_build<M: Machine>(
 {
     match building(alloc, words, machine) {
         Ok(plan) => Ok(plan),
-        Err(unsaid) => unsaid.plan(alloc),
+        Err(unsaid) => plan_unsaid(alloc, unsaid),
     }
 }

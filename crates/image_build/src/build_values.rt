@@ -17,17 +17,17 @@ ghost use Rattle.pe_reader.specs.Reads.{headers_of};
 ghost use Rattle.stub_replay.specs.Measured.{measured_list, section_items, stub_pcr};
 ghost use Rattle.uki_parts.specs.Names.{name_bytes};
 ghost use Rattle.uki_parts.specs.Pieces.{Reading};
-ghost use Rattle.image_commands.specs.Saying.{CountsUnsaid, Says};
-ghost use Rattle.image_commands.specs.Values.{all_banks, starts_of, value_lines};
+ghost use Rattle.command_reads.specs.Saying.{CountsUnsaid, Says};
+ghost use Rattle.command_reads.specs.Values.{all_banks, starts_of, value_lines};
 ghost use Rattle.image_build.specs.Planning.{IsContent, IsPlannedOn, content_or, kept_bytes, section_bytes};
 
 use crate::planned::PlannedBuild;
-use boot_base::BootPath;
+use boot_base::{BootPath, PIECE_SIZE};
 use boot_machine::Machine;
 use boot_phases::result_lines;
-use image_commands::{Unsaid, banks_of, paths_of};
+use command_reads::{Unsaid, banks_of, paths_of};
 use pcr_fold::{Bank, Pcr};
-use pcr_prediction::{Content, Measurable, predict};
+use pcr_prediction::{Content, Measurable, PredictFault, predict};
 use pe_reader::Pe;
 use std::alloc::{AllocError, Global};
 use stub_replay::{MEASURED_COUNT, measured_name};
@@ -125,9 +125,13 @@ fn registers<M: Machine>(
     ensures reads { IsTrue M.tells → OnlyReads M.clock M.since M.state machine.old machine.new }
     ensures counts { CountsUnsaid result (M.counts machine.old) (M.counts machine.new) }
 {
-    let mut buffer = [0; 65536];
+    let mut buffer = [0; PIECE_SIZE];
     let parts = measured_parts(alloc, plan)?;
-    Ok(predict(alloc, machine, &parts, banks, &mut buffer)?)
+    match predict(alloc, machine, &parts, banks, &mut buffer) {
+        Ok(registers) => Ok(registers),
+        Err(PredictFault::Memory) => Err(Unsaid::Memory),
+        Err(PredictFault::Disk) => Err(Unsaid::Disk),
+    }
 }
 
 /// The lines of what a stub comes to that measures the planned image, in all banks and after the usual phase paths.

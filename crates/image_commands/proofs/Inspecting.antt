@@ -10,9 +10,11 @@ use Rattle.pcr_fold.specs.Banks.{digest_of}
 use Rattle.pe_reader.specs.declared.section.Section.{Section}
 use Rattle.pe_reader.specs.declared.section.LoadedRange.{LoadedRange}
 use Rattle.pe_reader.specs.Grammar.{Headers, pe_of}
-use Rattle.pe_reader.specs.Loaded.{bytes_in, loaded_by, no_section, range_of, short_name}
+use Rattle.boot_base.specs.Names.{short_name}
+use Rattle.pe_reader.specs.Loaded.{bytes_in, loaded_by, no_section, range_of}
 use Rattle.stub_replay.proofs.Ranges.{length-bytes_in, range_inside}
-use Rattle.image_commands.specs.Said.{measures, section_lines, shown_byte}
+use Rattle.command_reads.specs.Names.{shown_byte}
+use Rattle.image_commands.specs.Said.{measures, section_lines}
 
 -- the raw data of each section of a PE32+ file lie in it
 pub item_inside : (file now : List ℕ) (h : Headers) (sections : List Section) (i : ℕ) (d : Section) → pe_of file ≡ Ok h → now ≡ file → sections ≡ h.sections → i < length sections

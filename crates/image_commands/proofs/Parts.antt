@@ -14,16 +14,16 @@ use Rattle.boot_machine.specs.Rows.{contents}
 use Rattle.boot_machine.specs.Sent.{seen}
 use Rattle.uki_parts.specs.Pieces.{piece_bytes}
 use Rattle.uki_parts.specs.declared.piece.Piece.{Piece}
-use Rattle.image_commands.specs.Saying.{Says, UnsaidFor}
-use Rattle.image_commands.specs.declared.saying.Unsaid.{Unsaid}
-use Rattle.image_commands.specs.declared.saying.Unsaid.TheVariants.{Memory as WithoutMemory, Disk, Refused as UnsaidRefused}
-use Rattle.command_plans.specs.Refusing.{path_in, DeclinedFor, Means}
-use Rattle.command_plans.specs.declared.refusing.Declined.{Declined}
-use Rattle.command_plans.specs.declared.refusing.Declined.TheVariants.{Memory, Refused}
-use Rattle.command_plans.proofs.Declining.{means_declined}
-use Rattle.image_commands.specs.Calculating.{HasItsSize, if_given, part_words}
-use Rattle.image_commands.specs.Files.{bytes_at, each}
-use Rattle.image_commands.proofs.Each.{each_none, each_more, each_refused}
+use Rattle.command_reads.specs.Saying.{Says, UnsaidFor}
+use Rattle.command_reads.specs.declared.saying.Unsaid.{Unsaid}
+use Rattle.command_reads.specs.declared.saying.Unsaid.TheVariants.{Memory as WithoutMemory, Disk, Refused as UnsaidRefused}
+use Rattle.command_reads.specs.Refusing.{path_in, DeclinedFor, Means}
+use Rattle.command_reads.specs.declared.refusing.Declined.{Declined}
+use Rattle.command_reads.specs.declared.refusing.Declined.TheVariants.{Memory, Refused}
+use Rattle.command_reads.proofs.Declining.{means_declined}
+use Rattle.command_reads.specs.Files.{bytes_at, each, if_given}
+use Rattle.image_commands.specs.Calculating.{HasItsSize, part_words}
+use Rattle.command_reads.proofs.Each.{each_none, each_more, each_refused}
 
 pub each_start : (words : CalculateWords) (paths : List (Option Path)) → paths ≡ [] → each (if_given path_in) (take 0 (part_words words)) ≡ Ok paths
 each_start words paths none = each_none (if_given path_in) ∙ ap (λ (l : List (Option Path)). Ok l) (sym none)
@@ -55,13 +55,6 @@ word_refused view words i paths word declined result inside before is_word why f
 
 pub words_all : (words : CalculateWords) (i : ℕ) (paths : List (Option Path)) → 9 ≤ i → each (if_given path_in) (take i (part_words words)) ≡ Ok paths → each (if_given path_in) (part_words words) ≡ Ok paths
 words_all words i paths end before = ap (each (if_given path_in)) (sym (take_all i (part_words words) (omega (arith, end)))) ∙ before
-
--- one goes over
-pub one_over : {A : Type 0} (seen : List A) (x : A) (left rest : List A) → left ≡ x ∷ rest → seen ++ left ≡ (seen ++ x ∷ []) ++ rest
-one_over seen x left rest is = ap (λ l. seen ++ l) is ∙ sym (append_assoc seen (x ∷ []) rest)
-
-pub count_more : {A B : Type 0} (seen : List A) (x : A) (made more : List B) (y : B) → length made ≡ length seen → more ≡ made ++ y ∷ [] → length more ≡ length (seen ++ x ∷ [])
-count_more seen x made more y before is = ap length is ∙ length-append made (y ∷ []) ∙ ap (λ (n : ℕ). n + 1) before ∙ sym (length-append seen (x ∷ []))
 
 -- a part's file more
 pub file_more : (s now : State) (paths : List (Option Path)) (files more : List (Option Piece)) (path : Option Path) (file : Option Piece) → now ≡ s

@@ -12,10 +12,10 @@ use Rattle.pcr_fold.specs.Banks.{fold_of}
 use Rattle.pcr_fold.specs.Values.{pcr_bank, pcr_bytes}
 use Rattle.pe_reader.specs.Grammar.{Headers}
 use Rattle.stub_replay.specs.Measured.{measured_list, stub_pcr}
-use Rattle.command_plans.proofs.Declining.{done_next}
-use Rattle.image_commands.specs.Files.{image_at}
+use Rattle.command_reads.proofs.Declining.{done_next}
+use Rattle.command_reads.specs.Files.{image_at, if_given, bytes_at, each}
 use Rattle.image_commands.specs.Said.{values_at}
-use Rattle.image_commands.specs.Values.{banks_of, paths_of, starts_of, value_lines}
+use Rattle.command_reads.specs.Values.{banks_of, paths_of, starts_of, value_lines}
 use Rattle.std.specs.Prelude.{Option}
 use Rattle.std.specs.List.{zip}
 use Rattle.pcr_fold.specs.declared.bank.Bank.TheVariants as bank_names
@@ -24,9 +24,8 @@ use Rattle.pcr_prediction.specs.Parts.{items_of}
 use Rattle.pcr_prediction.proofs.Ordered.{predicted_in_order}
 use Rattle.stub_replay.specs.Measured.{measured_names}
 use Rattle.tool_words.specs.declared.command.CalculateWords.{CalculateWords}
-use Rattle.command_plans.specs.Refusing.{path_in}
-use Rattle.image_commands.specs.Calculating.{calculate_said, if_given, part_words}
-use Rattle.image_commands.specs.Files.{bytes_at, each}
+use Rattle.command_reads.specs.Refusing.{path_in}
+use Rattle.image_commands.specs.Calculating.{calculate_said, part_words}
 use Rattle.std.specs.Prelude.{All, Result}
 use Rattle.boot_base.specs.declared.refusal.Refusal.{Refusal}
 use Rattle.boot_machine.specs.Disk.{State}
@@ -37,7 +36,8 @@ use Rattle.uki_parts.specs.declared.piece.Piece.{Piece}
 use Rattle.pcr_prediction.specs.Parts.{folded, named_bytes}
 use Rattle.pcr_prediction.specs.declared.measurable.Measurable.{Measurable}
 use Rattle.image_commands.specs.Calculating.{HasItsSize, given_bytes}
-use Rattle.image_commands.proofs.Lines.{lines_join}
+use Rattle.command_reads.proofs.Lines.{lines_join}
+use Rattle.command_reads.proofs.Registers.{AreSaid}
 
 pub banks_more : (banks : List Bank) (i : ℕ) (d : Bank) (before more : List Pcr) (pcr : Pcr) → i < length banks → more ≡ before ++ pcr ∷ [] → pcr_bank pcr ≡ get_or banks i d
     → map pcr_bank before ≡ take i banks → map pcr_bank more ≡ take (i + 1) banks
@@ -55,17 +55,6 @@ starts_more items now banks i d before more pcr inside is_more has_bank same has
     ap (map shown) is_more ∙ map-append shown before (pcr ∷ []) ∙ ap (λ (l : List (Bank × List ℕ)). l ++ shown pcr ∷ []) is_before
     ∙ ap (λ (s : Bank × List ℕ). starts_of items (take i banks) ++ s ∷ []) (shown_is items now (get_or banks i d) pcr has_bank same has_bytes)
     ∙ sym (ap (starts_of items) (take_more banks i d inside) ∙ map-append (λ (bank : Bank). (bank, fold_of bank items)) (take i banks) (get_or banks i d ∷ []))
-
-length_map : (registers : List Pcr) → length (map pcr_bank registers) ≡ length registers
-length_map [] = refl
-length_map (x ∷ xs) = ap suc (length_map xs)
-
-distinct_map : (registers : List Pcr) → AllPairs (λ one other. one ≢ other) (map pcr_bank registers) → HasDistinctBanks registers
-distinct_map registers apart i j d before inside same =
-    apart i j (pcr_bank d) before (omega (arith, length_map registers, inside)) (get_or-map pcr_bank registers i d ∙ same ∙ sym (get_or-map pcr_bank registers j d))
-
-pub distinct_registers : (registers : List Pcr) (banks : List Bank) → map pcr_bank registers ≡ banks → AllPairs (λ one other. one ≢ other) banks → HasDistinctBanks registers
-distinct_registers registers banks has apart = distinct_map registers (subst (AllPairs (λ one other. one ≢ other)) (sym has) apart)
 
 -- the whole text, by what each step gave
 pub values_are : (view : Files) (path : Path) (names texts : List (List ℕ)) (file now : List ℕ) (headers : Headers) (starts : List (Bank × List ℕ)) (banks : List Bank) (paths : List (List (List ℕ))) (text : List ℕ)
@@ -94,10 +83,6 @@ calculation_is view words paths parts starts banks phases text paths_are parts_a
     ∙ lines_join (items_of given) (banks_of words.banks) (paths_of words.phases)
     ∙ ap (λ (items : List (List ℕ)). value_lines (λ bank path. fold_of bank (items ++ path)) (banks_of words.banks) (paths_of words.phases))
     (predicted_in_order given bank_names.Sha256 [] (parts, refl)).0))
-
--- these are what is said
-abbrev pub AreSaid : List (Bank × List ℕ) → List (Bank × List ℕ) → Type 0
-AreSaid found starts = ◌≡◌ {A = Result (List (Bank × List ℕ)) Refusal} (Ok found) (Ok starts)
 
 -- registers of what is found on the machine as it is
 pub starts_are : (s now : State) (files seen_files : List (Option Piece)) (banks seen_banks : List Bank) (starts : List (Bank × List ℕ)) → now ≡ s → seen_files ≡ files → seen_banks ≡ banks

@@ -9,19 +9,14 @@ use Rattle.tool_words.specs.declared.command.CalculateWords.{CalculateWords}
 use Rattle.uki_parts.specs.Pieces.{Reading, piece_bytes, piece_length}
 use Rattle.uki_parts.specs.declared.piece.Piece.{Piece}
 use Rattle.pcr_prediction.specs.Ordered.{part_of, present}
-use Rattle.command_plans.specs.Refusing.{◌>>=◌, path_in}
-use Rattle.image_commands.specs.Files.{bytes_at, each}
-use Rattle.image_commands.specs.Values.{banks_of, paths_of, value_lines}
+use Rattle.command_reads.specs.Refusing.{◌>>=◌, path_in}
+use Rattle.command_reads.specs.Files.{bytes_at, each, if_given}
+use Rattle.command_reads.specs.Values.{banks_of, paths_of, value_lines}
 
 -- the words of the parts' files, in the order in which parts are measured
 abbrev pub part_words : CalculateWords → List (Option (List ℕ))
 part_words words =
     Some words.linux ∷ words.osrel ∷ words.cmdline ∷ words.initrd ∷ words.splash ∷ words.dtb ∷ words.uname ∷ words.sbat ∷ words.pcrpkey ∷ []
-
--- what is made of a thing where it is given
-abbrev pub if_given : {A B : Type 0} → (A → Result B Refusal) → Option A → Result (Option B) Refusal
-if_given f None = Ok None
-if_given f (Some x) = f x >>= λ y. Ok (Some y)
 
 -- all words are read as paths, then each part's file is read, then the values are printed
 abbrev pub calculate_said : Files → CalculateWords → Result (List ℕ) Refusal

@@ -1,5 +1,3 @@
 pub mod Calculating
-pub mod Files
+pub mod Laws
 pub mod Said
-pub mod Saying
-pub mod Values

@@ -11,15 +11,13 @@ use Rattle.pcr_fold.specs.Banks.{digest_of}
 use Rattle.pe_reader.specs.declared.fault.FailedCheck.{FailedCheck}
 use Rattle.pe_reader.specs.declared.section.Section.{Section}
 use Rattle.pe_reader.specs.Grammar.{Headers, pe_of}
-use Rattle.pe_reader.specs.Loaded.{loaded, loaded_by, short_name}
+use Rattle.boot_base.specs.Names.{short_name}
+use Rattle.pe_reader.specs.Loaded.{loaded, loaded_by}
 use Rattle.stub_replay.specs.Measured.{stub_pcr}
-use Rattle.command_plans.specs.Refusing.{◌>>=◌, path_in, printed_path}
-use Rattle.image_commands.specs.Files.{bytes_at, image_at}
-use Rattle.image_commands.specs.Values.{banks_of, paths_of, value_lines}
-
--- a byte of a section's name as it is printed: printable ASCII but a space as it is, any other as `\x` and two digits
-abbrev pub shown_byte : ℕ → List ℕ
-shown_byte byte = if nat_le 0x21 byte && nat_le byte 0x7E then byte ∷ [] else codes "\\x" ++ encode_lower (byte ∷ [])
+use Rattle.command_reads.specs.Refusing.{◌>>=◌, path_in, printed_path}
+use Rattle.command_reads.specs.Files.{bytes_at, image_at}
+use Rattle.command_reads.specs.Names.{shown_byte}
+use Rattle.command_reads.specs.Values.{banks_of, paths_of, value_lines}
 
 -- what is printed behind a section's name: the number and the SHA-256 digest of its loaded bytes
 unfoldable pub measures : ℕ → List ℕ → List ℕ

@@ -10,25 +10,22 @@ ghost use Rattle.pcr_fold.specs.Values.{pcr_bank};
 ghost use Rattle.boot_phases.specs.Lines.{shown};
 ghost use Rattle.pcr_prediction.specs.Ordered.{as_part};
 ghost use Rattle.pcr_prediction.specs.Parts.{HaveSizes, IsPlaced, items_of, named_bytes};
-ghost use Rattle.image_commands.specs.Values.{starts_of};
+ghost use Rattle.command_reads.specs.Values.{starts_of};
 ghost use Rattle.command_plans.specs.Answers.{said};
 ghost use Rattle.command_plans.specs.Performs.{CountsStop};
 ghost use Rattle.command_plans.specs.Plans.{IsMakeable, Plans};
-ghost use Rattle.command_plans.specs.Refusing.{Means, path_in};
-ghost use Rattle.image_commands.specs.Calculating.{HasItsSize, calculate_said, given_bytes, if_given, part_words};
-ghost use Rattle.image_commands.specs.Files.{bytes_at, each};
-ghost use Rattle.image_commands.specs.Saying.{CountsUnsaid, Says};
+ghost use Rattle.command_reads.specs.Refusing.{Means, path_in};
+ghost use Rattle.command_reads.specs.Files.{bytes_at, each, if_given};
+ghost use Rattle.image_commands.specs.Calculating.{HasItsSize, calculate_said, given_bytes, part_words};
+ghost use Rattle.command_reads.specs.Saying.{CountsUnsaid, Says};
 
-use crate::choices::{banks_of, paths_of};
-use crate::files::readable;
-use crate::lists::push;
-use crate::saying::{Unsaid, said};
-use boot_base::{BootPath, Text};
+use boot_base::{BootPath, PIECE_SIZE, Text};
 use boot_machine::Machine;
 use boot_phases::result_lines;
-use command_plans::{Declined, Plan, Stop, path_in};
+use command_plans::{Plan, Stop, said};
+use command_reads::{Declined, Unsaid, banks_of, path_in, paths_of, push, readable};
 use pcr_fold::{Bank, Pcr};
-use pcr_prediction::{Content, Measurable, predict};
+use pcr_prediction::{Content, Measurable, PredictFault, predict};
 use std::alloc::{AllocError, Global};
 use std::slice;
 use stub_replay::measured_name;
@@ -181,9 +178,13 @@ fn registers<M: Machine>(
     ensures reads { IsTrue M.tells → OnlyReads M.clock M.since M.state machine.old machine.new }
     ensures counts { CountsUnsaid result (M.counts machine.old) (M.counts machine.new) }
 {
-    let mut buffer = [0; 65536];
+    let mut buffer = [0; PIECE_SIZE];
     let parts = given_parts(alloc, files)?;
-    Ok(predict(alloc, machine, &parts, banks, &mut buffer)?)
+    match predict(alloc, machine, &parts, banks, &mut buffer) {
+        Ok(registers) => Ok(registers),
+        Err(PredictFault::Memory) => Err(Unsaid::Memory),
+        Err(PredictFault::Disk) => Err(Unsaid::Disk),
+    }
 }
 
 fn calculated<M: Machine>(

@@ -8,13 +8,12 @@ ghost use Rattle.command_plans.specs.Answers.{said};
 ghost use Rattle.command_plans.specs.Performs.{CountsStop};
 ghost use Rattle.command_plans.specs.Plans.{IsMakeable, Plans};
 ghost use Rattle.image_commands.specs.Said.{has_loaded, identify_said, kind_at, kind_of};
-ghost use Rattle.image_commands.specs.Saying.{CountsUnsaid, Says};
+ghost use Rattle.command_reads.specs.Saying.{CountsUnsaid, Says};
 
-use crate::files::readable;
-use crate::saying::{Unsaid, said};
 use boot_base::BootPath;
 use boot_machine::Machine;
-use command_plans::{Plan, Stop, path_in};
+use command_plans::{Plan, Stop, said};
+use command_reads::{Unsaid, path_in, readable};
 use pe_reader::{HeadFault, Pe};
 use std::alloc::Global;
 

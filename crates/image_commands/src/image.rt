@@ -12,16 +12,14 @@ ghost use Rattle.command_plans.specs.Answers.{said};
 ghost use Rattle.command_plans.specs.Performs.{CountsStop};
 ghost use Rattle.command_plans.specs.Plans.{IsMakeable, Plans};
 ghost use Rattle.image_commands.specs.Said.{image_said, values_at};
-ghost use Rattle.image_commands.specs.Saying.{CountsUnsaid, Says};
-ghost use Rattle.image_commands.specs.Values.{starts_of};
+ghost use Rattle.command_reads.specs.Saying.{CountsUnsaid, Says};
+ghost use Rattle.command_reads.specs.Values.{starts_of};
 
-use crate::choices::{banks_of, paths_of};
-use crate::files::image_head;
-use crate::saying::{Unsaid, said};
-use boot_base::{BootPath, Text};
+use boot_base::{BootPath, PIECE_SIZE, Text};
 use boot_machine::Machine;
 use boot_phases::result_lines;
-use command_plans::{Plan, Stop, path_in};
+use command_plans::{Plan, Stop, said};
+use command_reads::{Unsaid, banks_of, image_head, path_in, paths_of};
 use pcr_fold::{Bank, Pcr};
 use pe_reader::Pe;
 use std::alloc::Global;
@@ -42,7 +40,7 @@ fn registers<M: Machine>(
     ensures reads { IsTrue M.tells → OnlyReads M.clock M.since M.state machine.old machine.new }
     ensures counts { CountsUnsaid result (M.counts machine.old) (M.counts machine.new) }
 {
-    let mut buffer = [0; 65536];
+    let mut buffer = [0; PIECE_SIZE];
     let mut registers = Vec::new(alloc);
     for bank in banks {
         registers.push(replay(machine, path, head, *bank, &mut buffer)?)?;

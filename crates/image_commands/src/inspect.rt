@@ -12,18 +12,17 @@ ghost use Rattle.pe_reader.specs.Reads.{headers_of};
 ghost use Rattle.command_plans.specs.Answers.{said};
 ghost use Rattle.command_plans.specs.Performs.{CountsStop};
 ghost use Rattle.command_plans.specs.Plans.{IsMakeable, Plans};
-ghost use Rattle.command_plans.specs.Refusing.{printed_path};
-ghost use Rattle.image_commands.specs.Said.{first_line, inspect_said, inspection_at, measures, section_lines, shown_byte};
-ghost use Rattle.image_commands.specs.Saying.{CountsUnsaid, Says};
+ghost use Rattle.command_reads.specs.Refusing.{printed_path};
+ghost use Rattle.command_reads.specs.Names.{shown_byte};
+ghost use Rattle.image_commands.specs.Said.{first_line, inspect_said, inspection_at, measures, section_lines};
+ghost use Rattle.command_reads.specs.Saying.{CountsUnsaid, Says};
 
-use crate::files::image_head;
-use crate::names::shown_name;
-use crate::saying::{Unsaid, said};
-use boot_base::BootPath;
+use boot_base::{BootPath, PIECE_SIZE, short_name};
 use boot_machine::Machine;
-use command_plans::{Plan, Stop, path_in};
+use command_plans::{Plan, Stop, said};
+use command_reads::{Unsaid, image_head, path_in, shown_name};
 use pcr_fold::{Bank, Digest};
-use pe_reader::{Pe, Section, short_name};
+use pe_reader::{Pe, Section};
 use std::alloc::{AllocError, Global};
 use stub_replay::range_digest;
 
@@ -103,7 +102,7 @@ fn inspection<M: Machine>(
     ensures counts { CountsUnsaid result (M.counts machine.old) (M.counts machine.new) }
 {
     let head = image_head(alloc, path, machine)?;
-    let mut buffer = [0; 65536];
+    let mut buffer = [0; PIECE_SIZE];
     let mut text = first_line(alloc, path, head.sections().len())?;
     append_sections(alloc, &mut text, path, &head, &mut buffer, machine)?;
     Ok(text)

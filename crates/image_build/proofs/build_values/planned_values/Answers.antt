@@ -2,7 +2,7 @@ use Rattle.std.proofs.Common.{List, ap, map, subst, sym, ◌∙◌}
 use Rattle.boot_machine.proofs.Reading.{reads_none}
 use Rattle.boot_machine.specs.Sent.{seen}
 use Rattle.boot_phases.specs.Lines.{HasDistinctBanks, result_text, shown}
-use Rattle.image_commands.proofs.Registers.{distinct_registers}
+use Rattle.command_reads.proofs.Registers.{distinct_registers}
 use Rattle.image_writer.specs.Sourced.{planned_image}
 use Rattle.pcr_fold.specs.declared.pcr.Pcr.{Pcr}
 use Rattle.image_build.proofs.Values.{values_said}

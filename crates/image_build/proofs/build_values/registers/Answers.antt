@@ -12,10 +12,10 @@ use Rattle.image_build.proofs.build_values.registers.Goals as goal
 pub returns-in_err-parts-clause-reads : goal.returns-in_err-parts-clause-reads
 returns-in_err-parts-clause-reads g c told = reads_none g.M.Machine.clock g.M.Machine.since g.M.Machine.state c.args.machine.now (λ m o left. g.met.M.Machine.only_now c.args.machine.now m o told left)
 
-pub returns-clause-says : goal.returns-clause-says
-returns-clause-says g c told on =
+pub returns-in-Ok-clause-says : goal.returns-in-Ok-clause-says
+returns-in-Ok-clause-says g c told on =
     let view = seen (g.M.Machine.state c.args.machine.now) in
     let plan = c.args.plan.now in
     let parts = c.in_ok-parts.parts.items in
-    registers_are (contents view) parts c.deref.result.now (measured_list (planned_image plan.image.plan plan.image.sources view)) c.args.banks.now (map shown c.in_ok-predict.field-0.items) c.deref.ensures.value
-    (c.in_ok-parts.ensures.items view on) (c.in_ok-predict.ensures.value told (subst (HaveSizes (contents view)) (sym c.deref.ensures.value) (c.in_ok-parts.ensures.whole view on)))
+    registers_are (contents view) parts c.deref.result.now (measured_list (planned_image plan.image.plan plan.image.sources view)) c.args.banks.now (map shown c.in-Ok.registers.items) c.deref.ensures.value
+    (c.in_ok-parts.ensures.items view on) (c.in-Ok.ensures.value told (subst (HaveSizes (contents view)) (sym c.deref.ensures.value) (c.in_ok-parts.ensures.whole view on)))

@@ -8,7 +8,8 @@ use Rattle.pcr_fold.specs.declared.pcr.Pcr.{Pcr}
 use Rattle.boot_phases.specs.Lines.{result_text}
 use Rattle.std.proofs.Common.{List, ap, rules}
 use Rattle.boot_machine.proofs.Reading.{reads_none, reads_on}
-use Rattle.image_commands.proofs.Registers.{calculation_is, distinct_registers, starts_are}
+use Rattle.command_reads.proofs.Registers.{distinct_registers}
+use Rattle.image_commands.proofs.Registers.{calculation_is, starts_are}
 use Rattle.image_commands.proofs.calculate.calculated.Goals as goal
 
 pub returns-in_err-paths-clause-reads : goal.returns-in_err-paths-clause-reads

@@ -1,7 +1,7 @@
 use Rattle.std.proofs.Common.{◌∙◌, ◌++◌, ap, sym, refl, rules}
 use Rattle.boot_machine.proofs.Reading.{reads_none, reads_on}
-use Rattle.image_commands.proofs.Each.{each_none}
-use Rattle.image_commands.proofs.Parts.{count_more, one_over, file_more, size_more, file_refused}
+use Rattle.command_reads.proofs.Each.{count_more, each_none, one_over}
+use Rattle.image_commands.proofs.Parts.{file_more, size_more, file_refused}
 use Rattle.image_commands.proofs.calculate.part_files.Goals as goal
 
 pub loop-path-init : goal.loop-path-init

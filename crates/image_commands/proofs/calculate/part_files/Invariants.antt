@@ -5,8 +5,8 @@ use Rattle.boot_machine.specs.Reading.{OnlyReads}
 use Rattle.boot_machine.specs.Rows.{contents}
 use Rattle.boot_machine.specs.Sent.{seen}
 use Rattle.uki_parts.specs.Pieces.{piece_bytes}
-use Rattle.image_commands.specs.Calculating.{HasItsSize, if_given}
-use Rattle.image_commands.specs.Files.{bytes_at, each}
+use Rattle.command_reads.specs.Files.{bytes_at, each, if_given}
+use Rattle.image_commands.specs.Calculating.{HasItsSize}
 use Rattle.image_commands.proofs.calculate.part_files.Given as goal
 
 abbrev pub invariant-loop-path : goal.invariant-loop-path

@@ -1,7 +1,8 @@
 use Rattle.std.proofs.Common.{arith}
-use Rattle.command_plans.specs.Refusing.{path_in}
-use Rattle.image_commands.specs.Calculating.{if_given, part_words}
-use Rattle.image_commands.proofs.Each.{each_length}
+use Rattle.command_reads.specs.Refusing.{path_in}
+use Rattle.command_reads.specs.Files.{if_given}
+use Rattle.image_commands.specs.Calculating.{part_words}
+use Rattle.command_reads.proofs.Each.{each_length}
 use Rattle.image_commands.proofs.Parts.{word_more, word_refused, words_all, each_start}
 use Rattle.image_commands.proofs.calculate.part_paths.Goals as goal
 

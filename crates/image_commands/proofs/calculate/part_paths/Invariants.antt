@@ -1,7 +1,7 @@
 use Rattle.std.proofs.Common.{◌≡◌, take, Ok}
-use Rattle.command_plans.specs.Refusing.{path_in}
-use Rattle.image_commands.specs.Calculating.{if_given, part_words}
-use Rattle.image_commands.specs.Files.{each}
+use Rattle.command_reads.specs.Refusing.{path_in}
+use Rattle.command_reads.specs.Files.{each, if_given}
+use Rattle.image_commands.specs.Calculating.{part_words}
 use Rattle.image_commands.proofs.calculate.part_paths.Given as goal
 
 abbrev pub invariant-loop-index : goal.invariant-loop-index

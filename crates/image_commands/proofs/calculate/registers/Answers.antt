@@ -11,10 +11,10 @@ pub returns-in_err-parts-clause-reads : goal.returns-in_err-parts-clause-reads
 returns-in_err-parts-clause-reads g c told =
     reads_none g.M.Machine.clock g.M.Machine.since g.M.Machine.state c.args.machine.now (λ m o left. g.met.M.Machine.only_now c.args.machine.now m o told left)
 
-pub returns-clause-says : goal.returns-clause-says
-returns-clause-says g c told sizes =
+pub returns-in-Ok-clause-says : goal.returns-in-Ok-clause-says
+returns-in-Ok-clause-says g c told sizes =
     let reading = contents (seen (g.M.Machine.state c.args.machine.now)) in
     let parts = c.in_ok-parts.parts.items in
     let have = subst (HaveSizes reading) (sym c.deref.ensures.value) (c.in_ok-parts.ensures.sizes reading sizes) in
-    starts_predicted reading c.args.files.now parts c.deref.result.now c.args.banks.now (map shown c.in_ok-predict.field-0.items) c.deref.ensures.value (c.in_ok-parts.ensures.bytes reading)
-    (c.in_ok-predict.ensures.value told have)
+    starts_predicted reading c.args.files.now parts c.deref.result.now c.args.banks.now (map shown c.in-Ok.registers.items) c.deref.ensures.value (c.in_ok-parts.ensures.bytes reading)
+    (c.in-Ok.ensures.value told have)

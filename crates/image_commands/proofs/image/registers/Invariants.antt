@@ -4,7 +4,7 @@ use Rattle.boot_machine.specs.Rows.{contents}
 use Rattle.boot_phases.specs.Lines.{shown}
 use Rattle.pcr_fold.specs.Values.{pcr_bank}
 use Rattle.stub_replay.specs.Measured.{measured_list}
-use Rattle.image_commands.specs.Values.{starts_of}
+use Rattle.command_reads.specs.Values.{starts_of}
 use Rattle.image_commands.proofs.image.registers.Given as goal
 
 abbrev pub invariant-loop-bank : goal.invariant-loop-bank

@@ -6,8 +6,9 @@ use Rattle.boot_phases.specs.Lines.{HasDistinctBanks, result_text, shown}
 use Rattle.pcr_fold.specs.declared.pcr.Pcr.{Pcr}
 use Rattle.pe_reader.specs.Reads.{headers_of}
 use Rattle.boot_machine.proofs.Reading.{reads_on}
-use Rattle.image_commands.proofs.Registers.{distinct_registers, values_are}
-use Rattle.image_commands.proofs.Unsaying.{says_unsaid, unrefused}
+use Rattle.command_reads.proofs.Registers.{distinct_registers}
+use Rattle.image_commands.proofs.Registers.{values_are}
+use Rattle.command_reads.proofs.Unsaying.{says_unsaid, unrefused}
 use Rattle.image_commands.proofs.image.values.Goals as goal
 
 pub returns-in_err-registers-clause-says : goal.returns-in_err-registers-clause-says

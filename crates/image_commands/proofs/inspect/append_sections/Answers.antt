@@ -4,7 +4,7 @@ use Rattle.boot_machine.specs.Rows.{contents}
 use Rattle.pe_reader.specs.Reads.{headers_of}
 use Rattle.boot_machine.proofs.Reading.{reads_none, reads_on}
 use Rattle.image_commands.proofs.Inspecting.{item_inside, lines_more, unwrapped}
-use Rattle.image_commands.proofs.Unsaying.{says_unsaid, unrefused}
+use Rattle.command_reads.proofs.Unsaying.{says_unsaid, unrefused}
 use Rattle.image_commands.proofs.inspect.append_sections.Goals as goal
 
 pub loop-section-init : goal.loop-section-init

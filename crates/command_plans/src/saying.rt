@@ -1,0 +1,48 @@
+//! What a command that only reads has to say, as a plan.
+ghost use Rattle.std.specs.Prelude.{◌≡◌, IfOk, List, Result, ℕ};
+ghost use Rattle.boot_base.specs.declared.refusal.Refusal.{Refusal};
+ghost use Rattle.boot_machine.specs.Counts.{Counts};
+ghost use Rattle.boot_machine.specs.Disk.{State};
+ghost use Rattle.boot_machine.specs.Sent.{seen};
+ghost use Rattle.command_reads.specs.Saying.{CountsUnsaid, Says, unsaid_counts};
+ghost use Rattle.command_plans.specs.Answers.{said};
+ghost use Rattle.command_plans.specs.Performs.{CountsStop};
+ghost use Rattle.command_plans.specs.Plans.{IsMakeable, Plans};
+ghost use Rattle.command_plans.specs.Refusing.{PlansUnsaid};
+
+use crate::outcome::{Outcome, Stop};
+use crate::plan::{Change, Plan};
+use crate::refusing::refused;
+use boot_base::Bytes;
+use command_reads::Unsaid;
+use std::alloc::Global;
+
+/// The plan of the refusal, or why there is none.
+pub fn plan_unsaid(alloc: Global, unsaid: Unsaid) -> Result<Plan, Stop>
+    ensures plans { IfOk result (PlansUnsaid unsaid) }
+    ensures makeable { IfOk result (λ plan. IsMakeable plan.change) }
+    ensures counts { (old new : Counts) → unsaid_counts unsaid old new → CountsStop result old new }
+{
+    match unsaid {
+        Unsaid::Memory => Err(Stop::Memory),
+        Unsaid::Disk => Err(Stop::Disk),
+        Unsaid::Refused(why) => Ok(refused(alloc, &why)?),
+    }
+}
+
+/// The plan of a command that changes nothing: its text, or the refusal.
+pub fn said(alloc: Global, text: Result<Vec<u8>, Unsaid>) -> Result<Plan, Stop>
+    ensures plans { IfOk result (λ plan. (s : State) (meant : Result (List ℕ) Refusal)
+        → Says (λ text. text.items) text meant → Plans s plan (said (seen s) meant)) }
+    ensures makeable { IfOk result (λ plan. IsMakeable plan.change) }
+    ensures counts { (old new : Counts) → CountsUnsaid text old new → CountsStop result old new }
+{
+    match text {
+        Ok(text) => Ok(Plan {
+            change: Change::Nothing,
+            outcome: Outcome::Done,
+            text: Bytes::from(text),
+        }),
+        Err(unsaid) => plan_unsaid(alloc, unsaid),
+    }
+}

@@ -1,0 +1,7 @@
+use Rattle.std.proofs.Common.{◌≡◌, take}
+use Rattle.std.specs.List.{filter_map}
+use Rattle.command_reads.specs.Values.{bank_named}
+use Rattle.command_reads.proofs.choices.banks_named.Given as goal
+
+abbrev pub invariant-loop-name : goal.invariant-loop-name
+invariant-loop-name l = l.banks.items ≡ filter_map bank_named (take l.name-index l.names)

@@ -1,5 +1,0 @@
-use Rattle.image_build.proofs.Printed.{calculated_values}
-use Rattle.image_build.proofs.laws.calculated_values_are_the_stubs.Goals as goal
-
-pub returns : goal.returns
-returns c = calculated_values

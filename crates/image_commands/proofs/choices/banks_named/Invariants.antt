@@ -1,7 +1,0 @@
-use Rattle.std.proofs.Common.{◌≡◌, take}
-use Rattle.std.specs.List.{filter_map}
-use Rattle.image_commands.specs.Values.{bank_named}
-use Rattle.image_commands.proofs.choices.banks_named.Given as goal
-
-abbrev pub invariant-loop-name : goal.invariant-loop-name
-invariant-loop-name l = l.banks.items ≡ filter_map bank_named (take l.name-index l.names)

@@ -1,6 +1,0 @@
-use Rattle.std.proofs.Common.{◌≡◌, take, map}
-use Rattle.boot_phases.specs.Phases.{phase_words}
-use Rattle.image_commands.proofs.choices.paths_named.Given as goal
-
-abbrev pub invariant-loop-text : goal.invariant-loop-text
-invariant-loop-text l = l.paths.items ≡ map phase_words (take l.text-index l.texts)
