@@ -2,3 +2,4 @@ mod Cuts
 pub mod Readings
 pub mod Written
 mod Steps
+pub mod Splitting

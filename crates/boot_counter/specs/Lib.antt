@@ -1,3 +1,4 @@
 pub mod Counter
+pub mod Splits
 pub mod Laws
 pub mod Bless

@@ -3,6 +3,7 @@ ghost use Rattle.std.specs.Prelude.{◌≡◌, ◌≢◌, ◌↔◌, ◌<◌, �
 ghost use Rattle.std.specs.Char.{is_ascii_digit};
 ghost use Rattle.std.specs.List.{list_all};
 ghost use Rattle.boot_counter.specs.Counter.{suffix_text, is_number, IsNumber, IsCounter, IsCounted, IsUncounted, IsSplit, IsBaseLength, counted_of, after_boot, written_name, IsGoodName, IsBadName};
+ghost use Rattle.boot_counter.specs.Splits.{split_of};
 ghost use Rattle.boot_counter.specs.Laws.{OneReading, WrittenReads, ShortestRewrites};
 
 use std::alloc::{AllocError, Global};
@@ -54,6 +55,7 @@ impl Counted {
             → result ≡ Some (counted_of base left done suffix) }
         ensures limits { IfSome result (λ c. (c.left ≤ MAX_COUNT) × (c.done ≤ MAX_COUNT)) }
         ensures cut { IfSome result (λ c. IsBaseLength name.now c.base_length) }
+        ensures value { result ≡ split_of name.now }
     {
         let reading = Reading::of(name)?;
         Some(Counted {

@@ -4,8 +4,6 @@
 
 mod bless;
 mod counted;
-#[cfg(test)]
-mod tests;
 
 pub use bless::{BlessVerb, Choice, Present, bless_choice};
 pub use counted::{Counted, MAX_COUNT, Suffix, counter_laws};

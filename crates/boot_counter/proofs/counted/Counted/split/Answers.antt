@@ -1,7 +1,8 @@
 -- A name has one reading, and its numbers have nine digits at most.
-use Rattle.std.proofs.Common.{refl}
+use Rattle.std.proofs.Common.{refl, sym, ◌∙◌}
 use Rattle.boot_counter.proofs.Readings.{one_reading}
 use Rattle.boot_counter.proofs.Written.{reading_bounds}
+use Rattle.boot_counter.proofs.Splitting.{split_none, split_some}
 use Rattle.boot_counter.proofs.counted.Counted.split.Goals as goal
 
 pub returns-in_err-reading-clause-only : goal.returns-in_err-reading-clause-only
@@ -14,3 +15,10 @@ returns-clause-only c base left done suffix r =
 
 pub returns-clause-limits : goal.returns-clause-limits
 returns-clause-limits c = reading_bounds c.args.name.now c.in_ok-reading.reading.base.now c.in_ok-reading.reading.left c.in_ok-reading.reading.done c.in_ok-reading.reading.suffix c.in_ok-reading.ensures
+
+pub returns-in_err-reading-clause-value : goal.returns-in_err-reading-clause-value
+returns-in_err-reading-clause-value c = c.from_residual.ensures ∙ sym (split_none c.args.name.now c.in_err-reading.ensures)
+
+pub returns-clause-value : goal.returns-clause-value
+returns-clause-value c =
+    sym (split_some c.args.name.now c.in_ok-reading.reading.base.now c.in_ok-reading.reading.left c.in_ok-reading.reading.done c.in_ok-reading.reading.suffix c.in_ok-reading.ensures)

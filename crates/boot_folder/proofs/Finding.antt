@@ -1,0 +1,97 @@
+-- The names of entry files, and what is found of each file.
+use Rattle.std.proofs.Common.{◌≡◌, ◌≤◌, ℕ, true, List, [], filter, length, Option, Some, None, refl, sym, ap, ◌∙◌, inl, inr}
+use Rattle.std.specs.Prelude.{bytes_eq, is_some, nat_le, option_and_then, unwrap_or}
+use Rattle.std.specs.FinMap as map
+use Rattle.std.proofs.lemmas.Bool.{cases_Bool, cond-true, cond-false, leb-true}
+use Rattle.boot_base.specs.Paths.{Path}
+use Rattle.boot_counter.specs.Splits.{has_suffix}
+use Rattle.boot_counter.specs.declared.counted.Suffix.{Suffix}
+use Rattle.boot_counter.specs.declared.counted.Suffix.TheVariants.{Conf, Efi}
+use Rattle.boot_machine.specs.Disk.{Files, has}
+use Rattle.boot_machine.specs.Rows.{IsNamesOf, contents}
+use Rattle.menu_order.specs.declared.item.MenuItem.{MenuItem}
+use Rattle.boot_folder.specs.Entries.{entry_at, entry_of}
+use Rattle.boot_folder.specs.Records.{found, type1_entry, uki_of}
+use Rattle.boot_folder.specs.Scanning.{AreEntryNames, size_within}
+use Rattle.boot_folder.proofs.Members.{distinct_passing, passing, passing_from}
+
+-- the names with a suffix among those of a folder
+pub suffix_names : (files : Files) (folder : Path) (suffix : Suffix) (names : List (List ℕ)) → IsNamesOf files folder names → AreEntryNames files folder suffix (filter (has_suffix suffix) names)
+suffix_names files folder suffix names are = record {
+  distinct = distinct_passing bytes_eq (has_suffix suffix) names are.distinct;
+  each = λ name. (
+    (λ c. let p = passing_from (has_suffix suffix) names name c in let n = (are.each name).0 p.0 in (n.0, p.1, n.1)),
+    λ is. passing (has_suffix suffix) names name ((are.each name).1 (is.0, is.2)) is.1,
+  );
+}
+
+-- ---- a file of at most so many bytes
+
+none_some : (n : ℕ) → Some n ≡ None → ⊥
+none_some n e = cc
+
+some_same : (m n : ℕ) → Some m ≡ Some n → m ≡ n
+some_same m n e = cc
+
+-- the file is there, of that size
+pub record IsSized (limit : ℕ) (files : Files) (path : Path) (size : ℕ) : Type 0 where
+  pub there : map.get files path ≡ Some (contents files path)
+  pub size_is : size ≡ length (contents files path)
+  pub fits : nat_le (length (contents files path)) limit ≡ true
+
+sized_from : (limit : ℕ) (files : Files) (path : Path) (size : ℕ) (file : Option (List ℕ)) → map.get files path ≡ file → size_within limit file ≡ Some size → IsSized limit files path size
+sized_from limit files path size None is within = cc
+sized_from limit files path size (Some bytes) is within = elim (cases_Bool (nat_le (length bytes) limit)) [
+  | inl fits ↦
+      let bytes_are : contents files path ≡ bytes = ap (λ o. unwrap_or o []) is in
+      let size_is : length bytes ≡ size = some_same (length bytes) size (sym (cond-true (nat_le (length bytes) limit) (Some (length bytes)) None fits) ∙ within) in
+      record {
+        there = is ∙ ap (λ (b : List ℕ). Some b) (sym bytes_are);
+        size_is = sym size_is ∙ ap length (sym bytes_are);
+        fits = ap (λ (b : List ℕ). nat_le (length b) limit) bytes_are ∙ fits;
+      }
+  | inr long ↦ absurd (none_some size (sym within ∙ cond-false (nat_le (length bytes) limit) (Some (length bytes)) None long))
+]
+
+pub sized : (limit : ℕ) (files : Files) (path : Path) (size : ℕ) → Some size ≡ size_within limit (map.get files path) → IsSized limit files path size
+sized limit files path size within = sized_from limit files path size (map.get files path) refl (sym within)
+
+pub there_of : (limit : ℕ) (files : Files) (path : Path) (size : ℕ) → IsSized limit files path size → has files path ≡ true
+there_of limit files path size is = ap is_some is.there
+
+pub short_of : (limit : ℕ) (files : Files) (path : Path) (size : ℕ) → IsSized limit files path size → length (contents files path) ≤ limit
+short_of limit files path size is = leb-true (length (contents files path)) limit is.fits
+
+-- ---- what it is read as
+
+no_text : (path : Path) (file : Option (List ℕ)) → size_within 65536 file ≡ None → option_and_then (entry_of Conf path) file ≡ None
+no_text path None none = refl
+no_text path (Some bytes) none = elim (cases_Bool (nat_le (length bytes) 65536)) [
+  | inl fits ↦ absurd (none_some (length bytes) (sym (cond-true (nat_le (length bytes) 65536) (Some (length bytes)) None fits) ∙ none))
+  | inr long ↦ rw long refl
+]
+
+pub text_none : (files : Files) (path : Path) → None ≡ size_within 65536 (map.get files path) → None ≡ entry_at Conf files path
+text_none files path none = sym (no_text path (map.get files path) (sym none))
+
+no_image : (path : Path) (file : Option (List ℕ)) → size_within 268435456 file ≡ None → option_and_then (entry_of Efi path) file ≡ None
+no_image path None none = refl
+no_image path (Some bytes) none = elim (cases_Bool (nat_le (length bytes) 268435456)) [
+  | inl fits ↦ absurd (none_some (length bytes) (sym (cond-true (nat_le (length bytes) 268435456) (Some (length bytes)) None fits) ∙ none))
+  | inr long ↦ rw long refl
+]
+
+pub image_none : (files : Files) (path : Path) → size_within 268435456 (map.get files path) ≡ None → None ≡ entry_at Efi files path
+image_none files path none = sym (no_image path (map.get files path) none)
+
+pub text_found : (files : Files) (path : Path) (size : ℕ) (read : List ℕ) (item : Option MenuItem) → IsSized 65536 files path size → (size ≡ length (contents files path) → read ≡ contents files path)
+    → item ≡ type1_entry path read → item ≡ entry_at Conf files path
+text_found files path size read item is given reads =
+    reads ∙ ap (type1_entry path) (given is.size_is) ∙ sym (ap (option_and_then (entry_of Conf path)) is.there)
+
+pub image_found : (files : Files) (path : Path) (size : ℕ) (item : Option MenuItem) → IsSized 268435456 files path size
+    → item ≡ found (uki_of path (contents files path)) → item ≡ entry_at Efi files path
+image_found files path size item is reads =
+    reads
+    ∙ sym (cond-true (nat_le (length (contents files path)) 268435456) (found (uki_of path (contents files path))) None is.fits)
+    ∙ sym (ap (option_and_then (entry_of Efi path)) is.there)

@@ -1,0 +1,10 @@
+pub mod Appending
+pub mod Ranges
+pub mod Ukis
+pub mod Items
+pub mod Members
+pub mod Places
+pub mod EntryFiles
+pub mod OncePaths
+pub mod Finding
+pub mod Scans

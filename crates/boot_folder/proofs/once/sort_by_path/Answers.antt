@@ -1,0 +1,13 @@
+-- The closure compares paths.
+use Rattle.std.proofs.Common.{rules}
+use Rattle.std.proofs.lemmas.Result.{IfOk-weaker}
+use Rattle.std.specs.List.Sorted.{IsSorted}
+use Rattle.boot_folder.specs.Scanning.{path_order}
+use Rattle.boot_folder.proofs.OncePaths.{sorted_by_paths}
+use Rattle.boot_folder.proofs.once.sort_by_path.Goals as goal
+
+pub returns-clause-sorted : goal.returns-clause-sorted
+returns-clause-sorted c =
+    IfOk-weaker c.sort_by.result _ (λ _. IsSorted path_order c.sort_by.new.self.items)
+    (λ _ up. sorted_by_paths c.sort_by.new.self.items up (λ f a r f' k. search rules))
+    c.sort_by.ensures.sorted

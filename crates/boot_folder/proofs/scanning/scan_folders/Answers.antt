@@ -1,0 +1,38 @@
+-- The names, the entries of their files, and the menu of these.
+use Rattle.std.proofs.Common.{◌↔◌, sym, ◌∙◌, subst}
+use Rattle.std.specs.Prelude.{Contains}
+use Rattle.boot_counter.specs.declared.counted.Suffix.TheVariants.{Conf, Efi}
+use Rattle.boot_machine.proofs.Reading.{reads_on}
+use Rattle.boot_machine.specs.Disk.{State}
+use Rattle.boot_folder.specs.Entries.{IsEntry}
+use Rattle.boot_folder.specs.Scanning.{AreEntryNames}
+use Rattle.boot_folder.proofs.EntryFiles.{found_menu, menu_only, view_menu}
+use Rattle.boot_folder.proofs.scanning.scan_folders.Goals as goal
+
+pub returns-in_err-items-clause-reads : goal.returns-in_err-items-clause-reads
+returns-in_err-items-clause-reads g c told =
+    reads_on g.M.Machine.clock g.M.Machine.since g.M.Machine.state _ _ _ (c.entry_names.ensures.reads told) (c.entries.ensures.reads told)
+
+pub returns-in_err-menu_of-clause-reads : goal.returns-in_err-menu_of-clause-reads
+returns-in_err-menu_of-clause-reads g c told =
+    reads_on g.M.Machine.clock g.M.Machine.since g.M.Machine.state _ _ _ (c.entry_names.ensures.reads told) (c.entries.ensures.reads told)
+
+pub returns-clause-reads : goal.returns-clause-reads
+returns-clause-reads g c told =
+    reads_on g.M.Machine.clock g.M.Machine.since g.M.Machine.state _ _ _ (c.entry_names.ensures.reads told) (c.entries.ensures.reads told)
+
+pub returns-clause-menu : goal.returns-clause-menu
+returns-clause-menu g c told =
+    let files = (g.M.Machine.state c.args.machine.now).files in
+    let folders = c.args.folders.now in
+    let same = (c.entry_names.ensures.reads told).same in
+    let texts = subst (λ (s : State). AreEntryNames s.files folders.entries Conf c.in_ok-names.names.texts.items) (sym same) (c.in_ok-names.ensures.texts told) in
+    let images = subst (λ (s : State). AreEntryNames s.files folders.images Efi c.in_ok-names.names.images.items) (sym same) (c.in_ok-names.ensures.images told) in
+    found_menu files folders c.in_ok-items.items.items c.in_ok-menu_of.field-0.items
+    (λ item. subst (λ (s : State). Contains c.in_ok-items.items.items item ↔ IsEntry s.files folders item) same (c.in_ok-items.ensures.entries told texts images item))
+    c.in_ok-menu_of.ensures.among c.in_ok-menu_of.ensures.all c.in_ok-menu_of.ensures.ordered
+
+pub returns-clause-value : goal.returns-clause-value
+returns-clause-value g c told =
+    let files = (g.M.Machine.state c.args.machine.now).files in
+    menu_only files c.args.folders.now c.in_ok-menu_of.field-0.items (returns-clause-menu g c told) ∙ sym (view_menu files c.args.folders.now)

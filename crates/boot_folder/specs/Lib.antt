@@ -1,0 +1,9 @@
+pub mod Missing
+pub mod Names
+pub mod Records
+pub mod Entries
+pub mod Laws
+pub mod Listing
+pub mod Ranges
+pub mod Items
+pub mod Scanning

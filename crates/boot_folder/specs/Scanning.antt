@@ -1,0 +1,105 @@
+-- What a scan of the boot folders answers.
+use Rattle.std.specs.Prelude.{◌≡◌, ◌↔◌, ◌+◌, ◌*◌, ℕ, true, List, length, nat_le, bytes_eq, Contains, Option, Some, None, IsSome, Result, MatchResult, if◌then◌else◌}
+use Rattle.std.specs.List.{IsDistinct, filter_map}
+use Rattle.boot_base.specs.Paths.{Path, is_file_name, under}
+use Rattle.boot_base.specs.declared.path.PathFault.{PathFault}
+use Rattle.boot_base.specs.declared.path.PathFault.TheVariants as paths
+use Rattle.boot_counter.specs.Splits.{has_suffix}
+use Rattle.boot_counter.specs.declared.counted.Suffix.{Suffix}
+use Rattle.boot_counter.specs.declared.counted.Suffix.TheVariants.{Conf, Efi}
+use Rattle.boot_machine.specs.Counts.{Counts, DiskFailed}
+use Rattle.boot_machine.specs.Disk.{Files, has, path_cmp}
+use Rattle.std.specs.Ordering.{on}
+use Rattle.std.specs.declared.cmp.Ordering.{Ordering}
+use Rattle.boot_machine.specs.declared.machine.NamesFault.{NamesFault}
+use Rattle.boot_machine.specs.declared.machine.NamesFault.TheVariants as names
+use Rattle.menu_order.specs.declared.item.MenuItem.{MenuItem}
+use Rattle.boot_folder.specs.Entries.{entry_if, type_count}
+use Rattle.boot_folder.specs.declared.fault.ReadFault.{ReadFault}
+use Rattle.boot_folder.specs.declared.fault.ReadFault.TheVariants as reads
+use Rattle.boot_folder.specs.declared.fault.ScanFault.{ScanFault}
+use Rattle.boot_folder.specs.declared.fault.ScanFault.TheVariants as faults
+use Rattle.boot_folder.specs.declared.folders.Folders.{Folders}
+
+-- a name of a file directly in a folder that has the suffix
+abbrev pub IsEntryName : Files → Path → Suffix → List ℕ → Type 0
+IsEntryName files folder suffix name = (is_file_name name ≡ true) × (has_suffix suffix name ≡ true) × (has files (under folder name) ≡ true)
+
+-- these are the names of the files of a type in a folder, each once
+pub record AreEntryNames (files : Files) (folder : Path) (suffix : Suffix) (names : List (List ℕ)) : Type 0 where
+  pub distinct : IsDistinct bytes_eq names
+  pub each : (name : List ℕ) → Contains names name ↔ IsEntryName files folder suffix name
+
+-- the size of a file, if it is there with no more bytes than that
+abbrev pub size_within : ℕ → Option (List ℕ) → Option ℕ
+size_within limit None = None
+size_within limit (Some bytes) = if nat_le (length bytes) limit then Some (length bytes) else None
+
+-- the entries of the files of these names, in order
+abbrev pub entries_named : Suffix → Files → Path → List (List ℕ) → List MenuItem
+entries_named suffix files folder names = filter_map (λ name. entry_if suffix files (under folder name)) names
+
+-- the most bytes that are read of a file of a type
+abbrev pub read_limit : Suffix → ℕ
+read_limit Conf = 65536
+read_limit Efi = 134999
+
+-- the most bytes that are read of the files of both types
+abbrev pub scan_limit : Files → Option Folders → ℕ
+scan_limit files None = 0
+scan_limit files (Some folders) = read_limit Conf * type_count files folders Conf + read_limit Efi * type_count files folders Efi
+
+-- a fault of the disk has its cause, and every other answer leaves the counts
+abbrev pub read_counts : ReadFault → Counts → Counts → Type 0
+read_counts reads.Memory old new = new ≡ old
+read_counts reads.Disk old new = DiskFailed old new
+
+abbrev pub CountsRead : {X : Type 0} → Result X ReadFault → Counts → Counts → Type 0
+CountsRead result old new = MatchResult result (λ _. new ≡ old) (λ fault. read_counts fault old new)
+
+-- the same of a scan
+abbrev pub scan_counts : ScanFault → Counts → Counts → Type 0
+scan_counts faults.Memory old new = new ≡ old
+scan_counts faults.Disk old new = DiskFailed old new
+scan_counts faults.LongEsp old new = new ≡ old
+scan_counts (faults.TooMany count) old new = new ≡ old
+
+abbrev pub CountsScan : {X : Type 0} → Result X ScanFault → Counts → Counts → Type 0
+CountsScan result old new = MatchResult result (λ _. new ≡ old) (λ fault. scan_counts fault old new)
+
+-- what a fault says of the folders: that they are paths, or that one isn't; nothing for want of memory
+abbrev pub fault_folders : ScanFault → Option Folders → Type 0
+fault_folders faults.Memory folders = Unit {0}
+fault_folders faults.Disk folders = IsSome folders
+fault_folders faults.LongEsp folders = folders ≡ None
+fault_folders (faults.TooMany count) folders = IsSome folders
+
+-- both folders are paths, or the answer says that they aren't
+abbrev pub FindsFolders : {X : Type 0} → Result X ScanFault → Option Folders → Type 0
+FindsFolders result folders = MatchResult result (λ _. IsSome folders) (λ fault. fault_folders fault folders)
+
+-- what a fault says of the number of entry files, where it tells that they are too many
+abbrev pub fault_many : ScanFault → (ℕ → Type 0) → Type 0
+fault_many faults.Memory P = Unit {0}
+fault_many faults.Disk P = Unit {0}
+fault_many faults.LongEsp P = Unit {0}
+fault_many (faults.TooMany count) P = P count
+
+-- what a fault of reading comes to in a scan
+abbrev pub scan_fault : ReadFault → ScanFault
+scan_fault reads.Memory = faults.Memory
+scan_fault reads.Disk = faults.Disk
+
+-- a path that can't be made is one that is too long
+abbrev pub path_fault : PathFault → ScanFault
+path_fault paths.Memory = faults.Memory
+path_fault paths.BadPath = faults.LongEsp
+
+-- what a fault of listing names comes to
+abbrev pub names_fault : NamesFault → ReadFault
+names_fault names.Memory = reads.Memory
+names_fault names.Disk = reads.Disk
+
+-- entries in the order of their paths
+abbrev pub path_order : MenuItem → MenuItem → Ordering
+path_order = on (λ item. item.path) path_cmp

@@ -1,0 +1,192 @@
+//! The entry of one file of a boot folder.
+ghost use Rattle.std.specs.Prelude.{◌≡◌, ◌≤◌, IfOk, IfSome, IsTrue, Result, length, true};
+ghost use Rattle.std.specs.FinMap.{get};
+ghost use Rattle.boot_base.specs.Paths.{file_name_of, under};
+ghost use Rattle.boot_counter.specs.Splits.{has_suffix};
+ghost use Rattle.boot_counter.specs.declared.counted.Suffix.TheVariants.{Conf, Efi};
+ghost use Rattle.boot_folder.specs.Entries.{entry_at, entry_if, own_path};
+ghost use Rattle.boot_folder.specs.Items.{CountsItem, GivesItem};
+ghost use Rattle.boot_folder.specs.Records.{Unfit, found, type1_entry, type1_item};
+ghost use Rattle.boot_folder.specs.Scanning.{CountsRead, read_limit, size_within};
+ghost use Rattle.boot_machine.specs.Counts.{Counts, CountsDisk};
+ghost use Rattle.boot_machine.specs.Reading.{OnlyReads, TakesAtMost};
+ghost use Rattle.boot_machine.specs.Rows.{contents};
+ghost use Rattle.menu_order.specs.declared.item.MenuItem.{MenuItem};
+
+use crate::fault::{ItemFault, ReadFault};
+use crate::name::named;
+use crate::uki::{uki_item, zeros};
+use boot_base::{BootPath, FileName, PathFault};
+use boot_counter::Suffix;
+use boot_machine::{DiskFault, Machine, read_part};
+use entry_reader::{EntryFault, Type1};
+use menu_order::MenuItem;
+use std::alloc::{AllocError, Global};
+
+/// The most bytes of a type 1 file.
+const TEXT_LIMIT: u64 = 65_536;
+
+/// The most bytes of a type 2 file.
+const IMAGE_LIMIT: u64 = 268_435_456;
+
+/// The size of a machine's file, if it is there with no more bytes than that.
+fn size_within<M: Machine>(
+    machine: &mut M,
+    path: &BootPath,
+    limit: u64,
+) -> Result<Option<u64>, DiskFault>
+    ensures size { IfOk result (λ size. IsTrue M.tells
+        → size ≡ size_within limit (get (M.state machine.old).files path.now)) }
+    ensures limit { IfOk result (λ size. IfSome size (λ n. n ≤ limit)) }
+    ensures reads { IsTrue M.tells → OnlyReads M.clock M.since M.state machine.old machine.new }
+    ensures counts { CountsDisk result (M.counts machine.old) (M.counts machine.new) }
+    ensures taken { IsTrue M.tells → M.taken machine.new ≡ M.taken machine.old }
+{
+    match machine.size(path)? {
+        Some(size) if size <= limit => Ok(Some(size)),
+        _ => Ok(None),
+    }
+}
+
+/// The bytes of a machine's file of that size.
+fn file_bytes<M: Machine>(
+    alloc: Global,
+    machine: &mut M,
+    path: &BootPath,
+    size: u64,
+) -> Result<Vec<u8>, ReadFault>
+    requires { size ≤ 65536 }
+    ensures bytes { IfOk result (λ bytes. IsTrue M.tells
+        → size ≡ length (contents (M.state machine.old).files path.now)
+        → bytes.items ≡ contents (M.state machine.old).files path.now) }
+    ensures reads { IsTrue M.tells → OnlyReads M.clock M.since M.state machine.old machine.new }
+    ensures counts { CountsRead result (M.counts machine.old) (M.counts machine.new) }
+    ensures taken { IsTrue M.tells → TakesAtMost 65536 (M.taken machine.old) (M.taken machine.new) }
+{
+    let mut bytes = zeros(alloc, size as usize)?;
+    read_part(machine, path, 0, &mut bytes)?;
+    Ok(bytes)
+}
+
+/// The entry of a type 1 text at a path.
+fn type1_item(alloc: Global, path: BootPath, entry: Type1) -> Result<MenuItem, AllocError>
+    ensures { IfOk result (λ item. item ≡ type1_item path entry) }
+{
+    let (base, counter) = named(alloc, path.file_name(), Suffix::Conf)?;
+    Ok(MenuItem {
+        path,
+        suffix: Suffix::Conf,
+        base,
+        counter,
+        title: entry.title,
+        version: entry.version,
+        sort_key: entry.sort_key,
+        machine_id: entry.machine_id,
+        linux: entry.linux,
+        efi: entry.efi,
+        initrds: entry.initrds,
+        options: entry.options,
+    })
+}
+
+/// The entry of a type 1 file's bytes, None where they are none.
+fn text_entry(alloc: Global, path: BootPath, bytes: &[u8]) -> Result<Option<MenuItem>, AllocError>
+    ensures { IfOk result (λ item. item ≡ type1_entry path bytes.now) }
+{
+    match Type1::read(alloc, bytes) {
+        Ok(entry) => Ok(Some(type1_item(alloc, path, entry)?)),
+        Err(EntryFault::Memory) => Err(AllocError),
+        Err(EntryFault::TooLong | EntryFault::NothingToBoot) => Ok(None),
+    }
+}
+
+/// The entry of the type 1 file at a path, None where there is no valid one.
+fn text_at<M: Machine>(
+    alloc: Global,
+    machine: &mut M,
+    path: BootPath,
+) -> Result<Option<MenuItem>, ReadFault>
+    ensures exact { IfOk result (λ item. IsTrue M.tells → item ≡ entry_at Conf (M.state machine.old).files path) }
+    ensures reads { IsTrue M.tells → OnlyReads M.clock M.since M.state machine.old machine.new }
+    ensures counts { CountsRead result (M.counts machine.old) (M.counts machine.new) }
+    ensures taken { IsTrue M.tells → TakesAtMost 65536 (M.taken machine.old) (M.taken machine.new) }
+{
+    let Some(size) = size_within(machine, &path, TEXT_LIMIT)? else {
+        return Ok(None);
+    };
+    let bytes = file_bytes(alloc, machine, &path, size)?;
+    Ok(text_entry(alloc, path, &bytes)?)
+}
+
+/// What an image comes to in a scan, which passes over a file that is no entry.
+fn kept(read: Result<MenuItem, ItemFault>) -> Result<Option<MenuItem>, ReadFault>
+    ensures meant { (entry : Result MenuItem Unfit) → GivesItem read entry → IfOk result (λ item. item ≡ found entry) }
+    ensures counts { (old new : Counts) → CountsItem read old new → CountsRead result old new }
+{
+    match read {
+        Ok(item) => Ok(Some(item)),
+        Err(ItemFault::Memory) => Err(ReadFault::Memory),
+        Err(ItemFault::Disk) => Err(ReadFault::Disk),
+        Err(ItemFault::NotPe { .. } | ItemFault::NotUki { .. }) => Ok(None),
+    }
+}
+
+/// The entry of the type 2 file at a path, None where there is no valid one.
+fn image_at<M: Machine>(
+    alloc: Global,
+    machine: &mut M,
+    path: BootPath,
+) -> Result<Option<MenuItem>, ReadFault>
+    requires { has_suffix Efi (file_name_of path) ≡ true }
+    ensures exact { IfOk result (λ item. IsTrue M.tells → item ≡ entry_at Efi (M.state machine.old).files path) }
+    ensures reads { IsTrue M.tells → OnlyReads M.clock M.since M.state machine.old machine.new }
+    ensures counts { CountsRead result (M.counts machine.old) (M.counts machine.new) }
+    ensures taken { IsTrue M.tells → TakesAtMost 134999 (M.taken machine.old) (M.taken machine.new) }
+{
+    if size_within(machine, &path, IMAGE_LIMIT)?.is_none() {
+        return Ok(None);
+    }
+    let file = path.copy(alloc)?;
+    kept(uki_item(alloc, machine, &file, path))
+}
+
+/// The path of a file of that name directly in a folder, None where it is no path of a boot file.
+fn path_of_name(
+    alloc: Global,
+    folder: &BootPath,
+    name: &FileName,
+) -> Result<Option<BootPath>, AllocError>
+    ensures path { IfOk result (λ path. path ≡ own_path (under folder.now name.now)) }
+    ensures name { IfOk result (λ path. IfSome path (λ path. file_name_of path ≡ name.now)) }
+{
+    folder.know_normal();
+    match BootPath::under(alloc, folder, name.as_str()) {
+        Ok(path) => Ok(Some(path)),
+        Err(PathFault::BadPath) => Ok(None),
+        Err(PathFault::Memory) => Err(AllocError),
+    }
+}
+
+/// The entry of the file of that name directly in the folder of its type, None where it is no entry.
+pub(crate) fn entry_named<M: Machine>(
+    alloc: Global,
+    machine: &mut M,
+    folder: &BootPath,
+    suffix: Suffix,
+    name: &FileName,
+) -> Result<Option<MenuItem>, ReadFault>
+    requires { has_suffix suffix name.now ≡ true }
+    ensures exact { IfOk result (λ item. IsTrue M.tells
+        → item ≡ entry_if suffix (M.state machine.old).files (under folder.now name.now)) }
+    ensures reads { IsTrue M.tells → OnlyReads M.clock M.since M.state machine.old machine.new }
+    ensures counts { CountsRead result (M.counts machine.old) (M.counts machine.new) }
+    ensures taken { IsTrue M.tells → TakesAtMost (read_limit suffix) (M.taken machine.old) (M.taken machine.new) }
+{
+    let Some(path) = path_of_name(alloc, folder, name)? else {
+        return Ok(None);
+    };
+    match suffix {
+        Suffix::Conf => text_at(alloc, machine, path),
+        Suffix::Efi => image_at(alloc, machine, path),
+    }
+}

@@ -1,0 +1,31 @@
+//! The two folders of boot entries.
+ghost use Rattle.std.specs.Prelude.{◌≡◌, IfOk, None, Some};
+ghost use Rattle.boot_folder.specs.Entries.{folders_of};
+
+use boot_base::{BootPath, PathFault};
+use std::alloc::Global;
+
+/// Where the boot entries of an EFI system partition stand (UAPI Boot Loader Specification).
+#[derive(Debug, Drop)]
+pub struct Folders {
+    /// `loader/entries`, with the entries of type 1.
+    pub entries: BootPath,
+    /// `EFI/Linux`, with those of type 2.
+    pub images: BootPath,
+}
+
+impl Folders {
+    /// The folders of the partition that stands at a path.
+    ///
+    /// # Errors
+    ///
+    /// `BadPath` exactly where one of them is no path; `Memory` where there is no memory.
+    pub fn of(alloc: Global, esp: &BootPath) -> Result<Folders, PathFault>
+        ensures ok { IfOk result (λ folders. folders_of esp.now ≡ Some folders) }
+        ensures bad { result ≡ Err PathFault.BadPath → folders_of esp.now ≡ None }
+    {
+        let entries = BootPath::under(alloc, esp, "loader/entries")?;
+        let images = BootPath::under(alloc, esp, "EFI/Linux")?;
+        Ok(Folders { entries, images })
+    }
+}

@@ -1,0 +1,22 @@
+//! The entries of a boot folder, as the UAPI Boot Loader Specification has them, their menu, and its text.
+//!
+//! Of a unified kernel image the headers and the os-release text are read, and nothing else.
+#![tactic(auto)]
+
+mod entry;
+mod fault;
+mod folders;
+mod laws;
+mod listing;
+mod name;
+mod names;
+mod once;
+mod scanning;
+mod uki;
+
+pub use fault::{ItemFault, Missing, ScanFault};
+pub use folders::Folders;
+pub use laws::entries_laws;
+pub use listing::list_text;
+pub use scanning::{scan, scan_folders};
+pub use uki::uki_item;

@@ -1,0 +1,171 @@
+//! Entries of unified kernel images.
+ghost use Rattle.std.specs.Prelude.{◌≡◌, ◌≤◌, ◌<◌, ◌+◌, ◌^◌, ℕ, List, IfOk, IfErr, IsTrue, Ok, true, drop, length, replicate, option_copied};
+ghost use Rattle.boot_base.specs.Paths.{file_name_of};
+ghost use Rattle.boot_machine.specs.Counts.{Counts};
+ghost use Rattle.boot_machine.specs.Disk.{has};
+ghost use Rattle.boot_counter.specs.Splits.{has_suffix};
+ghost use Rattle.boot_folder.specs.Records.{titled, type2_item, uki_of};
+ghost use Rattle.boot_machine.specs.Reading.{OnlyReads, TakesAtMost};
+ghost use Rattle.boot_machine.specs.Rows.{contents};
+ghost use Rattle.pe_reader.specs.Loaded.{bytes_in};
+ghost use Rattle.boot_folder.specs.Items.{CountsItem, GivesItem, IsUnread};
+ghost use Rattle.pe_reader.specs.Grammar.{pe_of};
+ghost use Rattle.pe_reader.specs.Reads.{headers_of};
+ghost use Rattle.boot_folder.specs.Ranges.{IsRange, FindsOsrel};
+
+use crate::fault::{ItemFault, Missing};
+use crate::name::named;
+use boot_base::{BootPath, Bytes, BytesList};
+use boot_counter::Suffix;
+use boot_machine::{Machine, read_part};
+use menu_order::MenuItem;
+use os_release::OsRelease;
+use pe_reader::{LoadedRange, Pe};
+use std::alloc::{AllocError, Global};
+
+/// The most bytes of an os-release text.
+const OSREL_LIMIT: u64 = 65_536;
+
+/// The entry of a machine's file of type 2, as if the file stood at `path`. It reads the file's headers and its
+/// os-release text: at most 134,999 bytes. Nothing is changed.
+///
+/// # Errors
+///
+/// `NotPe` exactly where the file is no PE32+ file; else `NotUki` exactly where the section `.linux` has no loaded
+/// byte, `.osrel` hasn't 1 to 65,536 of them, or that text gives no title, with the first of these that is
+/// missing; `Disk` only where the machine has counted a fault of the disk; `Memory` where there is no memory.
+pub fn uki_item<M: Machine>(
+    alloc: Global,
+    machine: &mut M,
+    file: &BootPath,
+    path: BootPath,
+) -> Result<MenuItem, ItemFault>
+    requires there { IsTrue M.tells → has (M.state machine.old).files file.now ≡ true }
+    requires small { IsTrue M.tells → length (contents (M.state machine.old).files file.now) ≤ 268435456 }
+    requires name { has_suffix Suffix.Efi (file_name_of path) ≡ true }
+    ensures exact { IsTrue M.tells → GivesItem result (uki_of path (contents (M.state machine.old).files file.now)) }
+    ensures reads { IsTrue M.tells → OnlyReads M.clock M.since M.state machine.old machine.new }
+    ensures counts { CountsItem result (M.counts machine.old) (M.counts machine.new) }
+    ensures taken { IsTrue M.tells → TakesAtMost 134999 (M.taken machine.old) (M.taken machine.new) }
+{
+    let head = Pe::read_head(alloc, machine, file)?;
+    let range = osrel_range(&head)?;
+    let text = range_bytes(alloc, machine, file, range)?;
+    let release = OsRelease::read(alloc, &text)?;
+    titled(alloc, path, &release)
+}
+
+/// The entry of an os-release text, which has to give a title.
+#[tactic(auto, unfolding(crate::specs::Records::titled))]
+fn titled(alloc: Global, path: BootPath, release: &OsRelease) -> Result<MenuItem, ItemFault>
+    requires { has_suffix Suffix.Efi (file_name_of path) ≡ true }
+    ensures gives { GivesItem result (titled path release.now) }
+    ensures counts { (counts : Counts) → CountsItem result counts counts }
+{
+    if release.title().is_none() {
+        return Err(ItemFault::NotUki {
+            missing: Missing::Title,
+        });
+    }
+    Ok(type2_item(alloc, path, release)?)
+}
+
+/// The entry of an os-release text.
+fn type2_item(alloc: Global, path: BootPath, release: &OsRelease) -> Result<MenuItem, AllocError>
+    requires { has_suffix Suffix.Efi (file_name_of path) ≡ true }
+    ensures { IfOk result (λ item. item ≡ type2_item path release.now) }
+{
+    let (base, counter) = named(alloc, path.file_name(), Suffix::Efi)?;
+    Ok(MenuItem {
+        path,
+        suffix: Suffix::Efi,
+        base,
+        counter,
+        title: copied(alloc, release.title())?,
+        version: copied(alloc, release.version())?,
+        sort_key: copied(alloc, release.sort_key())?,
+        machine_id: None,
+        linux: None,
+        efi: None,
+        initrds: BytesList::new(alloc),
+        options: BytesList::new(alloc),
+    })
+}
+
+/// A copy of a value that may be absent.
+fn copied(alloc: Global, value: Option<&[u8]>) -> Result<Option<Bytes>, AllocError>
+    ensures { IfOk result (λ copy. copy ≡ option_copied value.entry) }
+{
+    match value {
+        Some(bytes) => Ok(Some(Bytes::of(alloc, bytes)?)),
+        None => Ok(None),
+    }
+}
+
+/// Where the loaded bytes of the first section of that name stand, nowhere where there is no such section.
+fn range_named(head: &Pe, name: &[u8]) -> LoadedRange
+    ensures range { (file : List ℕ) → pe_of file ≡ Ok (headers_of head.now) → IsRange file name.now result }
+    ensures small { (result.place < 2 ^ 32) × (result.length + result.zeros < 2 ^ 32) }
+{
+    match head.find(name) {
+        Some(index) => head.loaded_range(index),
+        None => LoadedRange {
+            place: 0,
+            length: 0,
+            zeros: 0,
+        },
+    }
+}
+
+/// Where the os-release text of an image stands.
+///
+/// # Errors
+///
+/// `Linux` exactly where the section `.linux` has no loaded byte, else `Osrel` exactly where `.osrel` hasn't 1
+/// to 65,536 of them.
+pub(crate) fn osrel_range(head: &Pe) -> Result<LoadedRange, Missing>
+    ensures finds { (file : List ℕ) → pe_of file ≡ Ok (headers_of head.now) → FindsOsrel file result }
+    ensures small { IfOk result (λ range. (range.place < 2 ^ 32) × (range.length + range.zeros ≤ 65536)) }
+{
+    let linux = range_named(head, b".linux");
+    if linux.length + linux.zeros == 0 {
+        return Err(Missing::Linux);
+    }
+    let osrel = range_named(head, b".osrel");
+    let count = osrel.length + osrel.zeros;
+    if count == 0 || count > OSREL_LIMIT {
+        return Err(Missing::Osrel);
+    }
+    Ok(osrel)
+}
+
+/// So many zeros. The length is a variable, so that no proof writes out a list of that many.
+pub(crate) fn zeros(alloc: Global, count: usize) -> Result<Vec<u8>, AllocError>
+    ensures { IfOk result (λ zeros. zeros.items ≡ replicate count 0) }
+{
+    vec![in alloc; 0u8; count]
+}
+
+/// The bytes of a machine's file in a range that lies in it.
+pub(crate) fn range_bytes<M: Machine>(
+    alloc: Global,
+    machine: &mut M,
+    file: &BootPath,
+    range: LoadedRange,
+) -> Result<Vec<u8>, ItemFault>
+    requires place { range.place < 2 ^ 32 }
+    requires short { range.length + range.zeros ≤ 65536 }
+    ensures bytes { IfOk result (λ bytes. IsTrue M.tells
+        → range.length ≤ length (drop range.place (contents (M.state machine.old).files file.now))
+        → bytes.items ≡ bytes_in (contents (M.state machine.old).files file.now) range) }
+    ensures unread { IfErr result IsUnread }
+    ensures reads { IsTrue M.tells → OnlyReads M.clock M.since M.state machine.old machine.new }
+    ensures counts { CountsItem result (M.counts machine.old) (M.counts machine.new) }
+    ensures taken { IsTrue M.tells → TakesAtMost 65536 (M.taken machine.old) (M.taken machine.new) }
+{
+    let mut bytes = zeros(alloc, range.length as usize)?;
+    read_part(machine, file, range.place, &mut bytes)?;
+    let rest = zeros(alloc, range.zeros as usize)?;
+    bytes.extend_from_slice(&rest)?;
+    Ok(bytes)
+}
