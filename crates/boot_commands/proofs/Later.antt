@@ -9,9 +9,9 @@ use Rattle.install_steps.specs.Steps.{NoNewTemp}
 use Rattle.tool_words.specs.declared.command.Command.{Command}
 use Rattle.tool_words.specs.declared.command.Command.TheVariants as command
 use Rattle.boot_commands.specs.Commands.{Tidied}
-use Rattle.boot_commands.specs.Folders.{folders_of}
-use Rattle.boot_commands.specs.Tidying.{CleanAt, IsClean}
-use Rattle.boot_commands.specs.declared.folders.Folders.{Folders}
+use Rattle.entry_commands.specs.Folders.{folders_of}
+use Rattle.entry_commands.specs.Tidying.{CleanAt, IsClean}
+use Rattle.boot_folder.specs.declared.folders.Folders.{Folders}
 
 -- a folder stays clean where no temporary file comes
 clean_later : (s now : State) (folder : Path) → NoNewTemp s now → IsClean s.files folder → IsClean now.files folder

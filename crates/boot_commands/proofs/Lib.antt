@@ -1,5 +1,3 @@
-mod Freeing
 pub mod Later
-mod Leftovers
 pub mod Replies
 mod Tidies

@@ -1,6 +1,8 @@
 -- No command's reply is empty.
 use Rattle.std.proofs.Common.{ℕ, ◌<◌, ◌&&◌, ◌∷◌, [], codes, Bool, true, false, cond, List, length, arith, Option, Some, None, Result, Ok, Err}
 use Rattle.std.specs.FinMap.{get}
+use Rattle.std.specs.List.{flat_map}
+use Rattle.std.specs.Prelude.{◌++◌, nat_lt}
 use Rattle.boot_base.specs.Paths.{Path}
 use Rattle.boot_base.specs.Refusals.{line_of}
 use Rattle.boot_base.specs.declared.refusal.Refusal.{Refusal}
@@ -11,18 +13,24 @@ use Rattle.tool_words.specs.declared.command.Command.{Command}
 use Rattle.tool_words.specs.declared.command.Command.TheVariants as command
 use Rattle.command_plans.specs.Answers.{Answer, said}
 use Rattle.pcr_fold.specs.declared.bank.Bank.{Bank}
+use Rattle.menu_order.specs.declared.item.MenuItem.{MenuItem}
+use Rattle.boot_folder.specs.Entries.{boot_menu, entry_count}
+use Rattle.boot_folder.specs.Listing.{behind_newline, boot_lines, counter_lines, file_lines, item_text, key_lines, title_lines}
+use Rattle.boot_folder.specs.declared.folders.Folders.{Folders}
 use Rattle.pe_reader.specs.declared.fault.FailedCheck.{FailedCheck}
 use Rattle.pe_reader.specs.Grammar.{Headers, pe_of}
 use Rattle.image_build.specs.Building.{Built, build_of, built_answer}
-use Rattle.image_commands.specs.Calculating.{calculate_said, if_given, part_words}
-use Rattle.image_commands.specs.Files.{bytes_at, each, image_at}
+use Rattle.command_reads.specs.Files.{bytes_at, each, if_given, image_at}
+use Rattle.image_commands.specs.Calculating.{calculate_said, part_words}
 use Rattle.image_commands.specs.Said.{has_loaded, identify_said, image_said, inspect_said, inspection_at, kind_at, kind_of, values_at}
-use Rattle.image_commands.specs.Values.{banks_of, once, paths_of, value_lines}
+use Rattle.command_reads.specs.Values.{banks_of, once, paths_of, value_lines}
 use Rattle.boot_commands.specs.Commands.{answer_of}
-use Rattle.boot_commands.specs.Folders.{folders_of}
-use Rattle.command_plans.specs.Refusing.{◌>>=◌, path_in, printed_path, unless_refused}
-use Rattle.boot_commands.specs.Tidying.{tidy_answer}
-use Rattle.boot_commands.specs.Unlinking.{entry_path, removal, unlink_answer}
+use Rattle.entry_commands.specs.Folders.{folders_of}
+use Rattle.entry_commands.specs.Listing.{list_said, menu_at, menu_said}
+use Rattle.command_reads.specs.Refusing.{◌>>=◌, path_in, printed_path}
+use Rattle.command_plans.specs.Refusing.{unless_refused}
+use Rattle.entry_commands.specs.Tidying.{tidy_answer}
+use Rattle.entry_commands.specs.Unlinking.{entry_path, removal, unlink_answer}
 
 some_line : (why : Refusal) → 0 < length (line_of why)
 some_line why = omega arith
@@ -75,6 +83,33 @@ some_built : (view : Files) (measure : Bool) (built : Result Built Refusal) → 
 some_built view measure (Err why) = some_line why
 some_built view measure (Ok built) = omega arith
 
+some_before : (text later : List ℕ) → 0 < length text → 0 < length (text ++ later)
+some_before [] later some = absurd (omega (arith, some))
+some_before (byte ∷ text) later some = omega arith
+
+some_behind : (before text : List ℕ) → 0 < length text → 0 < length (before ++ text)
+some_behind [] text some = some
+some_behind (byte ∷ before) text some = omega arith
+
+some_file : (item : MenuItem) → 0 < length (file_lines item)
+unfolding file_lines
+some_file item = omega arith
+
+-- a menu with entries has lines
+some_menu : (menu : List MenuItem) → HasText (menu_said menu)
+some_menu [] = tt
+some_menu (item ∷ items) =
+    some_before (item_text item) (flat_map behind_newline items)
+    (some_before (title_lines item ++ file_lines item) ((key_lines item ++ counter_lines item.counter) ++ boot_lines item)
+    (some_behind (title_lines item) (file_lines item) (some_file item)))
+
+some_menu_at : (view : Files) (folders : Folders) → HasText (menu_at view folders)
+some_menu_at view folders = by_count (nat_lt 4096 (entry_count view folders))
+  where
+    by_count : (many : Bool) → HasText (cond many (Err (refusals.TooMany (entry_count view folders))) (menu_said (boot_menu view folders)))
+    by_count true = tt
+    by_count false = some_menu (boot_menu view folders)
+
 -- no command's reply is empty: a case for each command
 pub some_text : (view : Files) (c : Command) → 0 < length (answer_of view c).text
 some_text view (command.Build words) = some_built view words.measure (build_of view words)
@@ -88,7 +123,7 @@ some_text view (command.Image file banks phases) =
     (text_next (path_in file) (values_at view banks phases) (λ path. text_next (image_at view path) _ (λ image. some_values _ (banks_of banks) phases)))
 some_text view (command.Identify file) =
     some_said view (identify_said view file) (text_next (path_in file) (kind_at view) (λ path. text_next (bytes_at view path) _ (λ bytes. some_kind bytes (pe_of bytes))))
-some_text view (command.List esp) = some_line refusals.NotBuilt
+some_text view (command.List esp) = some_said view (list_said view esp) (text_next (folders_of esp) (menu_at view) (some_menu_at view))
 some_text view (command.Tidy esp) = some_unless view (folders_of esp) (tidy_answer view) (λ folders. omega arith)
 some_text view (command.Boot esp) = some_line refusals.NotBuilt
 some_text view (command.Unlink name esp) = some_unless view (entry_path name esp) (unlink_answer view) (λ path. some_removal view path (get view path))

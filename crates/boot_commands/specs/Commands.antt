@@ -12,9 +12,10 @@ use Rattle.command_plans.specs.declared.outcome.Stop.TheVariants as stops
 use Rattle.image_build.specs.Building.{build_answer}
 use Rattle.image_commands.specs.Calculating.{calculate_said}
 use Rattle.image_commands.specs.Said.{identify_said, image_said, inspect_said}
-use Rattle.boot_commands.specs.Unlinking.{entry_path, unlink_answer}
-use Rattle.boot_commands.specs.Folders.{folders_of}
-use Rattle.boot_commands.specs.Tidying.{tidy_answer, IsTidied}
+use Rattle.entry_commands.specs.Unlinking.{entry_path, unlink_answer}
+use Rattle.entry_commands.specs.Folders.{folders_of}
+use Rattle.entry_commands.specs.Listing.{list_said}
+use Rattle.entry_commands.specs.Tidying.{tidy_answer, IsTidied}
 
 abbrev pub not_built : Files → Answer
 not_built view = refusal view refusals.NotBuilt
@@ -25,7 +26,7 @@ answer_of view (command.Calculate words) = said view (calculate_said view words)
 answer_of view (command.Inspect file) = said view (inspect_said view file)
 answer_of view (command.Image file banks phases) = said view (image_said view file banks phases)
 answer_of view (command.Identify file) = said view (identify_said view file)
-answer_of view (command.List esp) = not_built view
+answer_of view (command.List esp) = said view (list_said view esp)
 answer_of view (command.Tidy esp) = unless_refused view (folders_of esp) (tidy_answer view)
 answer_of view (command.Boot esp) = not_built view
 answer_of view (command.Unlink name esp) = unless_refused view (entry_path name esp) (unlink_answer view)

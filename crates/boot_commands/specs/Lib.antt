@@ -1,4 +1,1 @@
 pub mod Commands
-pub mod Folders
-pub mod Tidying
-pub mod Unlinking

@@ -2,9 +2,6 @@
 //! carries any of them out on a machine.
 #![tactic(auto)]
 
-mod folders;
 mod stepping;
-mod tidy;
-mod unlink;
 
 pub use stepping::plain_step;

@@ -8,11 +8,10 @@ ghost use Rattle.boot_machine.specs.Reading.{OnlyReads};
 ghost use Rattle.command_plans.specs.Performs.{CountsStop, LeavesNoTemp, LeavesRested, Performs, Syncs, end_of};
 ghost use Rattle.command_plans.specs.Plans.{Drops, IsMakeable, Plans};
 
-use crate::tidy::plan_tidy;
-use crate::unlink::plan_unlink;
 use boot_base::Refusal;
 use boot_machine::Machine;
 use command_plans::{Outcome, Plan, Stop, perform, refused};
+use entry_commands::{plan_list, plan_tidy, plan_unlink};
 use image_build::plan_build;
 use image_commands::{plan_calculate, plan_identify, plan_image, plan_inspect};
 use std::alloc::Global;
@@ -41,8 +40,8 @@ fn plan_of<M: Machine>(alloc: Global, command: &Command, machine: &mut M) -> Res
         Command::Identify { file } => plan_identify(alloc, file.as_str(), machine),
         Command::Unlink { name, esp } => plan_unlink(alloc, name.as_str(), esp.as_str(), machine),
         Command::Tidy { esp } => plan_tidy(alloc, esp.as_str(), machine),
-        Command::List { .. }
-        | Command::Boot { .. }
+        Command::List { esp } => plan_list(alloc, esp.as_str(), machine),
+        Command::Boot { .. }
         | Command::Install { .. }
         | Command::Bless { .. }
         | Command::Script

@@ -1,0 +1,3 @@
+mod Freeing
+mod Leftovers
+mod Menus

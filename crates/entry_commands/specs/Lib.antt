@@ -1,0 +1,4 @@
+pub mod Folders
+pub mod Listing
+pub mod Tidying
+pub mod Unlinking

@@ -1,0 +1,35 @@
+-- `bootctl list`: the text of the menu (bootctl(1); the layout is profile).
+use Rattle.std.specs.Prelude.{ℕ, List, [], ◌∷◌, nat_lt, Result, Ok, Err, if◌then◌else◌}
+use Rattle.boot_base.specs.declared.refusal.Refusal.{Refusal}
+use Rattle.boot_base.specs.declared.refusal.Refusal.TheVariants as refusals
+use Rattle.boot_machine.specs.Disk.{Files}
+use Rattle.menu_order.specs.declared.item.MenuItem.{MenuItem}
+use Rattle.boot_folder.specs.Entries.{boot_menu, entry_count}
+use Rattle.boot_folder.specs.Listing.{list_text}
+use Rattle.boot_folder.specs.declared.fault.ScanFault.{ScanFault}
+use Rattle.boot_folder.specs.declared.fault.ScanFault.TheVariants as scans
+use Rattle.boot_folder.specs.declared.folders.Folders.{Folders}
+use Rattle.command_reads.specs.Refusing.{◌>>=◌}
+use Rattle.command_reads.specs.declared.saying.Unsaid.{Unsaid}
+use Rattle.command_reads.specs.declared.saying.Unsaid.TheVariants as unsaid
+use Rattle.entry_commands.specs.Folders.{folders_of}
+
+-- what is said of a menu: its text, or that it is empty
+abbrev pub menu_said : List MenuItem → Result (List ℕ) Refusal
+menu_said [] = Err refusals.NoEntries
+menu_said (item ∷ items) = Ok (list_text (item ∷ items))
+
+-- what is said of two folders: that they have more than 4,096 entry files, or their menu
+abbrev pub menu_at : Files → Folders → Result (List ℕ) Refusal
+menu_at view folders =
+    if nat_lt 4096 (entry_count view folders) then Err (refusals.TooMany (entry_count view folders)) else menu_said (boot_menu view folders)
+
+abbrev pub list_said : Files → List ℕ → Result (List ℕ) Refusal
+list_said view word = folders_of word >>= menu_at view
+
+-- why nothing is said where there is no menu; folders that are at hand have paths
+abbrev pub unlisted : ScanFault → Unsaid
+unlisted scans.Memory = unsaid.Memory
+unlisted scans.Disk = unsaid.Disk
+unlisted scans.LongEsp = unsaid.Memory
+unlisted (scans.TooMany count) = unsaid.Refused (refusals.TooMany count)

@@ -1,0 +1,36 @@
+-- `tidy`: no temporary file is left directly in the folders of boot entries.
+use Rattle.std.specs.Prelude.{◌≡◌, ℕ, true, false, List, codes, Result, Ok, Err, Contains, map, filter}
+use Rattle.boot_base.specs.Paths.{Path, under, is_file_name, is_temp}
+use Rattle.boot_base.specs.declared.refusal.Refusal.{Refusal}
+use Rattle.boot_machine.specs.Disk.{Files, has}
+use Rattle.command_plans.specs.Answers.{Answer, done}
+use Rattle.entry_commands.specs.Folders.{folders_of}
+use Rattle.boot_folder.specs.declared.folders.Folders.{Folders}
+
+-- the view stays
+abbrev pub tidy_answer : Files → Folders → Answer
+tidy_answer view folders = done view (codes "cleaned\n")
+
+-- no temporary file is directly in the folder
+abbrev pub IsClean : Files → Path → Type 0
+IsClean files folder = (name : List ℕ) → is_file_name name ≡ true → is_temp name ≡ true → has files (under folder name) ≡ false
+
+-- nor in either of an ESP's folders
+abbrev pub AreClean : Files → Folders → Type 0
+AreClean files folders = IsClean files folders.entries × IsClean files folders.images
+
+-- what is left after the tidying of an ESP whose folders have paths
+abbrev pub CleanAt : Files → Result Folders Refusal → Type 0
+CleanAt files (Ok folders) = AreClean files folders
+CleanAt files (Err why) = Unit {0}
+
+abbrev pub IsTidied : List ℕ → Files → Type 0
+IsTidied word files = CleanAt files (folders_of word)
+
+-- the paths of the temporary files among these names of a folder
+abbrev pub leftovers_among : Path → List (List ℕ) → List Path
+leftovers_among folder listed = map (under folder) (filter is_temp listed)
+
+-- every temporary file directly in the folder is among these
+abbrev pub HasLeftovers : Files → Path → List Path → Type 0
+HasLeftovers files folder temps = (name : List ℕ) → is_file_name name ≡ true → is_temp name ≡ true → has files (under folder name) ≡ true → Contains temps (under folder name)

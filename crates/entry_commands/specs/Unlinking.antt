@@ -1,0 +1,37 @@
+-- `bootctl unlink`: an entry's own file goes.
+use Rattle.std.specs.Prelude.{ℕ, Bool, ◌&&◌, ◌||◌, List, ◌++◌, codes, nat_eq, Option, Some, None, Result, Err, if◌then◌else◌}
+use Rattle.std.specs.List.{ends_with}
+use Rattle.std.specs.FinMap.{get, remove}
+use Rattle.boot_base.specs.Paths.{Path, is_file_name}
+use Rattle.boot_base.specs.declared.refusal.Refusal.{Refusal}
+use Rattle.boot_base.specs.declared.refusal.Refusal.TheVariants as refusals
+use Rattle.boot_machine.specs.Disk.{Files}
+use Rattle.command_plans.specs.Answers.{Answer, refusal, done}
+use Rattle.command_reads.specs.Refusing.{◌>>=◌, path_in, path_under, printed_path}
+
+-- an entry of type 1 (UAPI Boot Loader Specification)
+abbrev pub is_type1_name : List ℕ → Bool
+is_type1_name name = ends_with nat_eq name (codes ".conf")
+
+-- a name of a boot entry's file: it ends in `.conf` or `.efi`
+abbrev pub is_entry_name : List ℕ → Bool
+is_entry_name name = is_file_name name && (is_type1_name name || ends_with nat_eq name (codes ".efi"))
+
+-- where an entry of that name stands below an ESP
+abbrev pub entry_below : List ℕ → List ℕ
+entry_below name = (if is_type1_name name then codes "loader/entries/" else codes "EFI/Linux/") ++ name
+
+abbrev pub entry_under : Path → List ℕ → Result Path Refusal
+entry_under esp name = if is_entry_name name then path_under esp (entry_below name) else Err (refusals.BadName name)
+
+-- the path of the entry of that name, or what the words are refused for
+abbrev pub entry_path : List ℕ → List ℕ → Result Path Refusal
+entry_path name word = path_in word >>= λ esp. entry_under esp name
+
+-- the file at the path goes, if one is there
+abbrev pub removal : Files → Path → Option (List ℕ) → Answer
+removal view path None = refusal view (refusals.NotFound (printed_path path))
+removal view path (Some bytes) = done (remove view path) (codes "unlinked " ++ (printed_path path ++ codes "\n"))
+
+abbrev pub unlink_answer : Files → Path → Answer
+unlink_answer view path = removal view path (get view path)

@@ -1,0 +1,109 @@
+//! `tidy`.
+ghost use Rattle.std.specs.Prelude.{◌≡◌, All, Contains, IfOk, IsTrue, bytes_eq, codes, true};
+ghost use Rattle.std.specs.List.{IsDistinct};
+ghost use Rattle.boot_base.specs.Paths.{Path};
+ghost use Rattle.boot_machine.specs.Disk.{State, has, Files};
+ghost use Rattle.boot_machine.specs.Sent.{seen};
+ghost use Rattle.entry_commands.specs.Folders.{folders_of};
+ghost use Rattle.boot_machine.specs.Reading.{OnlyReads};
+ghost use Rattle.command_plans.specs.Performs.{CountsStop};
+ghost use Rattle.command_plans.specs.Plans.{Drops, IsMakeable, Plans};
+ghost use Rattle.command_plans.specs.Refusing.{unless_refused};
+ghost use Rattle.entry_commands.specs.Tidying.{HasLeftovers, IsTidied, leftovers_among, tidy_answer};
+
+use crate::folders::folders_in;
+use boot_base::{BootPath, Bytes, FileName, TempPath};
+use boot_folder::Folders;
+use boot_machine::Machine;
+use command_plans::{Change, Outcome, Plan, Stop, plan_declined};
+use std::alloc::{AllocError, Global};
+
+// The paths of the temporary files among these names of a folder.
+fn leftovers_among(
+    alloc: Global,
+    folder: &BootPath,
+    names: &[FileName],
+) -> Result<Vec<TempPath>, AllocError>
+    ensures { IfOk result (λ temps. temps.items ≡ leftovers_among folder.now names.now) }
+{
+    let mut temps = Vec::new(alloc);
+    for name in names {
+        if let Some(temp) = TempPath::leftover(alloc, folder, name)? {
+            temps.push(temp)?;
+        }
+    }
+    Ok(temps)
+}
+
+// The temporary files directly in a folder.
+fn leftovers_in<M: Machine>(
+    alloc: Global,
+    folder: &BootPath,
+    machine: &mut M,
+) -> Result<Vec<TempPath>, Stop>
+    ensures there { IfOk result (λ temps. IsTrue M.tells → All (λ temp. has (M.state machine.old).files temp ≡ true) temps.items) }
+    ensures all { IfOk result (λ temps. IsTrue M.tells → HasLeftovers (M.state machine.old).files folder.now temps.items) }
+    ensures reads { IsTrue M.tells → OnlyReads M.clock M.since M.state machine.old machine.new }
+    ensures counts { CountsStop result (M.counts machine.old) (M.counts machine.new) }
+{
+    let names = machine.names(alloc, folder)?;
+    Ok(leftovers_among(alloc, folder, names.as_slice())?)
+}
+
+// The same paths, each once.
+fn each_once(mut temps: Vec<TempPath>) -> Vec<TempPath>
+    ensures distinct { IsDistinct bytes_eq result.items }
+    ensures among { (temp : Path) → Contains result.items temp → Contains temps.items temp }
+    ensures all { (temp : Path) → Contains temps.items temp → Contains result.items temp }
+{
+    temps.sort_unstable();
+    temps.dedup();
+    temps
+}
+
+// The temporary files directly in the folders, each once.
+fn leftovers<M: Machine>(
+    alloc: Global,
+    folders: &Folders,
+    machine: &mut M,
+) -> Result<Vec<TempPath>, Stop>
+    ensures distinct { IfOk result (λ temps. IsDistinct bytes_eq temps.items) }
+    ensures there { IfOk result (λ temps. IsTrue M.tells → All (λ temp. has (M.state machine.old).files temp ≡ true) temps.items) }
+    ensures entries { IfOk result (λ temps. IsTrue M.tells → HasLeftovers (M.state machine.old).files folders.now.entries temps.items) }
+    ensures images { IfOk result (λ temps. IsTrue M.tells → HasLeftovers (M.state machine.old).files folders.now.images temps.items) }
+    ensures reads { IsTrue M.tells → OnlyReads M.clock M.since M.state machine.old machine.new }
+    ensures counts { CountsStop result (M.counts machine.old) (M.counts machine.new) }
+{
+    let mut temps = leftovers_in(alloc, &folders.entries, machine)?;
+    let mut images = leftovers_in(alloc, &folders.images, machine)?;
+    temps.append(&mut images)?;
+    Ok(each_once(temps))
+}
+
+fn tidy_plan(alloc: Global, temps: Vec<TempPath>) -> Result<Plan, AllocError>
+    ensures { IfOk result (λ plan. (plan.change ≡ Change.Leftovers temps) × (plan.outcome ≡ Outcome.Done) × (plan.text ≡ codes "cleaned\n")) }
+{
+    Ok(Plan {
+        change: Change::Leftovers(temps),
+        outcome: Outcome::Done,
+        text: Bytes::of(alloc, b"cleaned\n")?,
+    })
+}
+
+/// What the tidying of an EFI system partition is going to do.
+pub fn plan_tidy<M: Machine>(alloc: Global, esp: &str, machine: &mut M) -> Result<Plan, Stop>
+    ensures plans { IfOk result (λ plan. IsTrue M.tells → Plans (M.state machine.old) plan
+        (unless_refused (seen (M.state machine.old)) (folders_of esp.now) (tidy_answer (seen (M.state machine.old))))) }
+    ensures makeable { IfOk result (λ plan. IsMakeable plan.change) }
+    ensures tidies { IfOk result (λ plan. IsTrue M.tells → (files : Files) → Drops plan.change (M.state machine.old).files files → IsTidied esp.now files) }
+    ensures reads { IsTrue M.tells → OnlyReads M.clock M.since M.state machine.old machine.new }
+    ensures counts { CountsStop result (M.counts machine.old) (M.counts machine.new) }
+{
+    match folders_in(alloc, esp) {
+        Err(declined) => Ok(plan_declined(alloc, declined)?),
+        Ok(folders) => {
+            let temps = leftovers(alloc, &folders, machine)?;
+            Ok(tidy_plan(alloc, temps)?)
+        }
+    }
+}
