@@ -8,8 +8,6 @@
 
 mod lines;
 mod phase_path;
-#[cfg(test)]
-mod tests;
 
 pub use lines::{append_heading, append_value, result_lines};
 pub use phase_path::{PhasePath, after_phases, default_paths, printed_paths_read_back};

@@ -35,16 +35,3 @@ fn unreadable_words<R: AllocGlobal>(rt: &R) -> io::Result<Vec<String>> {
     words.push(String::from_str(rt.alloc(), "\u{fffd}")?)?;
     Ok(words)
 }
-
-#[cfg(test)]
-mod build_tests;
-#[cfg(test)]
-mod host_tests;
-#[cfg(test)]
-mod image_tests;
-#[cfg(test)]
-mod move_tests;
-#[cfg(test)]
-mod recovery_tests;
-#[cfg(test)]
-mod tests;

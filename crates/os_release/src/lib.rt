@@ -8,6 +8,3 @@ mod value;
 
 pub use line::lines_are_read_in_one_way;
 pub use release::OsRelease;
-
-#[cfg(test)]
-mod tests;

@@ -10,8 +10,6 @@ mod bank;
 mod data_hash;
 mod digest;
 mod pcr;
-#[cfg(test)]
-mod tests;
 
 pub use bank::Bank;
 pub use data_hash::DataHash;

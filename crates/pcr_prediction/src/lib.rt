@@ -13,6 +13,3 @@ pub use fault::PredictFault;
 pub use laws::prediction_of_ordered_parts;
 pub use measurable::{Content, Measurable};
 pub use prediction::predict;
-
-#[cfg(test)]
-mod tests;

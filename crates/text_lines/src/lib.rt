@@ -118,6 +118,3 @@ fn is_counted(line: &[u8]) -> bool
         [first, ..] => *first != b'#',
     }
 }
-
-#[cfg(test)]
-mod tests;

@@ -16,6 +16,3 @@ pub use command::{BlessWord, BuildWords, CalculateWords, Command, Given};
 pub use fault::{LineFault, UsageReason, WordsFault};
 pub use fill::given;
 pub use line::split_line;
-
-#[cfg(test)]
-mod tests;
