@@ -3,3 +3,4 @@ pub mod Readings
 pub mod Written
 mod Steps
 pub mod Splitting
+mod Renaming

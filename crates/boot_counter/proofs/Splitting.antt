@@ -130,7 +130,7 @@ split_none name none = none_from name (split_of name) (says name) none
 
 -- ---- what holds is found
 
-number_found : (text : List ℕ) (n : ℕ) → IsNumber text n → number_in text ≡ Some n
+pub number_found : (text : List ℕ) (n : ℕ) → IsNumber text n → number_in text ≡ Some n
 number_found text n is = elim (cases_Bool (is_number text)) [
   | inl short ↦ rw short (ap (λ (m : ℕ). Some m) is.value)
   | inr other ↦ absurd (not_number text other n is)

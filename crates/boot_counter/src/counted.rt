@@ -3,7 +3,9 @@ ghost use Rattle.std.specs.Prelude.{◌≡◌, ◌≢◌, ◌↔◌, ◌<◌, �
 ghost use Rattle.std.specs.Char.{is_ascii_digit};
 ghost use Rattle.std.specs.List.{list_all};
 ghost use Rattle.boot_counter.specs.Counter.{suffix_text, is_number, IsNumber, IsCounter, IsCounted, IsUncounted, IsSplit, IsBaseLength, counted_of, after_boot, written_name, IsGoodName, IsBadName};
-ghost use Rattle.boot_counter.specs.Splits.{split_of};
+ghost use Rattle.boot_counter.specs.Renames.{bad_name_of, booted_name_of, good_name_of};
+ghost use Rattle.boot_counter.specs.Splits.{number_in, split_of};
+ghost use Rattle.std.specs.Option.{option_map};
 ghost use Rattle.boot_counter.specs.Laws.{OneReading, WrittenReads, ShortestRewrites};
 
 use std::alloc::{AllocError, Global};
@@ -104,10 +106,11 @@ impl Counted {
     /// The name without its counter, which a good boot gives it; None exactly where it has none.
     /// Want of memory is its one fault.
     pub fn good_name(alloc: Global, name: &str) -> Result<Option<String>, AllocError>
-        ensures { IfOk result (λ found.
+        ensures good { IfOk result (λ found.
             MatchOption found
             (IsUncounted name.now)
             (λ good. IsGoodName name.now (string_bytes good))) }
+        ensures value { IfOk result (λ found. option_map string_bytes found ≡ good_name_of name.now) }
     {
         let Some(reading) = Reading::of(name) else {
             return Ok(None);
@@ -120,10 +123,11 @@ impl Counted {
     /// The name with no boot left, which a bad boot gives it; None exactly where the name has no
     /// counter. Want of memory is its one fault.
     pub fn bad_name(alloc: Global, name: &str) -> Result<Option<String>, AllocError>
-        ensures { IfOk result (λ found.
+        ensures bad { IfOk result (λ found.
             MatchOption found
             (IsUncounted name.now)
             (λ bad. IsBadName name.now (string_bytes bad))) }
+        ensures value { IfOk result (λ found. option_map string_bytes found ≡ bad_name_of name.now) }
     {
         let Some(reading) = Reading::of(name) else {
             return Ok(None);
@@ -131,6 +135,30 @@ impl Counted {
         let bad = Counted::joined(alloc, reading.base, 0, reading.done, reading.suffix)?;
         Ok(Some(bad))
     }
+
+    /// The name after one more boot, with the counter that `booted` gives; None exactly where the name has no counter or
+    /// no boot is left. Want of memory is its one fault.
+    pub fn booted_name(alloc: Global, name: &str) -> Result<Option<String>, AllocError>
+        ensures { IfOk result (λ found. option_map string_bytes found ≡ booted_name_of name.now) }
+    {
+        let Some(counted) = Counted::split(name) else {
+            return Ok(None);
+        };
+        let Some(next) = counted.booted() else {
+            return Ok(None);
+        };
+        let base = &name[..counted.base_length];
+        let booted = Counted::joined(alloc, base, next.left, next.done, next.suffix)?;
+        Ok(Some(booted))
+    }
+}
+
+/// The number of boots that a text writes in one to nine digits; None exactly where it writes none. It takes no memory.
+pub fn read_count(text: &str) -> Option<u32>
+    ensures value { result ≡ number_in text.now }
+    ensures limit { IfSome result (λ count. count ≤ MAX_COUNT) }
+{
+    read_number(text)
 }
 
 /// What a counted name is read as.

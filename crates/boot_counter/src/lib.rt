@@ -6,4 +6,4 @@ mod bless;
 mod counted;
 
 pub use bless::{BlessVerb, Choice, Present, bless_choice};
-pub use counted::{Counted, MAX_COUNT, Suffix, counter_laws};
+pub use counted::{Counted, MAX_COUNT, Suffix, counter_laws, read_count};
