@@ -1,19 +1,20 @@
 -- What the steps of an installation come to on a rested machine, where boot sees what every command reads.
-use Rattle.std.proofs.Common.{◌≡◌, true, false, sym, ap, ◌∙◌, subst}
+use Rattle.std.proofs.Common.{◌≡◌, ◌≤◌, true, false, length, sym, ap, ◌∙◌, refl, subst}
 use Rattle.std.specs.FinMap.{insert, remove}
 use Rattle.boot_base.specs.Paths.{Path}
 use Rattle.boot_base.specs.declared.path.Target.{Target}
 use Rattle.boot_machine.specs.Disk.{Files, State, IsRested, has, recovered_view}
+use Rattle.boot_machine.specs.Rows.{contents}
 use Rattle.boot_machine.specs.Sent.{seen}
 use Rattle.boot_machine.proofs.Recovering.{recovered_view-calm}
 use Rattle.image_writer.specs.Sourced.{planned_image}
 use Rattle.image_writer.specs.declared.sources.Sources.{Sources}
 use Rattle.pe_builder.specs.declared.plan.Plan.{Plan as ImagePlan}
-use Rattle.install_steps.specs.Steps.{moved}
+use Rattle.install_steps.specs.Steps.{copied, moved}
 use Rattle.install_steps.proofs.RefusedLemmas.{moved_there}
-use Rattle.command_plans.specs.Plans.{CanMake, effect, written}
+use Rattle.command_plans.specs.Plans.{CanMake, duplicated, effect, written}
 use Rattle.command_plans.specs.declared.plan.Change.{Change}
-use Rattle.command_plans.specs.declared.plan.Change.TheVariants.{Leftovers, Move, Remove}
+use Rattle.command_plans.specs.declared.plan.Change.TheVariants.{Copy, Leftovers, Move, Remove}
 use Rattle.command_plans.specs.declared.plan.RefusalLine.{RefusalLine}
 
 clash : {x : _} → x ≡ true → x ≡ false → ⊥
@@ -21,6 +22,20 @@ clash e f = cc
 
 pub written_rested : (s : State) (image : ImagePlan) (sources : Sources) (path : Path) → IsRested s → insert (recovered_view s.files) path (planned_image image sources (seen s)) ≡ written image sources path (seen s)
 written_rested s image sources path rested = ap (λ (v : Files). insert v path (planned_image image sources (seen s))) (recovered_view-calm s.files rested)
+
+copied_there : (from to : Path) (view : Files) → has view from ≡ true → copied from to view ≡ duplicated from to view
+copied_there from to view there = rw there refl
+
+module _ (s : State) (from to : Path) (rested : IsRested s) where
+  pub copied_rested : has (seen s) from ≡ true → copied from to (recovered_view s.files) ≡ duplicated from to (seen s)
+  copied_rested there = ap (copied from to) (recovered_view-calm s.files rested) ∙ copied_there from to (seen s) there
+
+  pub small_rested : length (contents (seen s) from) ≤ 268435456 → length (contents (recovered_view s.files) from) ≤ 268435456
+  small_rested = subst (λ (v : Files). length (contents v from) ≤ 268435456) (sym (recovered_view-calm s.files rested))
+
+  -- the file to be copied is there
+  pub copies : has (seen s) from ≡ true → has (recovered_view s.files) from ≡ false → ⊥
+  copies there none = clash there (ap (λ (v : Files). has v from) (sym (recovered_view-calm s.files rested)) ∙ none)
 
 module _ (s : State) (change : Change) (rested : IsRested s) where
   calm : recovered_view s.files ≡ seen s

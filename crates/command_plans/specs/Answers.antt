@@ -35,3 +35,8 @@ done after text = record { outcome = Done; after = after; text = text }
 abbrev pub said : Files → Result (List ℕ) Refusal → Answer
 said view (Ok text) = done view text
 said view (Err why) = refusal view why
+
+-- what a command comes to that may be refused
+abbrev pub answered : Files → Result Answer Refusal → Answer
+answered view (Ok answer) = answer
+answered view (Err why) = refusal view why

@@ -1,25 +1,33 @@
 -- A plan: the change that a command is going to make, and its whole reply.
-use Rattle.std.specs.Prelude.{◌≡◌, true, false, All, Result, MatchResult, bytes_eq}
+use Rattle.std.specs.Prelude.{◌≡◌, ◌≤◌, true, false, All, Result, Ok, MatchResult, bytes_eq, length}
 use Rattle.std.specs.List.{IsDistinct}
 use Rattle.std.specs.FinMap.{insert, remove}
+use Rattle.boot_base.specs.Limits.{file_limit}
 use Rattle.boot_base.specs.Paths.{Path, IsFree, intent as intent_path}
+use Rattle.boot_base.specs.declared.refusal.Refusal.{Refusal}
 use Rattle.boot_machine.specs.Disk.{Files, State, has}
-use Rattle.boot_machine.specs.Rows.{move_in}
+use Rattle.boot_machine.specs.Rows.{contents, move_in}
 use Rattle.boot_machine.specs.Sent.{seen}
 use Rattle.pe_builder.specs.declared.plan.Plan.{Plan as ImagePlan}
 use Rattle.image_writer.specs.declared.sources.Sources.{Sources}
 use Rattle.image_writer.specs.Sourced.{IsSourced, planned_image}
 use Rattle.install_steps.specs.Steps.{Lacks}
+use Rattle.command_reads.specs.Saying.{UnsaidFor}
+use Rattle.command_reads.specs.declared.saying.Unsaid.{Unsaid}
 use Rattle.command_plans.specs.Answers.{Answer}
 use Rattle.command_plans.specs.declared.outcome.MachineFault.{MachineFault}
 use Rattle.command_plans.specs.declared.outcome.MachineFault.TheVariants as faults
 use Rattle.command_plans.specs.declared.plan.Change.{Change}
-use Rattle.command_plans.specs.declared.plan.Change.TheVariants.{Nothing, Remove, Leftovers, Write, Move}
+use Rattle.command_plans.specs.declared.plan.Change.TheVariants.{Nothing, Remove, Leftovers, Write, Copy, Move}
 use Rattle.command_plans.specs.declared.plan.Plan.{Plan}
 
 -- the view with the finished image by a plan of these sources at a path
 abbrev pub written : ImagePlan → Sources → Path → Files → Files
 written plan sources path view = insert view path (planned_image plan sources view)
+
+-- the view with the bytes of the file at one path at another too
+abbrev pub duplicated : Path → Path → Files → Files
+duplicated from to view = insert view to (contents view from)
 
 -- the view after a change
 abbrev pub effect : Files → Change → Files
@@ -27,6 +35,7 @@ effect view Nothing = view
 effect view (Remove path gone) = remove view path
 effect view (Leftovers temps) = view
 effect view (Write image sources target) = written image sources target.path view
+effect view (Copy from target gone) = duplicated from target.path view
 effect view (Move from to intent gone exists) = move_in from to view
 
 -- The change can be made on any machine: it names the intent in no other way than a move does, and the temporary files to
@@ -36,15 +45,21 @@ IsMakeable Nothing = Unit {0}
 IsMakeable (Remove path gone) = IsFree path
 IsMakeable (Leftovers temps) = IsDistinct bytes_eq temps.items
 IsMakeable (Write image sources target) = IsFree target.path
+IsMakeable (Copy from target gone) = IsFree target.path
 IsMakeable (Move from to intent gone exists) = IsFree from × IsFree to × (intent.path ≡ intent_path)
 
--- what the change takes away or moves is there, nothing stands where it is moved, and a plan of an image was made for its
--- sources
+-- the file is there, and has no more bytes than are read
+abbrev pub CanCopy : State → Path → Type 0
+CanCopy s from = (has (seen s) from ≡ true) × (length (contents (seen s) from) ≤ file_limit)
+
+-- what the change takes away, copies or moves is there, a copy has no more bytes than are read, nothing stands where a
+-- file is moved, and a plan of an image was made for its sources
 abbrev pub CanMake : State → Change → Type 0
 CanMake s Nothing = Unit {0}
 CanMake s (Remove path gone) = has (seen s) path ≡ true
 CanMake s (Leftovers temps) = All (λ temp. has s.files temp ≡ true) temps.items
 CanMake s (Write image sources target) = IsSourced image sources (seen s)
+CanMake s (Copy from target gone) = CanCopy s from
 CanMake s (Move from to intent gone exists) = (has (seen s) from ≡ true) × (has (seen s) to ≡ false)
 
 -- what of the temporary files is gone after a change
@@ -53,6 +68,7 @@ Drops Nothing old new = Unit {0}
 Drops (Remove path gone) old new = Unit {0}
 Drops (Leftovers temps) old new = Lacks temps.items old new
 Drops (Write image sources target) old new = Unit {0}
+Drops (Copy from target gone) old new = Unit {0}
 Drops (Move from to intent gone exists) old new = Unit {0}
 
 -- the same where the machine failed: the change is made where the reply alone couldn't be printed
@@ -66,6 +82,12 @@ DropsBy result change old new = MatchResult result (λ _. Drops change old new) 
 -- what a plan comes to
 abbrev pub planned : Files → Plan → Answer
 planned view plan = record { outcome = plan.outcome; after = effect view plan.change; text = plan.text }
+
+-- the plan comes to this answer on the state's view, or this is what it is refused for
+abbrev pub PlansAs : State → Result Plan Unsaid → Result Answer Refusal → Type 0
+PlansAs s result meant = MatchResult result
+    (λ plan. (meant ≡ Ok (planned (seen s) plan)) × CanMake s plan.change)
+    (λ unsaid. UnsaidFor unsaid meant)
 
 -- the plan comes to this answer on the state's view, and can be carried out
 pub record Plans (s : State) (plan : Plan) (answer : Answer) : Type 0 where

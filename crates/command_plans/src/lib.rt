@@ -16,4 +16,4 @@ pub use outcome::{MachineFault, Outcome, Stop};
 pub use performing::perform;
 pub use plan::{Change, Plan, RefusalLine};
 pub use refusing::{plan_declined, refusal_line, refused};
-pub use saying::{plan_unsaid, said};
+pub use saying::{answered, plan_unsaid, said};

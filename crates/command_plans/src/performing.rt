@@ -1,22 +1,26 @@
 //! A plan is carried out.
-ghost use Rattle.std.specs.Prelude.{◌≡◌, IfOk, OnOk, IsTrue};
+ghost use Rattle.std.specs.Prelude.{◌≡◌, ◌≤◌, true, length, IfOk, IsErrOf, OnOk, IsTrue};
+ghost use Rattle.boot_base.specs.Limits.{file_limit};
 ghost use Rattle.boot_base.specs.Paths.{IsFree};
 ghost use Rattle.boot_machine.specs.Counts.{CountsDisk};
-ghost use Rattle.boot_machine.specs.Disk.{HasOneCandidate, IsRested};
+ghost use Rattle.boot_machine.specs.Disk.{HasOneCandidate, IsRested, has};
 ghost use Rattle.boot_machine.specs.Images.{IsFirm};
+ghost use Rattle.boot_machine.specs.Rows.{contents};
 ghost use Rattle.boot_machine.specs.Sent.{seen};
 ghost use Rattle.image_writer.specs.Sourced.{IsSourced};
-ghost use Rattle.install_steps.specs.Steps.{IsDone, Keeps, NoNewTemp, StepsTo};
+ghost use Rattle.install_steps.specs.Steps.{CountsStep, IsDone, Keeps, NoNewTemp, RestsUnless, StepsTo};
 ghost use Rattle.command_plans.specs.Deeds.{made};
 ghost use Rattle.command_plans.specs.Performs.{CountsFault, LeavesNoTempBy, LeavesRestedBy, Performs, Syncs, end_by};
-ghost use Rattle.command_plans.specs.Plans.{CanMake, Drops, DropsBy, IsMakeable, effect, planned, written};
+ghost use Rattle.command_plans.specs.Plans.{CanMake, Drops, DropsBy, IsMakeable, duplicated, effect, planned, written};
 
 use crate::outcome::{MachineFault, Outcome};
 use crate::plan::{Change, Plan, RefusalLine};
-use boot_base::{PIECE_SIZE, Target};
+use boot_base::{BootPath, PIECE_SIZE, Target};
 use boot_machine::{Channel, DiskFault, Machine, print_all};
 use image_writer::{Sources, write_planned};
-use install_steps::{MoveFault, StepFault, drop_leftovers, drop_name, move_name, settle};
+use install_steps::{
+    MoveFault, StepFault, drop_leftovers, drop_name, move_name, settle, write_whole,
+};
 
 /// Writes the finished image by a plan of these sources at the target. The buffer stands here, so that no other change
 /// has to make room for it.
@@ -44,6 +48,28 @@ fn write<M: Machine>(
     write_planned(machine, image, sources, target, &mut buffer)
 }
 
+/// Writes the bytes of the file at `from` at the target. The buffer stands here, as in `write`.
+#[inline(never)]
+fn copy<M: Machine>(from: &BootPath, target: &Target, machine: &mut M) -> Result<(), StepFault>
+    requires free { IsFree target.now.path }
+    requires one { IsTrue M.tells → HasOneCandidate (M.state machine.old) }
+    requires rested { IsTrue M.tells → IsRested (M.state machine.old) }
+    requires there { IsTrue M.tells → has (seen (M.state machine.old)) from.now ≡ true }
+    requires small { IsTrue M.tells → length (contents (seen (M.state machine.old)) from.now) ≤ file_limit }
+    ensures done { OnOk result (IsTrue M.tells → IsFirm (M.state machine.old)
+        → IsDone (M.state machine.new) (duplicated from.now target.now.path (seen (M.state machine.old)))) }
+    ensures step { IsTrue M.tells → IsFirm (M.state machine.old) → StepsTo M.clock M.since M.state
+        (duplicated from.now target.now.path (seen (M.state machine.old))) machine.old machine.new }
+    ensures found { IsErrOf result StepFault.NotFound → IsTrue M.tells → ⊥ }
+    ensures keeps { IsTrue M.tells → Keeps (M.state machine.old) (M.state machine.new) }
+    ensures rests { IsTrue M.tells → RestsUnless StepFault.Disk result (M.state machine.new) }
+    ensures temps { OnOk result (IsTrue M.tells → NoNewTemp (M.state machine.old) (M.state machine.new)) }
+    ensures counts { CountsStep result (M.counts machine.old) (M.counts machine.new) }
+{
+    let mut buffer = [0; PIECE_SIZE];
+    write_whole(machine, from, target, &mut buffer)
+}
+
 /// What a change came to.
 enum Applied<'a> {
     /// It is made.
@@ -52,7 +78,7 @@ enum Applied<'a> {
     Refused(&'a RefusalLine),
 }
 
-/// Makes a change on a settled machine. Where the file to be removed or moved is gone, or one stands where it is to be
+/// Makes a change on a settled machine. Where the file to be removed, copied or moved is gone, or one stands where it is to be
 /// moved, which no machine comes to that tells its files, it gives the refusal to print, and nothing is changed.
 fn apply<'a, M: Machine>(change: &'a Change, machine: &mut M) -> Result<Applied<'a>, DiskFault>
     requires one { IsTrue M.tells → HasOneCandidate (M.state machine.old) }
@@ -89,6 +115,11 @@ fn apply<'a, M: Machine>(change: &'a Change, machine: &mut M) -> Result<Applied<
             write(image, sources, target, machine)?;
             Ok(Applied::Done)
         }
+        Change::Copy { from, target, gone } => match copy(from, target, machine) {
+            Ok(()) => Ok(Applied::Done),
+            Err(StepFault::Disk) => Err(DiskFault),
+            Err(StepFault::NotFound) => Ok(Applied::Refused(gone)),
+        },
         Change::Move {
             from,
             to,

@@ -31,6 +31,13 @@ pub enum Change {
         sources: Sources,
         target: Target,
     },
+    /// The bytes of the boot file at `from` come to stand at the target too, in place of a file that is there. `gone` is
+    /// the refusal that is printed instead where a machine has no file at `from` any more, though it has told of one.
+    Copy {
+        from: BootPath,
+        target: Target,
+        gone: RefusalLine,
+    },
     /// The boot file at `from` comes to stand at `to`, where none is. While it is moved, the intent says which of
     /// the two names counts after a stop. `gone` is the refusal that is printed instead where a machine has no file
     /// at `from` any more, though it has told of one, and `exists` that where it has one at `to`, though it has told

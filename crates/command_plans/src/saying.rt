@@ -1,13 +1,13 @@
-//! What a command that only reads has to say, as a plan.
+//! What a command that may be refused comes to, as a plan.
 ghost use Rattle.std.specs.Prelude.{◌≡◌, IfOk, List, Result, ℕ};
 ghost use Rattle.boot_base.specs.declared.refusal.Refusal.{Refusal};
 ghost use Rattle.boot_machine.specs.Counts.{Counts};
 ghost use Rattle.boot_machine.specs.Disk.{State};
 ghost use Rattle.boot_machine.specs.Sent.{seen};
 ghost use Rattle.command_reads.specs.Saying.{CountsUnsaid, Says, unsaid_counts};
-ghost use Rattle.command_plans.specs.Answers.{said};
+ghost use Rattle.command_plans.specs.Answers.{Answer, answered, said};
 ghost use Rattle.command_plans.specs.Performs.{CountsStop};
-ghost use Rattle.command_plans.specs.Plans.{IsMakeable, Plans};
+ghost use Rattle.command_plans.specs.Plans.{IsMakeable, Plans, PlansAs};
 ghost use Rattle.command_plans.specs.Refusing.{PlansUnsaid};
 
 use crate::outcome::{Outcome, Stop};
@@ -43,6 +43,19 @@ pub fn said(alloc: Global, text: Result<Vec<u8>, Unsaid>) -> Result<Plan, Stop>
             outcome: Outcome::Done,
             text: Bytes::from(text),
         }),
+        Err(unsaid) => plan_unsaid(alloc, unsaid),
+    }
+}
+
+/// The plan of a command: what was planned, or the refusal.
+pub fn answered(alloc: Global, plan: Result<Plan, Unsaid>) -> Result<Plan, Stop>
+    ensures plans { IfOk result (λ made. (s : State) (meant : Result Answer Refusal)
+        → PlansAs s plan meant → Plans s made (answered (seen s) meant)) }
+    ensures makeable { IfOk plan (λ made. IsMakeable made.change) → IfOk result (λ made. IsMakeable made.change) }
+    ensures counts { (old new : Counts) → CountsUnsaid plan old new → CountsStop result old new }
+{
+    match plan {
+        Ok(plan) => Ok(plan),
         Err(unsaid) => plan_unsaid(alloc, unsaid),
     }
 }

@@ -50,7 +50,8 @@ pub fn readable<M: Machine>(alloc: Global, path: &BootPath, machine: &mut M) -> 
     }
 }
 
-fn not_pe(alloc: Global, reason: PeReason, offset: u64) -> Result<Refusal, AllocError>
+/// The refusal of a file that is no PE32+ file: what the first failing check is about, and its place in bytes.
+pub fn not_pe(alloc: Global, reason: PeReason, offset: u64) -> Result<Refusal, AllocError>
     ensures { IfOk result (λ why. why ≡ Refusal.NotPe (text_of reason) offset) }
 {
     let reason = PeText::of(alloc, reason.text())?;

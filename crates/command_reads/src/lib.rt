@@ -11,7 +11,7 @@ mod refusing;
 mod saying;
 
 pub use choices::{banks_of, paths_of};
-pub use files::{file_bytes, file_part, head_of_size, image_head, readable, sized_head};
+pub use files::{file_bytes, file_part, head_of_size, image_head, not_pe, readable, sized_head};
 pub use lists::push;
 pub use names::shown_name;
 pub use reading::seen_size;
