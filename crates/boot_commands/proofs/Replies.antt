@@ -1,8 +1,6 @@
 -- No command's reply is empty.
 use Rattle.std.proofs.Common.{ℕ, ◌<◌, ◌&&◌, ◌∷◌, [], codes, Bool, true, false, cond, List, length, arith, Option, Some, None, Result, Ok, Err}
 use Rattle.std.specs.FinMap.{get}
-use Rattle.std.specs.List.{flat_map}
-use Rattle.std.specs.Prelude.{◌++◌, nat_lt}
 use Rattle.boot_base.specs.Paths.{Path}
 use Rattle.boot_base.specs.Refusals.{line_of}
 use Rattle.boot_base.specs.declared.refusal.Refusal.{Refusal}
@@ -11,12 +9,8 @@ use Rattle.boot_machine.specs.Disk.{Files}
 use Rattle.boot_phases.specs.Lines.{heading_of}
 use Rattle.tool_words.specs.declared.command.Command.{Command}
 use Rattle.tool_words.specs.declared.command.Command.TheVariants as command
-use Rattle.command_plans.specs.Answers.{Answer, said}
+use Rattle.command_plans.specs.Answers.{Answer}
 use Rattle.pcr_fold.specs.declared.bank.Bank.{Bank}
-use Rattle.menu_order.specs.declared.item.MenuItem.{MenuItem}
-use Rattle.boot_folder.specs.Entries.{boot_menu, entry_count}
-use Rattle.boot_folder.specs.Listing.{behind_newline, boot_lines, counter_lines, file_lines, item_text, key_lines, title_lines}
-use Rattle.boot_folder.specs.declared.folders.Folders.{Folders}
 use Rattle.pe_reader.specs.declared.fault.FailedCheck.{FailedCheck}
 use Rattle.pe_reader.specs.Grammar.{Headers, pe_of}
 use Rattle.image_build.specs.Building.{Built, build_of, built_answer}
@@ -26,32 +20,16 @@ use Rattle.image_commands.specs.Said.{has_loaded, identify_said, image_said, ins
 use Rattle.command_reads.specs.Values.{banks_of, once, paths_of, value_lines}
 use Rattle.boot_commands.specs.Commands.{answer_of}
 use Rattle.entry_commands.specs.Folders.{folders_of}
-use Rattle.entry_commands.specs.Listing.{list_said, menu_at, menu_said}
-use Rattle.command_reads.specs.Refusing.{◌>>=◌, path_in, printed_path}
+use Rattle.entry_commands.proofs.Replies.{some_boot, some_install, some_line, some_list, some_marked, some_said, text_next}
+use Rattle.command_reads.specs.Refusing.{path_in, printed_path}
 use Rattle.command_plans.specs.Refusing.{unless_refused}
 use Rattle.entry_commands.specs.Tidying.{tidy_answer}
 use Rattle.entry_commands.specs.Unlinking.{entry_path, removal, unlink_answer}
-
-some_line : (why : Refusal) → 0 < length (line_of why)
-some_line why = omega arith
 
 -- refused for the words, or what comes next has a text
 some_unless : {X : Type 0} (view : Files) (read : Result X Refusal) (next : X → Answer) → ((x : X) → 0 < length (next x).text) → 0 < length (unless_refused view read next).text
 some_unless view (Err why) next some = some_line why
 some_unless view (Ok x) next some = some x
-
--- what is said has a text
-abbrev HasText : Result (List ℕ) Refusal → Type 0
-HasText (Ok text) = 0 < length text
-HasText (Err why) = Unit {0}
-
-text_next : {X : Type 0} (first : Result X Refusal) (next : X → Result (List ℕ) Refusal) → ((x : X) → HasText (next x)) → HasText (first >>= next)
-text_next (Ok x) next some = some x
-text_next (Err why) next some = tt
-
-some_said : (view : Files) (found : Result (List ℕ) Refusal) → HasText found → 0 < length (said view found).text
-some_said view (Ok text) some = some
-some_said view (Err why) some = some_line why
 
 some_heading : (value : Bank → List (List ℕ) → List ℕ) (banks : List Bank) (path : List (List ℕ)) (paths : List (List (List ℕ))) → 0 < length (value_lines value banks (path ∷ paths))
 unfolding heading_of
@@ -83,33 +61,6 @@ some_built : (view : Files) (measure : Bool) (built : Result Built Refusal) → 
 some_built view measure (Err why) = some_line why
 some_built view measure (Ok built) = omega arith
 
-some_before : (text later : List ℕ) → 0 < length text → 0 < length (text ++ later)
-some_before [] later some = absurd (omega (arith, some))
-some_before (byte ∷ text) later some = omega arith
-
-some_behind : (before text : List ℕ) → 0 < length text → 0 < length (before ++ text)
-some_behind [] text some = some
-some_behind (byte ∷ before) text some = omega arith
-
-some_file : (item : MenuItem) → 0 < length (file_lines item)
-unfolding file_lines
-some_file item = omega arith
-
--- a menu with entries has lines
-some_menu : (menu : List MenuItem) → HasText (menu_said menu)
-some_menu [] = tt
-some_menu (item ∷ items) =
-    some_before (item_text item) (flat_map behind_newline items)
-    (some_before (title_lines item ++ file_lines item) ((key_lines item ++ counter_lines item.counter) ++ boot_lines item)
-    (some_behind (title_lines item) (file_lines item) (some_file item)))
-
-some_menu_at : (view : Files) (folders : Folders) → HasText (menu_at view folders)
-some_menu_at view folders = by_count (nat_lt 4096 (entry_count view folders))
-  where
-    by_count : (many : Bool) → HasText (cond many (Err (refusals.TooMany (entry_count view folders))) (menu_said (boot_menu view folders)))
-    by_count true = tt
-    by_count false = some_menu (boot_menu view folders)
-
 -- no command's reply is empty: a case for each command
 pub some_text : (view : Files) (c : Command) → 0 < length (answer_of view c).text
 some_text view (command.Build words) = some_built view words.measure (build_of view words)
@@ -123,11 +74,11 @@ some_text view (command.Image file banks phases) =
     (text_next (path_in file) (values_at view banks phases) (λ path. text_next (image_at view path) _ (λ image. some_values _ (banks_of banks) phases)))
 some_text view (command.Identify file) =
     some_said view (identify_said view file) (text_next (path_in file) (kind_at view) (λ path. text_next (bytes_at view path) _ (λ bytes. some_kind bytes (pe_of bytes))))
-some_text view (command.List esp) = some_said view (list_said view esp) (text_next (folders_of esp) (menu_at view) (some_menu_at view))
+some_text view (command.List esp) = some_list view esp
 some_text view (command.Tidy esp) = some_unless view (folders_of esp) (tidy_answer view) (λ folders. omega arith)
-some_text view (command.Boot esp) = some_line refusals.NotBuilt
+some_text view (command.Boot esp) = some_boot view esp
 some_text view (command.Unlink name esp) = some_unless view (entry_path name esp) (unlink_answer view) (λ path. some_removal view path (get view path))
-some_text view (command.Install file name tries esp) = some_line refusals.NotBuilt
-some_text view (command.Bless verb path esp) = some_line refusals.NotBuilt
+some_text view (command.Install file name tries esp) = some_install view file name tries esp
+some_text view (command.Bless verb path esp) = some_marked view verb path esp
 some_text view command.Script = some_line refusals.NotBuilt
 some_text view (command.Demo seed count) = some_line refusals.NotBuilt

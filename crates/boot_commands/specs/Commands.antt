@@ -12,6 +12,9 @@ use Rattle.command_plans.specs.declared.outcome.Stop.TheVariants as stops
 use Rattle.image_build.specs.Building.{build_answer}
 use Rattle.image_commands.specs.Calculating.{calculate_said}
 use Rattle.image_commands.specs.Said.{identify_said, image_said, inspect_said}
+use Rattle.entry_commands.specs.Blessing.{bless_answer}
+use Rattle.entry_commands.specs.Booting.{boot_answer}
+use Rattle.entry_commands.specs.Installing.{install_answer}
 use Rattle.entry_commands.specs.Unlinking.{entry_path, unlink_answer}
 use Rattle.entry_commands.specs.Folders.{folders_of}
 use Rattle.entry_commands.specs.Listing.{list_said}
@@ -28,10 +31,10 @@ answer_of view (command.Image file banks phases) = said view (image_said view fi
 answer_of view (command.Identify file) = said view (identify_said view file)
 answer_of view (command.List esp) = said view (list_said view esp)
 answer_of view (command.Tidy esp) = unless_refused view (folders_of esp) (tidy_answer view)
-answer_of view (command.Boot esp) = not_built view
+answer_of view (command.Boot esp) = boot_answer view esp
 answer_of view (command.Unlink name esp) = unless_refused view (entry_path name esp) (unlink_answer view)
-answer_of view (command.Install file name tries esp) = not_built view
-answer_of view (command.Bless verb path esp) = not_built view
+answer_of view (command.Install file name tries esp) = install_answer view file name tries esp
+answer_of view (command.Bless verb path esp) = bless_answer view verb path esp
 answer_of view command.Script = not_built view
 answer_of view (command.Demo seed count) = not_built view
 

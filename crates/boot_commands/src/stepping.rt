@@ -11,7 +11,7 @@ ghost use Rattle.command_plans.specs.Plans.{Drops, IsMakeable, Plans};
 use boot_base::Refusal;
 use boot_machine::Machine;
 use command_plans::{Outcome, Plan, Stop, perform, refused};
-use entry_commands::{plan_list, plan_tidy, plan_unlink};
+use entry_commands::{plan_bless, plan_boot, plan_install, plan_list, plan_tidy, plan_unlink};
 use image_build::plan_build;
 use image_commands::{plan_calculate, plan_identify, plan_image, plan_inspect};
 use std::alloc::Global;
@@ -41,11 +41,20 @@ fn plan_of<M: Machine>(alloc: Global, command: &Command, machine: &mut M) -> Res
         Command::Unlink { name, esp } => plan_unlink(alloc, name.as_str(), esp.as_str(), machine),
         Command::Tidy { esp } => plan_tidy(alloc, esp.as_str(), machine),
         Command::List { esp } => plan_list(alloc, esp.as_str(), machine),
-        Command::Boot { .. }
-        | Command::Install { .. }
-        | Command::Bless { .. }
-        | Command::Script
-        | Command::Demo { .. } => Ok(refused(alloc, &Refusal::NotBuilt)?),
+        Command::Boot { esp } => plan_boot(alloc, esp.as_str(), machine),
+        Command::Install {
+            file,
+            name,
+            tries,
+            esp,
+        } => {
+            let (file, name) = (file.as_str(), name.as_str());
+            plan_install(alloc, file, name, tries.as_ref(), esp.as_str(), machine)
+        }
+        Command::Bless { verb, path, esp } => {
+            plan_bless(alloc, *verb, path.as_str(), esp.as_str(), machine)
+        }
+        Command::Script | Command::Demo { .. } => Ok(refused(alloc, &Refusal::NotBuilt)?),
     }
 }
 

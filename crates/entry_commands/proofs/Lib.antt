@@ -1,3 +1,8 @@
+mod Choices
+mod Firsts
 mod Freeing
+mod ImageNames
 mod Leftovers
-mod Menus
+pub mod Replies
+mod Scanned
+mod Siblings

@@ -14,18 +14,18 @@ use Rattle.command_reads.specs.declared.saying.Unsaid.{Unsaid}
 use Rattle.command_reads.specs.declared.saying.Unsaid.TheVariants as unsaid
 use Rattle.entry_commands.specs.Folders.{folders_of}
 
+-- the menu of two folders, or that they have more than 4,096 entry files
+abbrev pub menu_at : Files → Folders → Result (List MenuItem) Refusal
+menu_at view folders =
+    if nat_lt 4096 (entry_count view folders) then Err (refusals.TooMany (entry_count view folders)) else Ok (boot_menu view folders)
+
 -- what is said of a menu: its text, or that it is empty
 abbrev pub menu_said : List MenuItem → Result (List ℕ) Refusal
 menu_said [] = Err refusals.NoEntries
 menu_said (item ∷ items) = Ok (list_text (item ∷ items))
 
--- what is said of two folders: that they have more than 4,096 entry files, or their menu
-abbrev pub menu_at : Files → Folders → Result (List ℕ) Refusal
-menu_at view folders =
-    if nat_lt 4096 (entry_count view folders) then Err (refusals.TooMany (entry_count view folders)) else menu_said (boot_menu view folders)
-
 abbrev pub list_said : Files → List ℕ → Result (List ℕ) Refusal
-list_said view word = folders_of word >>= menu_at view
+list_said view word = folders_of word >>= λ folders. menu_at view folders >>= menu_said
 
 -- why nothing is said where there is no menu; folders that are at hand have paths
 abbrev pub unlisted : ScanFault → Unsaid

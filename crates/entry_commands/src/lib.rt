@@ -1,12 +1,20 @@
 //! The commands on the boot entries of an EFI system partition, each planned by reads alone: the list of the menu, the
-//! removal of an entry, and the tidying of the entries' folders.
+//! installation, the boot and the blessing of an entry, its removal, and the tidying of the entries' folders.
 #![tactic(auto)]
 
+mod bless;
+mod boot;
 mod folders;
+mod install;
 mod list;
+mod menus;
+mod moves;
 mod tidy;
 mod unlink;
 
+pub use bless::plan_bless;
+pub use boot::plan_boot;
+pub use install::plan_install;
 pub use list::plan_list;
 pub use tidy::plan_tidy;
 pub use unlink::plan_unlink;

@@ -1,19 +1,18 @@
 //! `bootctl list`.
-ghost use Rattle.std.specs.Prelude.{◌≡◌, ◌≢◌, IfOk, IsTrue};
-ghost use Rattle.boot_folder.specs.Scanning.{scan_counts};
-ghost use Rattle.boot_folder.specs.declared.fault.ScanFault.TheVariants as scans;
+ghost use Rattle.std.specs.Prelude.{◌≡◌, IfOk, IsTrue};
 ghost use Rattle.boot_machine.specs.Counts.{Counts};
 ghost use Rattle.boot_machine.specs.Reading.{OnlyReads};
 ghost use Rattle.boot_machine.specs.Sent.{seen};
 ghost use Rattle.command_plans.specs.Answers.{said};
 ghost use Rattle.command_plans.specs.Performs.{CountsStop};
 ghost use Rattle.command_plans.specs.Plans.{IsMakeable, Plans};
-ghost use Rattle.command_reads.specs.Saying.{CountsUnsaid, Says, unsaid_counts};
-ghost use Rattle.entry_commands.specs.Listing.{list_said, menu_at, menu_said, unlisted};
+ghost use Rattle.command_reads.specs.Saying.{CountsUnsaid, Says};
+ghost use Rattle.entry_commands.specs.Listing.{list_said, menu_said};
 
 use crate::folders::folders_in;
+use crate::menus::menu_at;
 use boot_base::Refusal;
-use boot_folder::{Folders, ScanFault, list_text, scan_folders};
+use boot_folder::list_text;
 use boot_machine::Machine;
 use command_plans::{Plan, Stop, said};
 use command_reads::Unsaid;
@@ -31,43 +30,14 @@ fn menu_text(alloc: Global, menu: &[MenuItem]) -> Result<Vec<u8>, Unsaid>
     Ok(list_text(alloc, menu)?)
 }
 
-// Why nothing is said of folders that have no menu.
-fn unlisted(fault: ScanFault) -> Unsaid
-    requires { fault ≢ scans.LongEsp }
-    ensures { result ≡ unlisted fault }
-{
-    match fault {
-        ScanFault::Memory => Unsaid::Memory,
-        ScanFault::Disk => Unsaid::Disk,
-        ScanFault::TooMany { count } => Unsaid::Refused(Refusal::TooMany { count }),
-        ScanFault::LongEsp => unreachable!(),
-    }
-}
-
-// The text of the menu of two folders.
-fn listed_folders<M: Machine>(
-    alloc: Global,
-    folders: &Folders,
-    machine: &mut M,
-) -> Result<Vec<u8>, Unsaid>
-    ensures says { IsTrue M.tells
-        → Says (λ text. text.items) result (menu_at (seen (M.state machine.old)) folders.now) }
-    ensures reads { IsTrue M.tells → OnlyReads M.clock M.since M.state machine.old machine.new }
-    ensures counts { CountsUnsaid result (M.counts machine.old) (M.counts machine.new) }
-{
-    match scan_folders(alloc, machine, folders) {
-        Ok(menu) => menu_text(alloc, menu.as_slice()),
-        Err(fault) => Err(unlisted(fault)),
-    }
-}
-
 fn listed<M: Machine>(alloc: Global, esp: &str, machine: &mut M) -> Result<Vec<u8>, Unsaid>
     ensures says { IsTrue M.tells → Says (λ text. text.items) result (list_said (seen (M.state machine.old)) esp.now) }
     ensures reads { IsTrue M.tells → OnlyReads M.clock M.since M.state machine.old machine.new }
     ensures counts { CountsUnsaid result (M.counts machine.old) (M.counts machine.new) }
 {
     let folders = folders_in(alloc, esp)?;
-    listed_folders(alloc, &folders, machine)
+    let menu = menu_at(alloc, &folders, machine)?;
+    menu_text(alloc, menu.as_slice())
 }
 
 /// What is going to be told of the boot menu of an EFI system partition: each entry once, in the order of the menu

@@ -1,5 +1,5 @@
--- What is said of the menu of two folders.
-use Rattle.std.proofs.Common.{◌≡◌, ◌≤◌, ◌<◌, arith, ℕ, List, true, false, Result, Err, ap, refl, sym}
+-- What a scan of two folders comes to.
+use Rattle.std.proofs.Common.{◌≡◌, ◌≤◌, ◌<◌, arith, ℕ, List, true, false, Result, Ok, Err, ap, refl, sym}
 use Rattle.std.specs.Prelude.{nat_lt}
 use Rattle.std.proofs.lemmas.Bool.Decides.{nat_tests}
 use Rattle.boot_base.specs.declared.refusal.Refusal.TheVariants as refusals
@@ -12,7 +12,7 @@ use Rattle.boot_folder.specs.declared.fault.ScanFault.TheVariants as scans
 use Rattle.boot_folder.specs.declared.folders.Folders.{Folders}
 use Rattle.boot_folder.proofs.EntryFiles.{view_count}
 use Rattle.command_reads.specs.Saying.{UnsaidFor}
-use Rattle.entry_commands.specs.Listing.{menu_at, menu_said, unlisted}
+use Rattle.entry_commands.specs.Listing.{menu_at, unlisted}
 
 not_many : (n : ℕ) → n ≤ 4096 → nat_lt 4096 n ≡ false
 not_many n few = grind (arith, nat_tests)
@@ -20,11 +20,11 @@ not_many n few = grind (arith, nat_tests)
 are_many : (n : ℕ) → 4096 < n → nat_lt 4096 n ≡ true
 are_many n many = grind (arith, nat_tests)
 
--- few files are listed
+-- few files have a menu
 pub few_said : (files : Files) (folders : Folders) (menu : List MenuItem) → entry_count files folders ≤ 4096
-    → menu ≡ boot_menu (view files) folders → menu_at (view files) folders ≡ menu_said menu
+    → menu ≡ boot_menu (view files) folders → menu_at (view files) folders ≡ Ok menu
 few_said files folders menu few is =
-    rw (view_count files folders, not_many (entry_count files folders) few) (ap menu_said (sym is))
+    rw (view_count files folders, not_many (entry_count files folders) few) (ap (λ (m : List MenuItem). Ok m) (sym is))
 
 -- too many are refused
 pub many_said : (files : Files) (folders : Folders) (count : ℕ) → 4096 < count → entry_count files folders ≡ count

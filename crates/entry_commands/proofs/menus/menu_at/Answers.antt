@@ -1,14 +1,14 @@
-use Rattle.std.proofs.Common.{sym, ◌∙◌, subst}
-use Rattle.command_reads.specs.Saying.{Says, UnsaidFor}
+use Rattle.std.proofs.Common.{sym, subst}
+use Rattle.command_reads.specs.Saying.{UnsaidFor}
 use Rattle.entry_commands.specs.Listing.{menu_at}
 use Rattle.boot_machine.specs.Sent.{seen}
-use Rattle.entry_commands.proofs.Menus.{few_said, unsaid_menu}
-use Rattle.entry_commands.proofs.list.listed_folders.Goals as goal
+use Rattle.entry_commands.proofs.Scanned.{few_said, unsaid_menu}
+use Rattle.entry_commands.proofs.menus.menu_at.Goals as goal
 
 pub returns-in-Ok-clause-says : goal.returns-in-Ok-clause-says
 returns-in-Ok-clause-says g c told =
     let files = (g.M.Machine.state c.args.machine.now).files in
-    subst (λ meant. Says (λ text. text.items) c.menu_text.result meant) (sym (few_said files c.args.folders.now c.as_slice.result.now (c.in-Ok.ensures.few told) (c.as_slice.ensures.value ∙ c.in-Ok.ensures.value told))) c.menu_text.ensures.says
+    few_said files c.args.folders.now c.in-Ok.menu.items (c.in-Ok.ensures.few told) (c.in-Ok.ensures.value told)
 
 pub returns-in-Err-clause-says : goal.returns-in-Err-clause-says
 returns-in-Err-clause-says g c told =

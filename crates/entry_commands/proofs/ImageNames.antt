@@ -1,0 +1,128 @@
+-- The name of an installed image's file is the last component of its path.
+use Rattle.std.proofs.Common.{◌≡◌, inl, inr, ℕ, ◌≤◌, Bool, true, false, List, [], ◌∷◌, ◌++◌, Option, Some, None, Result, Ok, Err, length, refl, sym, ap, ◌∙◌, arith, lit<, length-append, append_assoc}
+use Rattle.std.specs.Prelude.{IfSome, codes, ◌==◌, if◌then◌else◌}
+use Rattle.std.specs.Fmt.{decimal}
+use Rattle.std.specs.List.{list_all, list_any}
+use Rattle.std.proofs.lemmas.Bool.{and_parts, cases_Bool, cond-false, cond-true, eqb-true}
+use Rattle.boot_base.specs.Paths.{Path, components, file_name_of, is_kept, is_path, is_slash, normal_of, path_below, path_of, under}
+use Rattle.boot_base.proofs.Joined.{adding, joined, joined-kept}
+use Rattle.boot_base.proofs.Normal.{path-some}
+use Rattle.boot_base.specs.declared.refusal.Refusal.{Refusal}
+use Rattle.boot_base.specs.declared.refusal.Refusal.TheVariants as refusals
+use Rattle.boot_counter.specs.declared.counted.Suffix.TheVariants.{Efi}
+use Rattle.boot_counter.specs.Counter.{suffix_text}
+use Rattle.boot_counter.specs.Splits.{has_suffix}
+use Rattle.boot_counter.proofs.Splitting.{suffix_there}
+use Rattle.command_reads.specs.Refusing.{◌>>=◌, path_in, path_or, path_under}
+use Rattle.entry_commands.specs.Installing.{IsImageName, image_name, image_path, install_name, is_install_name, is_name_byte, is_name_text}
+use Rattle.entry_commands.proofs.Siblings.{decimal_lacks, file_name_under, file_name_whole, kept_from_long, none-append, one_more}
+
+-- ---- the name
+
+-- it has no slash
+file_name_one : (name : List ℕ) (tries : Option ℕ) → list_any is_slash name ≡ false → IfSome tries (λ n. n ≤ 999999999)
+    → list_any is_slash (image_name name tries) ≡ false
+file_name_one name None none few = none-append is_slash name (suffix_text Efi) none refl
+file_name_one name (Some tries) none few =
+    let digits = decimal_lacks 47 tries (lit< tt) few in
+    none-append is_slash name (43 ∷ (decimal tries ++ suffix_text Efi)) none
+    (none-append is_slash (decimal tries) (suffix_text Efi) digits refl)
+
+-- it ends in the suffix of images
+abbrev stem : List ℕ → Option ℕ → List ℕ
+stem name None = name
+stem name (Some tries) = name ++ (43 ∷ decimal tries)
+
+file_name_is : (name : List ℕ) (tries : Option ℕ) → image_name name tries ≡ stem name tries ++ suffix_text Efi
+file_name_is name None = refl
+file_name_is name (Some tries) = sym (append_assoc name (43 ∷ decimal tries) (suffix_text Efi))
+
+file_name_kept : (name : List ℕ) (tries : Option ℕ) → is_kept (image_name name tries) ≡ true
+file_name_kept name tries =
+    let whole = ap length (file_name_is name tries) in
+    kept_from_long (image_name name tries) (omega (arith, whole, length-append (stem name tries) (suffix_text Efi)))
+
+-- ---- the path
+
+module _ (name : List ℕ) (kept : is_kept name ≡ true) (none : list_any is_slash name ≡ false) where
+  added_last : (text : List ℕ) → file_name_of (adding text name) ≡ name
+  added_last text = elim (cases_Bool (length text == 0)) [
+    | inl empty ↦
+        ap file_name_of (cond-true (length text == 0) name (under text name) empty) ∙ file_name_whole name none
+    | inr some ↦
+        ap file_name_of (cond-false (length text == 0) name (under text name) some) ∙ file_name_under text name none
+  ]
+
+  -- a name that counts is the last component of what its path reads as
+  read_last : (folder : List ℕ) → file_name_of (normal_of (under folder name)) ≡ name
+  read_last folder =
+      ap (λ (ps : List (List ℕ)). file_name_of (joined ps)) (one_more folder name none)
+      ∙ ap file_name_of (joined-kept (components folder) name kept)
+      ∙ added_last (normal_of folder)
+
+there : (b : Bool) (read : Option Path) (target : Path) → (if b then read else None) ≡ Some target → read ≡ Some target
+there true read target is = is
+there false read target is = cc
+
+-- a file in the folder of images has its name as the last component of its path
+last_in_images : (esp file : List ℕ) (target : Path) → is_kept file ≡ true → list_any is_slash file ≡ false
+    → path_below esp (codes "EFI/Linux/" ++ file) ≡ Some target → file_name_of target ≡ file
+last_in_images esp file target kept none is =
+    let below = codes "EFI/Linux/" ++ file in
+    let text = under esp below in
+    let images = under esp (codes "EFI/Linux") in
+    let read = there (list_any is_kept (components below)) (path_of text) target is in
+    let normal = path-some (is_path text) (normal_of text) target read in
+    let parts : text ≡ under images file = sym (append_assoc esp (47 ∷ codes "EFI/Linux") (47 ∷ file)) in
+    ap file_name_of (sym normal.1 ∙ ap normal_of parts) ∙ read_last file kept none images
+
+found : (text : List ℕ) (read : Option Path) (target : Path) → path_or text read ≡ Ok target → read ≡ Some target
+found text None target is = cc
+found text (Some path) target is = cc
+
+next_of : {A B : Type 0} (first : Result A Refusal) (next : A → Result B Refusal) (b : B) → (first >>= next) ≡ Ok b → (a : A) × (next a ≡ Ok b)
+next_of (Ok a) next b is = (a, is)
+next_of (Err why) next b is = cc
+
+-- the file of an image
+pub image_file : (name file : List ℕ) (tries : Option ℕ) → list_any is_slash name ≡ false → IfSome tries (λ n. n ≤ 999999999)
+    → file ≡ image_name name tries → IsImageName file
+image_file name file tries none few is = record {
+  suffix = suffix_there Efi file (stem name tries) (is ∙ file_name_is name tries);
+  kept = ap is_kept is ∙ file_name_kept name tries;
+  no_slash = ap (list_any is_slash) is ∙ file_name_one name tries none few;
+}
+
+-- where it stands
+pub target_suffix : (word file : List ℕ) (target : Path) → IsImageName file → image_path word file ≡ Ok target
+    → has_suffix Efi (file_name_of target) ≡ true
+target_suffix word file target image is =
+    let esp = next_of (path_in word) (λ esp. path_under esp (codes "EFI/Linux/" ++ file)) target is in
+    ap (has_suffix Efi) (last_in_images esp.0 file target image.kept image.no_slash (found _ _ target esp.1)) ∙ image.suffix
+
+-- no byte of a name is a slash
+name_byte : (byte : ℕ) → is_name_byte byte ≡ true → is_slash byte ≡ false
+name_byte byte is = elim (cases_Bool (is_slash byte)) [
+  | inl slash ↦ absurd (not_name byte (eqb-true byte 47 slash) is)
+  | inr other ↦ other
+]
+  where
+    not_name : (byte : ℕ) → byte ≡ 47 → is_name_byte byte ≡ true → ⊥
+    not_name byte at is = cc (sym (ap is_name_byte at) ∙ is)
+
+pub name_slash : (name : List ℕ) → list_all is_name_byte name ≡ true → list_any is_slash name ≡ false
+name_slash [] all = refl
+name_slash (byte ∷ name) all =
+    let parts = and_parts (is_name_byte byte) (list_all is_name_byte name) all in
+    rw (name_byte byte parts.0) (name_slash name parts.1)
+
+all_of : (name : List ℕ) (fits : Bool) (taken : List ℕ) → (if fits then Ok name else Err (refusals.BadName name)) ≡ Ok taken → fits ≡ true
+all_of name true taken is = refl
+all_of name false taken is = cc
+
+-- a name that is taken has no slash
+pub taken_slash : (name taken : List ℕ) → install_name name ≡ Ok taken → list_any is_slash name ≡ false
+taken_slash name taken is =
+    let fits = and_parts (is_name_text name) _ (all_of name (is_install_name name) taken is) in
+    let text = and_parts _ _ fits.0 in
+    name_slash name (and_parts _ (list_all is_name_byte name) text.0).1

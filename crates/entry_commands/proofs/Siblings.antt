@@ -1,0 +1,652 @@
+-- The good and the bad name of a boot file name boot files in the same folder.
+use Rattle.std.proofs.Common.{◌≡◌, ◌≢◌, inl, inr, ℕ, ◌+◌, ◌-◌, ◌<◌, ◌≤◌, ◌^◌, Bool, true, false, not, ◌&&◌, ◌||◌, ◌⊎◌, List, [], ◌∷◌, ◌++◌, Some, None, length, take, drop, get_or, filter, refl, sym, ap, subst, ◌∙◌, arith, zero, suc, lit<, lit≤, length-append, append_assoc, get_or-append-add, drop_at}
+use Rattle.std.specs.Prelude.{◌==◌, nat_lt, nat_le, bytes_eq}
+use Rattle.std.specs.Fmt.{decimal}
+use Rattle.std.specs.List.{AllByRecursion, join_with_byte, list_any, onto_first, sum_by}
+use Rattle.std.specs.Str.Parse.{digits_value}
+use Rattle.std.proofs.Math.Seq.{take-append_seam}
+use Rattle.std.proofs.lemmas.Bool.{cases_Bool, and_from, and_parts, both_ways, cond-true, cond-false, eqb-true, eqb-false, le-leb, le-ltb, leb-true, ltb-false, ne_eqb, not-true, or_cases, or_from, or_left, or_parts, or_right, true_from_ne_false}
+use Rattle.std.proofs.lemmas.Bool.Decides.{Decides-eqb}
+use Rattle.std.proofs.lemmas.Fmt.{decimal_digit, length-decimal-le}
+use Rattle.std.proofs.lemmas.Int.Digits.{digits_value-lt}
+use Rattle.std.proofs.lemmas.List.{append_cancel_right, same_from_push}
+use Rattle.std.proofs.lemmas.List.Filters.{sum_by-filter_both}
+use Rattle.std.proofs.lemmas.List.Folds.{list_any-append}
+use Rattle.std.proofs.lemmas.List.Splits.{join_with_byte-slice_split, length-slice_split}
+use Rattle.std.proofs.lemmas.List.Sums.{sum_by-cons}
+use Rattle.std.proofs.lemmas.Slice.Eq.{bytes_eq-Decides, ends_is}
+use Rattle.boot_base.specs.Paths.{Path, beside, components, file_name_of, intent, is_component, is_form, is_kept, is_normal, is_refused, is_slash, is_temp, normal_of, path_of, sibling_of, temp_end, under}
+use Rattle.boot_base.proofs.Joined.{adding, joined, joined-kept, joined-left_out}
+use Rattle.boot_base.proofs.LastComponent.{file_name_of-from}
+use Rattle.boot_base.proofs.Normal.{normal-no_nul, normal-short}
+use Rattle.boot_counter.specs.declared.counted.Suffix.{Suffix}
+use Rattle.boot_counter.specs.declared.counted.Suffix.TheVariants.{Conf, Efi}
+use Rattle.boot_counter.specs.Counter.{IsCounted, IsDone, IsNumber, IsUncounted, done_text_of, suffix_text, written_name}
+use Rattle.boot_counter.specs.Renames.{bad_name_of, good_name_of}
+use Rattle.boot_counter.specs.Splits.{has_suffix, stem_of}
+use Rattle.boot_counter.proofs.Readings.{number_lacks}
+use Rattle.boot_counter.proofs.Splitting.{split_none, split_some, suffix_cut, suffix_there}
+use Rattle.boot_counter.proofs.Written.{decimal_number, number_bound, reading_bounds}
+
+-- ---- lists of which no element passes
+
+module _ {X : Type 0} (p : X → Bool) where
+  none_at : (xs : List X) → list_any p xs ≡ false → (k : ℕ) (d : X) → k < length xs → p (get_or xs k d) ≡ false
+  none_at [] none k d below = absurd (omega arith)
+  none_at (x ∷ xs) none zero d below = (or_parts (p x) (list_any p xs) none).0
+  none_at (x ∷ xs) none (suc k) d below = none_at xs (or_parts (p x) (list_any p xs) none).1 k d (omega arith)
+
+  module _ (xs ys : List X) where
+    pub none-append : list_any p xs ≡ false → list_any p ys ≡ false → list_any p (xs ++ ys) ≡ false
+    none-append first behind = list_any-append p xs ys ∙ or_from (list_any p xs) (list_any p ys) first behind
+
+    none-parts : list_any p (xs ++ ys) ≡ false → (list_any p xs ≡ false) × (list_any p ys ≡ false)
+    none-parts none = or_parts (list_any p xs) (list_any p ys) (sym (list_any-append p xs ys) ∙ none)
+
+-- the text has the byte
+abbrev has_byte : ℕ → List ℕ → Bool
+has_byte c text = list_any (λ b. b == c) text
+
+-- ---- the last component
+
+-- the last component of a file's path is its name
+pub file_name_under : (folder name : List ℕ) → list_any is_slash name ≡ false → file_name_of (under folder name) ≡ name
+file_name_under folder name none =
+    let s = under folder name in
+    let start = length folder + 1 in
+    let long : length s ≡ length folder + suc (length name) = length-append folder (47 ∷ name) in
+    let at : (k : ℕ) → get_or s (length folder + k) 0 ≡ get_or (47 ∷ name) k 0 =
+    λ k. get_or-append-add folder (47 ∷ name) k 0 in
+    file_name_of-from s start (omega (arith, long))
+    (λ k from below is.
+    let here : get_or s k 0 ≡ get_or name (k - start) 0 = ap (λ n. get_or s n 0) (omega arith) ∙ at (suc (k - start)) in
+    let unlike = none_at is_slash name none (k - start) 0 (omega (arith, long)) in
+    eqb-false (get_or name (k - start) 0) 47 unlike (sym here ∙ is))
+    (λ some. ap (λ n. get_or s n 0) (omega arith) ∙ at 0)
+    ∙ ap (λ (l : List ℕ). drop start l) (sym (append_assoc folder (47 ∷ []) name))
+    ∙ drop_at (folder ++ 47 ∷ []) name start (length-append folder (47 ∷ []))
+
+-- a text without a slash is its own last component
+pub file_name_whole : (text : List ℕ) → list_any is_slash text ≡ false → file_name_of text ≡ text
+file_name_whole text none =
+    file_name_of-from text 0 (omega arith)
+    (λ k from below. eqb-false (get_or text k 0) 47 (none_at is_slash text none k 0 below))
+    (λ some. absurd (omega arith))
+
+-- a last component behind a slash
+record IsCut (path : List ℕ) : Type 0 where
+  front : List ℕ
+  last : List ℕ
+  whole : path ≡ under front last
+  one : list_any is_slash last ≡ false
+
+-- a text has no slash, or a last component behind one
+last_of : (path : List ℕ) → (list_any is_slash path ≡ false) ⊎ IsCut path
+last_of [] = inl refl
+last_of (b ∷ path) = elim (last_of path) [
+  | inl none ↦ elim (cases_Bool (is_slash b)) [
+    | inl slash ↦ inr (record { front = []; last = path; whole = ap (λ c. c ∷ path) (eqb-true b 47 slash); one = none })
+    | inr other ↦ inl (or_from (is_slash b) (list_any is_slash path) other none)
+  ]
+  | inr cut ↦
+      let whole = ap (λ (l : List ℕ). b ∷ l) cut.whole in
+      inr (record { front = b ∷ cut.front; last = cut.last; whole = whole; one = cut.one })
+]
+
+beside_whole : (text name : List ℕ) → list_any is_slash text ≡ false → beside text name ≡ name
+beside_whole text name none =
+    let kept : length text - length (file_name_of text) ≡ 0 = omega (arith, ap length (file_name_whole text none)) in
+    ap (λ n. take n text ++ name) kept
+
+beside_under : (front last name : List ℕ) → list_any is_slash last ≡ false
+    → beside (under front last) name ≡ under front name
+beside_under front last name none =
+    let path = under front last in
+    let folder = front ++ 47 ∷ [] in
+    let parts : path ≡ folder ++ last = sym (append_assoc front (47 ∷ []) last) in
+    let kept : length path - length (file_name_of path) ≡ length folder =
+    omega (arith, ap length (file_name_under front last none), ap length parts, length-append folder last) in
+    ap (λ n. take n path ++ name) kept
+    ∙ ap (λ (l : List ℕ). take (length folder) l ++ name) parts
+    ∙ ap (λ (l : List ℕ). l ++ name) (take-append_seam folder last)
+    ∙ append_assoc front (47 ∷ []) name
+
+-- ---- components
+
+one_component : (name : List ℕ) → list_any is_slash name ≡ false → components name ≡ name ∷ []
+one_component [] none = refl
+one_component (b ∷ name) none =
+    let parts = or_parts (is_slash b) (list_any is_slash name) none in
+    rw (parts.0) (ap (onto_first b) (one_component name parts.1))
+
+onto_more : (b : ℕ) (xs ys : List (List ℕ)) → 0 < length xs → onto_first b (xs ++ ys) ≡ onto_first b xs ++ ys
+onto_more b [] ys some = absurd (omega arith)
+onto_more b (x ∷ xs) ys some = refl
+
+components_under : (folder name : List ℕ) → components (under folder name) ≡ components folder ++ components name
+components_under [] name = refl
+components_under (b ∷ folder) name = elim (cases_Bool (is_slash b)) [
+  | inl slash ↦ rw slash (ap (λ (l : List (List ℕ)). [] ∷ l) (components_under folder name))
+  | inr other ↦
+      let some : 0 < length (components folder) = omega (arith, length-slice_split is_slash folder) in
+      let more = onto_more b (components folder) (components name) some in
+      rw other (ap (onto_first b) (components_under folder name) ∙ more)
+]
+
+-- a name in a folder is one more component
+pub one_more : (folder name : List ℕ) → list_any is_slash name ≡ false
+    → components (under folder name) ≡ components folder ++ name ∷ []
+one_more folder name none =
+    components_under folder name ∙ ap (λ (l : List (List ℕ)). components folder ++ l) (one_component name none)
+
+-- a component with a slash behind it
+abbrev weight : List ℕ → ℕ
+weight component = length component + 1
+
+length_join : (ps : List (List ℕ)) → length (join_with_byte 47 ps) ≡ sum_by weight ps - 1
+length_join [] = refl
+length_join (p ∷ []) = omega (arith, sum_by-cons weight p [])
+length_join (p ∷ q ∷ ps) =
+    omega (
+      arith,
+      length_join (q ∷ ps),
+      length-append p (47 ∷ join_with_byte 47 (q ∷ ps)),
+      sum_by-cons weight p (q ∷ ps),
+      sum_by-cons weight q ps,
+    )
+
+-- what a text reads as is no longer than it
+length_normal : (text : List ℕ) → length (normal_of text) ≤ length text
+length_normal text =
+    let ps = components text in
+    omega (
+      arith,
+      length_join ps,
+      length_join (filter is_kept ps),
+      sum_by-filter_both is_kept (λ p. not (is_kept p)) (λ _. refl) weight ps,
+      ap length (join_with_byte-slice_split 47 text),
+    )
+
+-- ---- normal forms
+
+module _ (path : Path) (normal : is_normal path ≡ true) where
+  abbrev is_read : Bool
+  is_read = not (has_byte 0 path || list_any is_refused (components path))
+
+  tests : ((is_read && is_form path) ≡ true) × (bytes_eq (normal_of path) path ≡ true)
+  unfolding is_normal
+  tests = and_parts _ _ normal
+
+  none_refused : list_any is_refused (components path) ≡ false
+  none_refused =
+      let read = (and_parts is_read (is_form path) tests.0).0 in
+      (or_parts (has_byte 0 path) (list_any is_refused (components path)) (not-true _ read)).1
+
+  itself : normal_of path ≡ path
+  itself = (bytes_eq-Decides (normal_of path) path).0 tests.1
+
+-- what a last component was added to is the folder before it
+added_to : (text front last : List ℕ) → adding text last ≡ under front last
+    → (text ≡ front) × ((length text == 0) ≡ false)
+added_to text front last is = elim (cases_Bool (length text == 0)) [
+  | inl none ↦
+      let short : last ≡ under front last = sym (cond-true (length text == 0) last (under text last) none) ∙ is in
+      absurd (omega (arith, ap length short, length-append front (47 ∷ last)))
+  | inr some ↦
+      let whole = sym (cond-false (length text == 0) last (under text last) some) ∙ is in
+      (append_cancel_right text front (47 ∷ last) whole, some)
+]
+
+normal_more : (folder name : List ℕ) → is_kept name ≡ true → list_any is_slash name ≡ false
+    → normal_of (under folder name) ≡ adding (normal_of folder) name
+normal_more folder name kept one = ap joined (one_more folder name one) ∙ joined-kept (components folder) name kept
+
+module _ (front last : List ℕ) (one : list_any is_slash last ≡ false)
+    (normal : normal_of (under front last) ≡ under front last) where
+  -- the last component of a normal form counts
+  last_kept : is_kept last ≡ true
+  last_kept = elim (cases_Bool (is_kept last)) [
+    | inl kept ↦ kept
+    | inr left ↦
+        let shorter = ap joined (one_more front last one) ∙ joined-left_out (components front) last left in
+        let same : normal_of front ≡ under front last = sym shorter ∙ normal in
+        absurd (omega (arith, ap length same, length_normal front, length-append front (47 ∷ last)))
+  ]
+
+  front_normal : (normal_of front ≡ front) × ((length (normal_of front) == 0) ≡ false)
+  front_normal = added_to (normal_of front) front last (sym (normal_more front last last_kept one) ∙ normal)
+
+  -- with another last component it is a normal form too
+  normal_beside : (name : List ℕ) → is_kept name ≡ true → list_any is_slash name ≡ false
+      → normal_of (under front name) ≡ under front name
+  normal_beside name kept single =
+      normal_more front name kept single
+      ∙ cond-false (length (normal_of front) == 0) name (under (normal_of front) name) front_normal.1
+      ∙ ap (λ (t : List ℕ). under t name) front_normal.0
+
+normal_whole : (name : List ℕ) → is_kept name ≡ true → list_any is_slash name ≡ false → normal_of name ≡ name
+normal_whole name kept one = ap joined (one_component name one) ∙ rw kept refl
+
+kept_long : (name : List ℕ) → is_kept name ≡ true → 0 < length name
+kept_long [] kept = cc
+kept_long (b ∷ name) kept = omega arith
+
+-- ---- paths in the same folder
+
+-- what a text takes, besides being its own normal form, to be the path of a boot file
+record MayStand (text : List ℕ) : Type 0 where
+  no_nul : has_byte 0 text ≡ false
+  allowed : list_any is_refused (components text) ≡ false
+  some : 0 < length text
+  short : length text ≤ 1024
+  shown : is_temp text ≡ false
+  free : bytes_eq text intent ≡ false
+
+path_from : (text : List ℕ) → normal_of text ≡ text → MayStand text → path_of text ≡ Some text
+path_from text normal may =
+    let long : (length text == 0) ≡ false = ne_eqb (length text) 0 (λ e. omega (arith, may.some)) in
+    rw (normal, may.no_nul, may.allowed, long, le-ltb 1024 (length text) may.short, may.shown, may.free) refl
+
+-- a name that may be the last component of a path
+record MayEnd (name : List ℕ) : Type 0 where
+  kept : is_kept name ≡ true
+  one : list_any is_slash name ≡ false
+  allowed : is_refused name ≡ false
+  no_nul : has_byte 0 name ≡ false
+
+module _ (name : List ℕ) (may : MayEnd name) where
+  refused_none : list_any is_refused (name ∷ []) ≡ false
+  refused_none = or_from (is_refused name) false may.allowed refl
+
+  read_whole : length name ≤ 1024 → is_temp name ≡ false → bytes_eq name intent ≡ false → path_of name ≡ Some name
+  read_whole short shown free =
+      path_from name (normal_whole name may.kept may.one) (record {
+        no_nul = may.no_nul;
+        allowed = ap (list_any is_refused) (one_component name may.one) ∙ refused_none;
+        some = kept_long name may.kept;
+        short = short;
+        shown = shown;
+        free = free;
+      })
+
+  module _ (front last : List ℕ) (one : list_any is_slash last ≡ false)
+      (normal : is_normal (under front last) ≡ true) where
+    folder_no_nul : has_byte 0 front ≡ false
+    folder_no_nul = (none-parts (λ b. b == 0) front (47 ∷ last) (normal-no_nul (under front last) normal)).0
+
+    folder_allowed : list_any is_refused (components front) ≡ false
+    folder_allowed =
+        let none = sym (ap (list_any is_refused) (one_more front last one)) ∙ none_refused (under front last) normal in
+        (none-parts is_refused (components front) (last ∷ []) none).0
+
+    read_under : length name ≤ length last → is_temp (under front name) ≡ false
+        → bytes_eq (under front name) intent ≡ false → path_of (under front name) ≡ Some (under front name)
+    read_under shorter shown free =
+        let long = length-append front (47 ∷ name) in
+        let before = length-append front (47 ∷ last) in
+        let most = normal-short (under front last) normal in
+        let here = normal_beside front last one (itself (under front last) normal) name may.kept may.one in
+        path_from (under front name) here (record {
+          no_nul = none-append (λ b. b == 0) front (47 ∷ name) folder_no_nul may.no_nul;
+          allowed =
+              ap (list_any is_refused) (one_more front name may.one)
+              ∙ none-append is_refused (components front) (name ∷ []) folder_allowed refused_none;
+          some = omega (arith, long);
+          short = omega (arith, long, before, most);
+          shown = shown;
+          free = free;
+        })
+
+-- a text reads as itself where an equal one does
+reads_so : (here : List ℕ) → is_temp here ≡ false → bytes_eq here intent ≡ false → (text : List ℕ) → here ≡ text
+    → (is_temp text ≡ false → bytes_eq text intent ≡ false → path_of text ≡ Some text) → path_of here ≡ Some here
+reads_so here shown free text is read =
+    let same = ap (λ (t : List ℕ). bytes_eq t intent) (sym is) in
+    subst (λ (t : List ℕ). path_of t ≡ Some t) (sym is) (read (ap is_temp (sym is) ∙ shown) (same ∙ free))
+
+-- another name that a path may end in, and that is no longer than its own, names a boot file in the same folder
+pub sibling_path : (path name : List ℕ) → is_normal path ≡ true → is_component name ≡ true → is_refused name ≡ false
+    → list_any (λ b. b == 0) name ≡ false → length name ≤ length (file_name_of path)
+    → is_temp (beside path name) ≡ false → bytes_eq (beside path name) intent ≡ false
+    → sibling_of path name ≡ Some (beside path name)
+sibling_path path name normal component allowed no_nul shorter shown free =
+    let parts = and_parts (is_kept name) (not (list_any is_slash name)) component in
+    let may : MayEnd name =
+    record { kept = parts.0; one = not-true (list_any is_slash name) parts.1; allowed = allowed; no_nul = no_nul } in
+    let there = reads_so (beside path name) shown free in
+    cond-true (is_component name) (path_of (beside path name)) None component
+    ∙ elim (last_of path) [
+      | inl whole ↦
+          let last = ap length (file_name_whole path whole) in
+          let short : length name ≤ 1024 = omega (arith, last, normal-short path normal) in
+          there name (beside_whole path name whole) (read_whole name may short)
+      | inr cut ↦
+          let here = ap (λ (p : List ℕ). beside p name) cut.whole ∙ beside_under cut.front cut.last name cut.one in
+          let before = subst (λ (p : List ℕ). is_normal p ≡ true) cut.whole normal in
+          let last = ap file_name_of cut.whole ∙ file_name_under cut.front cut.last cut.one in
+          let short : length name ≤ length cut.last = omega (arith, ap length last) in
+          there (under cut.front name) here (read_under name may cut.front cut.last cut.one before short)
+    ]
+
+-- ---- suffixes
+
+differ : (m n : ℕ) → m < n → m ≡ n → ⊥
+differ m n below e = omega arith
+
+unlike_end : (xs ys : List ℕ) (x y : ℕ) → x < y → xs ++ x ∷ [] ≡ ys ++ y ∷ [] → ⊥
+unlike_end xs ys x y below is = differ x y below (same_from_push xs ys x y is).1
+
+-- a text whose last byte is below `p` is the path of no temporary file, and not that of the intent
+module _ (body : List ℕ) (last : ℕ) (low : last < 112) where
+  end_shown : is_temp (body ++ last ∷ []) ≡ false
+  unfolding is_temp
+  end_shown = elim (cases_Bool (is_temp (body ++ last ∷ []))) [
+    | inl temp ↦
+        let whole = body ++ last ∷ [] in
+        let stem = take (length whole - 4) whole in
+        let cut : whole ≡ stem ++ temp_end = (ends_is Decides-eqb whole temp_end (is_temp whole) refl).0 temp in
+        let behind = sym (append_assoc stem (46 ∷ 116 ∷ 109 ∷ []) (112 ∷ [])) in
+        absurd (unlike_end body (stem ++ (46 ∷ 116 ∷ 109 ∷ [])) last 112 low (cut ∙ behind))
+    | inr shown ↦ shown
+  ]
+
+  end_free : bytes_eq (body ++ last ∷ []) intent ≡ false
+  end_free = elim (cases_Bool (bytes_eq (body ++ last ∷ []) intent)) [
+    | inl same ↦
+        let is = (bytes_eq-Decides (body ++ last ∷ []) intent).0 same in
+        absurd (unlike_end body (take 16 intent) last 116 (omega arith) is)
+    | inr free ↦ free
+  ]
+
+-- the text ends in such a byte
+record EndsLow (text : List ℕ) : Type 0 where
+  body : List ℕ
+  last : ℕ
+  low : last < 112
+  whole : text ≡ body ++ last ∷ []
+
+suffix_low : (suffix : Suffix) (front stem : List ℕ) → EndsLow (front ++ (stem ++ suffix_text suffix))
+suffix_low Conf front stem =
+    let body = front ++ (stem ++ (46 ∷ 99 ∷ 111 ∷ 110 ∷ [])) in
+    record { body = body; last = 102; low = lit< tt; whole = simp append_assoc }
+suffix_low Efi front stem =
+    let body = front ++ (stem ++ (46 ∷ 101 ∷ 102 ∷ [])) in
+    record { body = body; last = 105; low = lit< tt; whole = simp append_assoc }
+
+module _ (suffix : Suffix) (front name : List ℕ) (has : has_suffix suffix name ≡ true) where
+  named_low : EndsLow (front ++ name)
+  named_low =
+      let low = suffix_low suffix front (stem_of suffix name) in
+      subst (λ (n : List ℕ). EndsLow (front ++ n)) (sym (suffix_cut suffix name has)) low
+
+  suffix_shown : is_temp (front ++ name) ≡ false
+  suffix_shown = ap is_temp named_low.whole ∙ end_shown named_low.body named_low.last named_low.low
+
+  suffix_free : bytes_eq (front ++ name) intent ≡ false
+  suffix_free =
+      ap (λ (t : List ℕ). bytes_eq t intent) named_low.whole ∙ end_free named_low.body named_low.last named_low.low
+
+suffix_long : (suffix : Suffix) → 3 < length (suffix_text suffix)
+suffix_long Conf = lit< tt
+suffix_long Efi = lit< tt
+
+suffix_lacks : (suffix : Suffix)
+    → (has_byte 47 (suffix_text suffix) ≡ false) × (has_byte 0 (suffix_text suffix) ≡ false)
+suffix_lacks Conf = (refl, refl)
+suffix_lacks Efi = (refl, refl)
+
+-- the name ends in the suffix of an entry
+abbrev is_entry : List ℕ → Bool
+is_entry name = has_suffix Conf name || has_suffix Efi name
+
+with_suffix : (suffix : Suffix) (text stem : List ℕ) → text ≡ stem ++ suffix_text suffix → is_entry text ≡ true
+with_suffix Conf text stem is = or_left (has_suffix Conf text) (has_suffix Efi text) (suffix_there Conf text stem is)
+with_suffix Efi text stem is = or_right (has_suffix Conf text) (has_suffix Efi text) (suffix_there Efi text stem is)
+
+-- ---- names that may stand in place of a name
+
+-- one component that no path refuses, without NUL
+abbrev is_clean : List ℕ → Bool
+is_clean other = is_component other && not (is_refused other || has_byte 0 other)
+
+-- such a component of no more bytes than the name, with the suffix of an entry
+abbrev may_replace : List ℕ → List ℕ → Bool
+may_replace name other = is_clean other && nat_le (length other) (length name) && is_entry other
+
+replaced : (path other : List ℕ) → is_normal path ≡ true → may_replace (file_name_of path) other ≡ true
+    → sibling_of path other ≡ Some (beside path other)
+replaced path other normal may =
+    let name = file_name_of path in
+    let front = take (length path - length name) path in
+    let all = and_parts (is_clean other && nat_le (length other) (length name)) (is_entry other) may in
+    let most = and_parts (is_clean other) (nat_le (length other) (length name)) all.0 in
+    let some = and_parts (is_component other) (not (is_refused other || has_byte 0 other)) most.0 in
+    let none = or_parts (is_refused other) (has_byte 0 other) (not-true _ some.1) in
+    let there = sibling_path path other normal some.0 none.0 none.1 (leb-true (length other) (length name) most.1) in
+    elim (or_cases (has_suffix Conf other) (has_suffix Efi other) all.1) [
+      | inl conf ↦ there (suffix_shown Conf front other conf) (suffix_free Conf front other conf)
+      | inr efi ↦ there (suffix_shown Efi front other efi) (suffix_free Efi front other efi)
+    ]
+
+-- what the last component of a path keeps to
+record IsLast (name : List ℕ) : Type 0 where
+  one : has_byte 47 name ≡ false
+  no_nul : has_byte 0 name ≡ false
+  allowed : is_refused name ≡ false
+
+last_is : (path : List ℕ) → is_normal path ≡ true → IsLast (file_name_of path)
+last_is path normal = elim (last_of path) [
+  | inl whole ↦
+      let none = sym (ap (list_any is_refused) (one_component path whole)) ∙ none_refused path normal in
+      let allowed = (or_parts (is_refused path) false none).0 in
+      let is : IsLast path = record { one = whole; no_nul = normal-no_nul path normal; allowed = allowed } in
+      subst IsLast (sym (file_name_whole path whole)) is
+  | inr cut ↦
+      let before = components cut.front in
+      let cuts = ap components cut.whole ∙ one_more cut.front cut.last cut.one in
+      let refused = sym (ap (list_any is_refused) cuts) ∙ none_refused path normal in
+      let none = none-parts is_refused before (cut.last ∷ []) refused in
+      let bytes = sym (ap (has_byte 0) cut.whole) ∙ normal-no_nul path normal in
+      let no_nul = (none-parts (λ b. b == 0) cut.front (47 ∷ cut.last) bytes).1 in
+      let allowed = (or_parts (is_refused cut.last) false none.1).0 in
+      let is : IsLast cut.last = record { one = cut.one; no_nul = no_nul; allowed = allowed } in
+      subst IsLast (sym (ap file_name_of cut.whole ∙ file_name_under cut.front cut.last cut.one)) is
+]
+
+-- a text isn't one that is shorter
+unlike_short : (text short : List ℕ) → length short < length text → bytes_eq text short ≡ false
+unlike_short text short below = elim (cases_Bool (bytes_eq text short)) [
+  | inl same ↦ absurd (omega (arith, ap length ((bytes_eq-Decides text short).0 same)))
+  | inr other ↦ other
+]
+
+-- a text of more than one byte counts
+pub kept_from_long : (text : List ℕ) → 1 < length text → is_kept text ≡ true
+kept_from_long text long =
+    let some = ne_eqb (length text) 0 (λ e. omega arith) in
+    ap not (or_from (length text == 0) (bytes_eq text (46 ∷ [])) some (unlike_short text (46 ∷ []) long))
+
+-- a base, something behind it, and the suffix
+module _ (name base middle : List ℕ) (suffix : Suffix) where
+  abbrev other : List ℕ
+  other = base ++ (middle ++ suffix_text suffix)
+
+  other_length : length other ≡ length base + (length middle + length (suffix_text suffix))
+  other_length =
+      omega (arith, length-append base (middle ++ suffix_text suffix), length-append middle (suffix_text suffix))
+
+  module _ (c : ℕ) (in_base : has_byte c base ≡ false) (in_middle : has_byte c middle ≡ false) where
+    other_lacks : has_byte c (suffix_text suffix) ≡ false → has_byte c other ≡ false
+    other_lacks in_suffix =
+        let behind = none-append (λ b. b == c) middle (suffix_text suffix) in_middle in_suffix in
+        none-append (λ b. b == c) base (middle ++ suffix_text suffix) in_base behind
+
+  module _ (last : IsLast name) (some : 0 < length base) (shorter : length other ≤ length name) where
+    short : length name ≤ 251
+    short =
+        let parts = or_parts (bytes_eq name (46 ∷ 46 ∷ [])) (nat_lt 251 (length name)) last.allowed in
+        ltb-false 251 (length name) parts.1
+
+    long : 4 < length other
+    long = omega (arith, other_length, suffix_long suffix)
+
+    other_allowed : is_refused other ≡ false
+    other_allowed =
+        let unlike = unlike_short other (46 ∷ 46 ∷ []) (omega (arith, long)) in
+        let few = le-ltb 251 (length other) (omega (arith, short)) in
+        or_from (bytes_eq other (46 ∷ 46 ∷ [])) (nat_lt 251 (length other)) unlike few
+
+    replaces : has_byte 47 other ≡ false → has_byte 0 other ≡ false → may_replace name other ≡ true
+    replaces one no_nul =
+        let kept = kept_from_long other (omega (arith, long)) in
+        let component = and_from (is_kept other) (not (list_any is_slash other)) kept (ap not one) in
+        let none = ap not (or_from (is_refused other) (has_byte 0 other) other_allowed no_nul) in
+        let clean = and_from (is_component other) (not (is_refused other || has_byte 0 other)) component none in
+        let most = and_from (is_clean other) (nat_le (length other) (length name)) clean (le-leb _ _ shorter) in
+        let ends = with_suffix suffix other (base ++ middle) (sym (append_assoc base middle (suffix_text suffix))) in
+        and_from (is_clean other && nat_le (length other) (length name)) (is_entry other) most ends
+
+-- ---- numbers
+
+lacks_byte : (c : ℕ) (text : List ℕ) → AllByRecursion (λ b. b ≢ c) text → has_byte c text ≡ false
+lacks_byte c [] lacks = refl
+lacks_byte c (b ∷ text) lacks = or_from (b == c) (has_byte c text) (ne_eqb b c lacks.0) (lacks_byte c text lacks.1)
+
+-- a written number has no byte below the digits
+pub decimal_lacks : (c n : ℕ) → c < 48 → n ≤ 999999999 → list_any (λ b. b == c) (decimal n) ≡ false
+decimal_lacks c n low most = lacks_byte c (decimal n) (number_lacks c (decimal n) n low (decimal_number n most))
+
+done_lacks : (c done : ℕ) → c < 48 → (45 == c) ≡ false → done ≤ 999999999 → has_byte c (done_text_of done) ≡ false
+done_lacks c done low apart most = elim (cases_Bool (done == 0)) [
+  | inl none ↦ rw none refl
+  | inr some ↦ rw some (or_from (45 == c) (has_byte c (decimal done)) apart (decimal_lacks c done low most))
+]
+
+-- a number is written in no more bytes than it was read from
+decimal_shorter : (text : List ℕ) (n : ℕ) → IsNumber text n → length (decimal n) ≤ length text
+decimal_shorter text n is =
+    let below : digits_value 10 text < 10 ^ length text = digits_value-lt 10 text is.numeral.1 in
+    let fits = subst (λ m. m < 10 ^ length text) is.value below in
+    let most = number_bound text n is in
+    length-decimal-le (length text) n (omega (arith, is.numeral.0)) fits (omega arith)
+
+done_shorter : (text : List ℕ) (done : ℕ) → IsDone text done → length (done_text_of done) ≤ length text
+done_shorter text done (inl none) =
+    let written : length (done_text_of done) ≡ 0 = ap (λ n. length (done_text_of n)) none.1 in
+    omega arith
+done_shorter text done (inr some) =
+    let digits = 45 ∷ decimal done in
+    elim (cases_Bool (done == 0)) [
+      | inl left_out ↦
+          let written : length (done_text_of done) ≡ 0 = ap length (cond-true (done == 0) [] digits left_out) in
+          omega arith
+      | inr other ↦
+          let written = ap length (cond-false (done == 0) [] digits other) in
+          omega (arith, written, ap length some.1, decimal_shorter some.0 done some.2)
+    ]
+
+-- ---- the good and the bad name
+
+module _ (name base : List ℕ) (left done : ℕ) (suffix : Suffix) (read : IsCounted name base left done suffix) where
+  base_is : take (length base) name ≡ base
+  base_is = ap (take (length base)) read.parts ∙ take-append_seam base _
+
+  good_is : Some (base ++ suffix_text suffix) ≡ good_name_of name
+  good_is = rw (split_some name base left done suffix read, base_is) refl
+
+  bad_is : Some (written_name base 0 done suffix) ≡ bad_name_of name
+  bad_is = rw (split_some name base left done suffix read, base_is) refl
+
+  abbrev behind : List ℕ
+  behind = 43 ∷ (read.counter ++ suffix_text suffix)
+
+  base_lacks : (c : ℕ) → has_byte c name ≡ false → has_byte c base ≡ false
+  base_lacks c none = (none-parts (λ b. b == c) base behind (sym (ap (has_byte c) read.parts) ∙ none)).0
+
+  name_length : length name ≡ length base + (1 + (length read.counter + length (suffix_text suffix)))
+  name_length =
+      omega (arith, ap length read.parts, length-append base behind, length-append read.counter (suffix_text suffix))
+
+  -- the plus and the counter of a bad name
+  abbrev numbers : List ℕ
+  numbers = 43 ∷ (decimal 0 ++ done_text_of done)
+
+  numbers_lack : (c : ℕ) → c < 48 → (43 == c) ≡ false → (45 == c) ≡ false → has_byte c numbers ≡ false
+  numbers_lack c low plus hyphen =
+      let left_lacks = decimal_lacks c 0 low (lit≤ tt) in
+      let done_text_lacks = done_lacks c done low hyphen (reading_bounds name base left done suffix read).1 in
+      let both = none-append (λ b. b == c) (decimal 0) (done_text_of done) left_lacks done_text_lacks in
+      or_from (43 == c) (has_byte c (decimal 0 ++ done_text_of done)) plus both
+
+  numbers_shorter : length numbers ≤ 1 + length read.counter
+  numbers_shorter =
+      let counter = read.counter_is in
+      omega (
+        arith,
+        length-append (decimal 0) (done_text_of done),
+        ap length (decimal_digit 0 (lit< tt)),
+        counter.left_is.numeral.0,
+        done_shorter counter.done_text done counter.done_is,
+        ap length counter.parts,
+        length-append counter.left_text counter.done_text,
+      )
+
+  module _ (last : IsLast name) where
+    -- the base and the suffix may replace the name, with no slash, no NUL and no more bytes between them
+    between : (middle : List ℕ) → has_byte 47 middle ≡ false → has_byte 0 middle ≡ false
+        → length middle ≤ 1 + length read.counter → may_replace name (base ++ (middle ++ suffix_text suffix)) ≡ true
+    between middle one no_nul shorter =
+        let parts = other_length name base middle suffix in
+        let few : length (base ++ (middle ++ suffix_text suffix)) ≤ length name = omega (arith, parts, name_length) in
+        replaces name base middle suffix last read.some_base few
+        (other_lacks name base middle suffix 47 (base_lacks 47 last.one) one (suffix_lacks suffix).0)
+        (other_lacks name base middle suffix 0 (base_lacks 0 last.no_nul) no_nul (suffix_lacks suffix).1)
+
+    good_replaces : may_replace name (base ++ suffix_text suffix) ≡ true
+    good_replaces = between [] refl refl (omega arith)
+
+    bad_replaces : may_replace name (written_name base 0 done suffix) ≡ true
+    bad_replaces =
+        let parts = append_assoc (decimal 0) (done_text_of done) (suffix_text suffix) in
+        ap (λ (x : List ℕ). may_replace name (base ++ (43 ∷ x))) (sym parts)
+        ∙ between numbers (numbers_lack 47 (lit< tt) refl refl) (numbers_lack 0 (lit< tt) refl refl) numbers_shorter
+
+module _ (name : List ℕ) (none : IsUncounted name) where
+  no_good : None ≡ good_name_of name
+  no_good = rw (split_none name none) refl
+
+  no_bad : None ≡ bad_name_of name
+  no_bad = rw (split_none name none) refl
+
+none_some : (text : List ℕ) → None ≡ Some text → ⊥
+none_some text e = cc
+
+some_same : (a b : List ℕ) → Some a ≡ Some b → a ≡ b
+some_same a b e = cc
+
+-- what passes by each reading of a name passes, since a name with no reading has neither a good nor a bad name
+good_fits : (name good : List ℕ) → IsLast name → good_name_of name ≡ Some good → may_replace name good ≡ true
+good_fits name good last is = true_from_ne_false (may_replace name good) (λ fails.
+    let unread : IsUncounted name =
+    λ base left done suffix read.
+    let same = some_same (base ++ suffix_text suffix) good (good_is name base left done suffix read ∙ is) in
+    let fits = ap (may_replace name) (sym same) ∙ good_replaces name base left done suffix read last in
+    both_ways (may_replace name good) fails fits in
+    none_some good (no_good name unread ∙ is))
+
+bad_fits : (name bad : List ℕ) → IsLast name → bad_name_of name ≡ Some bad → may_replace name bad ≡ true
+bad_fits name bad last is = true_from_ne_false (may_replace name bad) (λ fails.
+    let unread : IsUncounted name =
+    λ base left done suffix read.
+    let same = some_same (written_name base 0 done suffix) bad (bad_is name base left done suffix read ∙ is) in
+    let fits = ap (may_replace name) (sym same) ∙ bad_replaces name base left done suffix read last in
+    both_ways (may_replace name bad) fails fits in
+    none_some bad (no_bad name unread ∙ is))
+
+pub good_path : (path good : List ℕ) → is_normal path ≡ true → good_name_of (file_name_of path) ≡ Some good
+    → sibling_of path good ≡ Some (beside path good)
+good_path path good normal is = replaced path good normal (good_fits (file_name_of path) good (last_is path normal) is)
+
+pub bad_path : (path bad : List ℕ) → is_normal path ≡ true → bad_name_of (file_name_of path) ≡ Some bad
+    → sibling_of path bad ≡ Some (beside path bad)
+bad_path path bad normal is = replaced path bad normal (bad_fits (file_name_of path) bad (last_is path normal) is)

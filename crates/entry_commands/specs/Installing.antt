@@ -1,0 +1,96 @@
+-- `install`: a unified kernel image comes to stand among the boot entries (profile).
+use Rattle.std.specs.Prelude.{ℕ, ◌≡◌, ◌==◌, Bool, true, false, not, ◌&&◌, ◌||◌, List, ◌++◌, codes, length, nat_eq, nat_le, is_none, Option, Some, None, Result, Ok, Err, MatchResult, if◌then◌else◌}
+use Rattle.std.specs.Char.{is_ascii_alphanumeric}
+use Rattle.std.specs.FinMap.{insert}
+use Rattle.std.specs.List.{list_all, list_any, starts_with}
+use Rattle.boot_base.specs.Paths.{Path, is_kept, is_slash}
+use Rattle.boot_base.specs.declared.refusal.Refusal.{Refusal}
+use Rattle.boot_base.specs.declared.refusal.Refusal.TheVariants as refusals
+use Rattle.boot_counter.specs.Counter.{suffix_text, written_name}
+use Rattle.boot_counter.specs.Splits.{has_suffix, number_in, split_of}
+use Rattle.boot_counter.specs.declared.counted.Suffix.TheVariants.{Efi}
+use Rattle.boot_folder.specs.Missing.{text_of as missing_text}
+use Rattle.boot_folder.specs.Records.{Unfit, NotPe, NotUki, uki_of}
+use Rattle.boot_machine.specs.Disk.{Files}
+use Rattle.command_plans.specs.Answers.{Answer, answered, done}
+use Rattle.command_reads.specs.Files.{bytes_at, if_given}
+use Rattle.command_reads.specs.Refusing.{◌>>=◌, path_in, path_under, printed_path}
+use Rattle.command_reads.specs.Saying.{UnsaidFor}
+use Rattle.command_reads.specs.declared.saying.Unsaid.{Unsaid}
+use Rattle.entry_commands.specs.declared.install.Installation.{Installation}
+use Rattle.menu_order.specs.declared.item.MenuItem.{MenuItem}
+use Rattle.pe_reader.specs.Reasons.{text_of}
+
+-- a byte of a name: a letter or digit of ASCII, or one of . _ ~ ^ + -
+abbrev pub is_name_byte : ℕ → Bool
+is_name_byte byte = is_ascii_alphanumeric byte || list_any (λ other. other == byte) (codes "._~^+-")
+
+-- 1 to 128 such bytes, and no dot first
+abbrev pub is_name_text : List ℕ → Bool
+is_name_text name =
+    not (length name == 0) && nat_le (length name) 128 && list_all is_name_byte name && not (starts_with nat_eq name (codes "."))
+
+-- a name that an image may be installed under: with its suffix it has no boot counter
+abbrev pub is_install_name : List ℕ → Bool
+is_install_name name = is_name_text name && is_none (split_of (name ++ suffix_text Efi))
+
+abbrev pub install_name : List ℕ → Result (List ℕ) Refusal
+install_name name = if is_install_name name then Ok name else Err (refusals.BadName name)
+
+-- the tries that a word gives: one to nine digits, and not 0
+abbrev pub tries_or : List ℕ → Option ℕ → Result ℕ Refusal
+tries_or word None = Err (refusals.BadNumber word)
+tries_or word (Some tries) = if tries == 0 then Err (refusals.BadNumber word) else Ok tries
+
+abbrev pub tries_in : List ℕ → Result ℕ Refusal
+tries_in word = tries_or word (number_in word)
+
+-- the name of the image's file, with its tries as a boot counter where some are given
+abbrev pub image_name : List ℕ → Option ℕ → List ℕ
+image_name name None = name ++ suffix_text Efi
+image_name name (Some tries) = written_name name tries 0 Efi
+
+-- a name of an image's file
+pub record IsImageName (file : List ℕ) : Type 0 where
+  pub suffix : has_suffix Efi file ≡ true
+  pub kept : is_kept file ≡ true
+  pub no_slash : list_any is_slash file ≡ false
+
+abbrev pub image_name_in : List ℕ → Option (List ℕ) → Result (List ℕ) Refusal
+image_name_in name tries = install_name name >>= λ name. if_given tries_in tries >>= λ tries. Ok (image_name name tries)
+
+-- where an image of that file name stands in an ESP
+abbrev pub image_path : List ℕ → List ℕ → Result Path Refusal
+image_path word name = path_in word >>= λ esp. path_under esp (codes "EFI/Linux/" ++ name)
+
+-- the file, and where its bytes come to stand
+abbrev pub installation_of : List ℕ → List ℕ → Option (List ℕ) → List ℕ → Result Installation Refusal
+installation_of file name tries esp =
+    image_name_in name tries >>= λ image.
+    path_in file >>= λ from.
+    image_path esp image >>= λ target.
+    Ok (record { from = from; target = target })
+
+-- the entry that the menu would show, or why there is none
+abbrev pub entry_or : Result MenuItem Unfit → Result MenuItem Refusal
+entry_or (Ok item) = Ok item
+entry_or (Err (NotPe check)) = Err (refusals.NotPe (text_of check.reason) check.offset)
+entry_or (Err (NotUki missing)) = Err (refusals.NotUki (missing_text missing))
+
+-- the file is shown, or this is why it isn't
+abbrev pub ShowsEntry : Result (Unit {0}) Unsaid → Result MenuItem Refusal → Type 0
+ShowsEntry result entry = MatchResult result (λ _. (item : MenuItem) × (entry ≡ Ok item)) (λ unsaid. UnsaidFor unsaid entry)
+
+-- the bytes to be installed, of a file that is an entry of the menu where it comes to stand
+abbrev pub image_of : Files → Installation → Result (List ℕ) Refusal
+image_of view words = bytes_at view words.from >>= λ bytes. entry_or (uki_of words.target bytes) >>= λ item. Ok bytes
+
+abbrev pub installed : Files → Installation → List ℕ → Answer
+installed view words bytes = done (insert view words.target bytes) (codes "installed " ++ (printed_path words.target ++ codes "\n"))
+
+abbrev pub install_meant : Files → List ℕ → List ℕ → Option (List ℕ) → List ℕ → Result Answer Refusal
+install_meant view file name tries esp =
+    installation_of file name tries esp >>= λ words. image_of view words >>= λ bytes. Ok (installed view words bytes)
+
+abbrev pub install_answer : Files → List ℕ → List ℕ → Option (List ℕ) → List ℕ → Answer
+install_answer view file name tries esp = answered view (install_meant view file name tries esp)

@@ -1,0 +1,135 @@
+//! `boot`.
+ghost use Rattle.std.specs.Prelude.{◌≡◌, ◌∷◌, true, [], Ok, IfOk, IsTrue, Some, string_bytes};
+ghost use Rattle.std.specs.Option.{option_map};
+ghost use Rattle.boot_base.specs.Paths.{IsFree, path_of};
+ghost use Rattle.boot_folder.specs.Entries.{IsEntry, folder_of};
+ghost use Rattle.boot_machine.specs.Disk.{has};
+ghost use Rattle.boot_machine.specs.Reading.{OnlyReads};
+ghost use Rattle.boot_machine.specs.Sent.{seen};
+ghost use Rattle.command_plans.specs.Performs.{CountsStop};
+ghost use Rattle.command_plans.specs.Plans.{IsMakeable, Plans, PlansAs};
+ghost use Rattle.command_reads.specs.Saying.{CountsUnsaid};
+ghost use Rattle.entry_commands.specs.Booting.{boot_answer, boot_entry, boot_meant, booted_entry, booted_text, renamed_entry};
+
+use crate::folders::folders_in;
+use crate::menus::menu_at;
+use crate::moves::{already_there, is_there, plan_move, plan_nothing};
+use boot_base::{BootPath, Refusal};
+use boot_counter::{Counted, Suffix};
+use boot_folder::Folders;
+use boot_machine::Machine;
+use command_plans::{Plan, Stop, answered};
+use command_reads::{Unsaid, path_in, path_under};
+use menu_order::MenuItem;
+use std::alloc::{AllocError, Global};
+
+// What is told of an entry that stands at a path after the boot.
+fn booted_text(alloc: Global, path: &BootPath) -> Result<String, AllocError>
+    ensures { IfOk result (λ text. string_bytes text ≡ booted_text path.now) }
+{
+    format!(in alloc; "booted {path}\n")
+}
+
+// The folder of the files of a type.
+fn folder_of(folders: &Folders, suffix: Suffix) -> &BootPath
+    ensures { result.now ≡ folder_of folders.now suffix }
+{
+    match suffix {
+        Suffix::Conf => &folders.entries,
+        Suffix::Efi => &folders.images,
+    }
+}
+
+// The renaming of the entry at `from`. A machine that doesn't tell its files may give any path, so it is read anew.
+fn rename_entry<M: Machine>(
+    alloc: Global,
+    from: &BootPath,
+    to: BootPath,
+    machine: &mut M,
+) -> Result<Plan, Unsaid>
+    requires free { IsFree to }
+    requires there { IsTrue M.tells → has (seen (M.state machine.old)) from.now ≡ true }
+    requires read { IsTrue M.tells → path_of from.now ≡ Some from.now }
+    ensures plans { IsTrue M.tells
+        → PlansAs (M.state machine.old) result (renamed_entry (seen (M.state machine.old)) from.now to) }
+    ensures makeable { IfOk result (λ plan. IsMakeable plan.change) }
+    ensures reads { IsTrue M.tells → OnlyReads M.clock M.since M.state machine.old machine.new }
+    ensures counts { CountsUnsaid result (M.counts machine.old) (M.counts machine.new) }
+{
+    if is_there(&to, machine)? {
+        return Err(Unsaid::Refused(already_there(alloc, &to)?));
+    }
+    let from = path_in(alloc, from.as_str())?;
+    let text = booted_text(alloc, &to)?;
+    Ok(plan_move(alloc, &from, &to, text)?)
+}
+
+// A boot of the entry at a path in a folder, by its name after the boot.
+fn boot_named<M: Machine>(
+    alloc: Global,
+    folder: &BootPath,
+    path: &BootPath,
+    name: Option<String>,
+    machine: &mut M,
+) -> Result<Plan, Unsaid>
+    requires there { IsTrue M.tells → has (seen (M.state machine.old)) path.now ≡ true }
+    requires read { IsTrue M.tells → path_of path.now ≡ Some path.now }
+    ensures plans { IsTrue M.tells → PlansAs (M.state machine.old) result
+        (booted_entry (seen (M.state machine.old)) folder.now path.now (option_map string_bytes name)) }
+    ensures makeable { IfOk result (λ plan. IsMakeable plan.change) }
+    ensures reads { IsTrue M.tells → OnlyReads M.clock M.since M.state machine.old machine.new }
+    ensures counts { CountsUnsaid result (M.counts machine.old) (M.counts machine.new) }
+{
+    let Some(name) = name else {
+        return Ok(plan_nothing(booted_text(alloc, path)?));
+    };
+    let to = path_under(alloc, folder, name.as_str())?;
+    rename_entry(alloc, path, to, machine)
+}
+
+// A boot of an entry.
+fn boot_entry<M: Machine>(
+    alloc: Global,
+    folders: &Folders,
+    item: &MenuItem,
+    machine: &mut M,
+) -> Result<Plan, Unsaid>
+    requires there { IsTrue M.tells → has (seen (M.state machine.old)) item.now.path ≡ true }
+    requires read { IsTrue M.tells → path_of item.now.path ≡ Some item.now.path }
+    ensures plans { IsTrue M.tells → PlansAs (M.state machine.old) result
+        (boot_entry (seen (M.state machine.old)) folders.now item.now) }
+    ensures makeable { IfOk result (λ plan. IsMakeable plan.change) }
+    ensures reads { IsTrue M.tells → OnlyReads M.clock M.since M.state machine.old machine.new }
+    ensures counts { CountsUnsaid result (M.counts machine.old) (M.counts machine.new) }
+{
+    let name = Counted::booted_name(alloc, item.path.file_name())?;
+    let folder = folder_of(folders, item.suffix);
+    boot_named(alloc, folder, &item.path, name, machine)
+}
+
+fn boot<M: Machine>(alloc: Global, esp: &str, machine: &mut M) -> Result<Plan, Unsaid>
+    ensures plans { IsTrue M.tells
+        → PlansAs (M.state machine.old) result (boot_meant (seen (M.state machine.old)) esp.now) }
+    ensures makeable { IfOk result (λ plan. IsMakeable plan.change) }
+    ensures reads { IsTrue M.tells → OnlyReads M.clock M.since M.state machine.old machine.new }
+    ensures counts { CountsUnsaid result (M.counts machine.old) (M.counts machine.new) }
+{
+    let folders = folders_in(alloc, esp)?;
+    let menu = menu_at(alloc, &folders, machine)?;
+    match menu.first() {
+        Some(item) => boot_entry(alloc, &folders, item, machine),
+        None => Err(Unsaid::Refused(Refusal::NoEntries)),
+    }
+}
+
+/// What the counting of a boot of the first entry of the menu is going to do. Only headers and texts are read.
+pub fn plan_boot<M: Machine>(alloc: Global, esp: &str, machine: &mut M) -> Result<Plan, Stop>
+    ensures plans { IfOk result (λ plan. IsTrue M.tells
+        → Plans (M.state machine.old) plan (boot_answer (seen (M.state machine.old)) esp.now)) }
+    ensures makeable { IfOk result (λ plan. IsMakeable plan.change) }
+    ensures reads { IsTrue M.tells → OnlyReads M.clock M.since M.state machine.old machine.new }
+    ensures counts { CountsStop result (M.counts machine.old) (M.counts machine.new) }
+{
+    let plan = boot(alloc, esp, machine);
+    answered(alloc, plan)
+}

@@ -1,0 +1,270 @@
+//! `install`.
+ghost use Rattle.std.specs.Prelude.{◌≡◌, ◌≤◌, ◌<◌, length, true, IfOk, IfSome, IsTrue, OnOk, Result, string_bytes};
+ghost use Rattle.std.specs.List.{list_all};
+ghost use Rattle.std.specs.Option.{option_map};
+ghost use Rattle.boot_base.specs.Paths.{IsFree, file_name_of};
+ghost use Rattle.boot_counter.specs.Splits.{has_suffix};
+ghost use Rattle.boot_counter.specs.declared.counted.Suffix.TheVariants.{Efi};
+ghost use Rattle.boot_folder.specs.Items.{FailsAs, item_counts};
+ghost use Rattle.boot_folder.specs.Missing.{text_of as missing_text};
+ghost use Rattle.boot_folder.specs.Records.{Unfit, uki_of};
+ghost use Rattle.boot_machine.specs.Counts.{Counts};
+ghost use Rattle.boot_machine.specs.Disk.{State, has};
+ghost use Rattle.boot_machine.specs.Reading.{OnlyReads};
+ghost use Rattle.boot_machine.specs.Rows.{contents};
+ghost use Rattle.boot_machine.specs.Sent.{seen};
+ghost use Rattle.command_plans.specs.Performs.{CountsStop};
+ghost use Rattle.command_plans.specs.Plans.{CanCopy, IsMakeable, Plans, PlansAs};
+ghost use Rattle.command_reads.specs.Files.{if_given};
+ghost use Rattle.command_reads.specs.Refusing.{Means};
+ghost use Rattle.command_reads.specs.Saying.{CountsUnsaid, Says, UnsaidFor, unsaid_counts};
+ghost use Rattle.entry_commands.specs.Installing.{IsImageName, ShowsEntry, entry_or, image_name, image_name_in, image_of, image_path, install_answer, install_meant, install_name, installation_of, installed, is_install_name, is_name_byte, is_name_text, tries_in};
+ghost use Rattle.menu_order.specs.declared.item.MenuItem.{MenuItem};
+
+use boot_base::{BootPath, Bytes, PeText, Refusal, Target, Text};
+use boot_counter::{Counted, Suffix, read_count};
+use boot_folder::{ItemFault, Missing, uki_item};
+use boot_machine::Machine;
+use command_plans::{Change, Outcome, Plan, RefusalLine, Stop, answered};
+use command_reads::{Declined, Unsaid, not_pe, not_there, path_in, path_under, readable};
+use std::alloc::{AllocError, Global};
+
+/// The most bytes of a name.
+const NAME_LIMIT: usize = 128;
+
+/// What the words of an installation name.
+#[derive(Debug, Drop)]
+struct Installation {
+    /// The image.
+    from: BootPath,
+    /// Where its bytes come to stand.
+    target: BootPath,
+}
+
+fn has_name_bytes(name: &str) -> bool
+    ensures { result ≡ list_all is_name_byte name.now }
+{
+    name.bytes().all(|byte| byte.is_ascii_alphanumeric() || b"._~^+-".contains(&byte))
+}
+
+fn is_name_text(name: &str) -> bool
+    ensures { result ≡ is_name_text name.now }
+{
+    !name.is_empty()
+        && name.len() <= NAME_LIMIT
+        && has_name_bytes(name)
+        && !name.as_bytes().starts_with(b".")
+}
+
+fn is_install_name(alloc: Global, name: &str) -> Result<bool, AllocError>
+    ensures { IfOk result (λ is. is ≡ is_install_name name.now) }
+{
+    if !is_name_text(name) {
+        return Ok(false);
+    }
+    let file = format!(in alloc; "{name}.efi")?;
+    Ok(Counted::split(file.as_str()).is_none())
+}
+
+// The refusal of a name that no image may be installed under.
+fn check_name(alloc: Global, name: &str) -> Result<(), Declined>
+    ensures { Means (λ _. name.now) result (install_name name.now) }
+{
+    if is_install_name(alloc, name)? {
+        return Ok(());
+    }
+    let text = Text::of(alloc, name)?;
+    Err(Declined::Refused(Refusal::BadName { text }))
+}
+
+fn tries_in(alloc: Global, word: &str) -> Result<u32, Declined>
+    ensures means { Means (λ tries. tries) result (tries_in word.now) }
+    ensures limit { IfOk result (λ tries. tries ≤ 999999999) }
+{
+    match read_count(word) {
+        Some(tries) if tries > 0 => Ok(tries),
+        _ => {
+            let text = Text::of(alloc, word)?;
+            Err(Declined::Refused(Refusal::BadNumber { text }))
+        }
+    }
+}
+
+// The tries that an option gives, if it is there.
+fn given_tries(alloc: Global, word: Option<&Text>) -> Result<Option<u32>, Declined>
+    ensures means { Means (λ tries. tries) result (if_given tries_in (option_map (λ text. text.now) word.entry)) }
+    ensures limit { IfOk result (λ tries. IfSome tries (λ n. n ≤ 999999999)) }
+{
+    match word {
+        Some(word) => Ok(Some(tries_in(alloc, word.as_str())?)),
+        None => Ok(None),
+    }
+}
+
+// The name of the image's file.
+fn image_name(alloc: Global, name: &str, tries: Option<u32>) -> Result<String, AllocError>
+    requires some { 0 < length name.now }
+    requires limit { IfSome tries (λ n. n ≤ 999999999) }
+    ensures { IfOk result (λ file. string_bytes file ≡ image_name name.now tries) }
+{
+    match tries {
+        Some(tries) => Counted::joined(alloc, name, tries, 0, Suffix::Efi),
+        None => format!(in alloc; "{name}.efi"),
+    }
+}
+
+fn image_name_in(alloc: Global, name: &str, tries: Option<&Text>) -> Result<String, Declined>
+    ensures means { Means string_bytes result (image_name_in name.now (option_map (λ text. text.now) tries.entry)) }
+    ensures name { IfOk result (λ file. IsImageName (string_bytes file)) }
+{
+    check_name(alloc, name)?;
+    let tries = given_tries(alloc, tries)?;
+    Ok(image_name(alloc, name, tries)?)
+}
+
+fn image_path(alloc: Global, esp: &str, name: &str) -> Result<BootPath, Declined>
+    ensures { Means (λ path. path) result (image_path esp.now name.now) }
+{
+    let esp = path_in(alloc, esp)?;
+    let below = format!(in alloc; "EFI/Linux/{name}")?;
+    path_under(alloc, &esp, below.as_str())
+}
+
+fn installation_of(
+    alloc: Global,
+    file: &str,
+    name: &str,
+    tries: Option<&Text>,
+    esp: &str,
+) -> Result<Installation, Declined>
+    ensures means { Means (λ words. words) result
+        (installation_of file.now name.now (option_map (λ text. text.now) tries.entry) esp.now) }
+    ensures free { IfOk result (λ words. IsFree words.target) }
+    ensures image { IfOk result (λ words. has_suffix Efi (file_name_of words.target) ≡ true) }
+{
+    let image = image_name_in(alloc, name, tries)?;
+    let from = path_in(alloc, file)?;
+    let target = image_path(alloc, esp, image.as_str())?;
+    Ok(Installation { from, target })
+}
+
+fn not_uki(alloc: Global, missing: Missing) -> Result<Refusal, AllocError>
+    ensures { IfOk result (λ why. why ≡ Refusal.NotUki (missing_text missing)) }
+{
+    let missing = Text::of(alloc, missing.as_str())?;
+    Ok(Refusal::NotUki { missing })
+}
+
+// Why nothing is installed of a file that is no entry.
+fn unfit(alloc: Global, fault: ItemFault) -> Unsaid
+    ensures meant { (entry : Result MenuItem Unfit) → FailsAs fault entry → UnsaidFor result (entry_or entry) }
+    ensures counts { (old new : Counts) → item_counts fault old new → unsaid_counts result old new }
+{
+    match fault {
+        ItemFault::Memory => Unsaid::Memory,
+        ItemFault::Disk => Unsaid::Disk,
+        ItemFault::NotPe { reason, offset } => match not_pe(alloc, reason, offset) {
+            Ok(why) => Unsaid::Refused(why),
+            Err(AllocError) => Unsaid::Memory,
+        },
+        ItemFault::NotUki { missing } => match not_uki(alloc, missing) {
+            Ok(why) => Unsaid::Refused(why),
+            Err(AllocError) => Unsaid::Memory,
+        },
+    }
+}
+
+// Whether the menu would show the file where it comes to stand. The entry itself isn't kept.
+fn check_entry<M: Machine>(
+    alloc: Global,
+    words: &Installation,
+    machine: &mut M,
+) -> Result<(), Unsaid>
+    requires there { IsTrue M.tells → has (M.state machine.old).files words.now.from ≡ true }
+    requires small { IsTrue M.tells → length (contents (M.state machine.old).files words.now.from) ≤ 268435456 }
+    requires image { has_suffix Efi (file_name_of words.now.target) ≡ true }
+    ensures says { IsTrue M.tells → ShowsEntry result
+        (entry_or (uki_of words.now.target (contents (M.state machine.old).files words.now.from))) }
+    ensures reads { IsTrue M.tells → OnlyReads M.clock M.since M.state machine.old machine.new }
+    ensures counts { CountsUnsaid result (M.counts machine.old) (M.counts machine.new) }
+{
+    let target = words.target.copy(alloc)?;
+    match uki_item(alloc, machine, &words.from, target) {
+        Ok(_) => Ok(()),
+        Err(fault) => Err(unfit(alloc, fault)),
+    }
+}
+
+// Whether the file can be installed: it has no more bytes than are read, and is an entry.
+fn check_image<M: Machine>(
+    alloc: Global,
+    words: &Installation,
+    machine: &mut M,
+) -> Result<(), Unsaid>
+    requires image { has_suffix Efi (file_name_of words.now.target) ≡ true }
+    ensures says { IsTrue M.tells → Says (λ _. contents (seen (M.state machine.old)) words.now.from) result
+        (image_of (seen (M.state machine.old)) words.now) }
+    ensures can { OnOk result (IsTrue M.tells → CanCopy (M.state machine.old) words.now.from) }
+    ensures reads { IsTrue M.tells → OnlyReads M.clock M.since M.state machine.old machine.new }
+    ensures counts { CountsUnsaid result (M.counts machine.old) (M.counts machine.new) }
+{
+    readable(alloc, &words.from, machine)?;
+    check_entry(alloc, words, machine)
+}
+
+// The plan of an installation.
+fn plan_copy(alloc: Global, words: Installation) -> Result<Plan, AllocError>
+    requires { IsFree words.target }
+    ensures plans { IfOk result (λ plan. (s : State) → CanCopy s words.from
+        → Plans s plan (installed (seen s) words (contents (seen s) words.from))) }
+    ensures makeable { IfOk result (λ plan. IsMakeable plan.change) }
+{
+    let Installation { from, target } = words;
+    let text = format!(in alloc; "installed {target}\n")?;
+    let gone = RefusalLine::of(alloc, &not_there(alloc, &from)?)?;
+    let target = Target::of(alloc, target)?;
+    Ok(Plan {
+        change: Change::Copy { from, target, gone },
+        outcome: Outcome::Done,
+        text: Bytes::from(text.into_bytes()),
+    })
+}
+
+fn install<M: Machine>(
+    alloc: Global,
+    file: &str,
+    name: &str,
+    tries: Option<&Text>,
+    esp: &str,
+    machine: &mut M,
+) -> Result<Plan, Unsaid>
+    ensures plans { IsTrue M.tells → PlansAs (M.state machine.old) result
+        (install_meant (seen (M.state machine.old)) file.now name.now (option_map (λ text. text.now) tries.entry) esp.now) }
+    ensures makeable { IfOk result (λ plan. IsMakeable plan.change) }
+    ensures reads { IsTrue M.tells → OnlyReads M.clock M.since M.state machine.old machine.new }
+    ensures counts { CountsUnsaid result (M.counts machine.old) (M.counts machine.new) }
+{
+    let words = installation_of(alloc, file, name, tries, esp)?;
+    check_image(alloc, &words, machine)?;
+    Ok(plan_copy(alloc, words)?)
+}
+
+/// What the installation of an image is going to do: the file's bytes come to stand among the images, under the name and
+/// with the tries that are given. Of the file its headers and its os-release text are read; it is copied piece by piece.
+pub fn plan_install<M: Machine>(
+    alloc: Global,
+    file: &str,
+    name: &str,
+    tries: Option<&Text>,
+    esp: &str,
+    machine: &mut M,
+) -> Result<Plan, Stop>
+    ensures plans { IfOk result (λ plan. IsTrue M.tells → Plans (M.state machine.old) plan
+        (install_answer (seen (M.state machine.old)) file.now name.now (option_map (λ text. text.now) tries.entry) esp.now)) }
+    ensures makeable { IfOk result (λ plan. IsMakeable plan.change) }
+    ensures reads { IsTrue M.tells → OnlyReads M.clock M.since M.state machine.old machine.new }
+    ensures counts { CountsStop result (M.counts machine.old) (M.counts machine.new) }
+{
+    let plan = install(alloc, file, name, tries, esp, machine);
+    answered(alloc, plan)
+}

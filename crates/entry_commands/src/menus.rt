@@ -1,0 +1,50 @@
+//! The menu of the folders of boot entries.
+ghost use Rattle.std.specs.Prelude.{◌≡◌, ◌≢◌, IfOk, IsTrue};
+ghost use Rattle.boot_folder.specs.Entries.{IsEntry};
+ghost use Rattle.boot_folder.specs.Scanning.{scan_counts};
+ghost use Rattle.boot_folder.specs.declared.fault.ScanFault.TheVariants as scans;
+ghost use Rattle.boot_machine.specs.Counts.{Counts};
+ghost use Rattle.boot_machine.specs.Reading.{OnlyReads};
+ghost use Rattle.boot_machine.specs.Sent.{seen};
+ghost use Rattle.command_reads.specs.Saying.{CountsUnsaid, Says, unsaid_counts};
+ghost use Rattle.entry_commands.specs.Listing.{menu_at, unlisted};
+ghost use Rattle.menu_order.specs.Menu.{IsMenu};
+
+use boot_base::Refusal;
+use boot_folder::{Folders, ScanFault, scan_folders};
+use boot_machine::Machine;
+use command_reads::Unsaid;
+use menu_order::MenuItem;
+use std::alloc::Global;
+
+// Why nothing is said of folders that have no menu.
+fn unlisted(fault: ScanFault) -> Unsaid
+    requires { fault ≢ scans.LongEsp }
+    ensures { result ≡ unlisted fault }
+{
+    match fault {
+        ScanFault::Memory => Unsaid::Memory,
+        ScanFault::Disk => Unsaid::Disk,
+        ScanFault::TooMany { count } => Unsaid::Refused(Refusal::TooMany { count }),
+        ScanFault::LongEsp => unreachable!(),
+    }
+}
+
+/// The menu of two folders.
+pub(crate) fn menu_at<M: Machine>(
+    alloc: Global,
+    folders: &Folders,
+    machine: &mut M,
+) -> Result<Vec<MenuItem>, Unsaid>
+    ensures says { IsTrue M.tells
+        → Says (λ menu. menu.items) result (menu_at (seen (M.state machine.old)) folders.now) }
+    ensures menu { IfOk result (λ menu. IsTrue M.tells
+        → IsMenu (IsEntry (M.state machine.old).files folders.now) menu.items) }
+    ensures reads { IsTrue M.tells → OnlyReads M.clock M.since M.state machine.old machine.new }
+    ensures counts { CountsUnsaid result (M.counts machine.old) (M.counts machine.new) }
+{
+    match scan_folders(alloc, machine, folders) {
+        Ok(menu) => Ok(menu),
+        Err(fault) => Err(unlisted(fault)),
+    }
+}

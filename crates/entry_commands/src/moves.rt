@@ -1,0 +1,84 @@
+//! Boot files that get another name.
+ghost use Rattle.std.specs.Prelude.{◌≡◌, true, false, IfOk, IsTrue, string_bytes};
+ghost use Rattle.boot_base.specs.Paths.{IsFree};
+ghost use Rattle.boot_machine.specs.Disk.{State, has};
+ghost use Rattle.boot_machine.specs.Reading.{OnlyReads};
+ghost use Rattle.boot_machine.specs.Rows.{move_in};
+ghost use Rattle.boot_machine.specs.Sent.{seen};
+ghost use Rattle.boot_machine.specs.Counts.{CountsDisk};
+ghost use Rattle.command_plans.specs.Answers.{done};
+ghost use Rattle.command_plans.specs.Plans.{IsMakeable, Plans};
+ghost use Rattle.command_reads.specs.Refusing.{printed_path};
+ghost use Rattle.entry_commands.specs.Moving.{IsMove};
+
+use boot_base::{BootPath, Bytes, Refusal, Target};
+use boot_machine::{DiskFault, Machine};
+use command_plans::{Change, Outcome, Plan, RefusalLine};
+use command_reads::{not_there, printed, seen_size};
+use std::alloc::{AllocError, Global};
+
+/// Whether a boot file stands at a path.
+pub(crate) fn is_there<M: Machine>(path: &BootPath, machine: &mut M) -> Result<bool, DiskFault>
+    ensures there { IfOk result (λ is. IsTrue M.tells → is ≡ has (seen (M.state machine.old)) path.now) }
+    ensures reads { IsTrue M.tells → OnlyReads M.clock M.since M.state machine.old machine.new }
+    ensures counts { CountsDisk result (M.counts machine.old) (M.counts machine.new) }
+{
+    let size = seen_size(path, machine)?;
+    Ok(size.is_some())
+}
+
+/// The refusal of a path at which a file is there already.
+pub(crate) fn already_there(alloc: Global, path: &BootPath) -> Result<Refusal, AllocError>
+    ensures { IfOk result (λ why. why ≡ Refusal.TargetExists (printed_path path.now)) }
+{
+    let path = printed(alloc, path)?;
+    Ok(Refusal::TargetExists { path })
+}
+
+// The move, with what is printed where a machine has changed its mind about the two files.
+fn move_of(alloc: Global, from: &BootPath, to: &BootPath) -> Result<Change, AllocError>
+    ensures { IfOk result (IsMove from.now to.now) }
+{
+    let gone = RefusalLine::of(alloc, &not_there(alloc, from)?)?;
+    let exists = RefusalLine::of(alloc, &already_there(alloc, to)?)?;
+    let intent = Target::of(alloc, BootPath::intent(alloc)?)?;
+    Ok(Change::Move {
+        from: from.copy(alloc)?,
+        to: to.copy(alloc)?,
+        intent,
+        gone,
+        exists,
+    })
+}
+
+/// The plan of a move of the boot file at `from` to `to`, which is told by this text.
+pub(crate) fn plan_move(
+    alloc: Global,
+    from: &BootPath,
+    to: &BootPath,
+    text: String,
+) -> Result<Plan, AllocError>
+    requires free_from { IsFree from.now }
+    requires free_to { IsFree to.now }
+    ensures plans { IfOk result (λ plan. (s : State) → has (seen s) from.now ≡ true → has (seen s) to.now ≡ false
+        → Plans s plan (done (move_in from.now to.now (seen s)) (string_bytes text))) }
+    ensures makeable { IfOk result (λ plan. IsMakeable plan.change) }
+{
+    Ok(Plan {
+        change: move_of(alloc, from, to)?,
+        outcome: Outcome::Done,
+        text: Bytes::from(text.into_bytes()),
+    })
+}
+
+/// The plan of a command that has nothing to change, and is told by this text.
+pub(crate) fn plan_nothing(text: String) -> Plan
+    ensures plans { (s : State) → Plans s result (done (seen s) (string_bytes text)) }
+    ensures makeable { IsMakeable result.change }
+{
+    Plan {
+        change: Change::Nothing,
+        outcome: Outcome::Done,
+        text: Bytes::from(text.into_bytes()),
+    }
+}
