@@ -1,12 +1,14 @@
-//! The calls on a real folder, whose answers no clause tells.
+//! The calls on a real folder, whose answers no clause tells. A test is a table of steps.
 use boot_base::{BootPath, Target};
 use boot_machine::Machine;
 use host_machine::HostMachine;
 use std::alloc::{AllocError, Global};
-use std::fs::File;
+use std::fs::{File, OpenOptions};
 use std::io::Stderr;
+use std::os::unix::fs::symlink;
 use std::rt::Runtime;
 use std::test::Fail;
+use std::time::{Duration, SystemTime};
 use std::{env, fs, io, process};
 
 mod contents;
@@ -17,7 +19,55 @@ mod odd;
 mod runs;
 mod telling;
 
-type Host = HostMachine<HostRuntime, Stderr>;
+// A call of the machine that changes a file: the one at a path, or the path's temporary file.
+#[derive(Clone, Copy)]
+enum Act {
+    Create,
+    Append(&'static [u8]),
+    SyncFile,
+    UnlinkTemp,
+    // Renames the temporary file to the path.
+    RenameTemp,
+    // Renames the file at the path to that path.
+    Rename(&'static str),
+    Unlink,
+}
+
+// A change of the folder beside the machine.
+#[derive(Clone, Copy)]
+enum Change {
+    MakeFolder(&'static str),
+    RemoveFolder(&'static str),
+    // A link to the first path at the second.
+    Link(&'static str, &'static str),
+    Write(&'static str, &'static [u8]),
+    // Writes a file that was last changed so many seconds after the start of 1970.
+    WriteAt(&'static str, &'static [u8], u64),
+}
+
+// What is done, and what must come of it.
+#[derive(Clone, Copy)]
+enum Step {
+    Does(&'static str, Act),
+    Fails(&'static str, Act),
+    // Whether the names are synced.
+    Syncs(bool),
+    // A file is written by its temporary name, in two pieces.
+    Puts(&'static str, &'static [u8], &'static [u8]),
+    Size(&'static str, Option<u64>),
+    // What a buffer of so many bytes, at most eight, gets from that place in a file.
+    Reads(&'static str, u64, usize, &'static [u8]),
+    // How many names are in a folder.
+    Names(&'static str, usize),
+    HasNames(&'static str),
+    // How often the disk has failed. The pipes never have.
+    Faults(u64),
+    Beside(Change),
+    // A file has these bytes.
+    Holds(&'static str, &'static [u8]),
+    // Nothing is at that path.
+    Lacks(&'static str),
+}
 
 // The name of a folder of this process' own.
 fn own_folder(rt: &HostRuntime) -> Result<String, AllocError> {
@@ -43,24 +93,147 @@ fn target(alloc: Global, path: &str) -> Result<Target, Fail> {
     Ok(Target::of(alloc, BootPath::read(alloc, path)?)?)
 }
 
-// Writes a file by its temporary name, in two pieces.
-fn put(machine: &mut Host, target: &Target, first: &[u8], second: &[u8]) -> Result<(), Fail> {
-    machine.create(&target.temp)?;
-    machine.append(&target.temp, first)?;
-    machine.append(&target.temp, second)?;
-    machine.sync_file(&target.temp)?;
-    machine.rename_temp(&target.temp, &target.path)?;
-    machine.sync_names()?;
+// Whether the call is answered Ok.
+fn is_done<R: Runtime<File = File> + AllocGlobal, E: Print + Drop>(
+    machine: &mut HostMachine<R, E>,
+    alloc: Global,
+    path: &str,
+    act: Act,
+) -> Result<bool, Fail> {
+    let target = target(alloc, path)?;
+    let answer = match act {
+        Act::Create => machine.create(&target.temp),
+        Act::Append(bytes) => machine.append(&target.temp, bytes),
+        Act::SyncFile => machine.sync_file(&target.temp),
+        Act::UnlinkTemp => machine.unlink_temp(&target.temp),
+        Act::RenameTemp => machine.rename_temp(&target.temp, &target.path),
+        Act::Rename(to) => machine.rename_name(&target.path, &BootPath::read(alloc, to)?),
+        Act::Unlink => machine.unlink(&target.path),
+    };
+    Ok(answer.is_ok())
+}
+
+// Whether each call of the write is answered Ok.
+fn is_put<R: Runtime<File = File> + AllocGlobal>(
+    machine: &mut HostMachine<R, Stderr>,
+    alloc: Global,
+    path: &str,
+    pieces: [&'static [u8]; 2],
+) -> Result<bool, Fail> {
+    let [first, second] = pieces;
+    let acts = [
+        Act::Create,
+        Act::Append(first),
+        Act::Append(second),
+        Act::SyncFile,
+        Act::RenameTemp,
+    ];
+    let mut is_put = true;
+    for act in acts {
+        is_put = is_done(machine, alloc, path, act)? && is_put;
+    }
+    Ok(machine.sync_names().is_ok() && is_put)
+}
+
+fn size_of<R: Runtime<File = File> + AllocGlobal>(
+    machine: &mut HostMachine<R, Stderr>,
+    alloc: Global,
+    path: &str,
+) -> Result<Option<u64>, Fail> {
+    Ok(machine.size(&BootPath::read(alloc, path)?)?)
+}
+
+// Whether a buffer of so many bytes gets these.
+fn gets<R: Runtime<File = File> + AllocGlobal>(
+    machine: &mut HostMachine<R, Stderr>,
+    path: &BootPath,
+    at: u64,
+    room: usize,
+    wanted: &[u8],
+) -> Result<bool, Fail> {
+    let mut into = [0u8; 8];
+    let count = machine.read_at(path, at, &mut into[..room.min(8)])?;
+    Ok(&into[..count.min(8)] == wanted)
+}
+
+fn count_names<R: Runtime<File = File> + AllocGlobal>(
+    machine: &mut HostMachine<R, Stderr>,
+    alloc: Global,
+    folder: &str,
+) -> Result<usize, Fail> {
+    Ok(machine.names(alloc, &BootPath::read(alloc, folder)?)?.len())
+}
+
+fn write_at(rt: &HostRuntime, path: &str, bytes: &[u8], seconds: u64) -> io::Result<()> {
+    fs::write(rt, path, bytes)?;
+    let file = OpenOptions::new().append(true).open(rt, path)?;
+    match SystemTime::UNIX_EPOCH.checked_add(Duration::from_secs(seconds)) {
+        Some(time) => file.set_modified(time),
+        None => Err(io::Error::from(io::ErrorKind::InvalidInput)),
+    }
+}
+
+fn make_change(rt: &HostRuntime, change: Change) -> io::Result<()> {
+    match change {
+        Change::MakeFolder(path) => fs::create_dir_all(rt, path),
+        Change::RemoveFolder(path) => fs::remove_dir_all(rt, path),
+        Change::Link(to, path) => symlink(rt, to, path),
+        Change::Write(path, bytes) => fs::write(rt, path, bytes),
+        Change::WriteAt(path, bytes, seconds) => write_at(rt, path, bytes, seconds),
+    }
+}
+
+fn holds(rt: &HostRuntime, path: &str, bytes: &[u8]) -> io::Result<bool> {
+    Ok(fs::read(rt, path)?.as_slice() == bytes)
+}
+
+// Whether of the step comes what must.
+fn is_right<R: Runtime<File = File> + AllocGlobal>(
+    rt: &HostRuntime,
+    machine: &mut HostMachine<R, Stderr>,
+    step: Step,
+) -> Result<bool, Fail> {
+    let alloc = rt.alloc();
+    match step {
+        Step::Does(path, act) => is_done(machine, alloc, path, act),
+        Step::Fails(path, act) => Ok(!is_done(machine, alloc, path, act)?),
+        Step::Syncs(wanted) => Ok(machine.sync_names().is_ok() == wanted),
+        Step::Puts(path, first, second) => is_put(machine, alloc, path, [first, second]),
+        Step::Size(path, wanted) => Ok(size_of(machine, alloc, path)? == wanted),
+        Step::Reads(path, at, room, wanted) => {
+            gets(machine, &BootPath::read(alloc, path)?, at, room, wanted)
+        }
+        Step::Names(folder, wanted) => Ok(count_names(machine, alloc, folder)? == wanted),
+        Step::HasNames(folder) => Ok(count_names(machine, alloc, folder)? > 0),
+        Step::Faults(wanted) => Ok(machine.disk_faults() == wanted && machine.pipe_faults() == 0),
+        Step::Beside(change) => Ok(make_change(rt, change).is_ok()),
+        Step::Holds(path, bytes) => Ok(holds(rt, path, bytes)?),
+        Step::Lacks(path) => Ok(!fs::exists(rt, path)?),
+    }
+}
+
+fn go_through<R: Runtime<File = File> + AllocGlobal>(
+    rt: &HostRuntime,
+    machine: &mut HostMachine<R, Stderr>,
+    steps: &[Step],
+) -> Result<(), Fail> {
+    for (place, step) in steps.iter().enumerate() {
+        if !is_right(rt, machine, *step)? {
+            return Err(Fail::new(format_args!("at step {place}")));
+        }
+    }
     Ok(())
 }
 
-// How often the disk and the pipes have failed.
-fn counts<R: Runtime<File = File> + AllocGlobal>(machine: &HostMachine<R, Stderr>) -> (u64, u64) {
-    (machine.disk_faults(), machine.pipe_faults())
-}
-
-// How many names are in a folder.
-fn count_names(machine: &mut Host, alloc: Global, folder: &str) -> Result<usize, Fail> {
-    let folder = BootPath::read(alloc, folder)?;
-    Ok(machine.names(alloc, &folder)?.len())
+// Goes through the steps in a folder of this process' own, with a machine over that system.
+fn run<R: Runtime<File = File> + AllocGlobal>(
+    rt: &HostRuntime,
+    system: R,
+    steps: &[Step],
+) -> Result<(), Fail> {
+    enter_own_folder(rt)?;
+    let mut machine = HostMachine::new(system, rt.stderr());
+    go_through(rt, &mut machine, steps)?;
+    remove_own_folder(rt)?;
+    Ok(())
 }

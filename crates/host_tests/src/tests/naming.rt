@@ -1,62 +1,43 @@
 // What a sync of names syncs, and in which order.
-use super::noted::{NotedSystem, take_notes};
-use super::{counts, enter_own_folder, remove_own_folder, target};
-use boot_base::BootPath;
-use boot_machine::Machine;
-use host_machine::HostMachine;
-use std::alloc::Global;
-use std::fs;
-use std::io::Stderr;
+use super::Act::{Create, Rename, RenameTemp};
+use super::Change::{MakeFolder, Write};
+use super::Step::{Beside, Does, Fails, Faults, Holds, Names, Size, Syncs};
+use super::noted::{NOTES, NotedSystem};
+use super::{Step, run};
 use std::test::Fail;
-
-type Noted = HostMachine<NotedSystem, Stderr>;
-
-// Looks at a file and at the names in a folder.
-fn look(machine: &mut Noted, alloc: Global) -> Result<(), Fail> {
-    machine.size(&BootPath::read(alloc, "k")?)?;
-    machine.names(alloc, &BootPath::read(alloc, "efi/loader")?)?;
-    Ok(())
-}
-
-// Makes a file, and moves another to a folder that isn't there, for which it is looked for once more.
-fn change(machine: &mut Noted, alloc: Global) -> Result<(), Fail> {
-    let made = target(alloc, "efi/EFI/a")?;
-    machine.create(&made.temp)?;
-    machine.rename_temp(&made.temp, &made.path)?;
-    let from = BootPath::read(alloc, "efi/b")?;
-    let to = BootPath::read(alloc, "new/c/d")?;
-    machine.rename_name(&from, &to)?;
-    let _ = machine.rename_name(&from, &to);
-    Ok(())
-}
-
-// What a sync of names opens.
-fn synced(rt: &HostRuntime, machine: &mut Noted) -> Result<String, Fail> {
-    take_notes(rt)?;
-    machine.sync_names()?;
-    Ok(take_notes(rt)?)
-}
 
 // Each renamed file, then each changed folder, the nearest first and the new name's before the old one's, and last
 // what was only looked at.
-const CHANGED: &str = "efi/EFI/a\nnew/c/d\nefi/EFI\nefi\nnew/c\nnew\n.\nefi/loader\n";
+const CHANGED: &[u8] = b"efi/EFI/a\nnew/c/d\nefi/EFI\nefi\nnew/c\nnew\n.\nefi/loader\n";
 
-const LOOKED_AT: &str = "efi/loader\nefi\n.\n";
+const LOOKED_AT: &[u8] = b"efi/loader\nefi\n.\n";
+
+const SYNCED: [Step; 20] = [
+    Beside(MakeFolder("efi/loader")),
+    Beside(Write("efi/b", b"b")),
+    // looks at a file, and at the names in a folder
+    Size("k", None),
+    Names("efi/loader", 0),
+    Beside(Write(NOTES, b"")),
+    Syncs(true),
+    Holds(NOTES, LOOKED_AT),
+    Size("k", None),
+    Names("efi/loader", 0),
+    // makes a file, and moves another to a folder that isn't there, for which it is looked for once more
+    Does("efi/EFI/a", Create),
+    Does("efi/EFI/a", RenameTemp),
+    Does("efi/b", Rename("new/c/d")),
+    Fails("efi/b", Rename("new/c/d")),
+    Beside(Write(NOTES, b"")),
+    Syncs(true),
+    Holds(NOTES, CHANGED),
+    Beside(Write(NOTES, b"")),
+    Syncs(true),
+    Holds(NOTES, b""),
+    Faults(1),
+];
 
 #[test]
 fn folders_with_all_above_them(rt: HostRuntime) -> Result<(), Fail> {
-    let alloc = rt.alloc();
-    enter_own_folder(&rt)?;
-    fs::create_dir_all(&rt, "efi/loader")?;
-    fs::write(&rt, "efi/b", b"b".as_slice())?;
-    let mut machine = HostMachine::new(NotedSystem { rt }, rt.stderr());
-    look(&mut machine, alloc)?;
-    assert_eq!(rt; synced(&rt, &mut machine)?.as_str(), LOOKED_AT);
-    look(&mut machine, alloc)?;
-    change(&mut machine, alloc)?;
-    assert_eq!(rt; synced(&rt, &mut machine)?.as_str(), CHANGED);
-    assert_eq!(rt; synced(&rt, &mut machine)?.as_str(), "");
-    assert_eq!(rt; counts(&machine), (1, 0));
-    remove_own_folder(&rt)?;
-    Ok(())
+    run(&rt, NotedSystem { rt }, &SYNCED)
 }

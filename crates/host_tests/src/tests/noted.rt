@@ -8,19 +8,13 @@ use std::rt::{Clock, Env, Files, Runtime};
 use std::time::Duration;
 use std::{fs, io};
 
-const NOTES: &str = "notes";
+// The file of the notes, a line for each.
+pub(super) const NOTES: &str = "notes";
 
 // `odd` is a folder that can't be synced, and another run renames `taken.tmp` as soon as it is opened.
 #[derive(Clone, Copy)]
 pub(super) struct NotedSystem {
     pub(super) rt: HostRuntime,
-}
-
-// What was opened since the last call, a line for each.
-pub(super) fn take_notes(rt: &HostRuntime) -> io::Result<String> {
-    let notes = fs::read_to_string(rt, NOTES)?;
-    fs::write(rt, NOTES, b"".as_slice())?;
-    Ok(notes)
 }
 
 impl NotedSystem {

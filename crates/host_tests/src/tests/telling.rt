@@ -1,6 +1,6 @@
 // What is told of a call that failed.
-use super::{enter_own_folder, remove_own_folder, target};
-use boot_machine::Machine;
+use super::Act::{self, Create, RenameTemp, Unlink};
+use super::{enter_own_folder, holds, is_done, remove_own_folder};
 use host_machine::{HostMachine, reports_are_wanted};
 use std::env::FillError;
 use std::fmt::Display;
@@ -44,14 +44,14 @@ boot_tools: remove e: No such file or directory (os error 2)
 boot_tools: rename e.tmp: No such file or directory (os error 2)
 ";
 
-// Three calls that fail.
-fn fail_thrice(rt: HostRuntime, are_wanted: bool) -> Result<u64, Fail> {
-    let alloc = rt.alloc();
+const FAILING: [(&str, Act); 3] = [("d", Create), ("e", Unlink), ("e", RenameTemp)];
+
+// How many of these calls fail.
+fn count_failing(rt: HostRuntime, are_wanted: bool) -> Result<u64, Fail> {
     let mut machine = HostMachine::new(rt, Notes { rt }).with_reports(are_wanted);
-    let (folder, missing) = (target(alloc, "d")?, target(alloc, "e")?);
-    let _ = machine.create(&folder.temp);
-    let _ = machine.unlink(&missing.path);
-    let _ = machine.rename_temp(&missing.temp, &missing.path);
+    for (path, act) in FAILING {
+        is_done(&mut machine, rt.alloc(), path, act)?;
+    }
     Ok(machine.disk_faults())
 }
 
@@ -59,10 +59,10 @@ fn fail_thrice(rt: HostRuntime, are_wanted: bool) -> Result<u64, Fail> {
 fn failures_are_told_where_it_is_wanted(rt: HostRuntime) -> Result<(), Fail> {
     enter_own_folder(&rt)?;
     fs::create_dir(&rt, "d")?;
-    assert_eq!(rt; fail_thrice(rt, false)?, 3);
+    assert_eq!(rt; count_failing(rt, false)?, 3);
     assert!(rt; !fs::exists(&rt, "notes")?);
-    assert_eq!(rt; fail_thrice(rt, true)?, 3);
-    assert_eq!(rt; fs::read(&rt, "notes")?.as_slice(), TOLD.as_bytes());
+    assert_eq!(rt; count_failing(rt, true)?, 3);
+    assert!(rt; holds(&rt, "notes", TOLD.as_bytes())?);
     remove_own_folder(&rt)?;
     Ok(())
 }
