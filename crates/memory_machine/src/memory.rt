@@ -250,10 +250,17 @@ impl MemMachine {
         ensures told { IfOk result (λ machine. SameOrders self machine) }
     {
         let mut machine = self;
-        let disk = Disk::after(alloc, &machine.start, &machine.log)?;
-        let files = disk.left(choice)?;
+        let files = machine.left_files(alloc, choice)?;
         machine.note(Event::Stop(files))?;
         Ok(machine)
+    }
+
+    // The files that the chosen stop leaves.
+    fn left_files(&self, alloc: Global, choice: &CrashChoice) -> Result<FileList, AllocError>
+        ensures { IfOk result (λ files. IsLeft (mem_state self.now) choice.now.candidate choice.now.fill.items files) }
+    {
+        let disk = Disk::after(alloc, &self.start, &self.log)?;
+        disk.left(choice)
     }
 
     // Counts the call, and says how it is to fail, if it is to.
@@ -281,6 +288,7 @@ impl MemMachine {
         if self.log.reserve(1).is_err()
             || apply(&event, &mut self.files, &mut self.printed).is_err()
         {
+            drop(event);
             self.starve();
             return Err(AllocError);
         }
@@ -410,6 +418,7 @@ impl MemMachine {
     {
         let mode = self.next_call();
         if mode == Some(FailMode::Before) {
+            drop(event);
             self.skip();
             return Err(self.fail_disk());
         }
@@ -484,6 +493,7 @@ impl MemMachine {
         ensures reads { mem_reads self.new ≡ mem_reads self.old }
     {
         if self.next_call().is_some() {
+            drop(event);
             self.skip();
             return Err(self.fail_disk());
         }

@@ -9,7 +9,7 @@ use thiserror::Error;
 
 /// Why words are outside the grammar: the first reason, in this order. The reasons from
 /// `UnknownOption` to `UnknownBank` come at the first word, from the left, that has one.
-#[derive(Debug, PartialEq, Eq, Drop)]
+#[derive(Debug, Drop)]
 pub enum UsageReason {
     /// There are over 16,777,216 words, or one has over 1,048,576 bytes.
     TooLong,
@@ -38,7 +38,7 @@ pub enum UsageReason {
 }
 
 /// Why words give no command.
-#[derive(Debug, PartialEq, Eq, Drop, Error)]
+#[derive(Debug, Drop, Error)]
 pub enum WordsFault {
     /// There is no memory for the command or the reason.
     #[error("out of memory")]

@@ -2,19 +2,19 @@
 ghost use Rattle.std.specs.Prelude.{◌≡◌, IfOk, IfErr, IsTrue, is_some, unwrap_or, option_map};
 ghost use Rattle.std.specs.Option.{option_copied};
 ghost use Rattle.tool_words.specs.Items.{items};
-ghost use Rattle.tool_words.specs.Meaning.{given as given_text, filled, build_words as build_meant, calculate_words as calculate_meant, esp as esp_meant, install_words as install_meant, bless_words as bless_meant};
+ghost use Rattle.tool_words.specs.Meaning.{given as given_text, required, filled, build_words as build_meant, calculate_words as calculate_meant, esp as esp_meant, install_words as install_meant, bless_words as bless_meant};
 ghost use Rattle.tool_words.specs.Answers.{FaultIs};
 ghost use Rattle.tool_words.specs.Shown.{texts};
 ghost use Rattle.tool_words.specs.Holding.{slot, operand_at};
-ghost use Rattle.tool_words.specs.Reading.{found_shown};
+ghost use Rattle.tool_words.specs.Reading.{found_shown, values_in};
 ghost use Rattle.word_grammar.specs.declared.grammar.CommandName.TheVariants.{Build, Calculate, Image};
-ghost use Rattle.word_grammar.specs.declared.grammar.OptionName.TheVariants.{EspPath};
+ghost use Rattle.word_grammar.specs.declared.grammar.OptionName.TheVariants.{Stub, Linux, Output, OsRelease, Cmdline, Sbat, Bank, Phase, EspPath};
 
 use crate::command::{BlessWord, BuildWords, CalculateWords, Command, Given};
 use crate::fault::WordsFault;
 use crate::found::Found;
 use crate::scan::collect;
-use boot_base::Text;
+use boot_base::{Text, TextList};
 use std::alloc::{AllocError, Global};
 use word_grammar::{CommandName, OptionName};
 
@@ -64,24 +64,98 @@ fn esp(alloc: Global, found: &Found) -> Result<Text, AllocError>
     text(alloc, found.value(OptionName::EspPath), "efi")
 }
 
+/// The paths that `ukify build` requires: the stub, the kernel, and the output.
+fn required_paths(alloc: Global, found: &Found) -> Result<(Text, Text, Text), AllocError>
+    ensures { IfOk result (λ paths. paths ≡ (required (slot found.now Stub), required (slot found.now Linux), required (slot found.now Output))) }
+{
+    let stub = text(alloc, found.value(OptionName::Stub), "")?;
+    let linux = text(alloc, found.value(OptionName::Linux), "")?;
+    let output = text(alloc, found.value(OptionName::Output), "")?;
+    Ok((stub, linux, output))
+}
+
+/// The parts of `ukify build` that are a text or the path of a file: the os-release text, the kernel's
+/// command line, and more SBAT lines.
+fn given_parts(
+    alloc: Global,
+    found: &Found,
+) -> Result<(Option<Given>, Option<Given>, Option<Given>), AllocError>
+    ensures { IfOk result (λ parts. parts ≡ (option_map given_text (slot found.now OsRelease), option_map given_text (slot found.now Cmdline), option_map given_text (slot found.now Sbat))) }
+{
+    let osrel = optional_given(alloc, found.value(OptionName::OsRelease))?;
+    let cmdline = optional_given(alloc, found.value(OptionName::Cmdline))?;
+    let sbat = optional_given(alloc, found.value(OptionName::Sbat))?;
+    Ok((osrel, cmdline, sbat))
+}
+
+/// The texts of four options, where they are given.
+fn optional_texts(
+    alloc: Global,
+    found: &Found,
+    first: OptionName,
+    second: OptionName,
+    third: OptionName,
+    fourth: OptionName,
+) -> Result<(Option<Text>, Option<Text>, Option<Text>, Option<Text>), AllocError>
+    ensures { IfOk result (λ texts. texts ≡ (slot found.now first, slot found.now second, slot found.now third, slot found.now fourth)) }
+{
+    let first = optional(alloc, found.value(first))?;
+    let second = optional(alloc, found.value(second))?;
+    let third = optional(alloc, found.value(third))?;
+    let fourth = optional(alloc, found.value(fourth))?;
+    Ok((first, second, third, fourth))
+}
+
+/// All values of two options in the words after a command, each in order.
+fn collect_both(
+    alloc: Global,
+    command: CommandName,
+    first: OptionName,
+    second: OptionName,
+    words: &[String],
+) -> Result<(TextList, TextList), WordsFault>
+    ensures values { IfOk result (λ lists. lists ≡ (values_in command (texts words.now) first, values_in command (texts words.now) second)) }
+    ensures fault { IfErr result (λ fault. FaultIs fault (items command (texts words.now))) }
+{
+    let first = collect(alloc, command, first, words)?;
+    let second = collect(alloc, command, second, words)?;
+    Ok((first, second))
+}
+
+/// The names of the banks and the phase paths in the words after a command, each in order.
+fn banks_and_phases(
+    alloc: Global,
+    command: CommandName,
+    words: &[String],
+) -> Result<(TextList, TextList), WordsFault>
+    ensures values { IfOk result (λ lists. lists ≡ (values_in command (texts words.now) Bank, values_in command (texts words.now) Phase)) }
+    ensures fault { IfErr result (λ fault. FaultIs fault (items command (texts words.now))) }
+{
+    collect_both(alloc, command, OptionName::Bank, OptionName::Phase, words)
+}
+
 /// The fields of `ukify build`. Its required options have been looked for.
 fn build_words(alloc: Global, found: &Found, words: &[String]) -> Result<BuildWords, WordsFault>
     ensures filled { IfOk result (λ made. made ≡ build_meant (found_shown Build found.now (texts words.now))) }
     ensures fault { IfErr result (λ fault. FaultIs fault (items Build (texts words.now))) }
 {
-    let command = CommandName::Build;
-    let stub = text(alloc, found.value(OptionName::Stub), "")?;
-    let linux = text(alloc, found.value(OptionName::Linux), "")?;
-    let output = text(alloc, found.value(OptionName::Output), "")?;
-    let osrel = optional_given(alloc, found.value(OptionName::OsRelease))?;
-    let cmdline = optional_given(alloc, found.value(OptionName::Cmdline))?;
-    let sbat = optional_given(alloc, found.value(OptionName::Sbat))?;
-    let dtb = optional(alloc, found.value(OptionName::Devicetree))?;
-    let uname = optional(alloc, found.value(OptionName::Uname))?;
-    let splash = optional(alloc, found.value(OptionName::Splash))?;
-    let pcrpkey = optional(alloc, found.value(OptionName::Pcrpkey))?;
-    let initrds = collect(alloc, command, OptionName::Initrd, words)?;
-    let sections = collect(alloc, command, OptionName::Section, words)?;
+    let (initrds, sections) = collect_both(
+        alloc,
+        CommandName::Build,
+        OptionName::Initrd,
+        OptionName::Section,
+        words,
+    )?;
+    let (stub, linux, output) = required_paths(alloc, found)?;
+    let (osrel, cmdline, sbat) = given_parts(alloc, found)?;
+    let (dtb, uname, splash, pcrpkey) = optional_texts(
+        alloc,
+        found,
+        OptionName::Devicetree,
+        OptionName::Uname,
+        OptionName::Splash,
+        OptionName::Pcrpkey,
+    )?;
     let measure = found.value(OptionName::Measure).is_some();
     Ok(BuildWords {
         stub,
@@ -109,18 +183,24 @@ fn calculate_words(
     ensures filled { IfOk result (λ made. made ≡ calculate_meant (found_shown Calculate found.now (texts words.now))) }
     ensures fault { IfErr result (λ fault. FaultIs fault (items Calculate (texts words.now))) }
 {
-    let command = CommandName::Calculate;
+    let (banks, phases) = banks_and_phases(alloc, CommandName::Calculate, words)?;
     let linux = text(alloc, found.value(OptionName::Linux), "")?;
-    let osrel = optional(alloc, found.value(OptionName::Osrel))?;
-    let cmdline = optional(alloc, found.value(OptionName::Cmdline))?;
-    let initrd = optional(alloc, found.value(OptionName::Initrd))?;
-    let splash = optional(alloc, found.value(OptionName::Splash))?;
-    let dtb = optional(alloc, found.value(OptionName::Dtb))?;
-    let uname = optional(alloc, found.value(OptionName::Uname))?;
-    let sbat = optional(alloc, found.value(OptionName::Sbat))?;
-    let pcrpkey = optional(alloc, found.value(OptionName::Pcrpkey))?;
-    let banks = collect(alloc, command, OptionName::Bank, words)?;
-    let phases = collect(alloc, command, OptionName::Phase, words)?;
+    let (osrel, cmdline, initrd, splash) = optional_texts(
+        alloc,
+        found,
+        OptionName::Osrel,
+        OptionName::Cmdline,
+        OptionName::Initrd,
+        OptionName::Splash,
+    )?;
+    let (dtb, uname, sbat, pcrpkey) = optional_texts(
+        alloc,
+        found,
+        OptionName::Dtb,
+        OptionName::Uname,
+        OptionName::Sbat,
+        OptionName::Pcrpkey,
+    )?;
     Ok(CalculateWords {
         linux,
         osrel,
@@ -155,10 +235,8 @@ fn image(alloc: Global, found: &Found, words: &[String]) -> Result<Command, Word
     ensures filled { IfOk result (λ made. made ≡ filled Image (found_shown Image found.now (texts words.now))) }
     ensures fault { IfErr result (λ fault. FaultIs fault (items Image (texts words.now))) }
 {
-    let command = CommandName::Image;
     let file = first(alloc, found)?;
-    let banks = collect(alloc, command, OptionName::Bank, words)?;
-    let phases = collect(alloc, command, OptionName::Phase, words)?;
+    let (banks, phases) = banks_and_phases(alloc, CommandName::Image, words)?;
     Ok(Command::Image {
         file,
         banks,
