@@ -1,0 +1,159 @@
+//! The files of a machine, read, written and told.
+use crate::fault::StoryFault;
+use crate::samples::{Sample, sample_of};
+use boot_base::{BootPath, Target, ends_as_temp};
+use boot_machine::Machine;
+use install_steps::{put_in_place, recover, settle, write_bytes};
+use memory_machine::MemMachine;
+use std::alloc::{AllocError, Global};
+
+/// The folders of boot entries.
+pub(crate) const FOLDERS: [&str; 2] = ["efi/loader/entries", "efi/EFI/Linux"];
+
+/// How many calls of the machine `put` makes.
+pub(crate) const CALLS_OF_PUT: u64 = 7;
+
+fn intent_target(alloc: Global) -> Result<Target, AllocError> {
+    let path = BootPath::intent(alloc)?;
+    Target::of(alloc, path)
+}
+
+/// Writes a file, after what a stop has left is finished.
+pub(crate) fn put(
+    alloc: Global,
+    machine: &mut MemMachine,
+    path: &str,
+    bytes: &[u8],
+) -> Result<(), StoryFault> {
+    let target = Target::of(alloc, BootPath::read(alloc, path)?)?;
+    let intent = Target::of(alloc, BootPath::intent(alloc)?)?;
+    recover(alloc, machine, &intent)?;
+    write_bytes(machine, &target, bytes)?;
+    Ok(())
+}
+
+/// Writes the intent of a rename.
+pub(crate) fn put_intent(
+    alloc: Global,
+    machine: &mut MemMachine,
+    bytes: &[u8],
+) -> Result<(), StoryFault> {
+    let target = intent_target(alloc)?;
+    settle(machine)?;
+    machine.create(&target.temp)?;
+    machine.append(&target.temp, bytes)?;
+    put_in_place(machine, &target)?;
+    Ok(())
+}
+
+/// The bytes of the file at a path, if it is there.
+pub(crate) fn bytes_at(
+    alloc: Global,
+    machine: &mut MemMachine,
+    path: &BootPath,
+) -> Result<Option<Vec<u8>>, StoryFault> {
+    let Some(size) = machine.size(path)? else {
+        return Ok(None);
+    };
+    let mut bytes = vec![in alloc; 0u8; size as usize]?;
+    machine.read_at(path, 0, &mut bytes)?;
+    Ok(Some(bytes))
+}
+
+/// The names of the files directly in a folder, in order.
+pub(crate) fn names_in(
+    alloc: Global,
+    machine: &mut MemMachine,
+    folder: &BootPath,
+) -> Result<Vec<String>, StoryFault> {
+    let mut names = Vec::new(alloc);
+    for name in machine.names(alloc, folder)? {
+        names.push(String::from_str(alloc, name.as_str())?)?;
+    }
+    names.sort()?;
+    Ok(names)
+}
+
+// A name, and what its file has. Of a temporary file the name alone is told.
+fn file_text(
+    alloc: Global,
+    machine: &mut MemMachine,
+    samples: &[Sample],
+    folder: &BootPath,
+    name: &str,
+) -> Result<String, StoryFault> {
+    if ends_as_temp(name) {
+        return Ok(String::from_str(alloc, name)?);
+    }
+    let path = BootPath::under(alloc, folder, name)?;
+    let bytes = bytes_at(alloc, machine, &path)?.unwrap_or(Vec::new(alloc));
+    match sample_of(samples, bytes.as_slice()) {
+        Some(sample) => Ok(format!(in alloc; "{name} = {sample}")?),
+        None => {
+            let count = bytes.len();
+            Ok(format!(in alloc; "{name}, {count} bytes")?)
+        }
+    }
+}
+
+/// The files directly in a folder, one line for each.
+pub(crate) fn folder_text(
+    alloc: Global,
+    machine: &mut MemMachine,
+    samples: &[Sample],
+    folder: &str,
+) -> Result<String, StoryFault> {
+    let folder = BootPath::read(alloc, folder)?;
+    let mut text = String::new(alloc);
+    for name in names_in(alloc, machine, &folder)? {
+        let file = file_text(alloc, machine, samples, &folder, name.as_str())?;
+        text.push_str(file.as_str())?;
+        text.push_str("\n")?;
+    }
+    if text.is_empty() {
+        text.push_str("none\n")?;
+    }
+    Ok(text)
+}
+
+// Adds the boot files of a folder, parted by `; `.
+fn add_boot_files(
+    alloc: Global,
+    machine: &mut MemMachine,
+    samples: &[Sample],
+    folder: &str,
+    text: &mut String,
+) -> Result<(), StoryFault> {
+    let folder = BootPath::read(alloc, folder)?;
+    for name in names_in(alloc, machine, &folder)? {
+        if ends_as_temp(name.as_str()) {
+            continue;
+        }
+        if !text.is_empty() {
+            text.push_str("; ")?;
+        }
+        let file = file_text(alloc, machine, samples, &folder, name.as_str())?;
+        text.push_str(file.as_str())?;
+    }
+    Ok(())
+}
+
+/// The boot files of both folders, and whether an intent is there.
+pub(crate) fn boot_files_text(
+    alloc: Global,
+    machine: &mut MemMachine,
+    samples: &[Sample],
+) -> Result<String, StoryFault> {
+    let mut text = String::new(alloc);
+    for folder in FOLDERS {
+        add_boot_files(alloc, machine, samples, folder, &mut text)?;
+    }
+    if text.is_empty() {
+        text.push_str("none")?;
+    }
+    let intent = BootPath::intent(alloc)?;
+    match machine.size(&intent)? {
+        Some(size) => Ok(format!(in alloc; "{text}, with the intent of {size} bytes")?),
+        None => Ok(text),
+    }
+}

@@ -1,0 +1,152 @@
+//! What stops of a run leave.
+use crate::fault::StoryFault;
+use crate::files::boot_files_text;
+use crate::replies::{acknowledged_lines, reply_text};
+use crate::samples::Sample;
+use crate::story::Story;
+use boot_run::run;
+use machine_fuse::Fuse;
+use memory_machine::{CrashChoice, MemMachine};
+use std::alloc::{AllocError, Global};
+use tool_words::split_line;
+
+/// More calls than a run of a story makes.
+const CALL_LIMIT: u64 = 10_000;
+
+/// How many candidates are tried after each stop.
+const CANDIDATES: u64 = 4;
+
+/// What a stop leaves that chooses this candidate.
+pub(crate) fn left_by(
+    alloc: Global,
+    machine: MemMachine,
+    candidate: u64,
+) -> Result<MemMachine, AllocError> {
+    let fill = b"!!!!!".to_vec(alloc)?;
+    machine.crash(alloc, &CrashChoice { candidate, fill })
+}
+
+/// A copy of the story's machine after so many calls of a run of these words, and the status.
+pub(crate) fn stopped_after(
+    alloc: Global,
+    story: &mut Story,
+    words: &str,
+    calls: u64,
+) -> Result<(MemMachine, u8), StoryFault> {
+    let words = split_line(alloc, words)?;
+    let mut fuse = Fuse::new(story.copied(alloc)?, calls);
+    let status = run(alloc, &words, &mut fuse);
+    Ok((fuse.into_inner(), status))
+}
+
+// Whether a fault has ended the run.
+fn is_stopped(status: u8) -> bool {
+    status == 3 || status == 4
+}
+
+/// The run whose stops are looked at.
+#[derive(Drop)]
+struct StoppedRun {
+    words: String,
+    /// How many bytes it prints.
+    length: usize,
+    /// What runs after each stop, if anything does.
+    next: Option<Vec<String>>,
+}
+
+// How many lines of a script are acknowledged, or whether a command is.
+fn acknowledged(
+    alloc: Global,
+    stopped: &StoppedRun,
+    machine: &MemMachine,
+) -> Result<usize, AllocError> {
+    let printed = machine.printed();
+    if stopped.words.as_str() == "script" {
+        return acknowledged_lines(alloc, printed);
+    }
+    Ok(usize::from(printed.len() >= stopped.length))
+}
+
+// What the next run comes to after a stop.
+fn next_text(
+    alloc: Global,
+    machine: &mut MemMachine,
+    samples: &[Sample],
+    words: &Vec<String>,
+) -> Result<String, StoryFault> {
+    let before = machine.printed().len();
+    let status = run(alloc, words, machine);
+    let printed = machine.printed();
+    let reply = reply_text(alloc, printed.get(before..).unwrap_or(printed), status)?;
+    let files = boot_files_text(alloc, machine, samples)?;
+    Ok(format!(in alloc; "{reply}left: {files}\n")?)
+}
+
+// What is left after a stop, or what the next run comes to.
+fn outcome_text(
+    alloc: Global,
+    stopped: &StoppedRun,
+    samples: &[Sample],
+    machine: MemMachine,
+    candidate: u64,
+) -> Result<String, StoryFault> {
+    let count = acknowledged(alloc, stopped, &machine)?;
+    let mut left = left_by(alloc, machine, candidate)?;
+    if let Some(words) = &stopped.next {
+        return next_text(alloc, &mut left, samples, words);
+    }
+    let files = boot_files_text(alloc, &mut left, samples)?;
+    Ok(format!(in alloc; "{count} acknowledged: {files}\n")?)
+}
+
+// Adds the outcomes of the stops after so many calls. Says whether the run is stopped.
+fn add_outcomes(
+    alloc: Global,
+    story: &mut Story,
+    stopped: &StoppedRun,
+    calls: u64,
+    texts: &mut Vec<String>,
+) -> Result<bool, StoryFault> {
+    let mut ended = false;
+    for candidate in 0..CANDIDATES {
+        let (machine, status) = stopped_after(alloc, story, stopped.words.as_str(), calls)?;
+        ended = !is_stopped(status);
+        let text = outcome_text(alloc, stopped, &story.samples, machine, candidate)?;
+        if !texts.contains(&text) {
+            texts.push(text)?;
+        }
+    }
+    Ok(!ended)
+}
+
+// Each outcome once, in the order of the calls.
+fn outcomes(
+    alloc: Global,
+    story: &mut Story,
+    stopped: &StoppedRun,
+) -> Result<Vec<String>, StoryFault> {
+    let mut texts = Vec::new(alloc);
+    for calls in 0..CALL_LIMIT {
+        if !add_outcomes(alloc, story, stopped, calls, &mut texts)? {
+            break;
+        }
+    }
+    Ok(texts)
+}
+
+/// What the stops of a run of these words leave, or what the next run comes to after each.
+pub(crate) fn stops_text(
+    alloc: Global,
+    story: &mut Story,
+    words: &str,
+    next: Option<Vec<String>>,
+) -> Result<String, StoryFault> {
+    let (machine, _) = stopped_after(alloc, story, words, u64::MAX)?;
+    let stopped = StoppedRun {
+        words: String::from_str(alloc, words)?,
+        length: machine.printed().len(),
+        next,
+    };
+    let texts = outcomes(alloc, story, &stopped)?;
+    Ok(texts.as_slice().concat(alloc)?)
+}
