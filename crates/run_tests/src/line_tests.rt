@@ -89,13 +89,12 @@ fn removals(rt: HostRuntime) -> Result<(), Fail> {
 const NOT_BUILT: &str = "refusal 99: not built yet\n";
 
 // Commands without an effect, and words that are no command.
-const OTHERS: [Row; 8] = [
+const OTHERS: [Row; 7] = [
     ("bootctl list", (1, "", "refusal 13: no entries\n")),
     (
         "bootctl list --esp-path=..",
         (1, "", "refusal 2: .. is not a path\n"),
     ),
-    ("boot", (1, "", NOT_BUILT)),
     ("demo 7 0", (1, "", NOT_BUILT)),
     ("", (2, "", "usage: no command\n")),
     ("bootctl lst", (2, "", "usage: unknown verb lst\n")),
