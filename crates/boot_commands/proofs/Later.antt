@@ -21,20 +21,9 @@ clean_later s now folder none clean name is_name temp = elim (cases_Bool (has no
 ]
 
 pub tidied_later : (s now : State) (c : Command) → NoNewTemp s now → Tidied c s.files → Tidied c now.files
-tidied_later s now (command.Build words) none tidied = tt
-tidied_later s now (command.Calculate words) none tidied = tt
-tidied_later s now (command.Inspect file) none tidied = tt
-tidied_later s now (command.Image file banks phases) none tidied = tt
-tidied_later s now (command.Identify file) none tidied = tt
-tidied_later s now (command.List esp) none tidied = tt
 tidied_later s now (command.Tidy esp) none tidied = by_folders (folders_of esp) tidied
   where
     by_folders : (read : Result Folders Refusal) → CleanAt s.files read → CleanAt now.files read
     by_folders (Err why) clean = tt
     by_folders (Ok folders) clean = (clean_later s now folders.entries none clean.0, clean_later s now folders.images none clean.1)
-tidied_later s now (command.Boot esp) none tidied = tt
-tidied_later s now (command.Unlink name esp) none tidied = tt
-tidied_later s now (command.Install file name tries esp) none tidied = tt
-tidied_later s now (command.Bless verb path esp) none tidied = tt
-tidied_later s now command.Script none tidied = tt
-tidied_later s now (command.Demo seed count) none tidied = tt
+tidied_later s now c none tidied = tt

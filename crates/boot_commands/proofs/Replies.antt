@@ -2,7 +2,6 @@
 use Rattle.std.proofs.Common.{ℕ, ◌<◌, ◌&&◌, ◌∷◌, [], codes, Bool, true, false, cond, List, length, arith, Option, Some, None, Result, Ok, Err}
 use Rattle.std.specs.FinMap.{get}
 use Rattle.boot_base.specs.Paths.{Path}
-use Rattle.boot_base.specs.Refusals.{line_of}
 use Rattle.boot_base.specs.declared.refusal.Refusal.{Refusal}
 use Rattle.boot_base.specs.declared.refusal.Refusal.TheVariants as refusals
 use Rattle.boot_machine.specs.Disk.{Files}
@@ -18,7 +17,8 @@ use Rattle.command_reads.specs.Files.{bytes_at, each, if_given, image_at}
 use Rattle.image_commands.specs.Calculating.{calculate_said, part_words}
 use Rattle.image_commands.specs.Said.{has_loaded, identify_said, image_said, inspect_said, inspection_at, kind_at, kind_of, values_at}
 use Rattle.command_reads.specs.Values.{banks_of, once, paths_of, value_lines}
-use Rattle.boot_commands.specs.Commands.{answer_of}
+use Rattle.boot_commands.specs.Commands.{step_reply}
+use Rattle.boot_commands.specs.Demonstration.{demo_said, number_up_to}
 use Rattle.entry_commands.specs.Folders.{folders_of}
 use Rattle.entry_commands.proofs.Replies.{some_boot, some_install, some_line, some_list, some_marked, some_said, text_next}
 use Rattle.command_reads.specs.Refusing.{path_in, printed_path}
@@ -62,7 +62,7 @@ some_built view measure (Err why) = some_line why
 some_built view measure (Ok built) = omega arith
 
 -- no command's reply is empty: a case for each command
-pub some_text : (view : Files) (c : Command) → 0 < length (answer_of view c).text
+pub some_text : (view : Files) (c : Command) → 0 < length (step_reply view c).text
 some_text view (command.Build words) = some_built view words.measure (build_of view words)
 some_text view (command.Calculate words) =
     some_said view (calculate_said view words)
@@ -80,5 +80,7 @@ some_text view (command.Boot esp) = some_boot view esp
 some_text view (command.Unlink name esp) = some_unless view (entry_path name esp) (unlink_answer view) (λ path. some_removal view path (get view path))
 some_text view (command.Install file name tries esp) = some_install view file name tries esp
 some_text view (command.Bless verb path esp) = some_marked view verb path esp
-some_text view command.Script = some_line refusals.NotBuilt
-some_text view (command.Demo seed count) = some_line refusals.NotBuilt
+some_text view command.Script = some_line (refusals.BadScript 0)
+some_text view (command.Demo seed count) =
+    some_said view (demo_said seed count)
+    (text_next (number_up_to 18446744073709551615 seed) _ (λ seed. text_next (number_up_to 10000 count) _ (λ count. omega arith)))

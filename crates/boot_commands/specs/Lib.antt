@@ -1,1 +1,6 @@
 pub mod Commands
+pub mod DemoImages
+pub mod DemoRuns
+pub mod Demonstration
+pub mod Draws
+pub mod Plain

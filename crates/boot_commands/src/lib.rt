@@ -1,7 +1,13 @@
 //! The commands of the program but for scripts: what each comes to on the boot files, and one function that
-//! carries any of them out on a machine.
+//! carries any of them out on a machine. `demo` carries out others on a machine in memory.
 #![tactic(auto)]
 
+mod demo;
+mod demo_images;
+mod demo_turns;
+mod draws;
+mod plain;
 mod stepping;
 
-pub use stepping::plain_step;
+pub use plain::plain_step;
+pub use stepping::step;

@@ -1,65 +1,40 @@
-//! One command, from its reads to the end of its reply.
-ghost use Rattle.std.specs.Prelude.{◌≡◌, IfOk, IsTrue};
+//! One command that is a step of a run, from its reads to the end of its reply.
+ghost use Rattle.std.specs.Prelude.{◌≡◌, false, IfOk, IsTrue};
 ghost use Rattle.boot_machine.specs.Disk.{Files, IsRested};
 ghost use Rattle.boot_machine.specs.Images.{IsFirm};
 ghost use Rattle.boot_machine.specs.Sent.{seen};
-ghost use Rattle.boot_commands.specs.Commands.{Tidied, TidiesTo, answer_of, deed_of};
+ghost use Rattle.boot_commands.specs.Commands.{Tidied, TidiesTo, deed_of, step_reply};
+ghost use Rattle.boot_commands.specs.Plain.{is_script};
 ghost use Rattle.boot_machine.specs.Reading.{OnlyReads};
 ghost use Rattle.command_plans.specs.Performs.{CountsStop, LeavesNoTemp, LeavesRested, Performs, Syncs, end_of};
 ghost use Rattle.command_plans.specs.Plans.{Drops, IsMakeable, Plans};
 
-use boot_base::Refusal;
+use crate::demo::plan_demo;
+use crate::plain::plan_plain;
 use boot_machine::Machine;
-use command_plans::{Outcome, Plan, Stop, perform, refused};
-use entry_commands::{plan_bless, plan_boot, plan_install, plan_list, plan_tidy, plan_unlink};
-use image_build::plan_build;
-use image_commands::{plan_calculate, plan_identify, plan_image, plan_inspect};
+use command_plans::{Outcome, Plan, Stop, perform};
 use std::alloc::Global;
 use tool_words::Command;
 
-/// What a command is going to do and to say, made by reads alone.
+// What a command is going to do and to say, made by reads alone.
 fn plan_of<M: Machine>(alloc: Global, command: &Command, machine: &mut M) -> Result<Plan, Stop>
-    ensures plans { IfOk result (λ plan. IsTrue M.tells → Plans (M.state machine.old) plan (answer_of (seen (M.state machine.old)) command.now)) }
+    requires step { is_script command.now ≡ false }
+    ensures plans { IfOk result (λ plan. IsTrue M.tells
+        → Plans (M.state machine.old) plan (step_reply (seen (M.state machine.old)) command.now)) }
     ensures makeable { IfOk result (λ plan. IsMakeable plan.change) }
-    ensures tidies { IfOk result (λ plan. IsTrue M.tells → (files : Files) → Drops plan.change (M.state machine.old).files files → Tidied command.now files) }
+    ensures tidies { IfOk result (λ plan. IsTrue M.tells
+        → (files : Files) → Drops plan.change (M.state machine.old).files files → Tidied command.now files) }
     ensures reads { IsTrue M.tells → OnlyReads M.clock M.since M.state machine.old machine.new }
     ensures counts { CountsStop result (M.counts machine.old) (M.counts machine.new) }
 {
     match command {
-        Command::Build(words) => plan_build(alloc, words, machine),
-        Command::Calculate(words) => plan_calculate(alloc, words, machine),
-        Command::Inspect { file } => plan_inspect(alloc, file.as_str(), machine),
-        Command::Image {
-            file,
-            banks,
-            phases,
-        } => {
-            let banks = banks.as_slice();
-            plan_image(alloc, file.as_str(), banks, phases.as_slice(), machine)
-        }
-        Command::Identify { file } => plan_identify(alloc, file.as_str(), machine),
-        Command::Unlink { name, esp } => plan_unlink(alloc, name.as_str(), esp.as_str(), machine),
-        Command::Tidy { esp } => plan_tidy(alloc, esp.as_str(), machine),
-        Command::List { esp } => plan_list(alloc, esp.as_str(), machine),
-        Command::Boot { esp } => plan_boot(alloc, esp.as_str(), machine),
-        Command::Install {
-            file,
-            name,
-            tries,
-            esp,
-        } => {
-            let (file, name) = (file.as_str(), name.as_str());
-            plan_install(alloc, file, name, tries.as_ref(), esp.as_str(), machine)
-        }
-        Command::Bless { verb, path, esp } => {
-            plan_bless(alloc, *verb, path.as_str(), esp.as_str(), machine)
-        }
-        Command::Script | Command::Demo { .. } => Ok(refused(alloc, &Refusal::NotBuilt)?),
+        Command::Demo { seed, count } => plan_demo(alloc, seed.as_str(), count.as_str()),
+        _ => plan_plain(alloc, command, machine),
     }
 }
 
-/// One command: its reads, its change and its reply, which goes to Out, or to Err where it is a refusal.
-/// A command that isn't built is refused.
+/// One command, which isn't `script`: its reads, its change and its reply, which goes to Out, or to Err where it is a
+/// refusal.
 ///
 /// On a machine on which no file that boot sees waits for a sync, a stop at any moment shows the boot files
 /// before the command or after it, and none of the reply is printed before the change can't be undone.
@@ -68,18 +43,18 @@ fn plan_of<M: Machine>(alloc: Global, command: &Command, machine: &mut M) -> Res
 ///
 /// `Disk` and `Pipe` only where the machine's own count of such faults rose; `Memory` only before anything
 /// is changed or printed.
-pub fn plain_step<M: Machine>(
-    alloc: Global,
-    command: &Command,
-    machine: &mut M,
-) -> Result<Outcome, Stop>
+pub fn step<M: Machine>(alloc: Global, command: &Command, machine: &mut M) -> Result<Outcome, Stop>
+    requires step { is_script command.now ≡ false }
     requires rested { IsTrue M.tells → IsRested (M.state machine.old) }
-    ensures performs { IsTrue M.tells → IsFirm (M.state machine.old) → Performs M.clock M.since M.state end_of machine.old machine.new
+    ensures performs { IsTrue M.tells → IsFirm (M.state machine.old)
+        → Performs M.clock M.since M.state end_of machine.old machine.new
         (deed_of (seen (M.state machine.old)) command.now) result }
     // Once the names are synced, what a stop leaves began with the files as they were.
-    ensures syncs { IsTrue M.tells → IsFirm (M.state machine.old) → Syncs M.clock M.since M.state machine.old machine.new
+    ensures syncs { IsTrue M.tells → IsFirm (M.state machine.old)
+        → Syncs M.clock M.since M.state machine.old machine.new
         (deed_of (seen (M.state machine.old)) command.now) result }
-    ensures tidies { IsTrue M.tells → TidiesTo result command.now (M.state machine.old) (M.state machine.new) }
+    ensures tidies { IsTrue M.tells
+        → TidiesTo result command.now (M.state machine.old) (M.state machine.new) }
     ensures input { IsTrue M.tells → (M.state machine.new).input ≡ (M.state machine.old).input }
     ensures rests { IsTrue M.tells → LeavesRested result (M.state machine.new) }
     ensures temps { IsTrue M.tells → LeavesNoTemp result (M.state machine.old) (M.state machine.new) }

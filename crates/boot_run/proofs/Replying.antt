@@ -6,7 +6,7 @@ use Rattle.boot_machine.specs.Sent.{Sent}
 use Rattle.boot_machine.specs.declared.machine.Channel.{Channel}
 use Rattle.boot_machine.specs.declared.machine.Channel.TheVariants.{Out, Err as ErrChannel}
 use Rattle.command_plans.specs.Answers.{channel_of}
-use Rattle.boot_commands.specs.Commands.{answer_of, deed_of}
+use Rattle.boot_commands.specs.Commands.{step_reply, deed_of}
 use Rattle.boot_commands.proofs.Replies.{some_text}
 use Rattle.boot_run.specs.Lines.{acknowledgement, line_deed, no_command_text, too_long_text}
 use Rattle.boot_run.specs.Step.{NoneEmpty}
@@ -22,9 +22,9 @@ some_more [] b some = absurd (some refl)
 some_more (x ∷ a) b some = λ is. cc
 
 some_reply : (view : Files) (line : Line) → (line_deed view line).sent ≢ []
-some_reply view (Plain command) = some_sent (channel_of (answer_of view command).outcome) (answer_of view command).text (some_text view command)
+some_reply view (Plain command) = some_sent (channel_of (step_reply view command).outcome) (step_reply view command).text (some_text view command)
 some_reply view (Numbered number command) = some_more (deed_of view command).sent (tagged Out (acknowledgement (deed_of view command).outcome number))
-    (some_sent (channel_of (answer_of view command).outcome) (answer_of view command).text (some_text view command))
+    (some_sent (channel_of (step_reply view command).outcome) (step_reply view command).text (some_text view command))
 some_reply view (Unread number) = some_more _ _ (some_sent ErrChannel (no_command_text number) (omega arith))
 some_reply view TooLong = some_sent ErrChannel too_long_text (omega arith)
 

@@ -1,17 +1,22 @@
 -- The lines of a script, one after the other.
-use Rattle.std.proofs.Common.{◌≡◌, inl, inr, ℕ, suc, ◌+◌, Bool, true, false, cond, List, [], ◌∷◌, ◌++◌, length, take, refl, sym, ap, ◌∙◌, arith, append_assoc, append-nil, Result, Ok, Err, None}
+use Rattle.std.proofs.Common.{◌≡◌, inl, inr, ℕ, suc, ◌+◌, Bool, true, false, cond, List, [], ◌∷◌, ◌++◌, length, take, refl, sym, ap, ◌∙◌, arith, append_assoc, append-nil, Result, Ok, Err, Option, Some, None}
 use Rattle.std.proofs.lemmas.Bool.{cases_Bool}
 use Rattle.std.proofs.lemmas.Str.{IsUtf8-from_is_utf8}
 use Rattle.std.specs.Str.{chars, is_utf8, IsUtf8}
-use Rattle.std.specs.Prelude.{not, ◌&&◌, if◌then◌else◌}
+use Rattle.std.specs.Prelude.{All, not, nat_lt, ◌&&◌, ◌||◌, if◌then◌else◌}
+use Rattle.std.specs.List.{slice_split}
+use Rattle.std.proofs.lemmas.List.Elements.{All-cons, All-nil}
 use Rattle.tool_words.specs.Line.{is_open, line_words}
 use Rattle.tool_words.specs.Meaning.{meaning}
 use Rattle.tool_words.specs.declared.command.Command.{Command}
 use Rattle.tool_words.specs.declared.fault.LineFault.{LineFault}
 use Rattle.tool_words.specs.declared.fault.LineFault.TheVariants.{OpenQuote}
-use Rattle.boot_run.specs.Asked.{command_in, in_script, is_passed_over, is_script, line_at, lines_for, lines_from, lines_in}
+use Rattle.tool_words.specs.declared.fault.UsageReason.{UsageReason}
+use Rattle.boot_commands.specs.Plain.{is_demo, is_plain, is_script}
+use Rattle.boot_run.specs.Asked.{command_in, in_script, is_passed_over, is_newline, line_at, lines_for, lines_from, lines_in}
+use Rattle.boot_run.specs.Lines.{IsStep, script_limit}
 use Rattle.boot_run.specs.declared.line.Line.{Line}
-use Rattle.boot_run.specs.declared.line.Line.TheVariants.{Plain}
+use Rattle.boot_run.specs.declared.line.Line.TheVariants.{Plain, TooLong}
 
 abbrev given : (T : Type 0) → T → Result T LineFault
 given T value = Ok value
@@ -71,3 +76,38 @@ not_open line result value is so = elim (cases_Bool (is_open line)) [ inl opened
   where
     ok_or_err : {T : Type 0} (value : T) → given T value ≡ Err OpenQuote → ⊥
     ok_or_err value is = cc
+
+neither : (a b : Bool) → not (a || b) ≡ true → a ≡ false
+neither true b is = cc
+neither false b is = refl
+
+step_if : (number : ℕ) (plain : Bool) (c : Command) → is_plain c ≡ plain → IsStep (line_at number (cond plain (Some c) None))
+step_if number true c is = neither (is_script c) (is_demo c) is
+step_if number false c is = tt
+
+step_meant : (number : ℕ) (meant : Result Command UsageReason) → IsStep (line_at number (in_script meant))
+step_meant number (Err reason) = tt
+step_meant number (Ok c) = step_if number (is_plain c) c refl
+
+step_in : (number : ℕ) (piece : List ℕ) → IsStep (line_at number (command_in piece))
+step_in number piece = by_text (is_utf8 piece && not (is_open (chars piece)))
+  where
+    by_text : (text : Bool) → IsStep (line_at number (cond text (in_script (meaning (line_words (chars piece)))) None))
+    by_text true = step_meant number (meaning (line_words (chars piece)))
+    by_text false = tt
+
+steps_from : (number : ℕ) (pieces : List (List ℕ)) → All IsStep (lines_from number pieces)
+steps_from number [] = All-nil IsStep
+steps_from number (piece ∷ pieces) = by_piece (is_passed_over piece)
+  where
+    by_piece : (passed : Bool) → All IsStep ((cond passed [] (line_at number (command_in piece) ∷ [])) ++ lines_from (suc number) pieces)
+    by_piece true = steps_from (suc number) pieces
+    by_piece false = All-cons IsStep (line_at number (command_in piece)) (lines_from (suc number) pieces) (step_in number piece) (steps_from (suc number) pieces)
+
+-- each line of a script is a step
+pub all_steps : (input : List ℕ) → All IsStep (lines_in input)
+all_steps input = by_length (nat_lt script_limit (length input))
+  where
+    by_length : (long : Bool) → All IsStep (cond long (TooLong ∷ []) (lines_from 1 (slice_split is_newline input)))
+    by_length true = All-cons IsStep TooLong [] tt (All-nil IsStep)
+    by_length false = steps_from 1 (slice_split is_newline input)

@@ -5,7 +5,8 @@ use Rattle.tool_words.specs.declared.command.Command.{Command}
 use Rattle.tool_words.specs.declared.fault.UsageReason.{UsageReason}
 use Rattle.command_plans.specs.declared.outcome.Stop.{Stop}
 use Rattle.command_plans.specs.declared.outcome.Stop.TheVariants.{Disk as DiskStop, Pipe as PipeStop, Memory as MemoryStop}
-use Rattle.boot_run.specs.Asked.{is_script, lines_for, lines_of, taken_by}
+use Rattle.boot_commands.specs.Plain.{is_script}
+use Rattle.boot_run.specs.Asked.{lines_for, lines_of, taken_by}
 use Rattle.boot_run.specs.Endings.{AtEnd, FitsWords, TakesInput, UnlessDisk, ended_by, ended_of, status_of}
 use Rattle.boot_run.specs.declared.ended.Ended.{Ended}
 use Rattle.boot_run.specs.declared.ended.Ended.TheVariants.{Done, Refused, Usage, Disk, Pipe, Memory}

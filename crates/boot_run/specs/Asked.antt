@@ -1,5 +1,5 @@
 -- What the words and standard input ask for: the lines of the run, or why the words are no command.
-use Rattle.std.specs.Prelude.{ℕ, suc, ◌+◌, ◌==◌, Bool, true, false, not, ◌&&◌, ◌||◌, List, [], ◌∷◌, ◌++◌, codes, length, take, nat_lt, Option, Some, None, Result, Ok, Err, if◌then◌else◌}
+use Rattle.std.specs.Prelude.{ℕ, suc, ◌+◌, ◌==◌, Bool, true, false, not, ◌&&◌, List, [], ◌∷◌, ◌++◌, codes, length, take, nat_lt, Option, Some, None, Result, Ok, Err, if◌then◌else◌}
 use Rattle.std.specs.List.{slice_split}
 use Rattle.std.specs.Str.{chars, is_utf8}
 use Rattle.boot_machine.specs.Disk.{Files, State}
@@ -9,46 +9,16 @@ use Rattle.tool_words.specs.Line.{is_open, line_words}
 use Rattle.tool_words.specs.Meaning.{meaning}
 use Rattle.tool_words.specs.Reasons.{text_of}
 use Rattle.tool_words.specs.declared.command.Command.{Command}
-use Rattle.tool_words.specs.declared.command.Command.TheVariants as command
 use Rattle.tool_words.specs.declared.fault.UsageReason.{UsageReason}
+use Rattle.boot_commands.specs.Plain.{is_plain, is_script}
 use Rattle.boot_run.specs.Lines.{script_limit}
 use Rattle.boot_run.specs.declared.line.Line.{Line}
 use Rattle.boot_run.specs.declared.line.Line.TheVariants.{Plain, Numbered, Unread, TooLong}
 
-abbrev pub is_script : Command → Bool
-is_script (command.Build words) = false
-is_script (command.Calculate words) = false
-is_script (command.Inspect file) = false
-is_script (command.Image file banks phases) = false
-is_script (command.Identify file) = false
-is_script (command.List esp) = false
-is_script (command.Tidy esp) = false
-is_script (command.Boot esp) = false
-is_script (command.Unlink name esp) = false
-is_script (command.Install file name tries esp) = false
-is_script (command.Bless verb path esp) = false
-is_script command.Script = true
-is_script (command.Demo seed count) = false
-
-abbrev pub is_demo : Command → Bool
-is_demo (command.Build words) = false
-is_demo (command.Calculate words) = false
-is_demo (command.Inspect file) = false
-is_demo (command.Image file banks phases) = false
-is_demo (command.Identify file) = false
-is_demo (command.List esp) = false
-is_demo (command.Tidy esp) = false
-is_demo (command.Boot esp) = false
-is_demo (command.Unlink name esp) = false
-is_demo (command.Install file name tries esp) = false
-is_demo (command.Bless verb path esp) = false
-is_demo command.Script = false
-is_demo (command.Demo seed count) = true
-
--- a command that may stand in a script
+-- a command that may stand in a script: neither `script` nor `demo`
 abbrev pub in_script : Result Command UsageReason → Option Command
 in_script (Err reason) = None
-in_script (Ok c) = if is_script c || is_demo c then None else Some c
+in_script (Ok c) = if is_plain c then Some c else None
 
 -- the command of a script's line: its bytes are UTF-8, its quotes are even in number, and its words are a command
 abbrev pub command_in : List ℕ → Option Command

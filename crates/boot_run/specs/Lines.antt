@@ -8,6 +8,7 @@ use Rattle.boot_machine.specs.Rows.{tagged}
 use Rattle.boot_machine.specs.declared.machine.Channel.TheVariants.{Out, Err}
 use Rattle.command_plans.specs.Answers.{is_refusal}
 use Rattle.boot_commands.specs.Commands.{Tidied, deed_of}
+use Rattle.boot_commands.specs.Plain.{is_script}
 use Rattle.command_plans.specs.Deeds.{Deed}
 use Rattle.command_plans.specs.declared.outcome.Outcome.{Outcome}
 use Rattle.command_plans.specs.declared.outcome.Outcome.TheVariants.{Done, Refused}
@@ -50,6 +51,12 @@ line_deed view (Plain command) = deed_of view command
 line_deed view (Numbered number command) = acknowledged number (deed_of view command)
 line_deed view (Unread number) = acknowledged number (unread 17 (no_command_text number) view)
 line_deed view TooLong = unread 3 too_long_text view
+
+-- Its command is a step of a run: `script` is none.
+abbrev pub IsStep : Line → Type 0
+IsStep (Plain command) = is_script command ≡ false
+IsStep (Numbered number command) = is_script command ≡ false
+IsStep line = Unit {0}
 
 -- a line without a command
 abbrev pub is_unread : Line → Bool

@@ -1,5 +1,5 @@
 //! A run over a list of lines.
-ghost use Rattle.std.specs.Prelude.{◌≡◌, ◌||◌, true, false, not, IfOk, OnOk, OnErr, ℕ, take, IsTrue};
+ghost use Rattle.std.specs.Prelude.{◌≡◌, ◌||◌, true, false, not, All, IfOk, OnOk, OnErr, ℕ, take, IsTrue};
 ghost use Rattle.boot_base.specs.Refusals.{line_of};
 ghost use Rattle.boot_machine.specs.Counts.{CountsPipe};
 ghost use Rattle.boot_machine.specs.Disk.{IsRested};
@@ -10,9 +10,10 @@ ghost use Rattle.boot_machine.specs.Sent.{PrintsPart, recovered_now, seen};
 ghost use Rattle.boot_machine.specs.declared.machine.Channel.TheVariants.{Err, Out};
 ghost use Rattle.command_plans.specs.Answers.{is_refusal};
 ghost use Rattle.boot_commands.specs.Commands.{Tidied, deed_of};
+ghost use Rattle.boot_commands.specs.Plain.{is_script};
 ghost use Rattle.command_plans.specs.Performs.{CountsStop, LeavesNoTemp, LeavesRested, Performs, end_of};
 ghost use Rattle.boot_run.specs.Endings.{AllTidied, ended_by};
-ghost use Rattle.boot_run.specs.Lines.{Prints, TidiedBy, acknowledged, acknowledgement, acknowledgement_in, has_command, is_unread, line_deed, no_command_text, too_long_text, unread};
+ghost use Rattle.boot_run.specs.Lines.{IsStep, Prints, TidiedBy, acknowledged, acknowledgement, acknowledgement_in, has_command, is_unread, line_deed, no_command_text, too_long_text, unread};
 ghost use Rattle.boot_run.specs.RunBy.{CleanBehind};
 ghost use Rattle.boot_run.specs.RunsTo.{IsSyncedBy, OnlyPrints, PerformsBehind, RunsTo, SyncsFirst, WherePrinted};
 
@@ -20,7 +21,7 @@ use crate::input::SCRIPT_LIMIT;
 use crate::line::Line;
 use crate::recovery::recovered;
 use boot_base::{Bytes, Refusal, Text};
-use boot_commands::plain_step;
+use boot_commands::step;
 use boot_machine::{Channel, Machine, PipeFault, print_all};
 use command_plans::{Outcome, Stop, refusal_line};
 use std::alloc::{AllocError, Global};
@@ -92,6 +93,7 @@ fn numbered<M: Machine>(
     command: &Command,
     machine: &mut M,
 ) -> Result<Outcome, Stop>
+    requires step { is_script command.now ≡ false }
     requires rested { IsTrue M.tells → IsRested (M.state machine.old) }
     ensures performs { IsTrue M.tells → IsFirm (M.state machine.old)
         → Performs M.clock M.since M.state end_of machine.old machine.new
@@ -104,7 +106,7 @@ fn numbered<M: Machine>(
     ensures counts { CountsStop result (M.counts machine.old) (M.counts machine.new) }
 {
     let texts = Acknowledgements::of(alloc, number)?;
-    let outcome = plain_step(alloc, command, machine)?;
+    let outcome = step(alloc, command, machine)?;
     acknowledge(outcome, &texts, machine)?;
     Ok(outcome)
 }
@@ -158,6 +160,7 @@ fn too_long<M: Machine>(alloc: Global, machine: &mut M) -> Result<Outcome, Stop>
 
 // One line. A command asks for a machine that is rested.
 fn run_line<M: Machine>(alloc: Global, line: &Line, machine: &mut M) -> Result<Outcome, Stop>
+    requires step { IsStep line.now }
     requires rested { IsTrue M.tells → is_unread line.now ≡ false → IsRested (M.state machine.old) }
     ensures performs { IsTrue M.tells → IsFirm (M.state machine.old)
         → Performs M.clock M.since M.state end_of machine.old machine.new
@@ -173,7 +176,7 @@ fn run_line<M: Machine>(alloc: Global, line: &Line, machine: &mut M) -> Result<O
     ensures counts { CountsStop result (M.counts machine.old) (M.counts machine.new) }
 {
     match line {
-        Line::Plain(command) => plain_step(alloc, command, machine),
+        Line::Plain(command) => step(alloc, command, machine),
         Line::Numbered(number, command) => numbered(alloc, *number, command, machine),
         Line::Unread(number) => unread_line(alloc, *number, machine),
         Line::TooLong => too_long(alloc, machine),
@@ -182,6 +185,7 @@ fn run_line<M: Machine>(alloc: Global, line: &Line, machine: &mut M) -> Result<O
 
 // The first command of a run: what a stop has left is finished before its reads.
 fn first_command<M: Machine>(alloc: Global, line: &Line, machine: &mut M) -> Result<Outcome, Stop>
+    requires step { IsStep line.now }
     requires command { is_unread line.now ≡ false }
     ensures performs { IsTrue M.tells → IsFirm (M.state machine.old)
         → PerformsBehind M.clock M.since M.state machine.old machine.new
@@ -208,6 +212,7 @@ fn next_line<M: Machine>(
     rested: bool,
     machine: &mut M,
 ) -> Result<Outcome, Stop>
+    requires step { IsStep line.now }
     requires rested { IsTrue M.tells → rested ≡ true → IsRested (M.state machine.old) }
     ensures performs { IsTrue M.tells → IsFirm (M.state machine.old)
         → PerformsBehind M.clock M.since M.state machine.old machine.new
@@ -253,6 +258,7 @@ fn some_refused(refused: bool, outcome: Outcome) -> bool
 /// All lines, one after the other: whether some reply is a refusal. A refused line doesn't end the run; a
 /// fault of the machine and want of memory do. Before the first command what a stop has left is finished.
 pub fn run_lines<M: Machine>(alloc: Global, lines: &[Line], machine: &mut M) -> Result<bool, Stop>
+    requires steps { All IsStep lines.now }
     ensures runs { IsTrue M.tells → IsFirm (M.state machine.old)
         → RunsTo M.clock M.since M.state machine.old machine.new lines.now result }
     ensures synced { IsTrue M.tells → IsFirm (M.state machine.old)

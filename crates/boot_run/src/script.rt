@@ -3,7 +3,8 @@ ghost use Rattle.std.specs.Prelude.{◌≡◌, ◌≤◌, length, IfOk};
 ghost use Rattle.tool_words.specs.Meaning.{meaning};
 ghost use Rattle.tool_words.specs.Shown.{texts};
 ghost use Rattle.boot_run.specs.Lines.{script_limit};
-ghost use Rattle.boot_run.specs.Asked.{command_in, in_script, is_demo, is_newline, is_passed_over, is_script, line_at, lines_in, script_lines};
+ghost use Rattle.boot_commands.specs.Plain.{is_plain, is_script};
+ghost use Rattle.boot_run.specs.Asked.{command_in, in_script, is_newline, is_passed_over, line_at, lines_in, script_lines};
 
 use crate::input::SCRIPT_LIMIT;
 use crate::line::Line;
@@ -18,10 +19,11 @@ pub fn is_script(command: &Command) -> bool
     matches!(command, Command::Script)
 }
 
-fn is_demo(command: &Command) -> bool
-    ensures { result ≡ is_demo command.now }
+// Whether a command runs no other, as a line of a script has to.
+fn is_plain(command: &Command) -> bool
+    ensures { result ≡ is_plain command.now }
 {
-    matches!(command, Command::Demo { .. })
+    !matches!(command, Command::Script | Command::Demo { .. })
 }
 
 // The command of a line's words. `script` and `demo` are none.
@@ -30,10 +32,10 @@ fn command_of(alloc: Global, words: &Vec<String>) -> Result<Option<Command>, All
 {
     match Command::read(alloc, words) {
         Ok(command) => {
-            if is_script(&command) || is_demo(&command) {
-                return Ok(None);
+            if is_plain(&command) {
+                return Ok(Some(command));
             }
-            Ok(Some(command))
+            Ok(None)
         }
         Err(WordsFault::Usage { .. }) => Ok(None),
         Err(WordsFault::Memory) => Err(AllocError),

@@ -1,5 +1,5 @@
 //! The top call.
-ghost use Rattle.std.specs.Prelude.{◌≡◌, ◌≤◌, ◌++◌, true, ℕ, List, [], ◌∷◌, IfOk, IsErrOf, IsTrue, OnOk, Ok, Err, drop, take, ◌+◌, map, string_bytes};
+ghost use Rattle.std.specs.Prelude.{◌≡◌, ◌≤◌, ◌++◌, true, ℕ, List, [], ◌∷◌, All, IfOk, IsErrOf, IsTrue, OnOk, Ok, Err, drop, take, ◌+◌, map, string_bytes};
 ghost use Rattle.boot_machine.specs.Disk.{IsRested, State, recovered_view};
 ghost use Rattle.boot_machine.specs.Images.{IsImage, IsFirm, IsSettled};
 ghost use Rattle.boot_machine.specs.Moments.{EachSince};
@@ -13,7 +13,7 @@ ghost use Rattle.tool_words.specs.Meaning.{meaning};
 ghost use Rattle.tool_words.specs.declared.fault.UsageReason.{UsageReason};
 ghost use Rattle.boot_run.specs.Asked.{asked_of, lines_for, lines_in, usage_line};
 ghost use Rattle.boot_run.specs.Endings.{AllTidied, AnswersRefusals, AnswersUsage, AtEnd, FitsWords, HasCause, TakesInput, UnlessDisk, end_at, ended_by, ended_of, status_of};
-ghost use Rattle.boot_run.specs.Lines.{has_command, script_limit};
+ghost use Rattle.boot_run.specs.Lines.{IsStep, has_command, script_limit};
 ghost use Rattle.boot_run.specs.RunBy.{AllPrinted, CleanBehind, LeavesFromSync, RunsBy, RunsUsage};
 ghost use Rattle.boot_run.specs.RunsTo.{IsSyncedBy, RunsTo};
 ghost use Rattle.boot_run.specs.Step.{Leads, Leaves, SeesBegun, some_refused};
@@ -34,6 +34,7 @@ use tool_words::{Command, UsageReason, WordsFault};
 fn read_script<M: Machine>(alloc: Global, machine: &mut M) -> Result<Vec<Line>, Stop>
     ensures lines { IfOk result (λ lines. IsTrue M.tells
         → lines.items ≡ lines_in (take (script_limit + 1) (M.state machine.old).input)) }
+    ensures steps { IfOk result (λ lines. All IsStep lines.items) }
     ensures rest { OnOk result (IsTrue M.tells
         → (M.state machine.new).input ≡ drop (script_limit + 1) (M.state machine.old).input) }
     ensures taken { IsTrue M.tells

@@ -1,6 +1,6 @@
 -- What the plan of an image comes to on a view.
 use Rattle.std.proofs.Common.{◌≡◌, ℕ, ◌<◌, Bool, true, false, cond, not, List, [], ◌∷◌, ◌++◌, filter, length, map, Option, None, Some, Result, Ok, Err, refl, sym, ap, subst, ◌∙◌, arith}
-use Rattle.std.specs.Prelude.{◌==◌, All, codes}
+use Rattle.std.specs.Prelude.{◌==◌, All, codes, option_and_then}
 use Rattle.std.specs.Option.{option_map}
 use Rattle.std.proofs.lemmas.Bool.Decides.{nat_tests}
 use Rattle.std.proofs.lemmas.List.{append_assoc, append-nil, map-append}
@@ -94,12 +94,14 @@ built output image = Ok (record { output = output; image = image })
 -- of parts that are read, the first refusal goes by the sizes that they say
 refusal_read : (output : Path) (h : Headers) (files : Reading) (stub : List ℕ) (parts : List Part) (in_place : Option ℕ) (sbat : List ℕ) (refused : Option PlanFault)
     → All (IsPieced files) parts → option_map length (given in_place sbat) ≡ in_place → first_refusal h (length stub) (map any_size parts) in_place ≡ refused
-    → image_of_parts output h stub (map (part_as files) parts) (given in_place sbat) ≡ image_or output h stub (map (part_as files) parts) (given in_place sbat) refused
+    → image_of_parts output h stub (map (part_as files) parts) (given in_place sbat)
+    ≡ image_or output h stub (map (part_as files) parts) (given in_place sbat) (option_and_then (builder_refusal output) refused)
 refusal_read output h files stub parts in_place sbat refused pieced len is =
     let read = map (part_as files) parts in
-    ap (λ (l : List WideSize). image_or output h stub read (given in_place sbat) (first_refusal h (length stub) l (option_map length (given in_place sbat)))) (sizes_read files parts pieced)
-    ∙ ap (λ (o : Option ℕ). image_or output h stub read (given in_place sbat) (first_refusal h (length stub) (map any_size parts) o)) len
-    ∙ ap (λ (o : Option PlanFault). image_or output h stub read (given in_place sbat) o) is
+    let or : Option PlanFault → Result Built Refusal = λ o. image_or output h stub read (given in_place sbat) (option_and_then (builder_refusal output) o) in
+    ap (λ (l : List WideSize). or (first_refusal h (length stub) l (option_map length (given in_place sbat)))) (sizes_read files parts pieced)
+    ∙ ap (λ (o : Option ℕ). or (first_refusal h (length stub) (map any_size parts) o)) len
+    ∙ ap or is
 
 image_for : (output : Path) (plan : Plan) (sources : Sources) (view : Files) (h : Headers) (in_place : Option ℕ) → pe_of (contents view (stub_path sources)) ≡ Ok h
     → All (IsPieced (contents view)) (part_list sources) → option_map length (given in_place (new_sbat sources)) ≡ in_place
@@ -148,10 +150,18 @@ images_made view h n stub parts in_place sbat image read is =
     all read is.plans
 
 images_refused : (view : Files) (h : Headers) (n : ℕ) (stub : Path) (parts : List Part) (in_place : Option ℕ) (sbat : List ℕ) (fault : PlanFault) → Read view h n stub parts in_place sbat
-    → first_refusal h n (map any_size parts) in_place ≡ Some fault → (output : Path) → parts_meant view h stub parts in_place sbat output ≡ Err (builder_refusal output fault)
-images_refused view h n stub parts in_place sbat fault read is output =
+    → first_refusal h n (map any_size parts) in_place ≡ Some fault → (output : Path) (why : Refusal) → builder_refusal output fault ≡ Some why
+    → parts_meant view h stub parts in_place sbat output ≡ Err why
+images_refused view h n stub parts in_place sbat fault read is output why told =
     let here = subst (λ (k : ℕ). first_refusal h k (map any_size parts) in_place ≡ Some fault) (sym read.length_is) is in
     refusal_read output h (contents view) (contents view stub) parts in_place sbat (Some fault) read.pieced read.sbat_length here
+    ∙ ap (λ (o : Option Refusal). image_or output h (contents view stub) (map (part_as (contents view)) parts) (given in_place sbat) o) told
+
+-- so a refusal is the one that is meant
+pub refused_as : (view : Files) (meant : Path → Result Built Refusal) (fault : PlanFault) (output : Path) (why : Refusal) → builder_refusal output fault ≡ Some why → Images view meant (Err fault)
+    → meant output ≡ Err why
+refused_as view meant faults.Memory output why told images = absurd (cc told)
+refused_as view meant fault output why told images = images output why told
 
 -- What a plan of parts comes to where they are read.
 pub images_parts : (view : Files) (h : Headers) (n : ℕ) (stub : Path) (parts : List Part) (in_place : Option ℕ) (sbat : List ℕ) (result : Result ImagePlan PlanFault)
@@ -163,7 +173,7 @@ images_parts view h n stub parts in_place sbat (Err fault) read is = images_refu
 pub images_as : (view : Files) (meant other : Path → Result Built Refusal) (result : Result ImagePlan PlanFault) → ((output : Path) → other output ≡ meant output) → Images view meant result → Images view other result
 images_as view meant other (Ok image) same is = (is.0, λ output. same output ∙ is.1 output)
 images_as view meant other (Err faults.Memory) same is = tt
-images_as view meant other (Err fault) same is = λ output. same output ∙ is output
+images_as view meant other (Err fault) same is = λ output why told. same output ∙ is output why told
 
 -- whether a text is empty
 pub is_none : (empty : Bool) (n : ℕ) → empty ≡ (n == 0) → empty ≡ true → n ≡ 0

@@ -1,5 +1,5 @@
 -- What the words of `ukify build` name, and the image of a stub and parts (ukify(1); UAPI Unified Kernel Image).
-use Rattle.std.specs.Prelude.{ℕ, ◌+◌, ◌==◌, Bool, not, List, [], ◌∷◌, ◌++◌, codes, length, map, filter, take, drop, position, nat_lt, Option, Some, None, Result, Ok, Err, if◌then◌else◌}
+use Rattle.std.specs.Prelude.{ℕ, ◌+◌, ◌==◌, Bool, not, List, [], ◌∷◌, ◌++◌, codes, length, map, filter, take, drop, position, nat_lt, Option, Some, None, option_and_then, Result, Ok, Err, if◌then◌else◌}
 use Rattle.std.specs.Option.{option_map}
 use Rattle.std.specs.FinMap.{insert}
 use Rattle.std.specs.List.{flat_map}
@@ -118,15 +118,15 @@ source_bytes view (sources.At path) = bytes_at view path
 abbrev pub part_bytes : Files → NamedPart → Result (SectionName × List ℕ) Refusal
 part_bytes view part = each (source_bytes view) part.sources >>= λ bytes. Ok (part.name, joined_bytes bytes)
 
--- the first refusal of a builder, which is never want of memory; an image that is too large is told by its path
-abbrev pub builder_refusal : Path → PlanFault → Refusal
-builder_refusal output faults.SignedStub = refusals.SignedStub
-builder_refusal output (faults.SectionTwice name) = refusals.SectionTwice (flat_map shown_byte (name_bytes name))
-builder_refusal output (faults.SbatDoesNotFit length room) = refusals.SbatDoesNotFit length room
-builder_refusal output (faults.NoHeaderSpace need have) = refusals.NoHeaderSpace need have
-builder_refusal output (faults.AddressSpace end) = refusals.AddressSpace end
-builder_refusal output (faults.ImageTooLarge size) = refusals.TooLarge (printed_path output) size
-builder_refusal output faults.Memory = refusals.NotBuilt
+-- what a builder's fault is told as; want of memory is no refusal, and an image that is too large is told by its path
+abbrev pub builder_refusal : Path → PlanFault → Option Refusal
+builder_refusal output faults.SignedStub = Some refusals.SignedStub
+builder_refusal output (faults.SectionTwice name) = Some (refusals.SectionTwice (flat_map shown_byte (name_bytes name)))
+builder_refusal output (faults.SbatDoesNotFit length room) = Some (refusals.SbatDoesNotFit length room)
+builder_refusal output (faults.NoHeaderSpace need have) = Some (refusals.NoHeaderSpace need have)
+builder_refusal output (faults.AddressSpace end) = Some (refusals.AddressSpace end)
+builder_refusal output (faults.ImageTooLarge size) = Some (refusals.TooLarge (printed_path output) size)
+builder_refusal output faults.Memory = None
 
 -- what is built, and where it is to stand
 pub record Built : Type 0 where
@@ -139,14 +139,15 @@ has_bytes part = not (length part.1 == 0)
 abbrev pub size_of_part : SectionName × List ℕ → WideSize
 size_of_part part = record { name = part.0; length = length part.1; flags = part_flags part.0 }
 
--- the image of these parts and of a `.sbat` that takes the place of the stub's, or the first refusal
-abbrev pub image_or : Path → Headers → List ℕ → List (SectionName × List ℕ) → Option (List ℕ) → Option PlanFault → Result Built Refusal
-image_or output headers stub parts sbat (Some fault) = Err (builder_refusal output fault)
+-- the refusal, or else the image of these parts and of a `.sbat` that takes the place of the stub's
+abbrev pub image_or : Path → Headers → List ℕ → List (SectionName × List ℕ) → Option (List ℕ) → Option Refusal → Result Built Refusal
+image_or output headers stub parts sbat (Some why) = Err why
 image_or output headers stub parts sbat None = Ok (record { output = output; image = finished headers (map size_of_part parts) (map (λ part. part.1) parts) sbat stub })
 
 abbrev pub image_of_parts : Path → Headers → List ℕ → List (SectionName × List ℕ) → Option (List ℕ) → Result Built Refusal
 image_of_parts output headers stub parts sbat =
-    image_or output headers stub parts sbat (first_refusal headers (length stub) (map size_of_part parts) (option_map length sbat))
+    image_or output headers stub parts sbat
+    (option_and_then (builder_refusal output) (first_refusal headers (length stub) (map size_of_part parts) (option_map length sbat)))
 
 -- whether the stub has a `.sbat`, whose place a new one takes
 abbrev pub has_sbat : Headers → Bool

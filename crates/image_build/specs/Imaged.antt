@@ -96,7 +96,7 @@ Images view meant (Ok image) =
     IsSourced image.plan image.sources view
     × ((output : Path) → meant output ≡ Ok (record { output = output; image = planned_image image.plan image.sources view }))
 Images view meant (Err faults.Memory) = Unit {0}
-Images view meant (Err fault) = (output : Path) → meant output ≡ Err (builder_refusal output fault)
+Images view meant (Err fault) = (output : Path) (why : Refusal) → builder_refusal output fault ≡ Some why → meant output ≡ Err why
 
 -- the plan of an image of these parts, and its sources
 pub record IsPlanOf (image : ImagePlan) (headers : Headers) (stub_length : ℕ) (stub : Path) (parts : List Part) (in_place : Option ℕ) (sbat : List ℕ) : Type 0 where

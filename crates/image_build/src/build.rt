@@ -1,5 +1,5 @@
 //! `ukify build`: the plan of what its words mean.
-ghost use Rattle.std.specs.Prelude.{◌≡◌, Bool, IfErr, IfOk, IsTrue, Ok, Result};
+ghost use Rattle.std.specs.Prelude.{◌≡◌, Bool, IfErr, IfOk, IsTrue, Ok, Result, Some};
 ghost use Rattle.std.specs.List.{flat_map};
 ghost use Rattle.boot_base.specs.Paths.{IsFree, Path};
 ghost use Rattle.boot_base.specs.declared.refusal.Refusal.{Refusal};
@@ -14,7 +14,7 @@ ghost use Rattle.command_reads.specs.Refusing.{printed_path};
 ghost use Rattle.image_writer.specs.Sourced.{IsSourced};
 ghost use Rattle.command_reads.specs.Names.{shown_byte};
 ghost use Rattle.command_reads.specs.Saying.{CountsUnsaid, Says, UnsaidFor};
-ghost use Rattle.image_build.specs.Building.{Built, build_answer, build_of, built_answer, built_line, built_text, image_of};
+ghost use Rattle.image_build.specs.Building.{Built, build_answer, build_of, builder_refusal, built_answer, built_line, built_text, image_of};
 ghost use Rattle.image_build.specs.Imaged.{Images};
 ghost use Rattle.image_build.specs.Planning.{built_as, IsPlannable, IsPlannedOn};
 ghost use Rattle.image_build.specs.Reads.{BuiltHasSizes, material_as};
@@ -56,8 +56,7 @@ fn builder_refusal(
     output: &BootPath,
     fault: PlanFault,
 ) -> Result<Refusal, AllocError>
-    ensures { IfOk result (λ why. (view : Files) (meant : Path → Result Built Refusal)
-        → Images view meant (Err fault) → meant output.now ≡ Err why) }
+    ensures { IfOk result (λ why. builder_refusal output.now fault ≡ Some why) }
 {
     match fault {
         PlanFault::Memory => Err(AllocError),

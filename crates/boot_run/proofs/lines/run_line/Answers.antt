@@ -9,8 +9,8 @@ use Rattle.boot_run.proofs.lines.run_line.Goals as goal
 
 pub returns-in-Plain-clause-performs : goal.returns-in-Plain-clause-performs
 returns-in-Plain-clause-performs g c told firm =
-    performed_rested g.M.Machine.clock g.M.Machine.since g.M.Machine.state c.args.machine.now c.plain_step.new.machine c.args.line.now c.plain_step.result (c.requires.rested told (ap is_unread c.in-Plain.is))
-    (subst (λ line. Performs g.M.Machine.clock g.M.Machine.since g.M.Machine.state end_of c.args.machine.now c.plain_step.new.machine (line_deed (seen (g.M.Machine.state c.args.machine.now)) line) c.plain_step.result) (sym c.in-Plain.is) (c.plain_step.ensures.performs told firm))
+    performed_rested g.M.Machine.clock g.M.Machine.since g.M.Machine.state c.args.machine.now c.step.new.machine c.args.line.now c.step.result (c.requires.rested told (ap is_unread c.in-Plain.is))
+    (subst (λ line. Performs g.M.Machine.clock g.M.Machine.since g.M.Machine.state end_of c.args.machine.now c.step.new.machine (line_deed (seen (g.M.Machine.state c.args.machine.now)) line) c.step.result) (sym c.in-Plain.is) (c.step.ensures.performs told firm))
 
 pub returns-in-Numbered-clause-performs : goal.returns-in-Numbered-clause-performs
 returns-in-Numbered-clause-performs g c told firm =
@@ -54,9 +54,9 @@ returns-in-TooLong-clause-rests g c told rested = leaves_rested c.too_long.resul
 pub returns-in-Plain-clause-tidies : goal.returns-in-Plain-clause-tidies
 returns-in-Plain-clause-tidies g c told =
     let old = g.M.Machine.state c.args.machine.now in
-    let now = g.M.Machine.state c.plain_step.new.machine in
-    subst (λ line. WherePrinted c.plain_step.result old now (TidiedBy now.files line)) (sym c.in-Plain.is)
-    (where_tidied c.plain_step.result c.in-Plain.command old now (c.plain_step.ensures.tidies told))
+    let now = g.M.Machine.state c.step.new.machine in
+    subst (λ line. WherePrinted c.step.result old now (TidiedBy now.files line)) (sym c.in-Plain.is)
+    (where_tidied c.step.result c.in-Plain.command old now (c.step.ensures.tidies told))
 
 pub returns-in-Numbered-clause-tidies : goal.returns-in-Numbered-clause-tidies
 returns-in-Numbered-clause-tidies g c told =

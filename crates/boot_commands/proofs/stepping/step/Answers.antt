@@ -10,7 +10,7 @@ use Rattle.command_plans.specs.declared.outcome.MachineFault.{MachineFault}
 use Rattle.command_plans.proofs.Performed.{plan_failed, after_reads, stopped_by, done_by}
 use Rattle.command_plans.proofs.Syncing.{syncs_after_reads, syncs_stopped, syncs_done}
 use Rattle.boot_commands.proofs.Tidies.{tidies_failed, tidies_unplanned}
-use Rattle.boot_commands.proofs.stepping.plain_step.Goals as goal
+use Rattle.boot_commands.proofs.stepping.step.Goals as goal
 
 pub returns-in_err-plan-clause-performs : goal.returns-in_err-plan-clause-performs
 returns-in_err-plan-clause-performs g c told firm =

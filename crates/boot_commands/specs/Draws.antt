@@ -1,0 +1,9 @@
+-- The numbers that a demonstration draws: a linear congruential generator with Knuth's numbers for 64 bits.
+use Rattle.std.specs.Prelude.{ℕ, ◌+◌, ◌*◌, ◌/◌, ◌%◌, ◌^◌}
+
+abbrev pub next_number : ℕ → ℕ
+next_number number = (number * 6364136223846793005 + 1442695040888963407) % 2 ^ 64
+
+-- what is drawn of a number, below a bound
+abbrev pub drawn : ℕ → ℕ → ℕ
+drawn number bound = number / 2 ^ 33 % bound

@@ -1,0 +1,56 @@
+-- What each command but `script` and `demo` comes to on a view: the first refusal that holds, in the order of its row, or
+-- what it does.
+use Rattle.std.specs.Prelude.{Bool, true, false, not, ◌||◌, Option, Some, None}
+use Rattle.boot_base.specs.declared.refusal.Refusal.TheVariants as refusals
+use Rattle.boot_machine.specs.Disk.{Files}
+use Rattle.tool_words.specs.declared.command.Command.{Command}
+use Rattle.tool_words.specs.declared.command.Command.TheVariants as command
+use Rattle.command_plans.specs.Answers.{Answer, refusal, said}
+use Rattle.command_plans.specs.Refusing.{unless_refused}
+use Rattle.image_build.specs.Building.{build_answer}
+use Rattle.image_commands.specs.Calculating.{calculate_said}
+use Rattle.image_commands.specs.Said.{identify_said, image_said, inspect_said}
+use Rattle.entry_commands.specs.Blessing.{bless_answer}
+use Rattle.entry_commands.specs.Booting.{boot_answer}
+use Rattle.entry_commands.specs.Installing.{install_answer}
+use Rattle.entry_commands.specs.Unlinking.{entry_path, unlink_answer}
+use Rattle.entry_commands.specs.Folders.{folders_of}
+use Rattle.entry_commands.specs.Listing.{list_said}
+use Rattle.entry_commands.specs.Tidying.{tidy_answer}
+
+-- it runs the lines of standard input
+abbrev pub is_script : Command → Bool
+is_script command.Script = true
+is_script c = false
+
+-- it runs commands over a machine of its own
+abbrev pub is_demo : Command → Bool
+is_demo (command.Demo seed count) = true
+is_demo c = false
+
+-- it runs no other command
+abbrev pub is_plain : Command → Bool
+is_plain c = not (is_script c || is_demo c)
+
+-- what a command comes to that runs no other
+abbrev pub plain_answer : Files → Command → Option Answer
+plain_answer view (command.Build words) = Some (build_answer view words)
+plain_answer view (command.Calculate words) = Some (said view (calculate_said view words))
+plain_answer view (command.Inspect file) = Some (said view (inspect_said view file))
+plain_answer view (command.Image file banks phases) = Some (said view (image_said view file banks phases))
+plain_answer view (command.Identify file) = Some (said view (identify_said view file))
+plain_answer view (command.List esp) = Some (said view (list_said view esp))
+plain_answer view (command.Tidy esp) = Some (unless_refused view (folders_of esp) (tidy_answer view))
+plain_answer view (command.Boot esp) = Some (boot_answer view esp)
+plain_answer view (command.Unlink name esp) = Some (unless_refused view (entry_path name esp) (unlink_answer view))
+plain_answer view (command.Install file name tries esp) = Some (install_answer view file name tries esp)
+plain_answer view (command.Bless verb path esp) = Some (bless_answer view verb path esp)
+plain_answer view c = None
+
+-- the answer; where a command has none of its own, that of a line that is no command. No step is made there
+abbrev pub answer_or_none : Files → Option Answer → Answer
+answer_or_none view (Some answer) = answer
+answer_or_none view None = refusal view (refusals.BadScript 0)
+
+abbrev pub plain_reply : Files → Command → Answer
+plain_reply view c = answer_or_none view (plain_answer view c)
