@@ -1,0 +1,6 @@
+mod Alike
+mod Counting
+mod Keeping
+mod Pushing
+mod Starting
+mod Stopping
