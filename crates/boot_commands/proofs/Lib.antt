@@ -1,3 +1,4 @@
 pub mod Later
 pub mod Replies
+pub mod Sparing
 mod Tidies

@@ -2,5 +2,6 @@ mod Alike
 mod Counting
 mod Keeping
 mod Pushing
+mod Standing
 mod Starting
 mod Stopping

@@ -1,6 +1,7 @@
 //! The laws over histories: whatever a machine went through, runs, stops in the middle of them, disk faults and restarts.
 #![tactic(auto)]
 
+ghost use Rattle.boot_history.specs.GoodEntries.{GoodEntryLaw, ListedLaw};
 ghost use Rattle.boot_history.specs.Histories.{StartLaw};
 ghost use Rattle.boot_history.specs.Keeping.{KeptLaw};
 ghost use Rattle.boot_history.specs.Numbers.{HistoryLaw};
@@ -24,4 +25,12 @@ pub fn history_law()
 /// each later view meets it.
 pub fn kept_law()
     ensures { KeptLaw }
+{}
+
+/// A good entry stays: where a valid entry without a boot counter stands at a path in each view at the start of some run,
+/// and no command from that run on is told to build over it, to unlink it, or to bless it as bad or as indeterminate, one
+/// stands there in each later view. It is listed where the two folders hold at most 4,096 entry files.
+pub fn good_entry_law()
+    ensures stays { GoodEntryLaw }
+    ensures listed { ListedLaw }
 {}
