@@ -1,7 +1,8 @@
-pub mod Later
-pub mod Replies
 mod Beginning
+pub mod Later
 mod Numbers
 mod Replied
+pub mod Replies
+pub mod Sparing
 mod Tidies
 mod Turning

@@ -4,3 +4,4 @@ pub mod DemoRuns
 pub mod Demonstration
 pub mod Draws
 pub mod Plain
+pub mod Sparing

@@ -1,8 +1,12 @@
 mod Choices
 mod Firsts
 mod Freeing
+pub mod GoodEntries
 mod ImageNames
+mod Installed
 mod Leftovers
 pub mod Replies
+mod Reported
 mod Scanned
 mod Siblings
+mod Steps

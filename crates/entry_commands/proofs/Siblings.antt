@@ -1,6 +1,6 @@
 -- The good and the bad name of a boot file name boot files in the same folder.
-use Rattle.std.proofs.Common.{◌≡◌, ◌≢◌, inl, inr, ℕ, ◌+◌, ◌-◌, ◌<◌, ◌≤◌, ◌^◌, Bool, true, false, not, ◌&&◌, ◌||◌, ◌⊎◌, List, [], ◌∷◌, ◌++◌, Some, None, length, take, drop, get_or, filter, refl, sym, ap, subst, ◌∙◌, arith, zero, suc, lit<, lit≤, length-append, append_assoc, get_or-append-add, drop_at}
-use Rattle.std.specs.Prelude.{◌==◌, nat_lt, nat_le, bytes_eq}
+use Rattle.std.proofs.Common.{◌≡◌, ◌≢◌, inl, inr, ℕ, ◌+◌, ◌-◌, ◌<◌, ◌≤◌, ◌^◌, Bool, true, false, not, ◌&&◌, ◌||◌, ◌⊎◌, List, [], ◌∷◌, ◌++◌, Option, Some, None, length, take, drop, get_or, filter, refl, sym, ap, subst, ◌∙◌, arith, zero, suc, lit<, lit≤, length-append, append_assoc, get_or-append-add, drop_at}
+use Rattle.std.specs.Prelude.{◌==◌, nat_lt, nat_le, bytes_eq, if◌then◌else◌}
 use Rattle.std.specs.Fmt.{decimal}
 use Rattle.std.specs.List.{AllByRecursion, join_with_byte, list_any, onto_first, sum_by}
 use Rattle.std.specs.Str.Parse.{digits_value}
@@ -19,14 +19,15 @@ use Rattle.boot_base.specs.Paths.{Path, beside, components, file_name_of, intent
 use Rattle.boot_base.proofs.Joined.{adding, joined, joined-kept, joined-left_out}
 use Rattle.boot_base.proofs.LastComponent.{file_name_of-from}
 use Rattle.boot_base.proofs.Normal.{normal-no_nul, normal-short}
+use Rattle.boot_counter.specs.declared.counted.Counted.{Counted}
 use Rattle.boot_counter.specs.declared.counted.Suffix.{Suffix}
 use Rattle.boot_counter.specs.declared.counted.Suffix.TheVariants.{Conf, Efi}
 use Rattle.boot_counter.specs.Counter.{IsCounted, IsDone, IsNumber, IsUncounted, done_text_of, suffix_text, written_name}
 use Rattle.boot_counter.specs.Renames.{bad_name_of, good_name_of}
-use Rattle.boot_counter.specs.Splits.{has_suffix, stem_of}
+use Rattle.boot_counter.specs.Splits.{has_suffix, split_of, stem_of}
 use Rattle.boot_counter.proofs.Readings.{number_lacks}
 use Rattle.boot_counter.proofs.Splitting.{split_none, split_some, suffix_cut, suffix_there}
-use Rattle.boot_counter.proofs.Written.{decimal_number, number_bound, reading_bounds}
+use Rattle.boot_counter.proofs.Written.{decimal_number, number_bound, reading_bounds, written_reads}
 
 -- ---- lists of which no element passes
 
@@ -650,3 +651,39 @@ good_path path good normal is = replaced path good normal (good_fits (file_name_
 pub bad_path : (path bad : List ℕ) → is_normal path ≡ true → bad_name_of (file_name_of path) ≡ Some bad
     → sibling_of path bad ≡ Some (beside path bad)
 bad_path path bad normal is = replaced path bad normal (bad_fits (file_name_of path) bad (last_is path normal) is)
+
+-- ---- the bad name has a counter
+
+is_component_of : (is : Bool) (read : Option Path) (path : Path) → (if is then read else None) ≡ Some path → is ≡ true
+is_component_of true read path found = refl
+is_component_of false read path found = cc
+
+-- the last component of a sibling's path is its name
+beside_last : (path name : List ℕ) → list_any is_slash name ≡ false → file_name_of (beside path name) ≡ name
+beside_last path name none = elim (last_of path) [
+  | inl whole ↦ ap file_name_of (beside_whole path name whole) ∙ file_name_whole name none
+  | inr cut ↦
+      ap (λ (p : List ℕ). file_name_of (beside p name)) cut.whole
+      ∙ ap file_name_of (beside_under cut.front cut.last name cut.one)
+      ∙ file_name_under cut.front name none
+]
+
+split_twice : (name : List ℕ) (counted : Counted) → split_of name ≡ None → split_of name ≡ Some counted → ⊥
+split_twice name counted none some = cc
+
+-- a written bad name is read again
+bad_again : (name bad : List ℕ) → bad_name_of name ≡ Some bad → split_of bad ≡ None → ⊥
+bad_again name bad is unread = none_some bad (no_bad name (λ base left done suffix read.
+    let written = written_name base 0 done suffix in
+    let same = some_same written bad (bad_is name base left done suffix read ∙ is) in
+    let bounds = (reading_bounds name base left done suffix read).1 in
+    let again = written_reads base 0 done suffix read.some_base (lit≤ tt) bounds in
+    split_twice written _ (ap split_of same ∙ unread) (split_some written base 0 done suffix again)) ∙ is)
+
+-- where the bad name of a path's file stands, the name has a counter
+pub bad_counted : (path bad : List ℕ) → is_normal path ≡ true → bad_name_of (file_name_of path) ≡ Some bad
+    → split_of (file_name_of (beside path bad)) ≡ None → ⊥
+bad_counted path bad normal is unread =
+    let component = is_component_of (is_component bad) (path_of (beside path bad)) (beside path bad) (bad_path path bad normal is) in
+    let none = not-true (list_any is_slash bad) (and_parts (is_kept bad) (not (list_any is_slash bad)) component).1 in
+    bad_again (file_name_of path) bad is (ap split_of (sym (beside_last path bad none)) ∙ unread)

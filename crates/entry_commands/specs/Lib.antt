@@ -1,6 +1,7 @@
 pub mod Blessing
 pub mod Booting
 pub mod Folders
+pub mod GoodEntries
 pub mod Installing
 pub mod Listing
 pub mod Moving

@@ -3,6 +3,7 @@ mod Imaged
 mod Listed
 mod Material
 mod Ordered
+pub mod Outputs
 mod Pieced
 mod Planning
 mod Printed

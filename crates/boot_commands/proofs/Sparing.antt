@@ -1,0 +1,61 @@
+-- A good entry stays that a command spares.
+use Rattle.std.proofs.Common.{◌≡◌, ◌≢◌, ℕ, Bool, List, refl, ap, ◌∙◌, Result, Ok, Err}
+use Rattle.std.specs.Prelude.{IfOk}
+use Rattle.boot_base.specs.Paths.{Path}
+use Rattle.boot_base.specs.declared.refusal.Refusal.{Refusal}
+use Rattle.boot_folder.specs.declared.folders.Folders.{Folders}
+use Rattle.boot_machine.specs.Disk.{Files}
+use Rattle.command_plans.specs.Answers.{Answer, said}
+use Rattle.command_plans.specs.Refusing.{unless_refused}
+use Rattle.command_reads.specs.Refusing.{path_in}
+use Rattle.tool_words.specs.declared.command.Command.{Command}
+use Rattle.tool_words.specs.declared.command.Command.TheVariants as command
+use Rattle.image_build.specs.Building.{Built, build_of, built_answer}
+use Rattle.image_commands.specs.Calculating.{calculate_said}
+use Rattle.image_commands.specs.Said.{identify_said, image_said, inspect_said}
+use Rattle.entry_commands.specs.Folders.{folders_of}
+use Rattle.entry_commands.specs.GoodEntries.{HasGoodEntry}
+use Rattle.entry_commands.specs.Listing.{list_said}
+use Rattle.entry_commands.specs.Tidying.{tidy_answer}
+use Rattle.entry_commands.specs.Unlinking.{entry_path, unlink_answer}
+use Rattle.entry_commands.proofs.GoodEntries.{kept_bless, kept_boot, kept_install, kept_unlink, put_apart}
+use Rattle.boot_commands.specs.Commands.{step_reply}
+use Rattle.boot_commands.specs.Demonstration.{demo_said}
+use Rattle.boot_commands.specs.Sparing.{Spares}
+use Rattle.image_build.proofs.Outputs.{build_output}
+
+module _ (folders : Folders) (path : Path) (view : Files) (entry : HasGoodEntry folders path view) where
+  kept_said : (text : Result (List ℕ) Refusal) → HasGoodEntry folders path (said view text).after
+  kept_said (Ok text) = entry
+  kept_said (Err why) = entry
+
+  kept_built : (measure : Bool) (output : Result Path Refusal) (built : Result Built Refusal)
+      → IfOk built (λ built. output ≡ Ok built.output)
+      → output ≢ Ok path → HasGoodEntry folders path (built_answer view measure built).after
+  kept_built measure output (Ok built) is spares =
+      put_apart folders path view entry built.output built.image (λ same. spares (is ∙ ap Ok same))
+  kept_built measure output (Err why) is spares = entry
+
+  kept_unless : {X : Type 0} (read : Result X Refusal) (next : X → Answer)
+      → ((x : X) → read ≡ Ok x → HasGoodEntry folders path (next x).after)
+      → HasGoodEntry folders path (unless_refused view read next).after
+  kept_unless (Ok x) next each = each x refl
+  kept_unless (Err why) next each = entry
+
+  -- a case for each command
+  pub kept : (c : Command) → Spares path c → HasGoodEntry folders path (step_reply view c).after
+  kept (command.Build words) spares =
+      kept_built words.measure (path_in words.output) (build_of view words) (build_output view words) spares
+  kept (command.Calculate words) spares = kept_said (calculate_said view words)
+  kept (command.Inspect file) spares = kept_said (inspect_said view file)
+  kept (command.Image file banks phases) spares = kept_said (image_said view file banks phases)
+  kept (command.Identify file) spares = kept_said (identify_said view file)
+  kept (command.List esp) spares = kept_said (list_said view esp)
+  kept (command.Tidy esp) spares = kept_unless (folders_of esp) (tidy_answer view) (λ folders is. entry)
+  kept (command.Boot esp) spares = kept_boot folders path view entry esp
+  kept (command.Unlink name esp) spares = kept_unless (entry_path name esp) (unlink_answer view) (λ at is.
+      kept_unlink folders path view entry at (λ same. spares (is ∙ ap Ok same)))
+  kept (command.Install file name tries esp) spares = kept_install folders path view entry file name tries esp
+  kept (command.Bless verb word esp) spares = kept_bless folders path view entry verb word esp spares
+  kept command.Script spares = entry
+  kept (command.Demo seed count) spares = kept_said (demo_said seed count)

@@ -1,0 +1,7 @@
+mod Alike
+mod Counting
+mod Keeping
+mod Pushing
+mod Standing
+mod Starting
+mod Stopping

@@ -1,0 +1,4 @@
+pub mod GoodEntries
+pub mod Histories
+pub mod Keeping
+pub mod Numbers
