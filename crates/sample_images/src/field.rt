@@ -129,13 +129,3 @@ pub fn field_of(file: &[u8], field: Field) -> u32 {
     let place = field.place(optional_header_of(file));
     number_at(file, place, field.width())
 }
-
-/// The name in the header of a file's section, filled up with NUL. What lies past the file's end counts as NUL.
-pub fn section_name_of(file: &[u8], index: u8) -> [u8; 8] {
-    let place = section_place(optional_header_of(file), index);
-    let mut name = [0; 8];
-    for (slot, byte) in name.iter_mut().zip(file.iter().skip(place)) {
-        *slot = *byte;
-    }
-    name
-}

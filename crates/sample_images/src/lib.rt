@@ -10,7 +10,7 @@ mod image;
 mod samples;
 mod section;
 
-pub use field::{Field, field_of, section_name_of};
+pub use field::{Field, field_of};
 pub use image::{ROOM, SampleImage};
 pub use samples::{LINUX, OSREL_TEXT, SBAT_TEXT};
 pub use section::{CODE, DATA, READ_ONLY_CODE, Section, TEXT};

@@ -1,0 +1,80 @@
+//! Images that are built in memory.
+ghost use Rattle.std.specs.Prelude.{◌≡◌, ◌≤◌, length, map, IfOk};
+ghost use Rattle.pe_builder.specs.Refusals.{wide};
+
+use crate::case::Case;
+use crate::fault::RowFault;
+use crate::refusal::{fault_text, in_place, part_flags, part_name};
+use crate::words::{bytes_of, parted};
+use pe_builder::{PartSize, Plan, image_bytes};
+use pe_reader::Pe;
+use std::alloc::Global;
+use uki_parts::SectionName;
+
+/// More parts than a row has.
+const PART_LIMIT: usize = 16;
+
+/// The names of parts, and their bytes.
+#[derive(Drop)]
+struct Parts {
+    names: Vec<SectionName>,
+    contents: Vec<Vec<u8>>,
+}
+
+// The parts of words that are a name and bytes.
+fn parts_of(alloc: Global, rest: &str) -> Result<Parts, RowFault> {
+    let mut names = Vec::new(alloc);
+    let mut contents = Vec::new(alloc);
+    for word in rest.split_whitespace() {
+        let (name, bytes) = parted(word, '=')?;
+        names.push(part_name(name)?)?;
+        contents.push(bytes_of(alloc, bytes)?)?;
+    }
+    Ok(Parts { names, contents })
+}
+
+// The sizes of contents with these names.
+fn sizes_of(
+    alloc: Global,
+    names: &[SectionName],
+    contents: &[Vec<u8>],
+) -> Result<Vec<PartSize>, RowFault>
+    requires { length contents.now ≤ 16777216 }
+    ensures { IfOk result (λ sizes. map length (map (λ c. c.items) contents.now) ≡ map (λ p. p.length) (map wide sizes.items)) }
+{
+    let mut sizes = Vec::new(alloc);
+    for i in 0..contents.len() {
+        let name = names.get(i).copied().ok_or(RowFault::Unclear)?;
+        let length = u32::try_from(contents[i].len())
+            .ok()
+            .ok_or(RowFault::Unclear)?;
+        sizes.push(PartSize {
+            name,
+            length,
+            flags: part_flags(&name),
+        })?;
+    }
+    Ok(sizes)
+}
+
+/// Makes the image of the file and these parts the file, and says how long it is by its plan and by its bytes; or says
+/// why there is none.
+pub(crate) fn build(alloc: Global, case: &mut Case, rest: &str) -> Result<String, RowFault> {
+    let Parts { names, contents } = parts_of(alloc, rest)?;
+    if contents.len() > PART_LIMIT {
+        return Err(RowFault::Unclear);
+    }
+    let sizes = sizes_of(alloc, &names, &contents)?;
+    let stub = case.file();
+    let pe = Pe::read(alloc, stub)?;
+    let sbat = in_place(&pe, &case.sbat);
+    let plan = match Plan::make(alloc, &pe, stub.len() as u32, &sizes, sbat) {
+        Ok(plan) => plan,
+        Err(fault) => return Ok(fault_text(alloc, fault)?),
+    };
+    let image = image_bytes(alloc, &plan, stub, &contents, &case.sbat)?;
+    let planned = plan.image_length();
+    let made = image.len();
+    case.set_file(image)?;
+    Ok(format!(in alloc; "{planned} bytes are planned, {made} are made")?)
+}
