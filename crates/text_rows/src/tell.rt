@@ -1,0 +1,76 @@
+//! The rows, and what the calls answer.
+use crate::counters::{bad_name, booted, choices, counter, good_name, joined};
+use crate::fault::RowFault;
+use crate::notation::written;
+use crate::paths::{
+    file_name, intent, leftover, name, named, path, printed_path, sibling, target, under,
+};
+use crate::refusals::{refusal, refusal_line};
+use crate::row::Row;
+use crate::settings::{entry, lines, release, values};
+use crate::versions::{compared, compared_keys};
+use crate::words::{split, words};
+use std::alloc::Global;
+
+// What a call that reads paths answers.
+fn told_of_paths(alloc: Global, row: &Row<'_>) -> Result<String, RowFault> {
+    match row.call {
+        "path" => path(alloc, row),
+        "printed" => printed_path(alloc, row),
+        "file-name" => file_name(alloc, row),
+        "intent" => intent(alloc),
+        "named" => named(alloc, row),
+        "sibling" => sibling(alloc, row),
+        "under" => under(alloc, row),
+        "target" => target(alloc, row),
+        "name" => name(alloc, row),
+        "leftover" => leftover(alloc, row),
+        _ => Err(RowFault::Unclear),
+    }
+}
+
+// What a call answers that tells a text.
+fn told_text(alloc: Global, row: &Row<'_>) -> Result<String, RowFault> {
+    match row.call {
+        "refusal" => refusal(alloc, row),
+        "refusal-line" => refusal_line(alloc, row),
+        "counter" => counter(alloc, row),
+        "booted" => booted(alloc, row),
+        "good" => good_name(alloc, row),
+        "bad" => bad_name(alloc, row),
+        "joined" => joined(alloc, row),
+        "choices" => choices(alloc, row),
+        "compare" => compared(alloc, row),
+        "compare-keys" => compared_keys(alloc, row),
+        "split" => split(alloc, row),
+        "words" => words(alloc, row),
+        _ => told_of_paths(alloc, row),
+    }
+}
+
+fn told(alloc: Global, line: &str) -> Result<Vec<u8>, RowFault> {
+    let row = Row::read(alloc, line)?;
+    match row.call {
+        "lines" => lines(alloc, &row),
+        "values" => values(alloc, &row),
+        "release" => release(alloc, &row),
+        "entry" => entry(alloc, &row),
+        _ => Ok(told_text(alloc, &row)?.into_bytes()),
+    }
+}
+
+/// The line, and below it what the call answers.
+pub(crate) fn tell_line(alloc: Global, line: &str) -> Result<String, RowFault> {
+    if line.is_empty() || line.starts_with('#') {
+        return Ok(format!(in alloc; "{line}\n")?);
+    }
+    match told(alloc, line) {
+        Ok(told) => {
+            let told = written(alloc, &told)?;
+            Ok(format!(in alloc; "> {line}\n{told}\n")?)
+        }
+        Err(fault) if fault.is_answer() => Ok(format!(in alloc; "> {line}\n{fault}\n")?),
+        Err(RowFault::Unclear) => Ok(format!(in alloc; "? {line}\n")?),
+        Err(fault) => Err(fault),
+    }
+}

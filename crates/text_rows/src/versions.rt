@@ -1,0 +1,24 @@
+//! The order of versions.
+use crate::fault::RowFault;
+use crate::row::Row;
+use std::alloc::{AllocError, Global};
+use version_order::{VersionKey, compare};
+
+fn keys_text(alloc: Global, left: &[u8], right: &[u8]) -> Result<String, AllocError> {
+    let (left, right) = (VersionKey::of(alloc, left)?, VersionKey::of(alloc, right)?);
+    let (order, back) = (left.cmp(&right), right.cmp(&left));
+    format!(in alloc; "{order:?}, {back:?}")
+}
+
+fn compared_text(alloc: Global, left: &[u8], right: &[u8]) -> Result<String, AllocError> {
+    let (order, back) = (compare(left, right), compare(right, left));
+    format!(in alloc; "{order:?}, {back:?}")
+}
+
+pub(crate) fn compared(alloc: Global, row: &Row<'_>) -> Result<String, RowFault> {
+    Ok(compared_text(alloc, row.bytes(0)?, row.bytes(1)?)?)
+}
+
+pub(crate) fn compared_keys(alloc: Global, row: &Row<'_>) -> Result<String, RowFault> {
+    Ok(keys_text(alloc, row.bytes(0)?, row.bytes(1)?)?)
+}
