@@ -1,7 +1,7 @@
 //! The files of a machine, read, written and told.
 use crate::fault::StoryFault;
 use crate::samples::{Sample, sample_of};
-use boot_base::{BootPath, Target, ends_as_temp};
+use boot_base::{BootPath, Target, TempPath, ends_as_temp};
 use boot_machine::Machine;
 use install_steps::{put_in_place, recover, settle, write_bytes};
 use memory_machine::MemMachine;
@@ -12,6 +12,12 @@ pub(crate) const FOLDERS: [&str; 2] = ["efi/loader/entries", "efi/EFI/Linux"];
 
 /// How many calls of the machine `put` makes.
 pub(crate) const CALLS_OF_PUT: u64 = 7;
+
+/// How many calls of the machine `put_intent` makes.
+pub(crate) const CALLS_OF_PUT_INTENT: u64 = 6;
+
+/// How many calls of the machine `leave` makes.
+pub(crate) const CALLS_OF_LEAVE: u64 = 2;
 
 fn intent_target(alloc: Global) -> Result<Target, AllocError> {
     let path = BootPath::intent(alloc)?;
@@ -43,6 +49,13 @@ pub(crate) fn put_intent(
     machine.create(&target.temp)?;
     machine.append(&target.temp, bytes)?;
     put_in_place(machine, &target)?;
+    Ok(())
+}
+
+/// Makes a temporary file, and leaves it.
+pub(crate) fn leave(machine: &mut MemMachine, path: &TempPath) -> Result<(), StoryFault> {
+    settle(machine)?;
+    machine.create(path)?;
     Ok(())
 }
 

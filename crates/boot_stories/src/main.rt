@@ -1,15 +1,25 @@
-//! Tells stories: runs of the program over a machine in memory, with what they print and what they leave. A story is lines
-//! on standard input; each is told again behind `> `, and below it what came of it.
+//! Tells stories: runs of the program over a machine in memory, with what they print and what they leave. A story is
+//! lines on standard input; each is told again behind `> `, and below it what came of it.
 //!
-//! - `machine`: a new machine with the files of `samples`.
-//! - `copy FROM PATH`, `write PATH TEXT` (with `\n` for a newline), `zeros PATH COUNT`: a file is written.
-//! - `run WORDS`: the program runs on the words, which are parted as those of a script. Below it stand what it printed on Out
-//!   and on Err, and its status.
+//! - `machine`: a new machine with a kernel, a stub and images. `machine parts`: one with all that images are built of.
+//! - `copy FROM PATH`, `write PATH TEXT` (with `\n` for a newline and `\xff` for that byte): a file is written.
+//! - `image PATH TEXT`: an image with that os-release text is written.
+//! - `fill PATH COUNT BYTE`: so many of that byte are written.
+//! - `series PATH COUNT`: so many bytes are written, which rise from 0 to 250 again and again.
+//! - `leave PATH`: a temporary file is left, as it is where a write of that path is stopped.
+//! - `run WORDS`: the program runs on the words, which are parted as those of a script. Below it stand what it printed
+//!   on Out and on Err, and its status. A byte that isn't printable is told as in `write`, and a backslash twice.
+//! - `menu`: `bootctl list` runs. Below it stand the sources of the entries in their order.
+//! - `reads`: the reads of the last run that gave bytes.
 //! - `line TEXT`: a line of the standard input of the runs up to the next `run`.
+//! - `input PATH`: that standard input is what the file has.
 //! - `fail N before` and `fail N after`: the call of that number from now on fails.
+//! - `faults WORDS`: what that run comes to of which one call fails, before it has done anything or after it has done
+//!   all, each outcome once, in the order of the calls. The machine stays as it is.
 //! - `files FOLDER`: the files directly in the folder.
-//! - `stops WORDS`: what a stop of that run may leave, each outcome once, in the order of the calls before it. The machine
-//!   stays as it is.
+//! - `left`: the boot files, and the intent of a rename. `total`: how many files there are but temporary ones.
+//! - `stops WORDS`: what a stop of that run may leave, each outcome once, in the order of the calls before it. The
+//!   machine stays as it is.
 //! - `then WORDS`: what these words come to after each stop of the last `stops`, each outcome once.
 //! - `stop N CANDIDATE WORDS`: the run is stopped after so many calls, and that candidate is left.
 //!
@@ -17,12 +27,15 @@
 #![tactic(auto)]
 
 mod fault;
+mod faults;
 mod files;
+mod lines;
 mod replies;
 mod samples;
 mod stops;
 mod story;
 mod tell;
+mod writes;
 
 use fault::StoryFault;
 use std::io;

@@ -1,16 +1,27 @@
 //! What a run has printed, and how it ended.
 use boot_machine::{Channel, Printed};
+use memory_machine::ReadSeen;
 use std::alloc::{AllocError, Global};
+
+// Adds a printed byte to a text. A newline and printable ASCII stand for themselves, but that a backslash is written
+// twice; every other byte is `\x` with two digits.
+fn push_escaped(alloc: Global, text: &mut String, byte: u8) -> Result<(), AllocError> {
+    match byte {
+        b'\\' => text.push_str("\\\\"),
+        b'\n' | b' '..=b'~' => text.push(char::from(byte)),
+        _ => text.push_str(format!(in alloc; "\\x{byte:02x}")?.as_str()),
+    }
+}
 
 // The text that was printed on a channel.
 fn text_on(alloc: Global, printed: &[Printed], channel: Channel) -> Result<String, AllocError> {
-    let mut bytes = Vec::new(alloc);
+    let mut text = String::new(alloc);
     for one in printed {
         if one.to == channel {
-            bytes.push(one.byte)?;
+            push_escaped(alloc, &mut text, one.byte)?;
         }
     }
-    String::from_utf8_lossy(alloc, bytes.as_slice())
+    Ok(text)
 }
 
 /// What was printed on Out, then what was printed on Err, then the status.
@@ -34,4 +45,37 @@ pub(crate) fn acknowledged_lines(alloc: Global, printed: &[Printed]) -> Result<u
         }
     }
     Ok(count)
+}
+
+// The text, or that there is none.
+fn or_none(text: String) -> Result<String, AllocError> {
+    let mut told = text;
+    if told.is_empty() {
+        told.push_str("none\n")?;
+    }
+    Ok(told)
+}
+
+/// The sources of the entries of a list, in its order.
+pub(crate) fn sources_text(alloc: Global, printed: &[Printed]) -> Result<String, AllocError> {
+    let list = text_on(alloc, printed, Channel::Out)?;
+    let mut text = String::new(alloc);
+    for line in list.as_str().lines() {
+        if let Some(source) = line.strip_prefix("      source: ") {
+            text.push_str(source)?;
+            text.push_str("\n")?;
+        }
+    }
+    or_none(text)
+}
+
+/// The reads that gave bytes, each with its file, its length and its place.
+pub(crate) fn reads_text(alloc: Global, reads: &[ReadSeen]) -> Result<String, AllocError> {
+    let mut text = String::new(alloc);
+    for read in reads {
+        let (path, length, at) = (read.path.as_str(), read.length, read.at);
+        let line = format!(in alloc; "/{path}: {length} bytes at {at}\n")?;
+        text.push_str(line.as_str())?;
+    }
+    or_none(text)
 }

@@ -11,7 +11,7 @@ use std::alloc::{AllocError, Global};
 use tool_words::split_line;
 
 /// More calls than a run of a story makes.
-const CALL_LIMIT: u64 = 10_000;
+pub(crate) const CALL_LIMIT: u64 = 10_000;
 
 /// How many candidates are tried after each stop.
 const CANDIDATES: u64 = 4;
@@ -30,38 +30,60 @@ pub(crate) fn left_by(
 pub(crate) fn stopped_after(
     alloc: Global,
     story: &mut Story,
-    words: &str,
+    words: &Vec<String>,
     calls: u64,
 ) -> Result<(MemMachine, u8), StoryFault> {
-    let words = split_line(alloc, words)?;
-    let mut fuse = Fuse::new(story.copied(alloc)?, calls);
-    let status = run(alloc, &words, &mut fuse);
+    let (machine, _) = story.copied(alloc)?;
+    let mut fuse = Fuse::new(machine, calls);
+    let status = run(alloc, words, &mut fuse);
     Ok((fuse.into_inner(), status))
 }
 
-// Whether a fault has ended the run.
-fn is_stopped(status: u8) -> bool {
+/// Whether a fault has ended the run.
+pub(crate) fn is_stopped(status: u8) -> bool {
     status == 3 || status == 4
 }
 
-/// The run whose stops are looked at.
+/// The run whose stops or faults are looked at.
 #[derive(Drop)]
-struct StoppedRun {
-    words: String,
+pub(crate) struct StoppedRun {
+    pub(crate) words: Vec<String>,
+    /// Whether it is one of a script.
+    is_script: bool,
     /// How many bytes it prints.
     length: usize,
     /// What runs after each stop, if anything does.
     next: Option<Vec<String>>,
 }
 
-// How many lines of a script are acknowledged, or whether a command is.
-fn acknowledged(
+impl StoppedRun {
+    /// A run of these words on the story's machine.
+    pub(crate) fn of(
+        alloc: Global,
+        story: &mut Story,
+        words: &str,
+        next: Option<Vec<String>>,
+    ) -> Result<StoppedRun, StoryFault> {
+        let is_script = words == "script";
+        let words = split_line(alloc, words)?;
+        let (machine, _) = stopped_after(alloc, story, &words, u64::MAX)?;
+        Ok(StoppedRun {
+            words,
+            is_script,
+            length: machine.printed().len(),
+            next,
+        })
+    }
+}
+
+/// How many lines of a script are acknowledged, or whether a command is.
+pub(crate) fn acknowledged(
     alloc: Global,
     stopped: &StoppedRun,
     machine: &MemMachine,
 ) -> Result<usize, AllocError> {
     let printed = machine.printed();
-    if stopped.words.as_str() == "script" {
+    if stopped.is_script {
         return acknowledged_lines(alloc, printed);
     }
     Ok(usize::from(printed.len() >= stopped.length))
@@ -109,7 +131,7 @@ fn add_outcomes(
 ) -> Result<bool, StoryFault> {
     let mut ended = false;
     for candidate in 0..CANDIDATES {
-        let (machine, status) = stopped_after(alloc, story, stopped.words.as_str(), calls)?;
+        let (machine, status) = stopped_after(alloc, story, &stopped.words, calls)?;
         ended = !is_stopped(status);
         let text = outcome_text(alloc, stopped, &story.samples, machine, candidate)?;
         if !texts.contains(&text) {
@@ -141,12 +163,7 @@ pub(crate) fn stops_text(
     words: &str,
     next: Option<Vec<String>>,
 ) -> Result<String, StoryFault> {
-    let (machine, _) = stopped_after(alloc, story, words, u64::MAX)?;
-    let stopped = StoppedRun {
-        words: String::from_str(alloc, words)?,
-        length: machine.printed().len(),
-        next,
-    };
+    let stopped = StoppedRun::of(alloc, story, words, next)?;
     let texts = outcomes(alloc, story, &stopped)?;
     Ok(texts.as_slice().concat(alloc)?)
 }

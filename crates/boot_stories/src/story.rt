@@ -1,10 +1,14 @@
 //! The machine of a story.
 use crate::fault::StoryFault;
-use crate::files::{CALLS_OF_PUT, FOLDERS, bytes_at, names_in, put, put_intent};
+use crate::files::{
+    CALLS_OF_LEAVE, CALLS_OF_PUT, CALLS_OF_PUT_INTENT, FOLDERS, bytes_at, leave, names_in, put,
+    put_intent,
+};
 use crate::samples::{Sample, samples};
-use boot_base::{BootPath, ends_as_temp};
-use boot_machine::Printed;
-use memory_machine::{FailMode, MemMachine};
+use boot_base::{BootPath, TempPath, ends_as_temp};
+use boot_machine::{Machine, Printed};
+use boot_run::run;
+use memory_machine::{FailMode, MemMachine, ReadSeen};
 use std::alloc::{AllocError, Global};
 
 #[derive(Drop)]
@@ -13,8 +17,10 @@ pub(crate) struct Story {
     pub(crate) samples: Vec<Sample>,
     /// How many of the printed bytes are told.
     told: usize,
+    /// How many of the reads were made before the last run.
+    read: usize,
     /// The standard input of the next run.
-    pub(crate) input: String,
+    pub(crate) input: Vec<u8>,
     /// The words of the run that is stopped.
     pub(crate) stopped: String,
     /// The paths of the files that the story has written.
@@ -55,20 +61,23 @@ impl Story {
     pub(crate) fn new(alloc: Global) -> Result<Story, AllocError> {
         Ok(Story {
             machine: new_machine(alloc)?,
-            samples: samples(alloc)?,
+            samples: Vec::new(alloc),
             told: 0,
-            input: String::new(alloc),
+            read: 0,
+            input: Vec::new(alloc),
             stopped: String::new(alloc),
             paths: Vec::new(alloc),
         })
     }
 
-    /// A story with the samples.
-    pub(crate) fn with_samples(alloc: Global) -> Result<Story, StoryFault> {
+    /// A story with the samples of that set.
+    pub(crate) fn with_samples(alloc: Global, set: &str) -> Result<Story, StoryFault> {
         let mut story = Story::new(alloc)?;
-        for (path, sample) in samples(alloc)? {
+        let files = samples(alloc, set)?;
+        for (path, sample) in &files {
             story.write(alloc, path, sample.bytes())?;
         }
+        story.samples = files;
         Ok(story)
     }
 
@@ -83,6 +92,20 @@ impl Story {
         Ok(())
     }
 
+    /// Runs the program, and says its status.
+    pub(crate) fn run(&mut self, alloc: Global, words: &Vec<String>) -> Result<u8, AllocError> {
+        self.machine.set_input(self.input.as_slice().to_vec(alloc)?);
+        self.input.clear();
+        self.read = self.machine.reads().len();
+        Ok(run(alloc, words, &mut self.machine))
+    }
+
+    /// The reads of the last run that gave bytes.
+    pub(crate) fn new_reads(&self) -> &[ReadSeen] {
+        let reads = self.machine.reads();
+        reads.get(self.read..).unwrap_or(reads)
+    }
+
     /// What was printed since the last call.
     pub(crate) fn new_printed(&mut self) -> &[Printed] {
         let told = self.told;
@@ -94,6 +117,7 @@ impl Story {
     /// From now on this is the story's machine.
     pub(crate) fn go_on_with(&mut self, machine: MemMachine) {
         self.told = machine.printed().len();
+        self.read = machine.reads().len();
         self.machine = machine;
     }
 
@@ -105,29 +129,60 @@ impl Story {
         Ok(())
     }
 
-    // Copies the files to another machine, and says how many they are.
+    // Copies the files to another machine, and says how many calls of it that takes.
     fn copy_files(&mut self, alloc: Global, copy: &mut MemMachine) -> Result<u64, StoryFault> {
-        let mut count = 0u64;
+        let mut calls = 0u64;
         for text in self.paths.iter() {
             let path = BootPath::read(alloc, text.as_str())?;
             if let Some(bytes) = bytes_at(alloc, &mut self.machine, &path)? {
                 put(alloc, copy, text.as_str(), bytes.as_slice())?;
-                count = count.saturating_add(1);
+                calls = calls.saturating_add(CALLS_OF_PUT);
             }
         }
-        Ok(count)
+        Ok(calls)
     }
 
-    /// A new machine with the same files and the same input.
-    pub(crate) fn copied(&mut self, alloc: Global) -> Result<MemMachine, StoryFault> {
+    // The same with the intent.
+    fn copy_intent(&mut self, alloc: Global, copy: &mut MemMachine) -> Result<u64, StoryFault> {
+        match bytes_at(alloc, &mut self.machine, &BootPath::intent(alloc)?)? {
+            Some(bytes) => {
+                put_intent(alloc, copy, bytes.as_slice())?;
+                Ok(CALLS_OF_PUT_INTENT)
+            }
+            None => Ok(0),
+        }
+    }
+
+    // The same with the temporary files of a folder, of which only the names are copied.
+    fn copy_leftovers(
+        &mut self,
+        alloc: Global,
+        folder: &str,
+        copy: &mut MemMachine,
+    ) -> Result<u64, StoryFault> {
+        let folder = BootPath::read(alloc, folder)?;
+        let mut calls = 0u64;
+        for name in self.machine.names(alloc, &folder)? {
+            if let Some(path) = TempPath::leftover(alloc, &folder, &name)? {
+                leave(copy, &path)?;
+                calls = calls.saturating_add(CALLS_OF_LEAVE);
+            }
+        }
+        Ok(calls)
+    }
+
+    /// A new machine with the same files and the same input, and how many calls it has answered.
+    pub(crate) fn copied(&mut self, alloc: Global) -> Result<(MemMachine, u64), StoryFault> {
         self.find_paths(alloc)?;
         let mut copy = new_machine(alloc)?;
-        self.copy_files(alloc, &mut copy)?;
-        if let Some(bytes) = bytes_at(alloc, &mut self.machine, &BootPath::intent(alloc)?)? {
-            put_intent(alloc, &mut copy, bytes.as_slice())?;
+        let mut calls = self.copy_files(alloc, &mut copy)?;
+        for folder in FOLDERS {
+            let more = self.copy_leftovers(alloc, folder, &mut copy)?;
+            calls = calls.saturating_add(more);
         }
-        copy.set_input(self.input.as_bytes().to_vec(alloc)?);
-        Ok(copy)
+        calls = calls.saturating_add(self.copy_intent(alloc, &mut copy)?);
+        copy.set_input(self.input.as_slice().to_vec(alloc)?);
+        Ok((copy, calls))
     }
 
     /// Goes on with a new machine with the same files, of which the call of that number fails.
@@ -137,11 +192,8 @@ impl Story {
         call: u64,
         mode: FailMode,
     ) -> Result<(), StoryFault> {
-        self.find_paths(alloc)?;
-        let mut copy = new_machine(alloc)?;
-        let files = self.copy_files(alloc, &mut copy)?;
-        let before = files.saturating_mul(CALLS_OF_PUT);
-        copy.fail_at(before.saturating_add(call), mode)?;
+        let (mut copy, calls) = self.copied(alloc)?;
+        copy.fail_at(calls.saturating_add(call), mode)?;
         self.go_on_with(copy);
         Ok(())
     }

@@ -1,56 +1,24 @@
 //! The lines of a story, and what comes of each.
 use crate::fault::StoryFault;
-use crate::files::{bytes_at, folder_text};
-use crate::replies::reply_text;
+use crate::faults::faults_text;
+use crate::files::{boot_files_text, folder_text};
+use crate::lines::{number, parted, parted_or_whole};
+use crate::replies::{reads_text, reply_text, sources_text};
 use crate::stops::{left_by, stopped_after, stops_text};
 use crate::story::Story;
-use boot_base::BootPath;
-use boot_run::run;
+use crate::writes::{bytes_of_file, write_files};
 use memory_machine::FailMode;
-use std::alloc::{AllocError, Global};
+use std::alloc::Global;
 use tool_words::split_line;
 
-// The two parts of a text before and behind its first space.
-fn parted(text: &str) -> Result<(&str, &str), StoryFault> {
-    text.split_once(' ').ok_or(StoryFault::Unclear)
-}
-
-fn number(text: &str) -> Result<u64, StoryFault> {
-    match text.parse() {
-        Ok(number) => Ok(number),
-        Err(_) => Err(StoryFault::Unclear),
-    }
-}
-
-// The length is a variable, so that no proof writes out a list of that many bytes.
-fn zeros(alloc: Global, count: usize) -> Result<Vec<u8>, AllocError> {
-    vec![in alloc; 0u8; count]
-}
-
-fn copy(alloc: Global, story: &mut Story, rest: &str) -> Result<(), StoryFault> {
-    let (from, to) = parted(rest)?;
-    let from = BootPath::read(alloc, from)?;
-    let Some(bytes) = bytes_at(alloc, &mut story.machine, &from)? else {
-        return Err(StoryFault::Unclear);
-    };
-    story.write(alloc, to, bytes.as_slice())
-}
-
-fn write(alloc: Global, story: &mut Story, rest: &str) -> Result<(), StoryFault> {
-    let (path, text) = parted(rest)?;
-    let text = text.replace(alloc, "\\n", "\n")?;
-    story.write(alloc, path, text.as_bytes())
-}
-
-fn write_zeros(alloc: Global, story: &mut Story, rest: &str) -> Result<(), StoryFault> {
-    let (path, count) = parted(rest)?;
-    let bytes = zeros(alloc, number(count)? as usize)?;
-    story.write(alloc, path, bytes.as_slice())
-}
-
 fn add_line(story: &mut Story, rest: &str) -> Result<(), StoryFault> {
-    story.input.push_str(rest)?;
-    story.input.push_str("\n")?;
+    story.input.extend_from_slice(rest.as_bytes())?;
+    story.input.push(b'\n')?;
+    Ok(())
+}
+
+fn take_input(alloc: Global, story: &mut Story, path: &str) -> Result<(), StoryFault> {
+    story.input = bytes_of_file(alloc, story, path)?;
     Ok(())
 }
 
@@ -66,11 +34,24 @@ fn fail(alloc: Global, story: &mut Story, rest: &str) -> Result<(), StoryFault> 
 
 fn run_words(alloc: Global, story: &mut Story, rest: &str) -> Result<String, StoryFault> {
     let words = split_line(alloc, rest)?;
-    let input = story.input.as_bytes().to_vec(alloc)?;
-    story.machine.set_input(input);
-    story.input.clear();
-    let status = run(alloc, &words, &mut story.machine);
+    let status = story.run(alloc, &words)?;
     Ok(reply_text(alloc, story.new_printed(), status)?)
+}
+
+fn menu(alloc: Global, story: &mut Story) -> Result<String, StoryFault> {
+    let words = split_line(alloc, "bootctl list")?;
+    let _status = story.run(alloc, &words)?;
+    Ok(sources_text(alloc, story.new_printed())?)
+}
+
+fn left(alloc: Global, story: &mut Story) -> Result<String, StoryFault> {
+    let files = boot_files_text(alloc, &mut story.machine, &story.samples)?;
+    Ok(format!(in alloc; "{files}\n")?)
+}
+
+fn total(alloc: Global, story: &Story) -> Result<String, StoryFault> {
+    let count = story.machine.view_files();
+    Ok(format!(in alloc; "{count}\n")?)
 }
 
 fn stops(alloc: Global, story: &mut Story, rest: &str) -> Result<String, StoryFault> {
@@ -87,7 +68,8 @@ fn then(alloc: Global, story: &mut Story, rest: &str) -> Result<String, StoryFau
 fn stop(alloc: Global, story: &mut Story, rest: &str) -> Result<(), StoryFault> {
     let (calls, rest) = parted(rest)?;
     let (candidate, words) = parted(rest)?;
-    let (machine, _) = stopped_after(alloc, story, words, number(calls)?)?;
+    let words = split_line(alloc, words)?;
+    let (machine, _) = stopped_after(alloc, story, &words, number(calls)?)?;
     let left = left_by(alloc, machine, number(candidate)?)?;
     story.go_on_with(left);
     Ok(())
@@ -97,25 +79,28 @@ fn stop(alloc: Global, story: &mut Story, rest: &str) -> Result<(), StoryFault> 
 fn change(alloc: Global, verb: &str, rest: &str, story: &mut Story) -> Result<(), StoryFault> {
     match verb {
         "machine" => {
-            *story = Story::with_samples(alloc)?;
+            *story = Story::with_samples(alloc, rest)?;
             Ok(())
         }
-        "copy" => copy(alloc, story, rest),
-        "write" => write(alloc, story, rest),
-        "zeros" => write_zeros(alloc, story, rest),
         "line" => add_line(story, rest),
+        "input" => take_input(alloc, story, rest),
         "fail" => fail(alloc, story, rest),
         "stop" => stop(alloc, story, rest),
-        _ => Err(StoryFault::Unclear),
+        _ => write_files(alloc, verb, rest, story),
     }
 }
 
 // What comes of a line.
 fn told(alloc: Global, line: &str, story: &mut Story) -> Result<String, StoryFault> {
-    let (verb, rest) = line.split_once(' ').unwrap_or((line, ""));
+    let (verb, rest) = parted_or_whole(line);
     match verb {
         "run" => run_words(alloc, story, rest),
+        "menu" => menu(alloc, story),
+        "reads" => Ok(reads_text(alloc, story.new_reads())?),
         "files" => folder_text(alloc, &mut story.machine, &story.samples, rest),
+        "left" => left(alloc, story),
+        "total" => total(alloc, story),
+        "faults" => faults_text(alloc, story, rest),
         "stops" => stops(alloc, story, rest),
         "then" => then(alloc, story, rest),
         _ => {

@@ -16,6 +16,7 @@ mod kinds;
 mod naming;
 mod noted;
 mod odd;
+mod program;
 mod runs;
 mod telling;
 
@@ -43,6 +44,8 @@ enum Change {
     Write(&'static str, &'static [u8]),
     // Writes a file that was last changed so many seconds after the start of 1970.
     WriteAt(&'static str, &'static [u8], u64),
+    // Writes so many empty files into a folder, named by numbers and that ending.
+    Crowd(&'static str, u64, &'static str),
 }
 
 // What is done, and what must come of it.
@@ -67,6 +70,10 @@ enum Step {
     Holds(&'static str, &'static [u8]),
     // Nothing is at that path.
     Lacks(&'static str),
+    // Two files have the same bytes.
+    Same(&'static str, &'static str),
+    // The program runs on these words, which single spaces part, and ends with that status.
+    Runs(&'static str, u8),
 }
 
 // The name of a folder of this process' own.
@@ -173,6 +180,14 @@ fn write_at(rt: &HostRuntime, path: &str, bytes: &[u8], seconds: u64) -> io::Res
     }
 }
 
+fn write_crowd(rt: &HostRuntime, folder: &str, count: u64, ending: &str) -> io::Result<()> {
+    for number in 0..count {
+        let path = format!(in rt.alloc(); "{folder}/{number}{ending}")?;
+        fs::write(rt, path.as_str(), b"".as_slice())?;
+    }
+    Ok(())
+}
+
 fn make_change(rt: &HostRuntime, change: Change) -> io::Result<()> {
     match change {
         Change::MakeFolder(path) => fs::create_dir_all(rt, path),
@@ -180,11 +195,31 @@ fn make_change(rt: &HostRuntime, change: Change) -> io::Result<()> {
         Change::Link(to, path) => symlink(rt, to, path),
         Change::Write(path, bytes) => fs::write(rt, path, bytes),
         Change::WriteAt(path, bytes, seconds) => write_at(rt, path, bytes, seconds),
+        Change::Crowd(folder, count, ending) => write_crowd(rt, folder, count, ending),
     }
 }
 
 fn holds(rt: &HostRuntime, path: &str, bytes: &[u8]) -> io::Result<bool> {
     Ok(fs::read(rt, path)?.as_slice() == bytes)
+}
+
+// The words of a line, which single spaces part.
+fn words_of(alloc: Global, line: &str) -> Result<Vec<String>, AllocError> {
+    let mut words = Vec::new(alloc);
+    for word in line.split(' ') {
+        words.push(String::from_str(alloc, word)?)?;
+    }
+    Ok(words)
+}
+
+// How the program ends on the words of this line.
+fn status_of<R: Runtime<File = File> + AllocGlobal>(
+    alloc: Global,
+    machine: &mut HostMachine<R, Stderr>,
+    line: &str,
+) -> Result<u8, AllocError> {
+    let words = words_of(alloc, line)?;
+    Ok(boot_run::run(alloc, &words, machine))
 }
 
 // Whether of the step comes what must.
@@ -209,6 +244,8 @@ fn is_right<R: Runtime<File = File> + AllocGlobal>(
         Step::Beside(change) => Ok(make_change(rt, change).is_ok()),
         Step::Holds(path, bytes) => Ok(holds(rt, path, bytes)?),
         Step::Lacks(path) => Ok(!fs::exists(rt, path)?),
+        Step::Same(path, other) => Ok(holds(rt, path, fs::read(rt, other)?.as_slice())?),
+        Step::Runs(words, wanted) => Ok(status_of(alloc, machine, words)? == wanted),
     }
 }
 

@@ -1,0 +1,78 @@
+//! What a run comes to of which one call fails.
+use crate::fault::StoryFault;
+use crate::files::boot_files_text;
+use crate::stops::{CALL_LIMIT, StoppedRun, acknowledged, is_stopped};
+use crate::story::Story;
+use boot_run::run;
+use memory_machine::{FailMode, MemMachine};
+use std::alloc::Global;
+
+/// A call fails before it has done anything, or after it has done all.
+const MODES: [FailMode; 2] = [FailMode::Before, FailMode::After];
+
+// A copy of the story's machine after a run of which that call fails, and the status.
+fn faulty(
+    alloc: Global,
+    story: &mut Story,
+    words: &Vec<String>,
+    call: u64,
+    mode: FailMode,
+) -> Result<(MemMachine, u8), StoryFault> {
+    let (mut machine, calls) = story.copied(alloc)?;
+    machine.fail_at(calls.saturating_add(call), mode)?;
+    let status = run(alloc, words, &mut machine);
+    Ok((machine, status))
+}
+
+// What the run comes to if that call of it fails. None: it has no such call.
+fn outcome_text(
+    alloc: Global,
+    story: &mut Story,
+    faulted: &StoppedRun,
+    call: u64,
+    mode: FailMode,
+) -> Result<Option<String>, StoryFault> {
+    let (mut machine, status) = faulty(alloc, story, &faulted.words, call, mode)?;
+    if !is_stopped(status) {
+        return Ok(None);
+    }
+    let count = acknowledged(alloc, faulted, &machine)?;
+    let files = boot_files_text(alloc, &mut machine, &story.samples)?;
+    let text = format!(in alloc; "{count} acknowledged, status {status}: {files}\n")?;
+    Ok(Some(text))
+}
+
+// Adds the outcomes of both failures of that call. Says whether the run has such a call.
+fn add_outcomes(
+    alloc: Global,
+    story: &mut Story,
+    faulted: &StoppedRun,
+    call: u64,
+    texts: &mut Vec<String>,
+) -> Result<bool, StoryFault> {
+    for mode in MODES {
+        let Some(text) = outcome_text(alloc, story, faulted, call, mode)? else {
+            return Ok(false);
+        };
+        if !texts.contains(&text) {
+            texts.push(text)?;
+        }
+    }
+    Ok(true)
+}
+
+/// What a run of these words comes to of which one call fails, each outcome once.
+pub(crate) fn faults_text(
+    alloc: Global,
+    story: &mut Story,
+    words: &str,
+) -> Result<String, StoryFault> {
+    let faulted = StoppedRun::of(alloc, story, words, None)?;
+    let mut texts = Vec::new(alloc);
+    for call in 1..CALL_LIMIT {
+        if !add_outcomes(alloc, story, &faulted, call, &mut texts)? {
+            break;
+        }
+    }
+    Ok(texts.as_slice().concat(alloc)?)
+}

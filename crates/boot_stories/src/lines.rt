@@ -1,0 +1,49 @@
+//! The parts of a story's line.
+use crate::fault::StoryFault;
+use std::alloc::Global;
+
+/// The two parts of a text before and behind its first space.
+pub(crate) fn parted(text: &str) -> Result<(&str, &str), StoryFault> {
+    text.split_once(' ').ok_or(StoryFault::Unclear)
+}
+
+/// The same, where the second part may be missing.
+pub(crate) fn parted_or_whole(text: &str) -> (&str, &str) {
+    text.split_once(' ').unwrap_or((text, ""))
+}
+
+pub(crate) fn number(text: &str) -> Result<u64, StoryFault> {
+    match text.parse() {
+        Ok(number) => Ok(number),
+        Err(_) => Err(StoryFault::Unclear),
+    }
+}
+
+// The byte that stands behind a backslash, and the text behind it.
+fn escaped(text: &str) -> Result<(u8, &str), StoryFault> {
+    if let Some(rest) = text.strip_prefix('n') {
+        return Ok((b'\n', rest));
+    }
+    let Some((digits, rest)) = text
+        .strip_prefix('x')
+        .and_then(|number| number.split_at_checked(2))
+    else {
+        return Err(StoryFault::Unclear);
+    };
+    match u8::from_str_radix(digits, 16) {
+        Ok(byte) => Ok((byte, rest)),
+        Err(_) => Err(StoryFault::Unclear),
+    }
+}
+
+/// The bytes of a text in which `\n` is a newline, and `\x` with two digits the byte of that number.
+pub(crate) fn unescaped(alloc: Global, text: &str) -> Result<Vec<u8>, StoryFault> {
+    let mut pieces = text.split('\\');
+    let mut bytes = pieces.next().unwrap_or("").as_bytes().to_vec(alloc)?;
+    for piece in pieces {
+        let (byte, rest) = escaped(piece)?;
+        bytes.push(byte)?;
+        bytes.extend_from_slice(rest.as_bytes())?;
+    }
+    Ok(bytes)
+}

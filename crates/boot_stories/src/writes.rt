@@ -1,0 +1,87 @@
+//! The lines of a story that write files.
+use crate::fault::StoryFault;
+use crate::files::{bytes_at, leave};
+use crate::lines::{number, parted, parted_or_whole, unescaped};
+use crate::samples::image_of;
+use crate::story::Story;
+use boot_base::{BootPath, TempPath};
+use std::alloc::{AllocError, Global};
+
+// The length is a variable, so that no proof writes out a list of that many bytes.
+fn filled(alloc: Global, count: usize, byte: u8) -> Result<Vec<u8>, AllocError> {
+    vec![in alloc; byte; count]
+}
+
+// So many bytes, of which two that are a piece apart differ.
+fn series(alloc: Global, count: u64) -> Result<Vec<u8>, AllocError> {
+    let mut bytes = Vec::new(alloc);
+    for place in 0..count {
+        bytes.push((place % 251) as u8)?;
+    }
+    Ok(bytes)
+}
+
+/// The bytes of a file that is there.
+pub(crate) fn bytes_of_file(
+    alloc: Global,
+    story: &mut Story,
+    path: &str,
+) -> Result<Vec<u8>, StoryFault> {
+    let path = BootPath::read(alloc, path)?;
+    bytes_at(alloc, &mut story.machine, &path)?.ok_or(StoryFault::Unclear)
+}
+
+fn copy_file(alloc: Global, story: &mut Story, rest: &str) -> Result<(), StoryFault> {
+    let (from, to) = parted(rest)?;
+    let bytes = bytes_of_file(alloc, story, from)?;
+    story.write(alloc, to, bytes.as_slice())
+}
+
+fn write_text(alloc: Global, story: &mut Story, rest: &str) -> Result<(), StoryFault> {
+    let (path, text) = parted_or_whole(rest);
+    let bytes = unescaped(alloc, text)?;
+    story.write(alloc, path, bytes.as_slice())
+}
+
+fn write_image(alloc: Global, story: &mut Story, rest: &str) -> Result<(), StoryFault> {
+    let (path, text) = parted_or_whole(rest);
+    let osrel = unescaped(alloc, text)?;
+    story.write(alloc, path, image_of(osrel.as_slice()).bytes())
+}
+
+fn write_filled(alloc: Global, story: &mut Story, rest: &str) -> Result<(), StoryFault> {
+    let (path, rest) = parted(rest)?;
+    let (count, byte) = parted(rest)?;
+    let byte = *unescaped(alloc, byte)?.first().ok_or(StoryFault::Unclear)?;
+    let bytes = filled(alloc, number(count)? as usize, byte)?;
+    story.write(alloc, path, bytes.as_slice())
+}
+
+fn write_series(alloc: Global, story: &mut Story, rest: &str) -> Result<(), StoryFault> {
+    let (path, count) = parted(rest)?;
+    let bytes = series(alloc, number(count)?)?;
+    story.write(alloc, path, bytes.as_slice())
+}
+
+fn leave_temp(alloc: Global, story: &mut Story, path: &str) -> Result<(), StoryFault> {
+    let temp = TempPath::of(alloc, &BootPath::read(alloc, path)?)?;
+    leave(&mut story.machine, &temp)
+}
+
+/// Writes files as a line with this verb says. Any other verb is unclear.
+pub(crate) fn write_files(
+    alloc: Global,
+    verb: &str,
+    rest: &str,
+    story: &mut Story,
+) -> Result<(), StoryFault> {
+    match verb {
+        "copy" => copy_file(alloc, story, rest),
+        "write" => write_text(alloc, story, rest),
+        "image" => write_image(alloc, story, rest),
+        "fill" => write_filled(alloc, story, rest),
+        "series" => write_series(alloc, story, rest),
+        "leave" => leave_temp(alloc, story, rest),
+        _ => Err(StoryFault::Unclear),
+    }
+}
