@@ -64,7 +64,6 @@ fn refusal_of(alloc: Global, row: &Row<'_>) -> Result<Refusal, RowFault> {
         "TooMany" => Ok(Refusal::TooMany {
             count: u64::from(row.number(1)?),
         }),
-        "NotBuilt" => Ok(Refusal::NotBuilt),
         kind => refusal_of_text(kind, Text::of(alloc, row.text(1)?)?),
     }
 }
