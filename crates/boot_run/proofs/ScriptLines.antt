@@ -96,13 +96,14 @@ step_in number piece = by_text (is_utf8 piece && not (is_open (chars piece)))
     by_text true = step_meant number (meaning (line_words (chars piece)))
     by_text false = tt
 
+steps_behind : (number : ℕ) (passed : Bool) (piece : List ℕ) (lines : List Line) → All IsStep lines
+    → All IsStep ((cond passed [] (line_at number (command_in piece) ∷ [])) ++ lines)
+steps_behind number true piece lines steps = steps
+steps_behind number false piece lines steps = All-cons IsStep (line_at number (command_in piece)) lines (step_in number piece) steps
+
 steps_from : (number : ℕ) (pieces : List (List ℕ)) → All IsStep (lines_from number pieces)
 steps_from number [] = All-nil IsStep
-steps_from number (piece ∷ pieces) = by_piece (is_passed_over piece)
-  where
-    by_piece : (passed : Bool) → All IsStep ((cond passed [] (line_at number (command_in piece) ∷ [])) ++ lines_from (suc number) pieces)
-    by_piece true = steps_from (suc number) pieces
-    by_piece false = All-cons IsStep (line_at number (command_in piece)) (lines_from (suc number) pieces) (step_in number piece) (steps_from (suc number) pieces)
+steps_from number (piece ∷ pieces) = steps_behind number (is_passed_over piece) piece (lines_from (suc number) pieces) (steps_from (suc number) pieces)
 
 -- each line of a script is a step
 pub all_steps : (input : List ℕ) → All IsStep (lines_in input)

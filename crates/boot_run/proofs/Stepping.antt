@@ -130,6 +130,14 @@ recovers_step old line lines new end some recovers = record {
     all_are Stopped recovers = absurd recovers
     all_are Finished recovers = absurd recovers
 
+-- where the one view stays, it is the only one
+only_of : (after : Files) (new : List Files) (end : End) → KeepsViews (after ∷ []) new end → (v : Files) → IsIn v new → v ≡ after
+only_of after new Stopped kept v is = ⊎_elim (λ here. here ∙ ⊎_elim (λ one. one) (λ none. absurd none) kept.2) (λ none. absurd none) (subst (IsIn v) kept.1 is)
+only_of after new Finished kept v is = ⊎_elim (λ here. here) (λ none. absurd none) (subst (IsIn v) kept is)
+only_of after new NoMemory kept v is = ⊎_elim (λ here. here) (λ none. absurd none) (subst (IsIn v) kept is)
+only_of after new DiskFails kept v is = ⊎_elim (λ here. here) (λ none. absurd none) (subst (IsIn v) kept is)
+only_of after new PipeFails kept v is = ⊎_elim (λ here. here) (λ none. absurd none) (subst (IsIn v) kept is)
+
 -- one line was begun, and all views are that which it leaves
 left_step : (old : List Files) (line : Line) (lines : List Line) (new : List Files) (sent : Sent) (end : End) → (line_deed (latest old) line).sent ≢ [] → NoneEmpty (line_deed (latest old) line).after lines
     → end ≢ Finished → end ≢ NoMemory → end ≢ DiskFails → IsPrefix sent (line_deed (latest old) line).sent → KeepsViews (left_by (line_deed (latest old) line) old) new end → Step old (line ∷ lines) new sent end
@@ -149,13 +157,6 @@ left_step old line lines new sent end some others not_done not_memory not_disk p
         (λ short. (0, omega arith, none_acked (replies (line_deed (latest old) line).after lines) (line_deed (latest old) line).sent sent short))
         (whole_or_part sent (line_deed (latest old) line).sent part)
 
-    is_after : (new : List Files) (end : End) → KeepsViews ((line_deed (latest old) line).after ∷ []) new end → (v : Files) → IsIn v new → v ≡ (line_deed (latest old) line).after
-    is_after new Stopped kept v is = ⊎_elim (λ here. here ∙ ⊎_elim (λ one. one) (λ none. absurd none) kept.2) (λ none. absurd none) (subst (IsIn v) kept.1 is)
-    is_after new Finished kept v is = ⊎_elim (λ here. here) (λ none. absurd none) (subst (IsIn v) kept is)
-    is_after new NoMemory kept v is = ⊎_elim (λ here. here) (λ none. absurd none) (subst (IsIn v) kept is)
-    is_after new DiskFails kept v is = ⊎_elim (λ here. here) (λ none. absurd none) (subst (IsIn v) kept is)
-    is_after new PipeFails kept v is = ⊎_elim (λ here. here) (λ none. absurd none) (subst (IsIn v) kept is)
-
     one_or_none : (k : ℕ) → k ≤ 1 → (v : Files) → v ≡ (line_deed (latest old) line).after → (v ≡ view_after (latest old) (take k (line ∷ lines))) ⊎ ((k < length (line ∷ lines)) × (v ≡ view_after (latest old) (take (k + 1) (line ∷ lines))))
     one_or_none zero le v is = inr (omega arith, is)
     one_or_none (suc zero) le v is = inl is
@@ -163,7 +164,7 @@ left_step old line lines new sent end some others not_done not_memory not_disk p
 
     late : left_by (line_deed (latest old) line) old ≡ (line_deed (latest old) line).after ∷ [] → Early old (line ∷ lines) new sent end how.0 ⊎ Late old (line ∷ lines) new end how.0
     late left =
-        let each : (v : Files) → IsIn v new → v ≡ (line_deed (latest old) line).after = is_after new end (subst (λ (s : List Files). KeepsViews s new end) left kept) in
+        let each : (v : Files) → IsIn v new → v ≡ (line_deed (latest old) line).after = only_of (line_deed (latest old) line).after new end (subst (λ (s : List Files). KeepsViews s new end) left kept) in
         inr (record {
           views = λ v is. one_or_none how.0 how.1 v (each v is);
           equal = λ not_disk v w is_v is_w. each v is_v ∙ sym (each w is_w);
@@ -230,17 +231,10 @@ more_step old line lines new rest end step = record {
         one_further : view_after (line_deed (latest old) line).after (take (step.acked + 1) lines) ≡ view_after (latest old) (take (suc step.acked + 1) (line ∷ lines))
         one_further = let more : suc step.acked + 1 ≡ suc (step.acked + 1) = omega arith in ap (λ n. view_after (latest old) (take n (line ∷ lines))) (sym more)
 
-    only_after : (new : List Files) (end : End) → KeepsViews ((line_deed (latest old) line).after ∷ []) new end → (v : Files) → IsIn v new → v ≡ (line_deed (latest old) line).after
-    only_after new Stopped kept v is = ⊎_elim (λ here. here ∙ ⊎_elim (λ one. one) (λ none. absurd none) kept.2) (λ none. absurd none) (subst (IsIn v) kept.1 is)
-    only_after new Finished kept v is = ⊎_elim (λ here. here) (λ none. absurd none) (subst (IsIn v) kept is)
-    only_after new NoMemory kept v is = ⊎_elim (λ here. here) (λ none. absurd none) (subst (IsIn v) kept is)
-    only_after new DiskFails kept v is = ⊎_elim (λ here. here) (λ none. absurd none) (subst (IsIn v) kept is)
-    only_after new PipeFails kept v is = ⊎_elim (λ here. here) (λ none. absurd none) (subst (IsIn v) kept is)
-
     early : Early (left_by (line_deed (latest old) line) old) lines new rest end step.acked → Early old (line ∷ lines) new ((line_deed (latest old) line).sent ++ rest) end (suc step.acked) ⊎ Late old (line ∷ lines) new end (suc step.acked)
     early rest_early = ⊎_elim
         (λ left.
-        let each : (v : Files) → IsIn v new → v ≡ (line_deed (latest old) line).after = only_after new end (subst (λ (s : List Files). KeepsViews s new end) left rest_early.kept) in
+        let each : (v : Files) → IsIn v new → v ≡ (line_deed (latest old) line).after = only_of (line_deed (latest old) line).after new end (subst (λ (s : List Files). KeepsViews s new end) left rest_early.kept) in
         let same = unread_after (line_deed (latest old) line).after lines step.acked rest_early.leading rest_early.enough rest_early.unread in
         inr (record {
           views = λ v is. inl (each v is ∙ sym same);
