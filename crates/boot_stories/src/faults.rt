@@ -1,7 +1,7 @@
 //! What a run comes to of which one call fails.
 use crate::fault::StoryFault;
 use crate::files::boot_files_text;
-use crate::stops::{CALL_LIMIT, StoppedRun, acknowledged, is_stopped};
+use crate::stops::{CALL_LIMIT, StoppedRun, acknowledged, is_stopped, next_text};
 use crate::story::Story;
 use boot_run::run;
 use memory_machine::{FailMode, MemMachine};
@@ -24,7 +24,7 @@ fn faulty(
     Ok((machine, status))
 }
 
-// What the run comes to if that call of it fails. None: it has no such call.
+// What the run comes to if that call of it fails, or the next run after it. None: it has no such call.
 fn outcome_text(
     alloc: Global,
     story: &mut Story,
@@ -35,6 +35,10 @@ fn outcome_text(
     let (mut machine, status) = faulty(alloc, story, &faulted.words, call, mode)?;
     if !is_stopped(status) {
         return Ok(None);
+    }
+    if let Some(words) = &faulted.next {
+        let text = next_text(alloc, faulted, words, &mut machine, &story.samples)?;
+        return Ok(Some(text));
     }
     let count = acknowledged(alloc, faulted, &machine)?;
     let files = boot_files_text(alloc, &mut machine, &story.samples)?;
@@ -61,13 +65,14 @@ fn add_outcomes(
     Ok(true)
 }
 
-/// What a run of these words comes to of which one call fails, each outcome once.
+/// What a run of these words comes to of which one call fails, or what the next run comes to after it, each outcome once.
 pub(crate) fn faults_text(
     alloc: Global,
     story: &mut Story,
     words: &str,
+    next: Option<Vec<String>>,
 ) -> Result<String, StoryFault> {
-    let faulted = StoppedRun::of(alloc, story, words, None)?;
+    let faulted = StoppedRun::of(alloc, story, words, next)?;
     let mut texts = Vec::new(alloc);
     for call in 1..CALL_LIMIT {
         if !add_outcomes(alloc, story, &faulted, call, &mut texts)? {

@@ -9,6 +9,7 @@
 //! - `leave PATH`: a temporary file is left, as it is where a write of that path is stopped.
 //! - `run WORDS`: the program runs on the words, which are parted as those of a script. Below it stand what it printed
 //!   on Out and on Err, and its status. A byte that isn't printable is told as in `write`, and a backslash twice.
+//! - `each WORDS; WORDS`: the program runs on each of these words in turn. Below it stands what was printed.
 //! - `menu`: `bootctl list` runs. Below it stand the sources of the entries in their order.
 //! - `reads`: the reads of the last run that gave bytes.
 //! - `line TEXT`: a line of the standard input of the runs up to the next `run`.
@@ -20,7 +21,8 @@
 //! - `left`: the boot files, and the intent of a rename. `total`: how many files there are but temporary ones.
 //! - `stops WORDS`: what a stop of that run may leave, each outcome once, in the order of the calls before it. The
 //!   machine stays as it is.
-//! - `then WORDS`: what these words come to after each stop of the last `stops`, each outcome once.
+//! - `then WORDS`: what these words come to, with the same standard input, after each stop of the last `stops` or each
+//!   fault of the last `faults`, whichever came later, each outcome once.
 //! - `stop N CANDIDATE WORDS`: the run is stopped after so many calls, and that candidate is left.
 //!
 //! Lines that begin with `#` are comments. A line that isn't understood is told behind `? `.

@@ -16,18 +16,14 @@ pub(crate) const CALL_LIMIT: u64 = 10_000;
 /// How many candidates are tried after each stop.
 const CANDIDATES: u64 = 4;
 
-/// What a stop leaves that chooses this candidate.
-pub(crate) fn left_by(
-    alloc: Global,
-    machine: MemMachine,
-    candidate: u64,
-) -> Result<MemMachine, AllocError> {
+/// The choice of this candidate, in which files that aren't synced have a few bytes.
+pub(crate) fn choice_of(alloc: Global, candidate: u64) -> Result<CrashChoice, AllocError> {
     let fill = b"!!!!!".to_vec(alloc)?;
-    machine.crash(alloc, &CrashChoice { candidate, fill })
+    Ok(CrashChoice { candidate, fill })
 }
 
-/// A copy of the story's machine after so many calls of a run of these words, and the status.
-pub(crate) fn stopped_after(
+// A copy of the story's machine after so many calls of a run of these words, and the status.
+fn stopped_after(
     alloc: Global,
     story: &mut Story,
     words: &Vec<String>,
@@ -53,7 +49,9 @@ pub(crate) struct StoppedRun {
     /// How many bytes it prints.
     length: usize,
     /// What runs after each stop, if anything does.
-    next: Option<Vec<String>>,
+    pub(crate) next: Option<Vec<String>>,
+    /// The standard input of what runs after a stop.
+    input: Vec<u8>,
 }
 
 impl StoppedRun {
@@ -72,6 +70,7 @@ impl StoppedRun {
             is_script,
             length: machine.printed().len(),
             next,
+            input: story.input.as_slice().to_vec(alloc)?,
         })
     }
 }
@@ -89,13 +88,15 @@ pub(crate) fn acknowledged(
     Ok(usize::from(printed.len() >= stopped.length))
 }
 
-// What the next run comes to after a stop.
-fn next_text(
+/// What these words come to after a stop or a fault.
+pub(crate) fn next_text(
     alloc: Global,
+    stopped: &StoppedRun,
+    words: &Vec<String>,
     machine: &mut MemMachine,
     samples: &[Sample],
-    words: &Vec<String>,
 ) -> Result<String, StoryFault> {
+    machine.set_input(stopped.input.as_slice().to_vec(alloc)?);
     let before = machine.printed().len();
     let status = run(alloc, words, machine);
     let printed = machine.printed();
@@ -113,9 +114,9 @@ fn outcome_text(
     candidate: u64,
 ) -> Result<String, StoryFault> {
     let count = acknowledged(alloc, stopped, &machine)?;
-    let mut left = left_by(alloc, machine, candidate)?;
+    let mut left = machine.crash(alloc, &choice_of(alloc, candidate)?)?;
     if let Some(words) = &stopped.next {
-        return next_text(alloc, &mut left, samples, words);
+        return next_text(alloc, stopped, words, &mut left, samples);
     }
     let files = boot_files_text(alloc, &mut left, samples)?;
     Ok(format!(in alloc; "{count} acknowledged: {files}\n")?)

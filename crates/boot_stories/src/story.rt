@@ -21,8 +21,10 @@ pub(crate) struct Story {
     read: usize,
     /// The standard input of the next run.
     pub(crate) input: Vec<u8>,
-    /// The words of the run that is stopped.
+    /// The words of the run that is stopped, or of which one call fails.
     pub(crate) stopped: String,
+    /// Whether one call of that run fails.
+    pub(crate) is_faulty: bool,
     /// The paths of the files that the story has written.
     paths: Vec<String>,
 }
@@ -66,6 +68,7 @@ impl Story {
             read: 0,
             input: Vec::new(alloc),
             stopped: String::new(alloc),
+            is_faulty: false,
             paths: Vec::new(alloc),
         })
     }

@@ -3,10 +3,11 @@ use crate::fault::StoryFault;
 use crate::faults::faults_text;
 use crate::files::{boot_files_text, folder_text};
 use crate::lines::{number, parted, parted_or_whole};
-use crate::replies::{reads_text, reply_text, sources_text};
-use crate::stops::{left_by, stopped_after, stops_text};
+use crate::replies::{printed_text, reads_text, reply_text, sources_text};
+use crate::stops::{choice_of, stops_text};
 use crate::story::Story;
 use crate::writes::{bytes_of_file, write_files};
+use boot_history::{run_and_stop, run_each};
 use memory_machine::FailMode;
 use std::alloc::Global;
 use tool_words::split_line;
@@ -38,6 +39,16 @@ fn run_words(alloc: Global, story: &mut Story, rest: &str) -> Result<String, Sto
     Ok(reply_text(alloc, story.new_printed(), status)?)
 }
 
+// Runs on the words between semicolons, one after the other.
+fn each(alloc: Global, story: &mut Story, rest: &str) -> Result<String, StoryFault> {
+    let mut calls = Vec::new(alloc);
+    for words in rest.split(';') {
+        calls.push(split_line(alloc, words)?)?;
+    }
+    run_each(alloc, calls.as_slice(), &mut story.machine);
+    Ok(printed_text(alloc, story.new_printed())?)
+}
+
 fn menu(alloc: Global, story: &mut Story) -> Result<String, StoryFault> {
     let words = split_line(alloc, "bootctl list")?;
     let _status = story.run(alloc, &words)?;
@@ -56,12 +67,22 @@ fn total(alloc: Global, story: &Story) -> Result<String, StoryFault> {
 
 fn stops(alloc: Global, story: &mut Story, rest: &str) -> Result<String, StoryFault> {
     story.stopped = String::from_str(alloc, rest)?;
+    story.is_faulty = false;
     stops_text(alloc, story, rest, None)
+}
+
+fn faults(alloc: Global, story: &mut Story, rest: &str) -> Result<String, StoryFault> {
+    story.stopped = String::from_str(alloc, rest)?;
+    story.is_faulty = true;
+    faults_text(alloc, story, rest, None)
 }
 
 fn then(alloc: Global, story: &mut Story, rest: &str) -> Result<String, StoryFault> {
     let next = split_line(alloc, rest)?;
     let stopped = String::from_str(alloc, story.stopped.as_str())?;
+    if story.is_faulty {
+        return faults_text(alloc, story, stopped.as_str(), Some(next));
+    }
     stops_text(alloc, story, stopped.as_str(), Some(next))
 }
 
@@ -69,8 +90,9 @@ fn stop(alloc: Global, story: &mut Story, rest: &str) -> Result<(), StoryFault> 
     let (calls, rest) = parted(rest)?;
     let (candidate, words) = parted(rest)?;
     let words = split_line(alloc, words)?;
-    let (machine, _) = stopped_after(alloc, story, &words, number(calls)?)?;
-    let left = left_by(alloc, machine, number(candidate)?)?;
+    let choice = choice_of(alloc, number(candidate)?)?;
+    let (machine, _) = story.copied(alloc)?;
+    let left = run_and_stop(alloc, &words, machine, number(calls)?, &choice)?;
     story.go_on_with(left);
     Ok(())
 }
@@ -95,12 +117,13 @@ fn told(alloc: Global, line: &str, story: &mut Story) -> Result<String, StoryFau
     let (verb, rest) = parted_or_whole(line);
     match verb {
         "run" => run_words(alloc, story, rest),
+        "each" => each(alloc, story, rest),
         "menu" => menu(alloc, story),
         "reads" => Ok(reads_text(alloc, story.new_reads())?),
         "files" => folder_text(alloc, &mut story.machine, &story.samples, rest),
         "left" => left(alloc, story),
         "total" => total(alloc, story),
-        "faults" => faults_text(alloc, story, rest),
+        "faults" => faults(alloc, story, rest),
         "stops" => stops(alloc, story, rest),
         "then" => then(alloc, story, rest),
         _ => {
