@@ -1,6 +1,6 @@
 -- What `ukify build` builds stands where its words say.
 use Rattle.std.proofs.Common.{◌≡◌, ℕ, Bool, true, false, List, [], ◌∷◌, ◌++◌, length, Option, Some, None, refl, sym, ap, ◌∙◌, subst, Result, Ok, Err}
-use Rattle.std.specs.Prelude.{IfOk, codes, filter, map, if◌then◌else◌}
+use Rattle.std.specs.Prelude.{IfOk, codes, filter, map, option_and_then, if◌then◌else◌}
 use Rattle.std.specs.Option.{option_map}
 use Rattle.boot_base.specs.Paths.{Path}
 use Rattle.boot_base.specs.declared.refusal.Refusal.{Refusal}
@@ -8,13 +8,12 @@ use Rattle.boot_machine.specs.Disk.{Files}
 use Rattle.pe_reader.specs.Grammar.{Headers}
 use Rattle.uki_parts.specs.Names.{named}
 use Rattle.uki_parts.specs.declared.name.SectionName.{SectionName}
-use Rattle.pe_builder.specs.declared.fault.PlanFault.{PlanFault}
 use Rattle.pe_builder.specs.Refusals.{first_refusal}
 use Rattle.pe_builder.specs.Replaced.{sbat_name}
 use Rattle.tool_words.specs.declared.command.BuildWords.{BuildWords}
 use Rattle.command_reads.specs.Files.{each, if_given}
 use Rattle.command_reads.specs.Refusing.{◌>>=◌, path_in}
-use Rattle.image_build.specs.Building.{Built, Named, build_of, has_bytes, has_sbat, image_of, image_of_parts, image_or, material_of, named_of, section_of, size_of_part, source_of, sources_of, wanted_parts, with_sbat_text}
+use Rattle.image_build.specs.Building.{Built, Named, build_of, builder_refusal, has_bytes, has_sbat, image_of, image_of_parts, image_or, material_of, named_of, section_of, size_of_part, source_of, sources_of, wanted_parts, with_sbat_text}
 
 -- what is so of each outcome of the next step is so of both together
 bind_if : {A B : Type 0} (r : Result A Refusal) (f : A → Result B Refusal) (Q : B → Type 0)
@@ -35,15 +34,16 @@ module _ (output : Path) (headers : Headers) (stub : List ℕ) where
   abbrev AtOutput : Result Built Refusal → Type 0
   AtOutput result = IfOk result (λ built. built.output ≡ output)
 
-  or_output : (parts : List (SectionName × List ℕ)) (sbat : Option (List ℕ)) (fault : Option PlanFault)
-      → AtOutput (image_or output headers stub parts sbat fault)
-  or_output parts sbat (Some fault) = tt
+  or_output : (parts : List (SectionName × List ℕ)) (sbat : Option (List ℕ)) (refused : Option Refusal)
+      → AtOutput (image_or output headers stub parts sbat refused)
+  or_output parts sbat (Some why) = tt
   or_output parts sbat None = refl
 
   parts_output : (parts : List (SectionName × List ℕ)) (sbat : Option (List ℕ))
       → AtOutput (image_of_parts output headers stub parts sbat)
   parts_output parts sbat =
-      or_output parts sbat (first_refusal headers (length stub) (map size_of_part parts) (option_map length sbat))
+      or_output parts sbat
+      (option_and_then (builder_refusal output) (first_refusal headers (length stub) (map size_of_part parts) (option_map length sbat)))
 
   either : (b : Bool) (x y : Result Built Refusal) → AtOutput x → AtOutput y → AtOutput (if b then x else y)
   either true x y p q = p
