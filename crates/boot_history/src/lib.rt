@@ -8,6 +8,8 @@ ghost use Rattle.boot_history.specs.Numbers.{HistoryLaw};
 
 mod each;
 mod stop;
+#[cfg(test)]
+mod tests;
 
 pub use each::run_each;
 pub use stop::run_and_stop;

@@ -9,7 +9,6 @@
 //! - `leave PATH`: a temporary file is left, as it is where a write of that path is stopped.
 //! - `run WORDS`: the program runs on the words, which are parted as those of a script. Below it stand what it printed
 //!   on Out and on Err, and its status. A byte that isn't printable is told as in `write`, and a backslash twice.
-//! - `each WORDS; WORDS`: the program runs on each of these words in turn. Below it stands what was printed.
 //! - `menu`: `bootctl list` runs. Below it stand the sources of the entries in their order.
 //! - `reads`: the reads of the last run that gave bytes.
 //! - `line TEXT`: a line of the standard input of the runs up to the next `run`.

@@ -24,21 +24,15 @@ fn text_on(alloc: Global, printed: &[Printed], channel: Channel) -> Result<Strin
     Ok(text)
 }
 
-/// What was printed on Out, then what was printed on Err.
-pub(crate) fn printed_text(alloc: Global, printed: &[Printed]) -> Result<String, AllocError> {
-    let out = text_on(alloc, printed, Channel::Out)?;
-    let err = text_on(alloc, printed, Channel::Err)?;
-    format!(in alloc; "{out}{err}")
-}
-
-/// The same, then the status.
+/// What was printed on Out, then what was printed on Err, then the status.
 pub(crate) fn reply_text(
     alloc: Global,
     printed: &[Printed],
     status: u8,
 ) -> Result<String, AllocError> {
-    let text = printed_text(alloc, printed)?;
-    format!(in alloc; "{text}status {status}\n")
+    let out = text_on(alloc, printed, Channel::Out)?;
+    let err = text_on(alloc, printed, Channel::Err)?;
+    format!(in alloc; "{out}{err}status {status}\n")
 }
 
 /// How many lines of a script are acknowledged: the whole lines on Out that begin with `ok ` or `refused `.

@@ -16,14 +16,18 @@ pub(crate) const CALL_LIMIT: u64 = 10_000;
 /// How many candidates are tried after each stop.
 const CANDIDATES: u64 = 4;
 
-/// The choice of this candidate, in which files that aren't synced have a few bytes.
-pub(crate) fn choice_of(alloc: Global, candidate: u64) -> Result<CrashChoice, AllocError> {
+/// What a stop leaves that chooses this candidate.
+pub(crate) fn left_by(
+    alloc: Global,
+    machine: MemMachine,
+    candidate: u64,
+) -> Result<MemMachine, AllocError> {
     let fill = b"!!!!!".to_vec(alloc)?;
-    Ok(CrashChoice { candidate, fill })
+    machine.crash(alloc, &CrashChoice { candidate, fill })
 }
 
-// A copy of the story's machine after so many calls of a run of these words, and the status.
-fn stopped_after(
+/// A copy of the story's machine after so many calls of a run of these words, and the status.
+pub(crate) fn stopped_after(
     alloc: Global,
     story: &mut Story,
     words: &Vec<String>,
@@ -114,7 +118,7 @@ fn outcome_text(
     candidate: u64,
 ) -> Result<String, StoryFault> {
     let count = acknowledged(alloc, stopped, &machine)?;
-    let mut left = machine.crash(alloc, &choice_of(alloc, candidate)?)?;
+    let mut left = left_by(alloc, machine, candidate)?;
     if let Some(words) = &stopped.next {
         return next_text(alloc, stopped, words, &mut left, samples);
     }

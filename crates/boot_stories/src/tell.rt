@@ -3,11 +3,10 @@ use crate::fault::StoryFault;
 use crate::faults::faults_text;
 use crate::files::{boot_files_text, folder_text};
 use crate::lines::{number, parted, parted_or_whole};
-use crate::replies::{printed_text, reads_text, reply_text, sources_text};
-use crate::stops::{choice_of, stops_text};
+use crate::replies::{reads_text, reply_text, sources_text};
+use crate::stops::{left_by, stopped_after, stops_text};
 use crate::story::Story;
 use crate::writes::{bytes_of_file, write_files};
-use boot_history::{run_and_stop, run_each};
 use memory_machine::FailMode;
 use std::alloc::Global;
 use tool_words::split_line;
@@ -37,16 +36,6 @@ fn run_words(alloc: Global, story: &mut Story, rest: &str) -> Result<String, Sto
     let words = split_line(alloc, rest)?;
     let status = story.run(alloc, &words)?;
     Ok(reply_text(alloc, story.new_printed(), status)?)
-}
-
-// Runs on the words between semicolons, one after the other.
-fn each(alloc: Global, story: &mut Story, rest: &str) -> Result<String, StoryFault> {
-    let mut calls = Vec::new(alloc);
-    for words in rest.split(';') {
-        calls.push(split_line(alloc, words)?)?;
-    }
-    run_each(alloc, calls.as_slice(), &mut story.machine);
-    Ok(printed_text(alloc, story.new_printed())?)
 }
 
 fn menu(alloc: Global, story: &mut Story) -> Result<String, StoryFault> {
@@ -90,9 +79,8 @@ fn stop(alloc: Global, story: &mut Story, rest: &str) -> Result<(), StoryFault> 
     let (calls, rest) = parted(rest)?;
     let (candidate, words) = parted(rest)?;
     let words = split_line(alloc, words)?;
-    let choice = choice_of(alloc, number(candidate)?)?;
-    let (machine, _) = story.copied(alloc)?;
-    let left = run_and_stop(alloc, &words, machine, number(calls)?, &choice)?;
+    let (machine, _) = stopped_after(alloc, story, &words, number(calls)?)?;
+    let left = left_by(alloc, machine, number(candidate)?)?;
     story.go_on_with(left);
     Ok(())
 }
@@ -117,7 +105,6 @@ fn told(alloc: Global, line: &str, story: &mut Story) -> Result<String, StoryFau
     let (verb, rest) = parted_or_whole(line);
     match verb {
         "run" => run_words(alloc, story, rest),
-        "each" => each(alloc, story, rest),
         "menu" => menu(alloc, story),
         "reads" => Ok(reads_text(alloc, story.new_reads())?),
         "files" => folder_text(alloc, &mut story.machine, &story.samples, rest),
