@@ -15,6 +15,10 @@ fn words_of(alloc: Global, line: &str) -> Result<Vec<String>, AllocError> {
     Ok(words)
 }
 
+fn empty_machine(alloc: Global) -> Result<MemMachine, AllocError> {
+    MemMachine::new(alloc, Vec::new(alloc))
+}
+
 // All that the machine has printed.
 fn check_printed(
     rt: &impl Abort,
@@ -33,7 +37,7 @@ fn check_printed(
 #[test]
 fn runs_print_one_behind_the_other(rt: HostRuntime) -> Result<(), Fail> {
     let alloc = rt.alloc();
-    let mut machine = MemMachine::new(alloc, Vec::new(alloc))?;
+    let mut machine = empty_machine(alloc)?;
     let calls = vec![in alloc;
         words_of(alloc, "tidy")?,
         words_of(alloc, "bootctl list")?,
@@ -49,7 +53,7 @@ fn a_run_prints_nothing_that_is_stopped_at_once(rt: HostRuntime) -> Result<(), F
     let alloc = rt.alloc();
     let words = words_of(alloc, "tidy")?;
     for (calls, wanted) in [(0, ""), (1000, "cleaned\n")] {
-        let machine = MemMachine::new(alloc, Vec::new(alloc))?;
+        let machine = empty_machine(alloc)?;
         let choice = CrashChoice {
             candidate: 0,
             fill: Vec::new(alloc),
