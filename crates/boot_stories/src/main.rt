@@ -6,6 +6,7 @@
 //! - `image PATH TEXT`: an image with that os-release text is written.
 //! - `fill PATH COUNT BYTE`: so many of that byte are written.
 //! - `series PATH COUNT`: so many bytes are written, which rise from 0 to 250 again and again.
+//! - `crowd FOLDER COUNT SUFFIX`: so many empty files are written into the folder, `a0` with that suffix and so on.
 //! - `leave PATH`: a temporary file is left, as it is where a write of that path is stopped.
 //! - `run WORDS`: the program runs on the words, which are parted as those of a script. Below it stand what it printed
 //!   on Out and on Err, and its status. A byte that isn't printable is told as in `write`, and a backslash twice.

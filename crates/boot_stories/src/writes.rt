@@ -63,6 +63,16 @@ fn write_series(alloc: Global, story: &mut Story, rest: &str) -> Result<(), Stor
     story.write(alloc, path, bytes.as_slice())
 }
 
+fn write_crowd(alloc: Global, story: &mut Story, rest: &str) -> Result<(), StoryFault> {
+    let (folder, rest) = parted(rest)?;
+    let (count, suffix) = parted(rest)?;
+    for place in 0..number(count)? {
+        let path = format!(in alloc; "{folder}/a{place}{suffix}")?;
+        story.write(alloc, path.as_str(), b"")?;
+    }
+    Ok(())
+}
+
 fn leave_temp(alloc: Global, story: &mut Story, path: &str) -> Result<(), StoryFault> {
     let temp = TempPath::of(alloc, &BootPath::read(alloc, path)?)?;
     leave(&mut story.machine, &temp)
@@ -81,6 +91,7 @@ pub(crate) fn write_files(
         "image" => write_image(alloc, story, rest),
         "fill" => write_filled(alloc, story, rest),
         "series" => write_series(alloc, story, rest),
+        "crowd" => write_crowd(alloc, story, rest),
         "leave" => leave_temp(alloc, story, rest),
         _ => Err(StoryFault::Unclear),
     }
