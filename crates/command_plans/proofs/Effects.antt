@@ -1,5 +1,5 @@
 -- What the steps of an installation come to on a rested machine, where boot sees what every command reads.
-use Rattle.std.proofs.Common.{◌≡◌, ◌≤◌, true, false, length, sym, ap, ◌∙◌, refl, subst}
+use Rattle.std.proofs.Common.{◌≡◌, ◌≤◌, ℕ, List, true, false, length, sym, ap, ◌∙◌, refl, subst}
 use Rattle.std.specs.FinMap.{insert, remove}
 use Rattle.boot_base.specs.Paths.{Path}
 use Rattle.boot_base.specs.declared.path.Target.{Target}
@@ -22,6 +22,9 @@ clash e f = cc
 
 pub written_rested : (s : State) (image : ImagePlan) (sources : Sources) (path : Path) → IsRested s → insert (recovered_view s.files) path (planned_image image sources (seen s)) ≡ written image sources path (seen s)
 written_rested s image sources path rested = ap (λ (v : Files). insert v path (planned_image image sources (seen s))) (recovered_view-calm s.files rested)
+
+pub put_rested : (s : State) (path : Path) (bytes : List ℕ) → IsRested s → insert (recovered_view s.files) path bytes ≡ insert (seen s) path bytes
+put_rested s path bytes rested = ap (λ (v : Files). insert v path bytes) (recovered_view-calm s.files rested)
 
 copied_there : (from to : Path) (view : Files) → has view from ≡ true → copied from to view ≡ duplicated from to view
 copied_there from to view there = rw there refl

@@ -18,7 +18,7 @@ use Rattle.command_plans.specs.Answers.{Answer}
 use Rattle.command_plans.specs.declared.outcome.MachineFault.{MachineFault}
 use Rattle.command_plans.specs.declared.outcome.MachineFault.TheVariants as faults
 use Rattle.command_plans.specs.declared.plan.Change.{Change}
-use Rattle.command_plans.specs.declared.plan.Change.TheVariants.{Nothing, Remove, Leftovers, Write, Copy, Move}
+use Rattle.command_plans.specs.declared.plan.Change.TheVariants.{Nothing, Remove, Leftovers, Write, Put, Copy, Move}
 use Rattle.command_plans.specs.declared.plan.Plan.{Plan}
 
 -- the view with the finished image by a plan of these sources at a path
@@ -35,6 +35,7 @@ effect view Nothing = view
 effect view (Remove path gone) = remove view path
 effect view (Leftovers temps) = view
 effect view (Write image sources target) = written image sources target.path view
+effect view (Put target bytes) = insert view target.path bytes
 effect view (Copy from target gone) = duplicated from target.path view
 effect view (Move from to intent gone exists) = move_in from to view
 
@@ -45,6 +46,7 @@ IsMakeable Nothing = Unit {0}
 IsMakeable (Remove path gone) = IsFree path
 IsMakeable (Leftovers temps) = IsDistinct bytes_eq temps.items
 IsMakeable (Write image sources target) = IsFree target.path
+IsMakeable (Put target bytes) = IsFree target.path
 IsMakeable (Copy from target gone) = IsFree target.path
 IsMakeable (Move from to intent gone exists) = IsFree from × IsFree to × (intent.path ≡ intent_path)
 
@@ -59,6 +61,7 @@ CanMake s Nothing = Unit {0}
 CanMake s (Remove path gone) = has (seen s) path ≡ true
 CanMake s (Leftovers temps) = All (λ temp. has s.files temp ≡ true) temps.items
 CanMake s (Write image sources target) = IsSourced image sources (seen s)
+CanMake s (Put target bytes) = Unit {0}
 CanMake s (Copy from target gone) = CanCopy s from
 CanMake s (Move from to intent gone exists) = (has (seen s) from ≡ true) × (has (seen s) to ≡ false)
 
@@ -68,6 +71,7 @@ Drops Nothing old new = Unit {0}
 Drops (Remove path gone) old new = Unit {0}
 Drops (Leftovers temps) old new = Lacks temps.items old new
 Drops (Write image sources target) old new = Unit {0}
+Drops (Put target bytes) old new = Unit {0}
 Drops (Copy from target gone) old new = Unit {0}
 Drops (Move from to intent gone exists) old new = Unit {0}
 

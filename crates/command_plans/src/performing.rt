@@ -1,5 +1,6 @@
 //! A plan is carried out.
 ghost use Rattle.std.specs.Prelude.{◌≡◌, ◌≤◌, true, length, IfOk, IsErrOf, OnOk, IsTrue};
+ghost use Rattle.std.specs.FinMap.{insert};
 ghost use Rattle.boot_base.specs.Limits.{file_limit};
 ghost use Rattle.boot_base.specs.Paths.{IsFree};
 ghost use Rattle.boot_machine.specs.Counts.{CountsDisk};
@@ -19,7 +20,7 @@ use boot_base::{BootPath, PIECE_SIZE, Target};
 use boot_machine::{Channel, DiskFault, Machine, print_all};
 use image_writer::{Sources, write_planned};
 use install_steps::{
-    MoveFault, StepFault, drop_leftovers, drop_name, move_name, settle, write_whole,
+    MoveFault, StepFault, drop_leftovers, drop_name, move_name, settle, write_bytes, write_whole,
 };
 
 /// Writes the finished image by a plan of these sources at the target. The buffer stands here, so that no other change
@@ -46,6 +47,23 @@ fn write<M: Machine>(
 {
     let mut buffer = [0; PIECE_SIZE];
     write_planned(machine, image, sources, target, &mut buffer)
+}
+
+/// Writes these bytes at the target.
+fn put<M: Machine>(bytes: &[u8], target: &Target, machine: &mut M) -> Result<(), DiskFault>
+    requires free { IsFree target.now.path }
+    requires one { IsTrue M.tells → HasOneCandidate (M.state machine.old) }
+    requires rested { IsTrue M.tells → IsRested (M.state machine.old) }
+    ensures done { OnOk result (IsTrue M.tells → IsFirm (M.state machine.old)
+        → IsDone (M.state machine.new) (insert (seen (M.state machine.old)) target.now.path bytes.now)) }
+    ensures step { IsTrue M.tells → IsFirm (M.state machine.old) → StepsTo M.clock M.since M.state
+        (insert (seen (M.state machine.old)) target.now.path bytes.now) machine.old machine.new }
+    ensures keeps { IsTrue M.tells → Keeps (M.state machine.old) (M.state machine.new) }
+    ensures rests { OnOk result (IsTrue M.tells → IsRested (M.state machine.new)) }
+    ensures temps { OnOk result (IsTrue M.tells → NoNewTemp (M.state machine.old) (M.state machine.new)) }
+    ensures counts { CountsDisk result (M.counts machine.old) (M.counts machine.new) }
+{
+    write_bytes(machine, target, bytes)
 }
 
 /// Writes the bytes of the file at `from` at the target. The buffer stands here, as in `write`.
@@ -113,6 +131,10 @@ fn apply<'a, M: Machine>(change: &'a Change, machine: &mut M) -> Result<Applied<
             target,
         } => {
             write(image, sources, target, machine)?;
+            Ok(Applied::Done)
+        }
+        Change::Put { target, bytes } => {
+            put(bytes.as_slice(), target, machine)?;
             Ok(Applied::Done)
         }
         Change::Copy { from, target, gone } => match copy(from, target, machine) {
