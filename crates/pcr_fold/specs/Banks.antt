@@ -1,6 +1,6 @@
 -- The four banks of a TPM, and how a register's bytes change.
-use Rattle.std.specs.Prelude.{ℕ, List, ◌++◌, replicate, codes}
-use Rattle.std.specs.List.{fold}
+use Rattle.std.specs.Prelude.{ℕ, List, [], ◌∷◌, ◌++◌, Option, bytes_eq, replicate, codes}
+use Rattle.std.specs.List.{find, fold}
 use Rattle.sha1.specs.Sha1.{sha1}
 use Rattle.sha2.specs.Sha256.{sha256}
 use Rattle.sha2.specs.Sha512.{sha384, sha512}
@@ -13,6 +13,14 @@ bank_name banks.Sha1 = codes "sha1"
 bank_name banks.Sha256 = codes "sha256"
 bank_name banks.Sha384 = codes "sha384"
 bank_name banks.Sha512 = codes "sha512"
+
+-- all banks in their order
+abbrev pub all_banks : List Bank
+all_banks = banks.Sha1 ∷ banks.Sha256 ∷ banks.Sha384 ∷ banks.Sha512 ∷ []
+
+-- the bank of a name, none where it is no bank's
+abbrev pub bank_named : List ℕ → Option Bank
+bank_named name = find (λ bank. bytes_eq (bank_name bank) name) all_banks
 
 -- how many bytes a digest of the bank has (FIPS 180-4, figure 1)
 abbrev pub digest_length : Bank → ℕ
@@ -47,3 +55,7 @@ zero_of bank = replicate (digest_length bank) 0
 -- a register's bytes after each of the items in turn has extended it from the start
 abbrev pub fold_of : Bank → List (List ℕ) → List ℕ
 fold_of bank items = extended_by_all bank (zero_of bank) items
+
+-- the bank with its register's bytes after each of the items in turn has extended it from the start
+abbrev pub folded : List (List ℕ) → Bank → Bank × List ℕ
+folded items bank = (bank, fold_of bank items)

@@ -36,3 +36,7 @@ pcr_bank pcr = bank_of pcr.value
 -- the bytes of a register
 abbrev pub pcr_bytes : Pcr → List ℕ
 pcr_bytes pcr = bytes_of pcr.value
+
+-- a register as others see it: its bank and its bytes
+abbrev pub shown : Pcr → Bank × List ℕ
+shown pcr = (pcr_bank pcr, pcr_bytes pcr)

@@ -1,6 +1,6 @@
 //! The banks of a TPM.
 ghost use Rattle.std.specs.Prelude.{◌≡◌};
-ghost use Rattle.pcr_fold.specs.Banks.{bank_name, digest_length};
+ghost use Rattle.pcr_fold.specs.Banks.{bank_name, bank_named, digest_length};
 
 /// A bank of registers, named for its hash function.
 #[derive(Clone, Copy, Debug, PartialEq, Eq)]
@@ -16,6 +16,16 @@ pub enum Bank {
 }
 
 impl Bank {
+    /// All banks in their order.
+    pub const ALL: [Bank; 4] = [Bank::Sha1, Bank::Sha256, Bank::Sha384, Bank::Sha512];
+
+    /// The bank of a name; `None` where no bank has it.
+    pub fn named(name: &str) -> Option<Bank>
+        ensures { result ≡ bank_named name.now }
+    {
+        Bank::ALL.iter().copied().find(|bank| bank.name() == name)
+    }
+
     /// How many bytes a digest of the bank has, which is the length of its registers as well.
     pub fn length(&self) -> usize
         ensures { result ≡ digest_length self.now }
