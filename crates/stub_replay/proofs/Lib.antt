@@ -1,5 +1,10 @@
 pub mod GivenParts
-pub mod Hashing
+pub mod Measuring
+pub mod Ordered
 pub mod Predicting
 pub mod Ranges
+pub mod Sections
+pub mod Shown
+pub mod Taking
 pub mod Turns
+pub mod Zips

@@ -10,8 +10,17 @@ use Rattle.pcr_fold.specs.Banks.{fold_of}
 -- the names of the measured sections, in the order in which they are measured; `.pcrsig` isn't measured
 abbrev pub measured_names : List (List ℕ)
 measured_names =
-    codes ".linux" ∷ codes ".osrel" ∷ codes ".cmdline" ∷ codes ".initrd" ∷ codes ".splash" ∷ codes ".dtb"
-    ∷ codes ".uname" ∷ codes ".sbat" ∷ codes ".pcrpkey" ∷ []
+    codes ".linux"
+    ∷ codes ".osrel"
+    ∷ codes ".cmdline"
+    ∷ codes ".initrd"
+    ∷ codes ".ucode"
+    ∷ codes ".splash"
+    ∷ codes ".dtb"
+    ∷ codes ".uname"
+    ∷ codes ".sbat"
+    ∷ codes ".pcrpkey"
+    ∷ []
 
 -- what is measured of a section: its name with one NUL, then its bytes; nothing of an empty one
 unfoldable pub section_items : List ℕ → List ℕ → List (List ℕ)

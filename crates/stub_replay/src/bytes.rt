@@ -7,7 +7,7 @@ ghost use Rattle.pcr_fold.specs.Banks.{extended_by_all, fold_of};
 ghost use Rattle.pcr_fold.specs.Values.{pcr_bank, pcr_bytes};
 ghost use Rattle.stub_replay.specs.Measured.{section_items, measured_list};
 
-use crate::measured::{MEASURED_COUNT, after_name, measured_name};
+use crate::measured::{after_name, measured_names};
 use pcr_fold::{Bank, Pcr};
 use pe_reader::{LoadedRange, Pe, part};
 use std::alloc::{AllocError, Global};
@@ -25,8 +25,8 @@ pub fn replay_bytes(alloc: Global, bytes: &[u8], head: &Pe, bank: Bank) -> Resul
     ensures value { IfOk result (λ pcr. pcr_bytes pcr ≡ fold_of bank (measured_list bytes.now)) }
 {
     let mut pcr = Pcr::zero(bank);
-    for index in 0..MEASURED_COUNT {
-        pcr = after_section(alloc, pcr, bytes, head, measured_name(index))?;
+    for name in measured_names() {
+        pcr = after_section(alloc, pcr, bytes, head, name)?;
     }
     Ok(pcr)
 }

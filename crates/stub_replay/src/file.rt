@@ -1,24 +1,29 @@
-//! The register after a stub has measured a machine's file, read in pieces and without memory.
-ghost use Rattle.std.specs.Prelude.{◌≡◌, ◌+◌, ◌<◌, ◌≤◌, ◌^◌, ◌++◌, List, ℕ, Ok, length, drop, replicate, IfOk, IsTrue};
+//! What a stub measures of the image in a machine's file, read in pieces.
+ghost use Rattle.std.specs.Prelude.{◌≡◌, ◌+◌, ◌<◌, ◌≤◌, ◌^◌, Ok, length, drop, map, IfOk, IsTrue, OnOk};
 ghost use Rattle.boot_machine.specs.Counts.{CountsDisk};
 ghost use Rattle.boot_machine.specs.Reading.{OnlyReads, TakesAtMost};
 ghost use Rattle.boot_machine.specs.Rows.{contents};
-ghost use Rattle.pe_reader.specs.Fields.{part};
 ghost use Rattle.pe_reader.specs.Grammar.{pe_of};
 ghost use Rattle.pe_reader.specs.Loaded.{loaded, bytes_in};
 ghost use Rattle.pe_reader.specs.Reads.{headers_of};
-ghost use Rattle.pcr_fold.specs.Banks.{digest_of, extended_by_all, fold_of};
-ghost use Rattle.pcr_fold.specs.declared.bank.Bank.{Bank};
-ghost use Rattle.pcr_fold.specs.Hashes.{HoldsData};
-ghost use Rattle.pcr_fold.specs.Values.{bank_of, bytes_of, pcr_bank, pcr_bytes};
+ghost use Rattle.pcr_fold.specs.Banks.{digest_of, fold_of, folded};
+ghost use Rattle.pcr_fold.specs.Values.{bank_of, bytes_of, pcr_bank, pcr_bytes, shown};
+ghost use Rattle.stub_replay.specs.Faults.{CountsPredict};
 ghost use Rattle.stub_replay.specs.Measured.{section_items, measured_list, measured_length};
-ghost use Rattle.stub_replay.specs.Pieces.{TakesIn, HasTakenIn, TakesPiece};
+ghost use Rattle.stub_replay.specs.Taking.{AreBetween, ExtendsWhere};
 
-use crate::measured::{MEASURED_COUNT, after_name, measured_name};
+use crate::fault::PredictFault;
+use crate::measurable::{Content, Measurable};
+use crate::measured::measured_names;
+use crate::pieces::take_loaded;
+use crate::prediction::measure_part;
+use crate::register::{Register, begin_all, values};
 use boot_base::{BootPath, Piece};
-use boot_machine::{DiskFault, Machine, read_part};
-use pcr_fold::{Bank, DataHash, Digest, Pcr};
+use boot_machine::{DiskFault, Machine};
+use pcr_fold::{Bank, Digest, Pcr};
 use pe_reader::{LoadedRange, Pe};
+use std::alloc::Global;
+use std::slice;
 
 /// The register after a stub has measured the image in that file, before any word of a phase path. `head` is
 /// what the file's bytes read as. Only the raw data of the measured sections are read, through the buffer, and
@@ -27,7 +32,6 @@ use pe_reader::{LoadedRange, Pe};
 /// # Errors
 ///
 /// Only where the machine has counted a fault of the disk.
-#[tactic(auto, unfolding(crate::specs::Measured::measured_by))]
 pub fn replay<M: Machine>(
     machine: &mut M,
     path: &BootPath,
@@ -44,65 +48,97 @@ pub fn replay<M: Machine>(
     ensures taken { IsTrue M.tells
         → TakesAtMost (measured_length (contents (M.state machine.old).files path.now)) (M.taken machine.old) (M.taken machine.new) }
 {
-    let mut pcr = Pcr::zero(bank);
-    for index in 0..MEASURED_COUNT {
-        pcr = after_section(pcr, machine, path, head, measured_name(index), buffer)?;
-    }
-    Ok(pcr)
+    let mut register = Register::new(bank);
+    let registers = slice::from_mut(&mut register);
+    measure_sections(registers, machine, path, head, buffer)?;
+    Ok(register.pcr)
 }
 
-// The register after the first section of that name.
-fn after_section<M: Machine>(
-    pcr: Pcr,
+/// The register of each bank, in the order of the banks, after a stub has measured the image in that file, before any
+/// word of a phase path. `head` is what the file's bytes read as. The raw data of the measured sections alone are read,
+/// through the buffer and once for all banks, and nothing is changed; afterwards the buffer holds anything.
+///
+/// # Errors
+///
+/// `Disk` only where the machine has counted a fault of its disk, and `Memory` where there is none for the registers.
+pub fn replay_all<M: Machine>(
+    alloc: Global,
+    machine: &mut M,
+    path: &BootPath,
+    head: &Pe,
+    banks: &[Bank],
+    buffer: &mut Piece,
+) -> Result<Vec<Pcr>, PredictFault>
+    requires { IsTrue M.tells → pe_of (contents (M.state machine.old).files path.now) ≡ Ok (headers_of head.now) }
+    ensures banks { IfOk result (λ pcrs. map pcr_bank pcrs.items ≡ banks.now) }
+    ensures value { IfOk result (λ pcrs. IsTrue M.tells
+        → map shown pcrs.items ≡ map (folded (measured_list (contents (M.state machine.old).files path.now))) banks.now) }
+    ensures reads { IsTrue M.tells → OnlyReads M.clock M.since M.state machine.old machine.new }
+    ensures counts { CountsPredict result (M.counts machine.old) (M.counts machine.new) }
+    ensures taken { IsTrue M.tells
+        → TakesAtMost (measured_length (contents (M.state machine.old).files path.now)) (M.taken machine.old) (M.taken machine.new) }
+{
+    let mut registers = begin_all(alloc, banks)?;
+    measure_sections(&mut registers, machine, path, head, buffer)?;
+    Ok(values(alloc, &registers)?)
+}
+
+// Measures the first section of each measured name.
+#[tactic(auto, unfolding(crate::specs::Measured::measured_by))]
+fn measure_sections<M: Machine>(
+    registers: &mut [Register],
+    machine: &mut M,
+    path: &BootPath,
+    head: &Pe,
+    buffer: &mut [u8],
+) -> Result<(), DiskFault>
+    requires between { AreBetween registers.old }
+    requires head { IsTrue M.tells → pe_of (contents (M.state machine.old).files path.now) ≡ Ok (headers_of head.now) }
+    requires room { 0 < length buffer.old }
+    ensures length { length buffer.new ≡ length buffer.old }
+    ensures value { OnOk result (ExtendsWhere (IsTrue M.tells)
+        (measured_list (contents (M.state machine.old).files path.now)) registers.old registers.new) }
+    ensures reads { IsTrue M.tells → OnlyReads M.clock M.since M.state machine.old machine.new }
+    ensures counts { CountsDisk result (M.counts machine.old) (M.counts machine.new) }
+    ensures taken { IsTrue M.tells
+        → TakesAtMost (measured_length (contents (M.state machine.old).files path.now)) (M.taken machine.old) (M.taken machine.new) }
+{
+    for name in measured_names() {
+        measure_section(registers, machine, path, head, name, buffer)?;
+    }
+    Ok(())
+}
+
+// Measures the first section of that name.
+fn measure_section<M: Machine>(
+    registers: &mut [Register],
     machine: &mut M,
     path: &BootPath,
     head: &Pe,
     name: &[u8],
     buffer: &mut [u8],
-) -> Result<Pcr, DiskFault>
+) -> Result<(), DiskFault>
+    requires between { AreBetween registers.old }
     requires head { IsTrue M.tells → pe_of (contents (M.state machine.old).files path.now) ≡ Ok (headers_of head.now) }
     requires room { 0 < length buffer.old }
     ensures length { length buffer.new ≡ length buffer.old }
-    ensures bank { IfOk result (λ after. pcr_bank after ≡ pcr_bank pcr) }
-    ensures value { IfOk result (λ after. IsTrue M.tells → pcr_bytes after ≡ extended_by_all (pcr_bank pcr) (pcr_bytes pcr)
-        (section_items name.now (loaded (contents (M.state machine.old).files path.now) name.now))) }
+    ensures value { OnOk result (ExtendsWhere (IsTrue M.tells)
+        (section_items name.now (loaded (contents (M.state machine.old).files path.now) name.now)) registers.old registers.new) }
     ensures reads { IsTrue M.tells → OnlyReads M.clock M.since M.state machine.old machine.new }
     ensures counts { CountsDisk result (M.counts machine.old) (M.counts machine.new) }
     ensures taken { IsTrue M.tells → TakesAtMost
         (length (loaded (contents (M.state machine.old).files path.now) name.now)) (M.taken machine.old) (M.taken machine.new) }
 {
     match head.find(name) {
-        None => Ok(pcr),
-        Some(index) => after_range(pcr, machine, path, head.loaded_range(index), name, buffer),
+        None => Ok(()),
+        Some(index) => {
+            path.know();
+            let range = head.loaded_range(index);
+            let content = Content::Loaded { path, range };
+            measure_part(registers, machine, &Measurable { name, content }, buffer)?;
+            Ok(())
+        }
     }
-}
-
-// The register after a section of that name whose loaded bytes stand there.
-fn after_range<M: Machine>(
-    pcr: Pcr,
-    machine: &mut M,
-    path: &BootPath,
-    range: LoadedRange,
-    name: &[u8],
-    buffer: &mut [u8],
-) -> Result<Pcr, DiskFault>
-    requires place { range.place < 2 ^ 32 }
-    requires size { range.length + range.zeros < 2 ^ 32 }
-    requires room { 0 < length buffer.old }
-    ensures length { length buffer.new ≡ length buffer.old }
-    ensures bank { IfOk result (λ after. pcr_bank after ≡ pcr_bank pcr) }
-    ensures value { IfOk result (λ after. IsTrue M.tells → range.length ≤ length (drop range.place (contents (M.state machine.old).files path.now))
-        → pcr_bytes after ≡ extended_by_all (pcr_bank pcr) (pcr_bytes pcr)
-        (section_items name.now (bytes_in (contents (M.state machine.old).files path.now) range))) }
-    ensures reads { IsTrue M.tells → OnlyReads M.clock M.since M.state machine.old machine.new }
-    ensures counts { CountsDisk result (M.counts machine.old) (M.counts machine.new) }
-    ensures taken { IsTrue M.tells → TakesAtMost range.length (M.taken machine.old) (M.taken machine.new) }
-{
-    if range.length + range.zeros == 0 {
-        return Ok(pcr);
-    }
-    let digest = range_digest(pcr.bank(), machine, path, range, buffer)?;
-    Ok(after_name(pcr, name).extend_digest(&digest))
 }
 
 /// The digest of a range of the file with its zeros, as they are loaded. The file is read through the buffer,
@@ -129,75 +165,8 @@ pub fn range_digest<M: Machine>(
     ensures counts { CountsDisk result (M.counts machine.old) (M.counts machine.new) }
     ensures taken { IsTrue M.tells → TakesAtMost range.length (M.taken machine.old) (M.taken machine.new) }
 {
-    let mut hash = raw_hash(bank, machine, path, range.place, range.length, buffer)?;
-    buffer.fill(0);
-    hash_zeros(&mut hash, range.zeros, buffer);
-    Ok(hash.finish())
-}
-
-// A hash of the bank that has taken so many bytes of the file, from that place on.
-fn raw_hash<M: Machine>(
-    bank: Bank,
-    machine: &mut M,
-    path: &BootPath,
-    place: u64,
-    size: u64,
-    buffer: &mut [u8],
-) -> Result<DataHash, DiskFault>
-    requires place { place < 2 ^ 32 }
-    requires size { size < 2 ^ 32 }
-    requires room { 0 < length buffer.old }
-    ensures length { length buffer.new ≡ length buffer.old }
-    ensures data { IfOk result (λ hash. HasTakenIn M.tells (contents (M.state machine.old).files path.now) place size hash bank) }
-    ensures reads { IsTrue M.tells → OnlyReads M.clock M.since M.state machine.old machine.new }
-    ensures counts { CountsDisk result (M.counts machine.old) (M.counts machine.new) }
-    ensures taken { IsTrue M.tells → TakesAtMost size (M.taken machine.old) (M.taken machine.new) }
-{
-    let mut hash = DataHash::new(bank);
-    let mut done = 0u64;
-    while done < size {
-        done += hash_piece(&mut hash, machine, path, place + done, size - done, buffer)?;
-    }
-    Ok(hash)
-}
-
-// Takes some of the `left` bytes that stand from `at` on into the hash, and says how many.
-fn hash_piece<M: Machine>(
-    hash: &mut DataHash,
-    machine: &mut M,
-    path: &BootPath,
-    at: u64,
-    left: u64,
-    buffer: &mut [u8],
-) -> Result<u64, DiskFault>
-    requires left { 0 < left }
-    requires end { at + left < 2 ^ 64 }
-    requires room { 0 < length buffer.old }
-    ensures length { length buffer.new ≡ length buffer.old }
-    ensures some { IfOk result (λ count. 0 < count) }
-    ensures within { IfOk result (λ count. count ≤ left) }
-    ensures data { IfOk result (λ count. TakesIn M.tells (contents (M.state machine.old).files path.now) at count hash.old hash.new) }
-    ensures reads { IsTrue M.tells → OnlyReads M.clock M.since M.state machine.old machine.new }
-    ensures counts { CountsDisk result (M.counts machine.old) (M.counts machine.new) }
-    ensures taken { IsTrue M.tells → TakesPiece left result (M.taken machine.old) (M.taken machine.new) }
-{
-    let room = buffer.len().min(left as usize);
-    let piece = &mut buffer[..room];
-    read_part(machine, path, at, piece)?;
-    hash.update(piece);
-    Ok(room as u64)
-}
-
-// Takes so many zeros into the hash, from a buffer of zeros.
-fn hash_zeros(hash: &mut DataHash, count: u64, zeros: &[u8])
-    requires room { 0 < length zeros.now }
-    requires zeros { zeros.now ≡ replicate (length zeros.now) 0 }
-    ensures { (bank : Bank) (taken : List ℕ) → HoldsData hash.old bank taken → HoldsData hash.new bank (taken ++ replicate count 0) }
-{
-    let mut done = 0u64;
-    while done < count {
-        let room = zeros.len().min((count - done) as usize);
-        hash.update(&zeros[..room]);
-        done += room as u64;
-    }
+    path.know();
+    let mut register = Register::new(bank);
+    take_loaded(slice::from_mut(&mut register), machine, path, range, buffer)?;
+    Ok(register.hash.finish())
 }

@@ -1,30 +1,27 @@
 //! The names of the measured sections, and how a register takes one.
-ghost use Rattle.std.specs.Prelude.{◌≡◌, ◌<◌, ◌++◌, ◌∷◌, [], get_or};
+ghost use Rattle.std.specs.Prelude.{◌≡◌, ◌++◌, ◌∷◌, [], map};
 ghost use Rattle.pcr_fold.specs.Banks.{extended};
 ghost use Rattle.pcr_fold.specs.Values.{pcr_bank, pcr_bytes};
 ghost use Rattle.stub_replay.specs.Measured.{measured_names};
 
 use pcr_fold::{DataHash, Pcr};
 
-/// How many sections are measured.
-pub const MEASURED_COUNT: usize = 9;
-
-/// The name of a measured section, by its place in the order in which they are measured.
-pub fn measured_name(index: usize) -> &'static [u8]
-    requires { index < 9 }
-    ensures { result.now ≡ get_or measured_names index [] }
+/// The names of the measured sections, in the order in which a stub measures them.
+pub fn measured_names() -> &'static [&'static [u8]]
+    ensures { map (λ name. name.now) result.now ≡ measured_names }
 {
-    match index {
-        0 => b".linux",
-        1 => b".osrel",
-        2 => b".cmdline",
-        3 => b".initrd",
-        4 => b".splash",
-        5 => b".dtb",
-        6 => b".uname",
-        7 => b".sbat",
-        _ => b".pcrpkey",
-    }
+    &[
+        b".linux",
+        b".osrel",
+        b".cmdline",
+        b".initrd",
+        b".ucode",
+        b".splash",
+        b".dtb",
+        b".uname",
+        b".sbat",
+        b".pcrpkey",
+    ]
 }
 
 /// The register after a section's name with one NUL has extended it, as a stub measures the name before the

@@ -1,9 +1,9 @@
--- The names of the sections of an image (Microsoft PE/COFF; the fixed names by the UAPI Unified Kernel Image specification).
-use Rattle.std.specs.Prelude.{ℕ, ◌==◌, ◌-◌, Bool, not, ◌&&◌, List, ◌++◌, length, replicate, nat_le, bytes_eq, codes, Option, Some, None, if◌then◌else◌}
+-- The names of the sections of an image (Microsoft PE/COFF).
+use Rattle.std.specs.Prelude.{ℕ, ◌==◌, ◌-◌, Bool, not, ◌&&◌, List, ◌++◌, length, replicate, nat_le, bytes_eq, codes, Option, Some, None, option_map, if◌then◌else◌}
 use Rattle.std.specs.List.{list_all}
 use Rattle.boot_base.specs.Names.{short_name}
 use Rattle.uki_parts.specs.declared.kind.PartKind.{PartKind}
-use Rattle.uki_parts.specs.declared.kind.PartKind.TheVariants as kinds
+use Rattle.uki_parts.specs.Kinds.{section_name}
 use Rattle.uki_parts.specs.declared.name.SectionName.{SectionName}
 
 -- the eight bytes of a section header that hold the name
@@ -33,13 +33,4 @@ read_name text = if is_section_name text then Some (named text) else None
 
 -- the name that all parts of a kind have, where they have one
 abbrev pub fixed_name : PartKind → Option SectionName
-fixed_name kinds.Osrel = Some (named (codes ".osrel"))
-fixed_name kinds.Cmdline = Some (named (codes ".cmdline"))
-fixed_name kinds.Dtb = Some (named (codes ".dtb"))
-fixed_name kinds.Uname = Some (named (codes ".uname"))
-fixed_name kinds.Splash = Some (named (codes ".splash"))
-fixed_name kinds.Pcrpkey = Some (named (codes ".pcrpkey"))
-fixed_name kinds.Initrd = Some (named (codes ".initrd"))
-fixed_name kinds.Extra = None
-fixed_name kinds.Sbat = Some (named (codes ".sbat"))
-fixed_name kinds.Linux = Some (named (codes ".linux"))
+fixed_name kind = option_map named (section_name kind)

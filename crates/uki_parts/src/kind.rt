@@ -17,6 +17,8 @@ pub enum PartKind {
     Pcrpkey,
     /// `.initrd`: the initial RAM disk.
     Initrd,
+    /// `.ucode`: the microcode that the stub gives to the kernel before the initrd.
+    Ucode,
     /// A section with a name that the user gives.
     Extra,
     /// `.sbat`: the metadata by which the boot loader's revocations go.
@@ -26,8 +28,8 @@ pub enum PartKind {
 }
 
 impl PartKind {
-    ghost use Rattle.std.specs.Prelude.{◌≡◌, nat_lt};
-    ghost use Rattle.uki_parts.specs.Kinds.{append_place};
+    ghost use Rattle.std.specs.Prelude.{◌≡◌, ◌≤◌, nat_lt, length, IfSome, option_map};
+    ghost use Rattle.uki_parts.specs.Kinds.{append_place, section_name};
 
     /// Whether parts of this kind are appended after those of the other.
     pub(crate) fn comes_after(self, other: PartKind) -> bool
@@ -36,21 +38,31 @@ impl PartKind {
         other.append_place() < self.append_place()
     }
 
-    // The place of the kind in the append order.
+    /// The section name that all parts of the kind have, where they have one.
+    pub(crate) fn section_name(self) -> Option<&'static [u8]>
+        ensures value { option_map (λ name. name.now) result ≡ section_name self }
+        ensures short { IfSome result (λ name. length name.now ≤ 8) }
+    {
+        match self {
+            PartKind::Osrel => Some(b".osrel"),
+            PartKind::Cmdline => Some(b".cmdline"),
+            PartKind::Dtb => Some(b".dtb"),
+            PartKind::Uname => Some(b".uname"),
+            PartKind::Splash => Some(b".splash"),
+            PartKind::Pcrpkey => Some(b".pcrpkey"),
+            PartKind::Initrd => Some(b".initrd"),
+            PartKind::Ucode => Some(b".ucode"),
+            PartKind::Extra => None,
+            PartKind::Sbat => Some(b".sbat"),
+            PartKind::Linux => Some(b".linux"),
+        }
+    }
+
+    // The place of the kind in the append order, which is that of the variants.
+    #[tactic(auto, unfolding(crate::specs::Kinds::append_place))]
     fn append_place(self) -> u8
         ensures { result ≡ append_place self }
     {
-        match self {
-            PartKind::Osrel => 1,
-            PartKind::Cmdline => 2,
-            PartKind::Dtb => 3,
-            PartKind::Uname => 4,
-            PartKind::Splash => 5,
-            PartKind::Pcrpkey => 6,
-            PartKind::Initrd => 7,
-            PartKind::Extra => 8,
-            PartKind::Sbat => 9,
-            PartKind::Linux => 10,
-        }
+        self as u8
     }
 }

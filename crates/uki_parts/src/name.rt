@@ -33,18 +33,7 @@ impl SectionName {
     pub fn of(kind: PartKind) -> Option<SectionName>
         ensures { result ≡ fixed_name kind }
     {
-        match kind {
-            PartKind::Osrel => Some(SectionName::named(b".osrel")),
-            PartKind::Cmdline => Some(SectionName::named(b".cmdline")),
-            PartKind::Dtb => Some(SectionName::named(b".dtb")),
-            PartKind::Uname => Some(SectionName::named(b".uname")),
-            PartKind::Splash => Some(SectionName::named(b".splash")),
-            PartKind::Pcrpkey => Some(SectionName::named(b".pcrpkey")),
-            PartKind::Initrd => Some(SectionName::named(b".initrd")),
-            PartKind::Extra => None,
-            PartKind::Sbat => Some(SectionName::named(b".sbat")),
-            PartKind::Linux => Some(SectionName::named(b".linux")),
-        }
+        Some(SectionName::named(kind.section_name()?))
     }
 
     /// The name's bytes, before its first NUL.

@@ -1,12 +1,12 @@
-use Rattle.std.proofs.Common.{◌∙◌, arith, refl}
-use Rattle.stub_replay.proofs.Turns.{value_more}
+use Rattle.std.proofs.Common.{◌∙◌, arith}
+use Rattle.stub_replay.proofs.Turns.{name_at, value_more}
 use Rattle.stub_replay.proofs.bytes.replay_bytes.Goals as goal
 
-pub loop-index-preserved : goal.loop-index-preserved
-loop-index-preserved c =
-    let before = c.loop-index.invariant in
+pub loop-name-preserved : goal.loop-name-preserved
+loop-name-preserved c =
+    let before = c.loop-name.invariant in
+    let at = name_at c.measured_names-name-items.result.now c.loop-name.name-index _ c.measured_names-name-items.ensures (omega arith) in
     record {
       bank = c.in_ok-pcr.ensures.bank ∙ before.bank;
-      value = value_more c.args.bank _ c.args.bytes.now c.args.bytes.now c.measured_name.result.now _ _ c.loop-index.index before.bank refl
-          c.measured_name.ensures (omega arith) before.value c.in_ok-pcr.ensures.value;
+      value = value_more c.args.bank _ c.args.bytes.now _ _ _ c.loop-name.name-index before.bank at before.value c.in_ok-pcr.ensures.value;
     }

@@ -1,0 +1,23 @@
+-- What registers take, as far as it is known.
+use Rattle.std.specs.Prelude.{◌≡◌, ℕ, List, [], Result, MatchResult}
+use Rattle.std.specs.List.{AllZip}
+use Rattle.boot_machine.specs.Reading.{TakesAtMost}
+use Rattle.pcr_fold.specs.declared.bank.Bank.{Bank}
+use Rattle.stub_replay.specs.declared.register.Register.{Register}
+use Rattle.stub_replay.specs.Registers.{AllHold, Takes, Extends}
+
+-- the hashes take the same bytes, which are these where the condition holds
+abbrev pub TakesWhere : Type 0 → List ℕ → List Register → List Register → Type 0
+TakesWhere condition bytes old new = (taken : List ℕ) × AllZip (Takes taken) old new × (condition → taken ≡ bytes)
+
+-- the same items extend the registers, which are these where the condition holds
+abbrev pub ExtendsWhere : Type 0 → List (List ℕ) → List Register → List Register → Type 0
+ExtendsWhere condition items old new = (more : List (List ℕ)) × AllZip (Extends more) old new × (condition → more ≡ items)
+
+-- the same items have extended the registers, and their hashes have taken nothing
+abbrev pub AreBetween : List Register → Type 0
+AreBetween registers = (banks : List Bank) × (items : List (List ℕ)) × AllHold registers banks items []
+
+-- a piece of so many bytes has been read, and where that fails no more than are left
+abbrev pub TakesPiece : {E : Type 0} → ℕ → Result ℕ E → ℕ → ℕ → Type 0
+TakesPiece left result old new = MatchResult result (λ count. TakesAtMost count old new) (λ _. TakesAtMost left old new)

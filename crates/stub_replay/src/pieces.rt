@@ -1,0 +1,193 @@
+//! The bytes of contents, taken into the hashes of registers.
+ghost use Rattle.std.specs.Prelude.{◌≡◌, ◌<◌, ◌≤◌, ◌+◌, ◌^◌, length, take, drop, replicate, sum_by, IfOk, OnOk, IsTrue};
+ghost use Rattle.std.specs.List.{AllZip};
+ghost use Rattle.boot_machine.specs.Counts.{CountsDisk};
+ghost use Rattle.boot_machine.specs.Reading.{OnlyReads, TakesAtMost};
+ghost use Rattle.boot_machine.specs.Rows.{contents};
+ghost use Rattle.boot_machine.specs.Sent.{seen};
+ghost use Rattle.pe_reader.specs.Loaded.{bytes_in};
+ghost use Rattle.uki_parts.specs.Pieces.{HasSizes, bytes_of, piece_bytes, piece_length};
+ghost use Rattle.stub_replay.specs.Taking.{TakesPiece};
+ghost use Rattle.stub_replay.specs.Parts.{IsPlaced, IsWhole, content_bytes, file_length, read_length};
+ghost use Rattle.stub_replay.specs.Registers.{Takes};
+ghost use Rattle.stub_replay.specs.Taking.{TakesWhere};
+
+use crate::measurable::Content;
+use crate::register::{Register, update_all};
+use boot_base::BootPath;
+use boot_machine::{DiskFault, Machine, read_part};
+use pe_reader::LoadedRange;
+use uki_parts::Piece;
+
+/// Takes the bytes of the content, each of a file read once and through the buffer, which holds anything afterwards.
+/// Zeros stand for bytes that the machine doesn't give.
+pub(crate) fn take_content<M: Machine>(
+    registers: &mut [Register],
+    machine: &mut M,
+    content: &Content,
+    buffer: &mut [u8],
+) -> Result<(), DiskFault>
+    requires placed { IsPlaced content.now }
+    requires room { 0 < length buffer.old }
+    ensures length { length buffer.new ≡ length buffer.old }
+    ensures data { OnOk result (TakesWhere (IsTrue M.tells × IsWhole (contents (seen (M.state machine.old))) content.now)
+        (content_bytes (contents (seen (M.state machine.old))) content.now) registers.old registers.new) }
+    ensures reads { IsTrue M.tells → OnlyReads M.clock M.since M.state machine.old machine.new }
+    ensures counts { CountsDisk result (M.counts machine.old) (M.counts machine.new) }
+    ensures taken { IsTrue M.tells → TakesAtMost (read_length content.now) (M.taken machine.old) (M.taken machine.new) }
+{
+    match *content {
+        Content::Pieces(pieces) => take_pieces(registers, machine, pieces, buffer),
+        Content::Bytes(bytes) => {
+            update_all(registers, bytes);
+            Ok(())
+        }
+        Content::Loaded { path, range } => take_loaded(registers, machine, path, range, buffer),
+    }
+}
+
+// Takes the bytes of the pieces in their order, each file read once.
+fn take_pieces<M: Machine>(
+    registers: &mut [Register],
+    machine: &mut M,
+    pieces: &[Piece],
+    buffer: &mut [u8],
+) -> Result<(), DiskFault>
+    requires room { 0 < length buffer.old }
+    ensures length { length buffer.new ≡ length buffer.old }
+    ensures data { OnOk result (TakesWhere (IsTrue M.tells × HasSizes (contents (seen (M.state machine.old))) pieces.now)
+        (bytes_of (contents (seen (M.state machine.old))) pieces.now) registers.old registers.new) }
+    ensures reads { IsTrue M.tells → OnlyReads M.clock M.since M.state machine.old machine.new }
+    ensures counts { CountsDisk result (M.counts machine.old) (M.counts machine.new) }
+    ensures taken { IsTrue M.tells → TakesAtMost (sum_by file_length pieces.now) (M.taken machine.old) (M.taken machine.new) }
+{
+    for piece in pieces {
+        take_piece(registers, machine, piece, buffer)?;
+    }
+    Ok(())
+}
+
+// Takes the bytes of one piece.
+fn take_piece<M: Machine>(
+    registers: &mut [Register],
+    machine: &mut M,
+    piece: &Piece,
+    buffer: &mut [u8],
+) -> Result<(), DiskFault>
+    requires room { 0 < length buffer.old }
+    ensures length { length buffer.new ≡ length buffer.old }
+    ensures data { OnOk result (TakesWhere (IsTrue M.tells
+        × (length (piece_bytes (contents (seen (M.state machine.old))) piece.now) ≡ piece_length piece.now))
+        (piece_bytes (contents (seen (M.state machine.old))) piece.now) registers.old registers.new) }
+    ensures reads { IsTrue M.tells → OnlyReads M.clock M.since M.state machine.old machine.new }
+    ensures counts { CountsDisk result (M.counts machine.old) (M.counts machine.new) }
+    ensures taken { IsTrue M.tells → TakesAtMost (file_length piece.now) (M.taken machine.old) (M.taken machine.new) }
+{
+    match piece {
+        Piece::Bytes(bytes) => {
+            update_all(registers, bytes.as_slice());
+            Ok(())
+        }
+        Piece::File { path, size } => take_range(registers, machine, path, 0, *size, buffer),
+        Piece::Zeros(count) => {
+            take_zeros(registers, *count, buffer);
+            Ok(())
+        }
+    }
+}
+
+// Takes so many zeros, through the buffer.
+fn take_zeros(registers: &mut [Register], count: u64, buffer: &mut [u8])
+    requires room { 0 < length buffer.old }
+    ensures length { length buffer.new ≡ length buffer.old }
+    ensures data { AllZip (Takes (replicate count 0)) registers.old registers.new }
+{
+    let mut done = 0u64;
+    while done < count {
+        let room = buffer.len().min((count - done) as usize);
+        let zeros = &mut buffer[..room];
+        zeros.fill(0);
+        update_all(registers, zeros);
+        done += room as u64;
+    }
+}
+
+/// Takes the bytes that a loader puts in memory for that range of the file.
+pub(crate) fn take_loaded<M: Machine>(
+    registers: &mut [Register],
+    machine: &mut M,
+    path: &BootPath,
+    range: LoadedRange,
+    buffer: &mut [u8],
+) -> Result<(), DiskFault>
+    requires place { range.place < 2 ^ 32 }
+    requires size { range.length + range.zeros < 2 ^ 32 }
+    requires room { 0 < length buffer.old }
+    ensures length { length buffer.new ≡ length buffer.old }
+    ensures data { OnOk result (TakesWhere
+        (IsTrue M.tells × (range.length ≤ length (drop range.place (contents (seen (M.state machine.old)) path.now))))
+        (bytes_in (contents (seen (M.state machine.old)) path.now) range) registers.old registers.new) }
+    ensures reads { IsTrue M.tells → OnlyReads M.clock M.since M.state machine.old machine.new }
+    ensures counts { CountsDisk result (M.counts machine.old) (M.counts machine.new) }
+    ensures taken { IsTrue M.tells → TakesAtMost range.length (M.taken machine.old) (M.taken machine.new) }
+{
+    take_range(registers, machine, path, range.place, range.length, buffer)?;
+    take_zeros(registers, range.zeros, buffer);
+    Ok(())
+}
+
+// Takes the `count` bytes that stand in the file from `at` on, each read once.
+fn take_range<M: Machine>(
+    registers: &mut [Register],
+    machine: &mut M,
+    path: &BootPath,
+    at: u64,
+    count: u64,
+    buffer: &mut [u8],
+) -> Result<(), DiskFault>
+    requires end { at + count < 2 ^ 64 }
+    requires room { 0 < length buffer.old }
+    ensures length { length buffer.new ≡ length buffer.old }
+    ensures data { OnOk result (TakesWhere
+        (IsTrue M.tells × (count ≤ length (drop at (contents (seen (M.state machine.old)) path.now))))
+        (take count (drop at (contents (seen (M.state machine.old)) path.now))) registers.old registers.new) }
+    ensures reads { IsTrue M.tells → OnlyReads M.clock M.since M.state machine.old machine.new }
+    ensures counts { CountsDisk result (M.counts machine.old) (M.counts machine.new) }
+    ensures taken { IsTrue M.tells → TakesAtMost count (M.taken machine.old) (M.taken machine.new) }
+{
+    let mut done = 0u64;
+    while done < count {
+        done += take_part(registers, machine, path, at + done, count - done, buffer)?;
+    }
+    Ok(())
+}
+
+// Takes some of the `left` bytes that stand in the file from `at` on, and says how many.
+fn take_part<M: Machine>(
+    registers: &mut [Register],
+    machine: &mut M,
+    path: &BootPath,
+    at: u64,
+    left: u64,
+    buffer: &mut [u8],
+) -> Result<u64, DiskFault>
+    requires left { 0 < left }
+    requires end { at + left < 2 ^ 64 }
+    requires room { 0 < length buffer.old }
+    ensures length { length buffer.new ≡ length buffer.old }
+    ensures some { IfOk result (λ count. 0 < count) }
+    ensures within { IfOk result (λ count. count ≤ left) }
+    ensures data { IfOk result (λ count. TakesWhere
+        (IsTrue M.tells × (count ≤ length (drop at (contents (seen (M.state machine.old)) path.now))))
+        (take count (drop at (contents (seen (M.state machine.old)) path.now))) registers.old registers.new) }
+    ensures reads { IsTrue M.tells → OnlyReads M.clock M.since M.state machine.old machine.new }
+    ensures counts { CountsDisk result (M.counts machine.old) (M.counts machine.new) }
+    ensures taken { IsTrue M.tells → TakesPiece left result (M.taken machine.old) (M.taken machine.new) }
+{
+    path.know();
+    let room = buffer.len().min(left as usize);
+    let piece = &mut buffer[..room];
+    read_part(machine, path, at, piece)?;
+    update_all(registers, piece);
+    Ok(room as u64)
+}
