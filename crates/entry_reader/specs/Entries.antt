@@ -1,6 +1,6 @@
 -- Type 1 entry files of the UAPI Boot Loader Specification.
 use Rattle.std.specs.Prelude.{ℕ, Bool, ◌||◌, List, is_some, codes}
-use Rattle.entry_reader.specs.EntryLines.{entry_value, entry_values}
+use Rattle.text_lines.specs.EntryLines.{entry_value, entry_values}
 use Rattle.entry_reader.specs.declared.entry.Type1.{Type1}
 
 -- a file says what to boot: a kernel or an EFI program

@@ -2,9 +2,10 @@
 ghost use Rattle.std.specs.Prelude.{◌≡◌, ◌↔◌, ◌≤◌, ◌<◌, false, true, length, IfOk};
 ghost use Rattle.entry_reader.specs.Entries.{boots, type1_of};
 
-use crate::line::{all_copies, last_copy, last_value};
+use crate::line::{all_copies, last_copy};
 use boot_base::{Bytes, BytesList};
 use std::alloc::{AllocError, Global};
+use text_lines::last_value;
 use thiserror::Error;
 
 /// The most bytes of an entry file.

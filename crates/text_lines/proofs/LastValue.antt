@@ -1,5 +1,5 @@
 -- The last value of a key, where a reading finds in each line what a grammar gives there.
-use Rattle.std.proofs.Common.{◌≡◌, ◌↔◌, ℕ, Bool, true, false, List, [], ◌∷◌, ◌++◌, Some, None, Option, map, filter, subst, sym, ap, ◌∙◌, refl, cond, append-nil, Bor, ◌<◌, ◌+◌, length, take, get_or}
+use Rattle.std.proofs.Common.{◌≡◌, ◌↔◌, ℕ, Bool, true, false, List, [], ◌∷◌, ◌++◌, Some, None, Option, map, filter, subst, sym, ap, ◌∙◌, refl, cond, append-nil, Bor, ◌<◌, ◌+◌, length, take, get_or, inl, inr}
 use Rattle.std.specs.Prelude.{MatchOption, bytes_eq}
 use Rattle.std.specs.List.{cons_option, filter_map, last_or}
 use Rattle.std.proofs.lemmas.List.{map-append, take_more}
@@ -8,7 +8,7 @@ use Rattle.std.proofs.lemmas.Option.{MatchOption-at_none, MatchOption-at_some, n
 use Rattle.std.proofs.lemmas.Bool.{both_ways}
 use Rattle.std.proofs.lemmas.Slice.Eq.{bytes_eq-Decides}
 use Rattle.std.specs.Option.{option_copied, option_or, option_to_list}
-use Rattle.text_lines.specs.Values.{given_value, Grammar, IsLastValue, LacksKey, Pair, last_value, values_of}
+use Rattle.text_lines.specs.Values.{AreAllValues, given_value, Grammar, IsLastValue, LacksKey, Pair, last_value, values_of}
 
 last_or_push : {A : Type 0} (o : Option A) (xs : List A) (y : A) → last_or o (xs ++ y ∷ []) ≡ Some y
 last_or_push o [] y = refl
@@ -182,3 +182,35 @@ module _ (reading : List ℕ → Option Pair) (gives : Grammar)
   pub last_value-none : (lines : List (List ℕ)) → (last_value key (pairs lines) ≡ None) ↔ LacksKey gives key lines
   last_value-none lines =
       (λ found. MatchOption-at_none (LacksKey gives key lines) (λ (value : List ℕ). IsLastValue gives key lines value) found (says lines), λ lacks. ap (last_or None) (values_none lines lacks))
+
+  -- all values of the key
+  all_line : (line : List ℕ) (lines : List (List ℕ)) (read : Option Pair) → reading line ≡ read → AreAllValues gives key lines (values_of key (pairs lines))
+      → AreAllValues gives key (line ∷ lines) (values_of key (cons_option read (pairs lines)))
+  all_line line lines None is behind = inr (lacks_none line is, behind)
+  all_line line lines (Some pair) is behind = by_key (bytes_eq pair.0 key) refl
+    where
+      by_key : (b : Bool) → bytes_eq pair.0 key ≡ b → AreAllValues gives key (line ∷ lines) (values_of key (pair ∷ pairs lines))
+      by_key true e =
+          let given : gives line key pair.1 = subst (λ (k : List ℕ). gives line k pair.1) ((bytes_eq-Decides pair.0 key).0 e) (sound line pair is) in
+          rw e (inl (pair.1, values_of key (pairs lines), refl, given, behind))
+      by_key false e = rw e (inr (lacks_other line pair is e, behind))
+
+  all_values : (lines : List (List ℕ)) → AreAllValues gives key lines (values_of key (pairs lines))
+  all_values [] = refl
+  all_values (line ∷ lines) = all_line line lines (reading line) refl (all_values lines)
+
+  -- a line that gives the key a value
+  values_given_more : (line value : List ℕ) (lines : List (List ℕ)) → gives line key value → values_of key (pairs (line ∷ lines)) ≡ value ∷ values_of key (pairs lines)
+  values_given_more line value lines given =
+      ap (λ (read : Option Pair). values_of key (cons_option read (pairs lines))) (complete line (key, value) given) ∙ rw (bytes_eq-same key) refl
+
+  all_values-once : (lines values : List (List ℕ)) → AreAllValues gives key lines values → values_of key (pairs lines) ≡ values
+  all_values-once [] values are = sym are
+  all_values-once (line ∷ lines) values (inl is) =
+      values_given_more line is.0 lines is.3
+      ∙ ap (λ (rest : List (List ℕ)). is.0 ∷ rest) (all_values-once lines is.1 is.4) ∙ sym is.2
+  all_values-once (line ∷ lines) values (inr is) = values_more line lines is.0 (reading line) refl ∙ all_values-once lines values is.1
+
+  pub values_of-all : (lines values : List (List ℕ)) → (values_of key (pairs lines) ≡ values) ↔ AreAllValues gives key lines values
+  values_of-all lines values =
+      (λ is. subst (λ (found : List (List ℕ)). AreAllValues gives key lines found) is (all_values lines), all_values-once lines values)

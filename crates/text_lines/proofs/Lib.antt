@@ -1,3 +1,4 @@
 mod Pieces
 pub mod LastValue
 pub mod Fronts
+pub mod Reading

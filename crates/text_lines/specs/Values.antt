@@ -1,5 +1,5 @@
 -- The values that the lines of a text give to keys.
-use Rattle.std.specs.Prelude.{◌≡◌, ℕ, Bool, List, ◌∷◌, ◌++◌, map, filter, Option, Some, None, bytes_eq, if◌then◌else◌}
+use Rattle.std.specs.Prelude.{◌≡◌, ℕ, Bool, List, [], ◌∷◌, ◌++◌, map, filter, Option, Some, None, bytes_eq, if◌then◌else◌, ◌⊎◌}
 use Rattle.std.specs.List.{All, last_or}
 
 -- a key and its value
@@ -36,3 +36,10 @@ abbrev pub IsLastValue : Grammar → List ℕ → List (List ℕ) → List ℕ �
 IsLastValue gives key lines value =
     (before : List (List ℕ)) × (line : List ℕ) × (after : List (List ℕ))
     × (lines ≡ before ++ line ∷ after) × gives line key value × LacksKey gives key after
+
+-- the values that the lines give the key, in order: from each line that gives it one, and from no other line
+abbrev pub AreAllValues : Grammar → List ℕ → List (List ℕ) → List (List ℕ) → Type 0
+AreAllValues gives key [] values = values ≡ []
+AreAllValues gives key (line ∷ lines) values =
+    ((value : List ℕ) × (rest : List (List ℕ)) × (values ≡ value ∷ rest) × gives line key value × AreAllValues gives key lines rest)
+    ⊎ (((value : List ℕ) → gives line key value → ⊥) × AreAllValues gives key lines values)

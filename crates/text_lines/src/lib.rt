@@ -1,5 +1,6 @@
-//! The lines of a text of settings, as os-release(5) and the Boot Loader Specification's entry files
-//! have them: cut at newlines, trimmed, without empty lines and comments.
+//! The lines of a text of settings, as os-release(5), the Boot Loader Specification's entry files and
+//! loader.conf(5) have them: cut at newlines, trimmed, without empty lines and comments. Of entry files and
+//! loader.conf also the key and the value of a line.
 #![tactic(auto)]
 
 ghost use Rattle.std.specs.Prelude.{◌≡◌, ◌∷◌, ◌<◌, length, IfSome, position};
@@ -7,6 +8,9 @@ ghost use Rattle.std.specs.List.{slice_split};
 ghost use Rattle.std.specs.Option.{option_copied};
 ghost use Rattle.text_lines.specs.Lines.{is_blank, is_newline, is_counted, without_front_blanks, without_end_blanks, trimmed, pieces_of, lines_of};
 
+mod entry_line;
+
+pub use entry_line::{last_value, value_in};
 use std::marker::Model;
 
 /// The lines of a text that count, in order: what newlines part, without spaces, tabs and carriage returns
@@ -58,8 +62,8 @@ impl<'a> Iterator for TextLines<'a> {
     }
 }
 
-// What stands before the text's first newline, and what is left behind it.
-fn first_piece(text: &[u8]) -> (&[u8], Option<&[u8]>)
+/// What stands before the text's first newline, and what is left behind it; nothing is where there is no newline.
+pub fn first_piece(text: &[u8]) -> (&[u8], Option<&[u8]>)
     ensures first { slice_split is_newline text.now ≡ result.0.now ∷ pieces_of (option_copied result.1) }
     ensures shorter { IfSome result.1 (λ rest. length rest.now < length text.now) }
 {
@@ -76,8 +80,8 @@ fn end_of_line(text: &[u8]) -> Option<usize>
     text.iter().position(|byte| *byte == b'\n')
 }
 
-// The line without the blanks at both ends.
-fn trimmed(line: &[u8]) -> &[u8]
+/// The line without the spaces, tabs and carriage returns at both ends.
+pub fn trimmed(line: &[u8]) -> &[u8]
     ensures { result.now ≡ trimmed line.now }
 {
     without_end_blanks(without_front_blanks(line))
@@ -109,8 +113,8 @@ fn is_blank(byte: u8) -> bool
     byte == b' ' || byte == b'\t' || byte == b'\r'
 }
 
-// The line isn't empty, and no comment.
-fn is_counted(line: &[u8]) -> bool
+/// The line isn't empty, and no comment, which begins with `#`.
+pub fn is_counted(line: &[u8]) -> bool
     ensures { result ≡ is_counted line.now }
 {
     match line {

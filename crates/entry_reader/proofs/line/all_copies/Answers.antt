@@ -2,7 +2,7 @@ use Rattle.std.proofs.Common.{ap, sym, ◌∙◌, ◌++◌, ◌∷◌, [], appen
 use Rattle.std.specs.Option.{option_copied, option_to_list}
 use Rattle.text_lines.specs.Values.{given_value}
 use Rattle.text_lines.proofs.LastValue.{values_of_more}
-use Rattle.entry_reader.specs.EntryLines.{entry_reading}
+use Rattle.text_lines.specs.EntryLines.{entry_reading}
 use Rattle.entry_reader.proofs.line.all_copies.Goals as goal
 
 pub loop-line-preserved-in_ok-push : goal.loop-line-preserved-in_ok-push

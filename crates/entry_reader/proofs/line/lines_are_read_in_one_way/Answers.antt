@@ -1,9 +1,9 @@
 use Rattle.std.proofs.Common.{◌∙◌, sym}
 use Rattle.std.proofs.lemmas.Option.{some_pair_parts}
 use Rattle.text_lines.specs.Lines.{lines_of}
-use Rattle.text_lines.proofs.LastValue.{last_value-none, last_value-some}
-use Rattle.entry_reader.specs.EntryLines.{EntryLine, entry_reading}
-use Rattle.entry_reader.proofs.Reading.{complete, sound}
+use Rattle.text_lines.proofs.LastValue.{last_value-none, last_value-some, values_of-all}
+use Rattle.text_lines.specs.EntryLines.{EntryLine, entry_reading}
+use Rattle.text_lines.proofs.Reading.{complete, sound}
 use Rattle.entry_reader.proofs.line.lines_are_read_in_one_way.Goals as goal
 
 pub returns-clause-reading : goal.returns-clause-reading
@@ -18,3 +18,6 @@ returns-clause-last c = λ text key value. last_value-some entry_reading EntryLi
 
 pub returns-clause-none : goal.returns-clause-none
 returns-clause-none c = λ text key. last_value-none entry_reading EntryLine sound complete key (lines_of text)
+
+pub returns-clause-all : goal.returns-clause-all
+returns-clause-all c = λ text key values. values_of-all entry_reading EntryLine sound complete key (lines_of text) values

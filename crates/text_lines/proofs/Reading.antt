@@ -7,7 +7,7 @@ use Rattle.std.proofs.lemmas.Option.{none-some, same_Some}
 use Rattle.text_lines.specs.Runs.{BeginsWith}
 use Rattle.text_lines.specs.Values.{Pair}
 use Rattle.text_lines.proofs.Fronts.{list_all-front, prefix_len-front, rest_cases}
-use Rattle.entry_reader.specs.EntryLines.{EntryLine, entry_reading, is_gap, is_not_gap}
+use Rattle.text_lines.specs.EntryLines.{EntryLine, entry_reading, is_gap, is_not_gap}
 
 -- a key and a value, where both are there
 abbrev both : List ℕ → List ℕ → Option Pair

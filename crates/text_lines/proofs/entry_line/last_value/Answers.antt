@@ -2,8 +2,8 @@ use Rattle.std.proofs.Common.{ap, sym, ◌∙◌}
 use Rattle.std.specs.Option.{option_copied, option_or}
 use Rattle.text_lines.specs.Values.{given_value}
 use Rattle.text_lines.proofs.LastValue.{last_value_more, option_copied-or}
-use Rattle.entry_reader.specs.EntryLines.{entry_reading}
-use Rattle.entry_reader.proofs.line.last_value.Goals as goal
+use Rattle.text_lines.specs.EntryLines.{entry_reading}
+use Rattle.text_lines.proofs.entry_line.last_value.Goals as goal
 
 pub loop-line-preserved : goal.loop-line-preserved
 loop-line-preserved c =

@@ -1,4 +1,5 @@
--- The lines of a type 1 entry file of the UAPI Boot Loader Specification.
+-- The lines of a type 1 entry file (UAPI Boot Loader Specification, "Type #1 Boot Loader Specification Entries"), and of
+-- loader.conf, which has the same ones.
 use Rattle.std.specs.Prelude.{◌≡◌, ◌≢◌, ℕ, ◌==◌, Bool, not, ◌||◌, true, List, [], ◌++◌, length, drop, Option, Some, None, if◌then◌else◌}
 use Rattle.std.specs.List.{filter_map, list_all, position_or_len, prefix_len, before_first}
 use Rattle.text_lines.specs.Lines.{lines_of}

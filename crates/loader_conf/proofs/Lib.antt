@@ -1,0 +1,5 @@
+pub mod Items
+pub mod Search
+pub mod Laws
+pub mod FileLines
+pub mod Changes

@@ -1,0 +1,22 @@
+-- Which entry a loader.conf chooses.
+use Rattle.std.specs.Prelude.{◌≡◌, ◌<◌, ℕ, List, [], length, Option, Some, None, slice_index_or, ◌⊎◌}
+use Rattle.loader_conf.specs.Patterns.{PatternMatches}
+
+-- the default matches an entry's id; where there is none, it matches nothing
+abbrev pub DefaultMatches : Option (List ℕ) → List ℕ → Type 0
+DefaultMatches None id = ⊥
+DefaultMatches (Some pattern) id = PatternMatches pattern id
+
+-- the id of an entry is matched, and none before it
+pub record IsFirstMatch (default : Option (List ℕ)) (ids : List (List ℕ)) (place : ℕ) : Type 0 where
+  pub there : place < length ids
+  pub matched : DefaultMatches default (slice_index_or ids place [])
+  pub first : (k : ℕ) → k < place → DefaultMatches default (slice_index_or ids k []) → ⊥
+
+-- no id is matched
+abbrev pub DefaultMatchesNone : Option (List ℕ) → List (List ℕ) → Type 0
+DefaultMatchesNone default ids = (k : ℕ) → k < length ids → DefaultMatches default (slice_index_or ids k []) → ⊥
+
+-- the first entry whose id is matched, or the first of all where none is
+abbrev pub IsDefaultEntry : Option (List ℕ) → List (List ℕ) → ℕ → Type 0
+IsDefaultEntry default ids place = IsFirstMatch default ids place ⊎ ((place ≡ 0) × (0 < length ids) × DefaultMatchesNone default ids)

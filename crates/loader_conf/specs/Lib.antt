@@ -1,0 +1,7 @@
+pub mod Patterns
+pub mod PatternLaws
+pub mod Items
+pub mod Steps
+pub mod FileLines
+pub mod Conf
+pub mod Choice
