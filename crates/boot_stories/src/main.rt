@@ -18,6 +18,7 @@
 //! - `faults WORDS`: what that run comes to of which one call fails, before it has done anything or after it has done
 //!   all, each outcome once, in the order of the calls. The machine stays as it is.
 //! - `files FOLDER`: the files directly in the folder.
+//! - `text PATH`: the bytes of the file, told as those that a run prints, and how many they are.
 //! - `left`: the boot files, and the intent of a rename. `total`: how many files there are but temporary ones.
 //! - `stops WORDS`: what a stop of that run may leave, each outcome once, in the order of the calls before it. The
 //!   machine stays as it is.

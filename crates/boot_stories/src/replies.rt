@@ -24,6 +24,21 @@ fn text_on(alloc: Global, printed: &[Printed], channel: Channel) -> Result<Strin
     Ok(text)
 }
 
+/// The bytes of a file, and how many they are.
+pub(crate) fn bytes_text(alloc: Global, bytes: &[u8]) -> Result<String, AllocError> {
+    let mut text = String::new(alloc);
+    for byte in bytes {
+        push_escaped(alloc, &mut text, *byte)?;
+    }
+    let end = if text.is_empty() || text.as_str().ends_with('\n') {
+        ""
+    } else {
+        "\n"
+    };
+    let count = bytes.len();
+    format!(in alloc; "{text}{end}{count} bytes\n")
+}
+
 /// What was printed on Out, then what was printed on Err, then the status.
 pub(crate) fn reply_text(
     alloc: Global,

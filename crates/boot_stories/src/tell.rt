@@ -3,7 +3,7 @@ use crate::fault::StoryFault;
 use crate::faults::faults_text;
 use crate::files::{boot_files_text, folder_text};
 use crate::lines::{number, parted, parted_or_whole};
-use crate::replies::{reads_text, reply_text, sources_text};
+use crate::replies::{bytes_text, reads_text, reply_text, sources_text};
 use crate::stops::{left_by, stopped_after, stops_text};
 use crate::story::Story;
 use crate::writes::{bytes_of_file, write_files};
@@ -47,6 +47,11 @@ fn menu(alloc: Global, story: &mut Story) -> Result<String, StoryFault> {
 fn left(alloc: Global, story: &mut Story) -> Result<String, StoryFault> {
     let files = boot_files_text(alloc, &mut story.machine, &story.samples)?;
     Ok(format!(in alloc; "{files}\n")?)
+}
+
+fn text(alloc: Global, story: &mut Story, path: &str) -> Result<String, StoryFault> {
+    let bytes = bytes_of_file(alloc, story, path)?;
+    Ok(bytes_text(alloc, bytes.as_slice())?)
 }
 
 fn total(alloc: Global, story: &Story) -> Result<String, StoryFault> {
@@ -109,6 +114,7 @@ fn told(alloc: Global, line: &str, story: &mut Story) -> Result<String, StoryFau
         "reads" => Ok(reads_text(alloc, story.new_reads())?),
         "files" => folder_text(alloc, &mut story.machine, &story.samples, rest),
         "left" => left(alloc, story),
+        "text" => text(alloc, story, rest),
         "total" => total(alloc, story),
         "faults" => faults(alloc, story, rest),
         "stops" => stops(alloc, story, rest),
