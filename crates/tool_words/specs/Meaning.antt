@@ -150,6 +150,9 @@ filled name.BlessGood g = command.Bless bless.Good (g.operand 0) (esp g.last)
 filled name.BlessBad g = command.Bless bless.Bad (g.operand 0) (esp g.last)
 filled name.BlessIndeterminate g = command.Bless bless.Indeterminate (g.operand 0) (esp g.last)
 filled name.BlessStatus g = command.Bless bless.Status (g.operand 0) (esp g.last)
+filled name.LoaderShow g = command.LoaderShow (esp g.last)
+filled name.LoaderDefault g = command.LoaderDefault (g.operand 0) (esp g.last)
+filled name.LoaderTimeout g = command.LoaderTimeout (g.operand 0) (esp g.last)
 filled name.Script g = command.Script
 filled name.Demo g = command.Demo (g.operand 0) (g.operand 1)
 

@@ -53,6 +53,20 @@ pub enum Command {
         path: Text,
         esp: Text,
     },
+    /// `loader show`: which entry the boot loader takes, and how long its menu waits.
+    LoaderShow {
+        esp: Text,
+    },
+    /// `loader set-default`: another pattern for the entry that the boot loader takes.
+    LoaderDefault {
+        pattern: Text,
+        esp: Text,
+    },
+    /// `loader set-timeout`: another time for the boot loader's menu to wait.
+    LoaderTimeout {
+        value: Text,
+        esp: Text,
+    },
     /// `script`: the commands that stand on the input, a line each.
     Script,
     /// `demo`: commands drawn by a seed, over a machine in memory.

@@ -183,6 +183,17 @@ pub(crate) fn fill(
         CommandName::BlessBad => bless(alloc, BlessWord::Bad, items)?,
         CommandName::BlessIndeterminate => bless(alloc, BlessWord::Indeterminate, items)?,
         CommandName::BlessStatus => bless(alloc, BlessWord::Status, items)?,
+        CommandName::LoaderShow => Command::LoaderShow {
+            esp: esp(alloc, items)?,
+        },
+        CommandName::LoaderDefault => Command::LoaderDefault {
+            pattern: operand(alloc, items, 0)?,
+            esp: esp(alloc, items)?,
+        },
+        CommandName::LoaderTimeout => Command::LoaderTimeout {
+            value: operand(alloc, items, 0)?,
+            esp: esp(alloc, items)?,
+        },
         CommandName::Script => Command::Script,
         CommandName::Demo => Command::Demo {
             seed: operand(alloc, items, 0)?,

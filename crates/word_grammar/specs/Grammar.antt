@@ -94,6 +94,9 @@ row command.BlessGood = verbed (codes "bless") (codes "good") 1 esp_options
 row command.BlessBad = verbed (codes "bless") (codes "bad") 1 esp_options
 row command.BlessIndeterminate = verbed (codes "bless") (codes "indeterminate") 1 esp_options
 row command.BlessStatus = verbed (codes "bless") (codes "status") 1 esp_options
+row command.LoaderShow = verbed (codes "loader") (codes "show") 0 esp_options
+row command.LoaderDefault = verbed (codes "loader") (codes "set-default") 1 esp_options
+row command.LoaderTimeout = verbed (codes "loader") (codes "set-timeout") 1 esp_options
 row command.Script = alone (codes "script") 0 []
 row command.Demo = alone (codes "demo") 2 []
 
@@ -114,6 +117,9 @@ commands =
     ∷ command.BlessBad
     ∷ command.BlessIndeterminate
     ∷ command.BlessStatus
+    ∷ command.LoaderShow
+    ∷ command.LoaderDefault
+    ∷ command.LoaderTimeout
     ∷ command.Script
     ∷ command.Demo
     ∷ []

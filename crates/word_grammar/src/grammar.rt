@@ -34,6 +34,12 @@ pub enum CommandName {
     BlessIndeterminate,
     /// `bless status`.
     BlessStatus,
+    /// `loader show`.
+    LoaderShow,
+    /// `loader set-default`.
+    LoaderDefault,
+    /// `loader set-timeout`.
+    LoaderTimeout,
     /// `script`.
     Script,
     /// `demo`.
@@ -192,6 +198,9 @@ impl CommandName {
             CommandName::BlessBad => verbed("bless", "bad", 1, ESP),
             CommandName::BlessIndeterminate => verbed("bless", "indeterminate", 1, ESP),
             CommandName::BlessStatus => verbed("bless", "status", 1, ESP),
+            CommandName::LoaderShow => verbed("loader", "show", 0, ESP),
+            CommandName::LoaderDefault => verbed("loader", "set-default", 1, ESP),
+            CommandName::LoaderTimeout => verbed("loader", "set-timeout", 1, ESP),
             CommandName::Script => alone("script", 0, NONE),
             CommandName::Demo => alone("demo", 2, NONE),
         }
@@ -213,6 +222,9 @@ static COMMANDS: &[CommandName] = &[
     CommandName::BlessBad,
     CommandName::BlessIndeterminate,
     CommandName::BlessStatus,
+    CommandName::LoaderShow,
+    CommandName::LoaderDefault,
+    CommandName::LoaderTimeout,
     CommandName::Script,
     CommandName::Demo,
 ];
