@@ -52,3 +52,9 @@ pub between_all : (file : List ℕ) (from to at : ℕ) → from ≤ at → at - 
 between_all file from to at a b c =
     let same : at - from ≡ to - from = omega arith in
     ap (zero_filled (drop from file)) same
+
+-- all of a file
+pub between_whole : (file : List ℕ) (size : ℕ) → size ≡ length file → between file 0 size ≡ file
+between_whole file size long =
+    let all : size - 0 ≡ size = omega arith in
+    ap (zero_filled file) all ∙ zero_filled-inside file size (omega (arith, long)) ∙ take_all size file (omega (arith, long))

@@ -10,7 +10,7 @@ use Rattle.boot_machine.specs.Reading.{zero_filled}
 use Rattle.boot_machine.proofs.Filling.{zero_filled-inside}
 use Rattle.uki_parts.specs.declared.part.Part.{Part}
 use Rattle.uki_parts.specs.Pieces.{Reading}
-use Rattle.image_writer.specs.Chunks.{between, gap, padded_part, behind_stub}
+use Rattle.image_writer.specs.Chunks.{gap, padded_part, behind_stub}
 
 -- more zeros
 pub zeros_more : (zeros : List ℕ) (done count : ℕ) → zeros ≡ replicate (length zeros) 0 → count ≤ length zeros

@@ -8,7 +8,7 @@ ghost use Rattle.install_steps.specs.Appends.{AppendsOnly, Grown};
 ghost use Rattle.image_writer.specs.Chunks.{chunk_bytes, chunks_bytes, headers_bytes, stub_bytes};
 ghost use Rattle.image_writer.specs.Sourced.{IsSourced, IsPlannedImage, stub_path, new_sbat};
 
-use crate::append::{append, copy_part, write_zeros};
+use crate::append::write_zeros;
 use crate::chunk::{Chunk, number_chunks, rest_chunks, section_chunks, table_chunks};
 use crate::part::write_parts;
 use crate::sources::Sources;
