@@ -1,11 +1,15 @@
 -- The function that decides on a match finds what the relation says.
 use Rattle.std.proofs.Common.{◌≡◌, ◌≢◌, ◌≤◌, ◌<◌, ◌↔◌, ◌+◌, ℕ, zero, suc, Bool, true, false, not, ◌||◌, ◌&&◌, eqb, List, [], ◌∷◌, ◌++◌, Some, None, Option, length, subst, sym, ap, ◌∙◌, refl, arith, ◌⊎◌, inl, inr, length-append}
 use Rattle.std.specs.List.{flat_map, list_all}
-use Rattle.std.proofs.lemmas.Bool.{and_from, and_parts, eqb-true, or_cases}
+use Rattle.std.specs.Char.{is_ascii_graphic}
+use Rattle.std.specs.Option.{is_some}
+use Rattle.std.specs.Prelude.{nat_le}
+use Rattle.std.proofs.lemmas.Bool.{and_from, and_parts, eqb-true, le-leb, leb-true, ne_eqb, not-true, not_from_false, or_cases}
 use Rattle.std.proofs.lemmas.Option.{none-some, same_Some}
-use Rattle.loader_conf.specs.Decisions.{any_end, first_passes, item_passes, items_by, items_decide, items_match, items_within, pattern_matches, with_item}
+use Rattle.loader_conf.specs.Conf.{IsDefaultPattern, may_be_default, names_variable}
+use Rattle.loader_conf.specs.Decisions.{any_end, first_passes, is_pattern_text, item_passes, items_by, items_decide, items_match, items_within, pattern_matches, with_item}
 use Rattle.loader_conf.specs.Items.{item_reading}
-use Rattle.loader_conf.specs.Patterns.{AreItemsOf, ItemMatches, ItemsMatch, PatternItem, PatternMatches, any_byte, any_run, escape, is_any_run, is_pattern_item, item_bytes, item_takes, plain, set}
+use Rattle.loader_conf.specs.Patterns.{AreItemsOf, IsPattern, ItemMatches, ItemsMatch, PatternItem, PatternMatches, any_byte, any_run, escape, is_any_run, is_pattern_item, item_bytes, item_takes, plain, set}
 use Rattle.loader_conf.proofs.Items.{first_complete, first_sound}
 use Rattle.loader_conf.proofs.Search.{none_of_it, one_byte, stands_single}
 
@@ -150,12 +154,64 @@ pattern_decides pattern text =
     (decide_found pattern text (items_within (length pattern) pattern) refl,
     λ m. ap (λ (found : Option (List PatternItem)). items_decide found text) (items_complete (length pattern) m.0 pattern (omega arith) m.1.0 m.1.1) ∙ items_hold m.0 text m.2)
 
--- a test that says the same is the function
+-- the bytes are a pattern
+text_found : (bytes : List ℕ) (found : Option (List PatternItem)) → items_within (length bytes) bytes ≡ found → is_some found ≡ true → IsPattern bytes
+text_found bytes None is some = cc
+text_found bytes (Some items) is some = (items, items_sound (length bytes) bytes items is)
+
+pub pattern_text : (bytes : List ℕ) → (is_pattern_text bytes ≡ true) ↔ IsPattern bytes
+unfolding is_pattern_text
+pattern_text bytes =
+    (text_found bytes (items_within (length bytes) bytes) refl,
+    λ m. ap is_some (items_complete (length bytes) m.0 bytes (omega arith) m.1.0 m.1.1))
+
+-- two tests that say the same are the same
+pub same_truth : {P : Type 0} (b c : Bool) → ((b ≡ true) ↔ P) → ((c ≡ true) ↔ P) → b ≡ c
+same_truth true true one other = refl
+same_truth false false one other = refl
+same_truth true false one other = sym (other.1 (one.0 refl))
+same_truth false true one other = one.1 (other.0 refl)
+
 pub decided : (pattern text : List ℕ) (b : Bool) → ((b ≡ true) ↔ PatternMatches pattern text) → b ≡ pattern_matches pattern text
-decided pattern text b says = by b says (pattern_matches pattern text) (pattern_decides pattern text)
+decided pattern text b says = same_truth b (pattern_matches pattern text) says (pattern_decides pattern text)
+
+-- ---- values of the default
+
+some_length : (n : ℕ) → not (eqb n 0) ≡ true → 1 ≤ n
+some_length zero is = cc
+some_length (suc n) is = omega arith
+
+length_some : (n : ℕ) → 1 ≤ n → not (eqb n 0) ≡ true
+length_some n there = not_from_false (eqb n 0) (ne_eqb n 0 (λ e. absurd (omega (arith, e, there))))
+
+pub default_decides : (value : List ℕ) → (may_be_default value ≡ true) ↔ IsDefaultPattern value
+unfolding may_be_default
+default_decides value = (found, holds)
   where
-    by : (b : Bool) → ((b ≡ true) ↔ PatternMatches pattern text) → (c : Bool) → ((c ≡ true) ↔ PatternMatches pattern text) → b ≡ c
-    by true one true other = refl
-    by false one false other = refl
-    by true one false other = sym (other.1 (one.0 refl))
-    by false one true other = one.1 (other.0 refl)
+    found : may_be_default value ≡ true → IsDefaultPattern value
+    found is =
+        let there = not (eqb (length value) 0) in
+        let short = nat_le (length value) 255 in
+        let graphic = list_all is_ascii_graphic value in
+        let items = and_parts (there && short && graphic && not (names_variable value)) (is_pattern_text value) is in
+        let no_variable = and_parts (there && short && graphic) (not (names_variable value)) items.0 in
+        let bytes = and_parts (there && short) graphic no_variable.0 in
+        let lengths = and_parts there short bytes.0 in
+        record {
+          there = some_length (length value) lengths.0;
+          short = leb-true (length value) 255 lengths.1;
+          graphic = bytes.1;
+          no_variable = not-true (names_variable value) no_variable.1;
+          items = (pattern_text value).0 items.1;
+        }
+
+    holds : IsDefaultPattern value → may_be_default value ≡ true
+    holds is =
+        let there = not (eqb (length value) 0) in
+        let short = nat_le (length value) 255 in
+        let graphic = list_all is_ascii_graphic value in
+        and_from (there && short && graphic && not (names_variable value)) (is_pattern_text value)
+        (and_from (there && short && graphic) (not (names_variable value))
+        (and_from (there && short) graphic (and_from there short (length_some (length value) is.there) (le-leb (length value) 255 is.short)) is.graphic)
+        (not_from_false (names_variable value) is.no_variable))
+        ((pattern_text value).1 is.items)

@@ -1,5 +1,5 @@
 -- Whether a pattern matches a text, as a function.
-use Rattle.std.specs.Prelude.{ℕ, zero, suc, Bool, true, false, ◌==◌, ◌&&◌, ◌||◌, List, [], ◌∷◌, length, Option, Some, None, if◌then◌else◌}
+use Rattle.std.specs.Prelude.{ℕ, zero, suc, Bool, true, false, ◌==◌, ◌&&◌, ◌||◌, List, [], ◌∷◌, length, is_some, Option, Some, None}
 use Rattle.loader_conf.specs.Patterns.{PatternItem, any_run, item_takes}
 use Rattle.loader_conf.specs.Items.{item_reading}
 
@@ -45,3 +45,7 @@ items_decide (Some items) text = items_match items text
 -- whether a pattern matches a text
 unfoldable pub pattern_matches : List ℕ → List ℕ → Bool
 pattern_matches pattern text = items_decide (items_within (length pattern) pattern) text
+
+-- whether bytes are a pattern
+unfoldable pub is_pattern_text : List ℕ → Bool
+is_pattern_text bytes = is_some (items_within (length bytes) bytes)
