@@ -90,14 +90,14 @@ run_step pattern item behind read run text =
 
 -- ---- an item of one byte
 
-one_byte : (item : PatternItem) → is_any_run item ≡ false → (piece : List ℕ) → ItemMatches item piece → (byte : ℕ) × (piece ≡ byte ∷ []) × (item_takes item byte ≡ true)
+pub one_byte : (item : PatternItem) → is_any_run item ≡ false → (piece : List ℕ) → ItemMatches item piece → (byte : ℕ) × (piece ≡ byte ∷ []) × (item_takes item byte ≡ true)
 one_byte any_run is piece stands = absurd (false≢true (sym is))
 one_byte any_byte is piece stands = stands
 one_byte (set between) is piece stands = stands
 one_byte (escape byte) is piece stands = stands
 one_byte (plain byte) is piece stands = stands
 
-stands_single : (item : PatternItem) (byte : ℕ) → item_takes item byte ≡ true → ItemMatches item (byte ∷ [])
+pub stands_single : (item : PatternItem) (byte : ℕ) → item_takes item byte ≡ true → ItemMatches item (byte ∷ [])
 stands_single any_run byte is = tt
 stands_single any_byte byte is = (byte, refl, is)
 stands_single (set between) byte is = (byte, refl, is)

@@ -1,8 +1,9 @@
 -- What loader.conf says, and what may be written into it.
-use Rattle.std.specs.Prelude.{◌≡◌, ◌≤◌, ℕ, ◌==◌, Bool, not, ◌||◌, true, false, List, [], ◌∷◌, length, Option, Some, None, bytes_eq, codes, if◌then◌else◌, nat_lt}
+use Rattle.std.specs.Prelude.{◌≡◌, ◌≤◌, ℕ, ◌==◌, Bool, not, ◌&&◌, ◌||◌, true, false, List, [], ◌∷◌, length, Option, Some, None, bytes_eq, codes, if◌then◌else◌, nat_le, nat_lt}
 use Rattle.std.specs.List.{list_all}
 use Rattle.std.specs.Char.{is_ascii_digit, is_ascii_graphic}
 use Rattle.text_lines.specs.EntryLines.{entry_value}
+use Rattle.loader_conf.specs.Decisions.{is_pattern_text}
 use Rattle.loader_conf.specs.Patterns.{IsPattern}
 use Rattle.loader_conf.specs.declared.conf.LoaderConf.{LoaderConf}
 use Rattle.loader_conf.specs.declared.change.ConfKey.{ConfKey}
@@ -67,3 +68,14 @@ pub record IsDefaultPattern (value : List ℕ) : Type 0 where
 abbrev pub IsConfValue : ConfKey → List ℕ → Type 0
 IsConfValue Default value = IsDefaultPattern value
 IsConfValue Timeout value = is_timeout value ≡ true
+
+-- ---- the same as functions
+
+unfoldable pub may_be_default : List ℕ → Bool
+may_be_default value =
+    not (length value == 0) && nat_le (length value) 255 && list_all is_ascii_graphic value && not (names_variable value) && is_pattern_text value
+
+-- whether a value may be written for the key
+abbrev pub may_be_value : ConfKey → List ℕ → Bool
+may_be_value Default value = may_be_default value
+may_be_value Timeout value = is_timeout value

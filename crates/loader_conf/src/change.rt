@@ -1,8 +1,9 @@
 //! The change of one key of loader.conf.
-ghost use Rattle.std.specs.Prelude.{◌≡◌, ◌≢◌, ◌<◌, ◌∷◌, [], ◌++◌, List, ℕ, not, IfOk, OnOk, Some, filter, length};
-ghost use Rattle.loader_conf.specs.Conf.{IsConfValue, conf_key_name, conf_of, conf_value, other_conf_key};
+ghost use Rattle.std.specs.Prelude.{◌≡◌, ◌≢◌, ◌<◌, ◌∷◌, [], ◌++◌, List, ℕ, not, IfOk, IsTrue, OnOk, Some, filter, length};
+ghost use Rattle.loader_conf.specs.Conf.{IsConfValue, conf_key_name, conf_of, conf_value, may_be_value, other_conf_key};
 ghost use Rattle.loader_conf.specs.FileLines.{IsTextButForNewline, raw_lines, key_line, lacks_value, text_of_lines, text_with_value, with_newline};
 
+use crate::conf::{is_default_pattern, is_timeout};
 use std::alloc::{AllocError, Global};
 use text_lines::{first_piece, is_counted, trimmed, value_in};
 
@@ -29,6 +30,17 @@ impl ConfKey {
             ConfKey::Default => "default",
             ConfKey::Timeout => "timeout",
         }
+    }
+}
+
+/// The value may be written for the key.
+pub fn may_be_value(key: ConfKey, value: &[u8]) -> bool
+    ensures value { result ≡ may_be_value key value.now }
+    ensures fits { IsTrue result → IsConfValue key value.now }
+{
+    match key {
+        ConfKey::Default => is_default_pattern(value),
+        ConfKey::Timeout => is_timeout(value),
     }
 }
 

@@ -1,6 +1,7 @@
 //! Which entry a loader.conf chooses.
-ghost use Rattle.std.specs.Prelude.{◌≡◌, ◌<◌, MatchOption, Some, length};
-ghost use Rattle.loader_conf.specs.Choice.{IsDefaultEntry, IsFirstMatch, DefaultMatchesNone};
+ghost use Rattle.std.specs.Prelude.{◌≡◌, MatchOption, length, position};
+ghost use Rattle.loader_conf.specs.Choice.{IsDefaultEntry, default_place, first_place, match_place};
+ghost use Rattle.loader_conf.specs.Decisions.{pattern_matches};
 
 use crate::conf::LoaderConf;
 use crate::pattern::matches;
@@ -8,18 +9,17 @@ use boot_base::Bytes;
 
 /// The place of the entry that boots by default, of those with these ids: the first whose id the default
 /// matches, else the first of all. It takes no memory.
+#[tactic(auto, unfolding(crate::specs::Choice::default_place))]
 pub fn chosen(ids: &[Bytes], conf: &LoaderConf) -> Option<usize>
-    ensures { MatchOption result (length ids.now ≡ 0) (λ place. IsDefaultEntry conf.now.default ids.now place) }
+    ensures place { result ≡ default_place conf.now.default ids.now }
+    ensures entry { MatchOption result (length ids.now ≡ 0) (λ place. IsDefaultEntry conf.now.default ids.now place) }
 {
-    if let Some(place) = default_place(ids, &conf.default) {
-        return Some(place);
-    }
-    if ids.is_empty() { None } else { Some(0) }
+    match_place(ids, &conf.default).or(first_place(ids))
 }
 
 // The first place of an id that the default matches.
-fn default_place(ids: &[Bytes], default: &Option<Bytes>) -> Option<usize>
-    ensures { MatchOption result (DefaultMatchesNone default.now ids.now) (λ place. IsFirstMatch default.now ids.now place) }
+fn match_place(ids: &[Bytes], default: &Option<Bytes>) -> Option<usize>
+    ensures { result ≡ match_place default.now ids.now }
 {
     match default {
         Some(pattern) => first_match(ids, pattern.as_slice()),
@@ -29,12 +29,20 @@ fn default_place(ids: &[Bytes], default: &Option<Bytes>) -> Option<usize>
 
 // The first place of an id that the pattern matches.
 fn first_match(ids: &[Bytes], pattern: &[u8]) -> Option<usize>
-    ensures { MatchOption result (DefaultMatchesNone (Some pattern.now) ids.now) (λ place. IsFirstMatch (Some pattern.now) ids.now place) }
+    ensures { result ≡ position (pattern_matches pattern.now) ids.now }
 {
-    for (place, id) in ids.iter().enumerate() {
-        if matches(pattern, id.as_slice()) {
-            return Some(place);
-        }
-    }
-    None
+    ids.iter().position(|id| is_match(pattern, id.as_slice()))
+}
+
+fn is_match(pattern: &[u8], id: &[u8]) -> bool
+    ensures { result ≡ pattern_matches pattern.now id.now }
+{
+    matches(pattern, id)
+}
+
+// The first place of all.
+fn first_place(ids: &[Bytes]) -> Option<usize>
+    ensures { result ≡ first_place ids.now }
+{
+    if ids.is_empty() { None } else { Some(0) }
 }
