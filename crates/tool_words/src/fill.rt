@@ -87,7 +87,7 @@ fn is_given(items: &[Item<'_>], option: &str) -> bool
 fn operand(alloc: Global, items: &[Item<'_>], place: usize) -> Result<Text, AllocError>
     ensures { IfOk result (λ text. text ≡ slice_index_or (operands (items_shown items.now)) place []) }
 {
-    Text::of(alloc, operand_at(items, place).unwrap_or(""))
+    Text::of(alloc, operand_at(items, place))
 }
 
 // The fields of `ukify build`.

@@ -1,5 +1,5 @@
 //! What the items of a command give: values of options, and operands.
-ghost use Rattle.std.specs.Prelude.{◌≡◌, [], ◌++◌, length, slice_get, IfOk, OnOk};
+ghost use Rattle.std.specs.Prelude.{◌≡◌, [], ◌++◌, length, slice_index_or, IfOk, OnOk};
 ghost use Rattle.std.specs.List.{cons_option};
 ghost use Rattle.std.specs.Option.{option_copied};
 ghost use Rattle.tool_words.specs.Items.{value_in, operand_in, all_values, last_value, operands};
@@ -58,11 +58,7 @@ pub(crate) fn all_values(
 }
 
 // Puts the value at the end, where there is one.
-fn push_value(
-    alloc: Global,
-    list: &mut TextList,
-    value: Option<&str>,
-) -> Result<(), AllocError>
+fn push_value(alloc: Global, list: &mut TextList, value: Option<&str>) -> Result<(), AllocError>
     ensures { OnOk result (list.new ≡ list.old ++ cons_option (option_copied value.entry) []) }
 {
     if let Some(value) = value {
@@ -85,18 +81,18 @@ pub(crate) fn operand_count(items: &[Item<'_>]) -> usize
     count
 }
 
-/// The operand at a place, counted from 0.
-pub(crate) fn operand_at<'a>(items: &[Item<'a>], place: usize) -> Option<&'a str>
-    ensures { option_copied result ≡ slice_get (operands (items_shown items.now)) place }
+/// The operand at a place, counted from 0. It is empty where there are fewer.
+pub(crate) fn operand_at<'a>(items: &[Item<'a>], place: usize) -> &'a str
+    ensures { result.now ≡ slice_index_or (operands (items_shown items.now)) place [] }
 {
     let mut left = place;
     for item in items {
         if let Some(word) = item.operand_in() {
             if left == 0 {
-                return Some(word);
+                return word;
             }
             left -= 1;
         }
     }
-    None
+    ""
 }
