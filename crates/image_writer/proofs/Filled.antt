@@ -1,13 +1,9 @@
 -- Bytes that are given piece by piece.
-use Rattle.std.proofs.Common.{◌≡◌, inl, inr, ◌<◌, ◌≤◌, ◌+◌, ◌-◌, ℕ, List, [], ◌∷◌, ◌++◌, length, take, drop, get_or, sym, ap, ◌∙◌, arith, append_assoc, length-drop}
+use Rattle.std.proofs.Common.{◌≡◌, ◌<◌, ◌≤◌, ◌+◌, ◌-◌, ℕ, List, [], ◌∷◌, ◌++◌, length, take, get_or, sym, ap, ◌∙◌}
 use Rattle.std.specs.Prelude.{replicate, ◌==◌, false}
 use Rattle.std.specs.List.{flat_map}
-use Rattle.std.proofs.Math.Seq.{take-add}
-use Rattle.std.proofs.lemmas.Bool.{cases_lt}
 use Rattle.std.proofs.lemmas.Grind.{flat_map-append}
-use Rattle.std.proofs.lemmas.List.{take_all, take_more, drop_all, drop-drop, append-nil, take-replicate, replicate-append-replicate}
-use Rattle.boot_machine.specs.Reading.{zero_filled}
-use Rattle.boot_machine.proofs.Filling.{zero_filled-inside}
+use Rattle.std.proofs.lemmas.List.{take_all, take_more, append-nil, take-replicate, replicate-append-replicate}
 use Rattle.uki_parts.specs.declared.part.Part.{Part}
 use Rattle.uki_parts.specs.Pieces.{Reading}
 use Rattle.image_writer.specs.Chunks.{gap, padded_part, behind_stub}

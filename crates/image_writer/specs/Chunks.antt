@@ -1,5 +1,5 @@
 -- The chunks of an image.
-use Rattle.std.specs.Prelude.{◌≡◌, ℕ, ◌+◌, ◌*◌, ◌-◌, ◌%◌, false, List, [], ◌∷◌, ◌++◌, drop, replicate, Option, Some, None}
+use Rattle.std.specs.Prelude.{◌≡◌, ℕ, ◌+◌, ◌*◌, ◌-◌, ◌%◌, false, List, [], ◌∷◌, ◌++◌, replicate, Option, Some, None}
 use Rattle.std.specs.List.{flat_map}
 use Rattle.boot_base.specs.Paths.{Path, is_temp}
 use Rattle.boot_machine.specs.Disk.{Files}

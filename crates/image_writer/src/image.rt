@@ -14,6 +14,7 @@ use crate::part::write_parts;
 use crate::sources::Sources;
 use boot_base::{Piece, TempPath};
 use boot_machine::{DiskFault, Machine};
+use install_steps::{append, copy_part};
 use pe_builder::Plan;
 use pe_reader::Section;
 

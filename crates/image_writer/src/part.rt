@@ -11,6 +11,7 @@ ghost use Rattle.image_writer.specs.Chunks.{Agrees, behind_stub, gap, given_byte
 use crate::append::write_zeros;
 use boot_base::TempPath;
 use boot_machine::{DiskFault, Machine};
+use install_steps::{append, copy_part};
 use uki_parts::{Part, Piece};
 
 /// Appends the parts, each filled up to a multiple of FileAlignment, behind a stub that is filled up likewise.

@@ -63,7 +63,7 @@ copied_file m temp from mid new size is_temporary shown e left grown long =
     let source : contents mid.files from ≡ contents m from = ap (λ (n : Files). contents n from) (e ∙ with_none m temp) ∙ source_stays m temp from [] is_temporary shown in
     let none : contents mid.files temp ≡ [] = ap (λ (n : Files). contents n temp) e ∙ contents-created m temp in
     let bytes : contents new.files temp ≡ contents m from =
-        grown.bytes ∙ ap (λ (l : List ℕ). l ++ between (contents mid.files from) 0 size) none ∙ ap (λ (l : List ℕ). between l 0 size) source ∙ between_whole (contents m from) size long in
+    grown.bytes ∙ ap (λ (l : List ℕ). l ++ between (contents mid.files from) 0 size) none ∙ ap (λ (l : List ℕ). between l 0 size) source ∙ between_whole (contents m from) size long in
     written_file m temp mid new e left ∙ ap (λ (l : List ℕ). with_file temp l m) bytes
 
 -- boot sees it in its place

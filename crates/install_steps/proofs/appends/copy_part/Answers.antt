@@ -57,7 +57,7 @@ loop-at-preserved g c =
           (c.append.ensures.appends told);
       grown = λ told.
           let more = subst (λ (s : State). Grown c.args.temp.now (zero_filled (drop c.loop-at.at file) c.in_ok-count.count) s (g.M.Machine.state c.append.new.machine)) (c.read_piece.ensures.reads told).same
-              (grown_as _ _ _ _ _ (piece.bytes told) (c.in_ok-append.ensures.grows told)) in
+          (grown_as _ _ _ _ _ (piece.bytes told) (c.in_ok-append.ensures.grows told)) in
           grown_as _ _ _ _ _
           (between_more _ _ c.args.from c.loop-at.at c.in_ok-count.count before.after
           (appends-source g.M.Machine.clock g.M.Machine.since g.M.Machine.state c.args.temp.now c.args.machine.now c.loop-at.machine c.args.file.now c.know-2.ensures c.know.ensures (before.appends told)))

@@ -1,4 +1,4 @@
-use Rattle.std.proofs.Common.{◌≡◌, ◌∙◌, true, false, [], refl, subst, rules, arith}
+use Rattle.std.proofs.Common.{◌≡◌, true, false, [], refl, subst, rules, arith}
 use Rattle.std.specs.FinMap as map
 use Rattle.boot_machine.specs.Disk.{Files, has}
 use Rattle.boot_machine.proofs.Going.{goes-create, goes-read}
