@@ -4,8 +4,6 @@ pub mod Answers
 pub mod Shown
 pub mod Steps
 pub mod Meaning
-pub mod Holding
-pub mod Reading
 pub mod Reasons
 pub mod Line
 pub mod LineSteps

@@ -3,11 +3,8 @@ use Rattle.std.specs.Prelude.{ℕ, ◌==◌, Bool, true, false, ◌||◌, ◌&&�
 use Rattle.std.specs.List.{list_any}
 use Rattle.word_grammar.specs.declared.grammar.CommandName.{CommandName}
 use Rattle.word_grammar.specs.declared.grammar.CommandName.TheVariants as name
-use Rattle.word_grammar.specs.declared.grammar.OptionName.{OptionName}
-use Rattle.word_grammar.specs.declared.grammar.OptionName.TheVariants as option
 use Rattle.word_grammar.specs.declared.grammar.Takes.{Takes}
 use Rattle.word_grammar.specs.declared.grammar.Takes.TheVariants.{Required, Once, Repeated, Flag}
-use Rattle.word_grammar.specs.declared.grammar.OptionRow.{OptionRow}
 use Rattle.tool_words.specs.declared.command.Command.{Command}
 use Rattle.tool_words.specs.declared.command.Command.TheVariants as command
 use Rattle.tool_words.specs.declared.command.BuildWords.{BuildWords}
@@ -18,7 +15,7 @@ use Rattle.tool_words.specs.declared.command.BlessWord.{BlessWord}
 use Rattle.tool_words.specs.declared.command.BlessWord.TheVariants as bless
 use Rattle.tool_words.specs.declared.fault.UsageReason.{UsageReason}
 use Rattle.tool_words.specs.declared.fault.UsageReason.TheVariants as reason
-use Rattle.word_grammar.specs.Grammar.{Word, row, place, commands, is_named, is_verbed, option_text}
+use Rattle.word_grammar.specs.Grammar.{Word, OptionRule, row, commands, is_named, is_verbed, is_text_of}
 use Rattle.tool_words.specs.Items.{Item, items, all_values, last_value, operands, ◌>>=◌}
 
 -- words over their limits: 16,777,216 words, 1,048,576 bytes of one
@@ -56,13 +53,14 @@ is_repeated Once = false
 is_repeated Flag = false
 
 -- the command takes the option as a repeatable one
-abbrev pub repeats : CommandName → OptionName → Bool
-repeats c name = list_any (λ option. place option.0 == place name && is_repeated option.1) (row c).options
+abbrev pub repeats : CommandName → Word → Bool
+repeats c text = list_any (λ option. is_text_of text option && is_repeated option.takes) (row c).options
 
--- what the items of a command give: of each option the last value, of a repeatable one all values in order, and the operands
+-- what the items of a command give: of each option, by its text, the last value, of a repeatable one all values in order;
+-- and the operands
 pub record Gathered : Type 0 where
-  pub last : OptionName → Option Word
-  pub all : OptionName → List Word
+  pub last : Word → Option Word
+  pub all : Word → List Word
   pub operand : ℕ → Word
 
 abbrev pub gathered : CommandName → List Item → Gathered
@@ -79,14 +77,14 @@ is_required Repeated = false
 is_required Flag = false
 
 -- the option is required and isn't given
-abbrev pub is_missing : (OptionName → Option Word) → OptionRow → Bool
-is_missing last option = is_required option.1 && is_none (last option.0)
+abbrev pub is_missing : (Word → Option Word) → OptionRule → Bool
+is_missing last option = is_required option.takes && is_none (last option.text)
 
-abbrev pub nothing_missing : Option OptionRow → Result (Unit {0}) UsageReason
+abbrev pub nothing_missing : Option OptionRule → Result (Unit {0}) UsageReason
 nothing_missing None = Ok tt
-nothing_missing (Some option) = Err (reason.Required (option_text option.0))
+nothing_missing (Some option) = Err (reason.Required option.text)
 
-abbrev pub all_required : CommandName → (OptionName → Option Word) → Result (Unit {0}) UsageReason
+abbrev pub all_required : CommandName → (Word → Option Word) → Result (Unit {0}) UsageReason
 all_required c last = nothing_missing (find (is_missing last) (row c).options)
 
 -- a text, or after a leading `@` the path of the file that holds it
@@ -99,63 +97,59 @@ abbrev pub required : Option Word → Word
 required value = unwrap_or value []
 
 -- the folder of the boot files
-abbrev pub esp : Option Word → Word
-esp value = unwrap_or value (codes "efi")
+abbrev pub esp : (Word → Option Word) → Word
+esp last = unwrap_or (last (codes "--esp-path")) (codes "efi")
 
 abbrev pub build_words : Gathered → BuildWords
 build_words g = record {
-  stub = required (g.last option.Stub);
-  linux = required (g.last option.Linux);
-  output = required (g.last option.Output);
-  osrel = option_map given (g.last option.OsRelease);
-  cmdline = option_map given (g.last option.Cmdline);
-  sbat = option_map given (g.last option.Sbat);
-  dtb = g.last option.Devicetree;
-  uname = g.last option.Uname;
-  splash = g.last option.Splash;
-  pcrpkey = g.last option.Pcrpkey;
-  initrds = g.all option.Initrd;
-  sections = g.all option.Section;
-  measure = is_some (g.last option.Measure);
+  stub = required (g.last (codes "--stub"));
+  linux = required (g.last (codes "--linux"));
+  output = required (g.last (codes "--output"));
+  osrel = option_map given (g.last (codes "--os-release"));
+  cmdline = option_map given (g.last (codes "--cmdline"));
+  sbat = option_map given (g.last (codes "--sbat"));
+  dtb = g.last (codes "--devicetree");
+  uname = g.last (codes "--uname");
+  splash = g.last (codes "--splash");
+  pcrpkey = g.last (codes "--pcrpkey");
+  initrds = g.all (codes "--initrd");
+  ucode = g.last (codes "--microcode");
+  sections = g.all (codes "--section");
+  measure = is_some (g.last (codes "--measure"));
 }
 
 abbrev pub calculate_words : Gathered → CalculateWords
 calculate_words g = record {
-  linux = required (g.last option.Linux);
-  osrel = g.last option.Osrel;
-  cmdline = g.last option.Cmdline;
-  initrd = g.last option.Initrd;
-  splash = g.last option.Splash;
-  dtb = g.last option.Dtb;
-  uname = g.last option.Uname;
-  sbat = g.last option.Sbat;
-  pcrpkey = g.last option.Pcrpkey;
-  banks = g.all option.Bank;
-  phases = g.all option.Phase;
+  linux = required (g.last (codes "--linux"));
+  osrel = g.last (codes "--osrel");
+  cmdline = g.last (codes "--cmdline");
+  initrd = g.last (codes "--initrd");
+  ucode = g.last (codes "--ucode");
+  splash = g.last (codes "--splash");
+  dtb = g.last (codes "--dtb");
+  uname = g.last (codes "--uname");
+  sbat = g.last (codes "--sbat");
+  pcrpkey = g.last (codes "--pcrpkey");
+  banks = g.all (codes "--bank");
+  phases = g.all (codes "--phase");
 }
-
-abbrev pub install_words : (ℕ → Word) → (OptionName → Option Word) → Command
-install_words operand last = command.Install (operand 0) (operand 1) (last option.Tries) (esp (last option.EspPath))
-
-abbrev pub bless_words : BlessWord → (ℕ → Word) → (OptionName → Option Word) → Command
-bless_words verb operand last = command.Bless verb (operand 0) (esp (last option.EspPath))
 
 -- the command with all its fields
 abbrev pub filled : CommandName → Gathered → Command
 filled name.Build g = command.Build (build_words g)
 filled name.Inspect g = command.Inspect (g.operand 0)
 filled name.Calculate g = command.Calculate (calculate_words g)
-filled name.Image g = command.Image (g.operand 0) (g.all option.Bank) (g.all option.Phase)
-filled name.ListEntries g = command.List (esp (g.last option.EspPath))
-filled name.Unlink g = command.Unlink (g.operand 0) (esp (g.last option.EspPath))
+filled name.Image g = command.Image (g.operand 0) (g.all (codes "--bank")) (g.all (codes "--phase"))
+filled name.ListEntries g = command.List (esp g.last)
+filled name.Unlink g = command.Unlink (g.operand 0) (esp g.last)
 filled name.Identify g = command.Identify (g.operand 0)
-filled name.Tidy g = command.Tidy (esp (g.last option.EspPath))
-filled name.Install g = install_words g.operand g.last
-filled name.Boot g = command.Boot (esp (g.last option.EspPath))
-filled name.BlessGood g = bless_words bless.Good g.operand g.last
-filled name.BlessBad g = bless_words bless.Bad g.operand g.last
-filled name.BlessIndeterminate g = bless_words bless.Indeterminate g.operand g.last
-filled name.BlessStatus g = bless_words bless.Status g.operand g.last
+filled name.Tidy g = command.Tidy (esp g.last)
+filled name.Install g = command.Install (g.operand 0) (g.operand 1) (g.last (codes "--tries")) (esp g.last)
+filled name.Boot g = command.Boot (esp g.last)
+filled name.BlessGood g = command.Bless bless.Good (g.operand 0) (esp g.last)
+filled name.BlessBad g = command.Bless bless.Bad (g.operand 0) (esp g.last)
+filled name.BlessIndeterminate g = command.Bless bless.Indeterminate (g.operand 0) (esp g.last)
+filled name.BlessStatus g = command.Bless bless.Status (g.operand 0) (esp g.last)
 filled name.Script g = command.Script
 filled name.Demo g = command.Demo (g.operand 0) (g.operand 1)
 

@@ -9,6 +9,7 @@ use Rattle.tool_words.specs.declared.items.Item.{Item}
 use Rattle.tool_words.specs.declared.items.Item.TheVariants as item
 use Rattle.tool_words.specs.declared.items.Next.{Next}
 use Rattle.word_grammar.specs.Grammar.{Word}
+use Rattle.word_grammar.specs.Shown.{option_shown}
 use Rattle.tool_words.specs.Items as meant
 
 -- words as lists of bytes
@@ -23,12 +24,16 @@ chosen_shown chosen = (chosen.0, texts chosen.1.now)
 abbrev pub said_shown : Said → meant.Said
 said_shown word.Ends = meant.Ends
 said_shown word.Plain = meant.Plain
-said_shown (word.Whole option value) = meant.Whole option value.now
-said_shown (word.Open option) = meant.Open option
+said_shown (word.Whole text value) = meant.Whole text.now value.now
+said_shown (word.Open option) = meant.Open (option_shown option)
 
 abbrev pub item_shown : Item → meant.Item
-item_shown (item.Value option value) = meant.Value option value.now
+item_shown (item.Value text value) = meant.Value text.now value.now
 item_shown (item.Operand word) = meant.Operand word.now
+
+-- items as they are meant
+abbrev pub items_shown : List Item → List meant.Item
+items_shown items = map item_shown items
 
 -- an item and the words after it
 abbrev pub next_shown : Next → meant.Item × List Word

@@ -1,20 +1,19 @@
 -- How the items are read, one after another.
 use Rattle.std.specs.Prelude.{◌≡◌, List, [], ◌∷◌, map, Option, Some, None, Result, Ok, Err}
 use Rattle.word_grammar.specs.declared.grammar.CommandName.{CommandName}
-use Rattle.word_grammar.specs.declared.grammar.OptionName.{OptionName}
 use Rattle.tool_words.specs.declared.fault.UsageReason.{UsageReason}
 use Rattle.tool_words.specs.declared.fault.UsageReason.TheVariants.{NeedsValue}
 use Rattle.tool_words.specs.declared.fault.WordsFault.{WordsFault}
 use Rattle.tool_words.specs.declared.items.Next.{Next}
-use Rattle.word_grammar.specs.Grammar.{Word}
+use Rattle.word_grammar.specs.Grammar.{Word, OptionRule}
 use Rattle.tool_words.specs.Items.{Item, Value, Operand, items, onto, valued, ◌>>=◌}
 use Rattle.tool_words.specs.Answers.{FaultIs}
 use Rattle.tool_words.specs.Shown.{item_shown, texts}
 
 -- an option whose value is the next word, and the words after that
-abbrev pub opened : OptionName → Word → List Word → Result (Item × List Word) UsageReason
+abbrev pub opened : OptionRule → Word → List Word → Result (Item × List Word) UsageReason
 opened option word [] = Err (NeedsValue word)
-opened option word (next ∷ words) = valued option next >>= λ value. Ok (Value option value, words)
+opened option word (next ∷ words) = valued option next >>= λ value. Ok (Value option.text value, words)
 
 -- the items of a word and those after it begin with the item that is answered
 abbrev pub Steps : CommandName → Word → List Word → Result (Option Next) WordsFault → Type 0

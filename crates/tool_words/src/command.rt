@@ -87,6 +87,8 @@ pub struct BuildWords {
     pub pcrpkey: Option<Text>,
     /// The paths of the initrds, in order.
     pub initrds: TextList,
+    /// The path of the microcode.
+    pub ucode: Option<Text>,
     /// The values of `--section`, in order and whole, as `NAME:TEXT` or `NAME:@PATH`.
     pub sections: TextList,
     /// Whether the predicted values are printed too.
@@ -104,6 +106,8 @@ pub struct CalculateWords {
     pub cmdline: Option<Text>,
     /// The initrd.
     pub initrd: Option<Text>,
+    /// The microcode.
+    pub ucode: Option<Text>,
     /// The splash picture.
     pub splash: Option<Text>,
     /// The device tree.

@@ -25,8 +25,8 @@ pub enum UsageReason {
     UnknownOption { word: Text },
     /// No word follows an option that takes the next word as its value.
     NeedsValue { word: Text },
-    /// `--measure` is given a value.
-    TakesNoValue,
+    /// A flag is given a value. The word is the flag.
+    TakesNoValue { word: Text },
     /// The value of `--bank` names no bank. The word is the value.
     UnknownBank { word: Text },
     /// There are fewer operands than the command takes.

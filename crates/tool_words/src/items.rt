@@ -1,9 +1,8 @@
 //! The words after a command and its verb: options with their values, and operands.
-ghost use Rattle.std.specs.Prelude.{◌≡◌, ◌≤◌, length, IfOk, IfSome};
-ghost use Rattle.std.specs.List.{list_any};
-ghost use Rattle.std.specs.Str.{bytes_eq};
-ghost use Rattle.word_grammar.specs.Grammar.{banks};
-ghost use Rattle.tool_words.specs.Items.{said, option_said, valued, option_of, without_value as value_missing, is_flag, is_bank_option};
+ghost use Rattle.std.specs.Prelude.{◌≡◌, ◌≤◌, length, is_none, IfOk, IfSome};
+ghost use Rattle.pcr_fold.specs.Banks.{bank_named};
+ghost use Rattle.word_grammar.specs.Shown.{option_shown};
+ghost use Rattle.tool_words.specs.Items.{said, option_said, valued, option_of, without_value as value_missing, is_flag, are_banks};
 ghost use Rattle.tool_words.specs.Answers.{Gives, IsReason};
 ghost use Rattle.tool_words.specs.Shown.{said_shown, next_shown, texts};
 ghost use Rattle.tool_words.specs.Steps.{opened, Steps};
@@ -11,8 +10,9 @@ ghost use Rattle.tool_words.specs.declared.fault.UsageReason.TheVariants.{Unknow
 
 use crate::fault::{UsageReason, WordsFault};
 use boot_base::Text;
+use pcr_fold::Bank;
 use std::alloc::Global;
-use word_grammar::{CommandName, OptionName, OptionRow, Takes};
+use word_grammar::{CommandName, OptionRow, Takes, ValueKind};
 
 /// What a word says before a word `--`.
 #[derive(Clone, Copy)]
@@ -22,32 +22,26 @@ pub(crate) enum Said<'a> {
     /// The word is an operand.
     Plain,
     /// An option with its value, which is empty for a flag.
-    Whole(OptionName, &'a str),
+    Whole(&'static str, &'a str),
     /// An option whose value is the next word.
-    Open(OptionName),
+    Open(OptionRow),
 }
 
-/// The value, where the option takes it: of `--bank` it must be a bank's name.
-fn valued<'a>(alloc: Global, option: OptionName, value: &'a str) -> Result<&'a str, WordsFault>
-    ensures { Gives (λ v. v.now) result (valued option value.now) }
+/// The value, where the option takes it: that of `--bank` must be a bank's name.
+fn valued<'a>(alloc: Global, option: OptionRow, value: &'a str) -> Result<&'a str, WordsFault>
+    ensures { Gives (λ v. v.now) result (valued (option_shown option) value.now) }
 {
-    if is_bank_option(option) && !is_bank(value) {
+    if are_banks(option.value) && Bank::named(value).is_none() {
         let word = Text::of(alloc, value)?;
         return Err(UsageReason::UnknownBank { word }.into());
     }
     Ok(value)
 }
 
-fn is_bank_option(option: OptionName) -> bool
-    ensures { result ≡ is_bank_option option }
+fn are_banks(values: ValueKind) -> bool
+    ensures { result ≡ are_banks values }
 {
-    option.place() == OptionName::Bank.place()
-}
-
-fn is_bank(value: &str) -> bool
-    ensures { result ≡ list_any (bytes_eq value.now) banks }
-{
-    matches!(value, "sha1" | "sha256" | "sha384" | "sha512")
+    matches!(values, ValueKind::Bank)
 }
 
 fn is_flag(takes: Takes) -> bool
@@ -58,7 +52,7 @@ fn is_flag(takes: Takes) -> bool
 
 /// The option of the command that is written so.
 fn option(alloc: Global, command: CommandName, text: &str) -> Result<OptionRow, WordsFault>
-    ensures { Gives (λ option. option) result (option_of command text.now) }
+    ensures { Gives option_shown result (option_of command text.now) }
 {
     match command.option(text) {
         Some(option) => Ok(option),
@@ -88,21 +82,22 @@ fn read_option<'a>(
         return Ok(without_value(option));
     };
     let option = option(alloc, command, name)?;
-    if is_flag(option.1) {
-        return Err(UsageReason::TakesNoValue.into());
+    if is_flag(option.takes) {
+        let word = Text::of(alloc, option.text)?;
+        return Err(UsageReason::TakesNoValue { word }.into());
     }
-    let value = valued(alloc, option.0, value)?;
-    Ok(Said::Whole(option.0, value))
+    let value = valued(alloc, option, value)?;
+    Ok(Said::Whole(option.text, value))
 }
 
 /// What an option without a `=` says.
 fn without_value<'a>(option: OptionRow) -> Said<'a>
-    ensures { said_shown result ≡ value_missing option }
+    ensures { said_shown result ≡ value_missing (option_shown option) }
 {
-    if is_flag(option.1) {
-        Said::Whole(option.0, "")
+    if is_flag(option.takes) {
+        Said::Whole(option.text, "")
     } else {
-        Said::Open(option.0)
+        Said::Open(option)
     }
 }
 
@@ -126,10 +121,10 @@ pub(crate) fn read_word<'a>(
     Ok(Said::Plain)
 }
 
-/// An option with its value, which is empty for a flag; or an operand.
+/// An option's text with its value, which is empty for a flag; or an operand.
 #[derive(Clone, Copy)]
 pub(crate) enum Item<'a> {
-    Value(OptionName, &'a str),
+    Value(&'static str, &'a str),
     Operand(&'a str),
 }
 
@@ -143,11 +138,11 @@ pub(crate) struct Next<'a> {
 /// The option of this word with the next word as its value.
 fn with_next_word<'a>(
     alloc: Global,
-    option: OptionName,
+    option: OptionRow,
     word: &str,
     after: &'a [String],
 ) -> Result<Next<'a>, WordsFault>
-    ensures value { Gives next_shown result (opened option word.now (texts after.now)) }
+    ensures value { Gives next_shown result (opened (option_shown option) word.now (texts after.now)) }
     ensures shorter { IfOk result (λ next. length next.rest.now ≤ length after.now) }
 {
     let Some((value, rest)) = after.split_first() else {
@@ -155,7 +150,7 @@ fn with_next_word<'a>(
         return Err(UsageReason::NeedsValue { word }.into());
     };
     let value = valued(alloc, option, value.as_str())?;
-    let item = Item::Value(option, value);
+    let item = Item::Value(option.text, value);
     Ok(Next { item, rest })
 }
 
@@ -175,8 +170,8 @@ pub(crate) fn next_item<'a>(
             let item = Item::Operand(word);
             Ok(Some(Next { item, rest: after }))
         }
-        Said::Whole(option, value) => {
-            let item = Item::Value(option, value);
+        Said::Whole(text, value) => {
+            let item = Item::Value(text, value);
             Ok(Some(Next { item, rest: after }))
         }
         Said::Open(option) => {

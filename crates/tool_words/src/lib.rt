@@ -5,12 +5,12 @@
 mod command;
 mod fault;
 mod fill;
-mod found;
 mod items;
 mod line;
 mod read;
 mod reason;
 mod scan;
+mod values;
 
 pub use command::{BlessWord, BuildWords, CalculateWords, Command, Given};
 pub use fault::{LineFault, UsageReason, WordsFault};

@@ -1,17 +1,19 @@
 //! Words become a command.
-ghost use Rattle.std.specs.Prelude.{◌≡◌, ◌≤◌, find, List, MatchResult, length};
+ghost use Rattle.std.specs.Prelude.{◌≡◌, find, length, option_map, MatchResult};
 ghost use Rattle.std.specs.List.{list_any};
-ghost use Rattle.word_grammar.specs.Grammar.{Word, row};
-ghost use Rattle.tool_words.specs.Meaning.{command_of, with_verb, are_too_long, is_long, is_missing, counted, all_required, meant, read_words, meaning};
+ghost use Rattle.word_grammar.specs.Grammar.{row};
+ghost use Rattle.word_grammar.specs.Shown.{option_shown};
+ghost use Rattle.tool_words.specs.Items.{last_value, operands};
+ghost use Rattle.tool_words.specs.Meaning.{command_of, with_verb, are_too_long, is_long, is_missing, counted, all_required, gathered, meant, read_words, meaning};
 ghost use Rattle.tool_words.specs.Answers.{Gives, FaultIs};
-ghost use Rattle.tool_words.specs.Shown.{texts, chosen_shown};
-ghost use Rattle.tool_words.specs.Holding.{slot, AreOperands};
+ghost use Rattle.tool_words.specs.Shown.{texts, items_shown, chosen_shown};
 
 use crate::command::Command;
 use crate::fault::{UsageReason, WordsFault};
 use crate::fill::fill;
-use crate::found::{Found, Operands};
-use crate::scan::scan_words;
+use crate::items::Item;
+use crate::scan::read_items;
+use crate::values::{last_value, operand_count};
 use boot_base::Text;
 use std::alloc::Global;
 use word_grammar::{CommandName, OptionRow, Takes};
@@ -73,11 +75,12 @@ fn with_verb<'a>(
 }
 
 /// As many operands as the command takes.
-fn check_count(operands: Operands, wanted: usize) -> Result<(), UsageReason>
-    requires { wanted ≤ 2 }
-    ensures { (words : List Word) → AreOperands operands.entry words → MatchResult result (λ _. counted wanted (length words) ≡ Ok tt) (λ reason. counted wanted (length words) ≡ Err reason) }
+fn check_count(items: &[Item<'_>], wanted: usize) -> Result<(), UsageReason>
+    ensures { MatchResult result
+        (λ _. counted wanted (length (operands (items_shown items.now))) ≡ Ok tt)
+        (λ reason. counted wanted (length (operands (items_shown items.now))) ≡ Err reason) }
 {
-    let count = operands.count();
+    let count = operand_count(items);
     if count < wanted {
         return Err(UsageReason::TooFew);
     }
@@ -87,30 +90,30 @@ fn check_count(operands: Operands, wanted: usize) -> Result<(), UsageReason>
     Ok(())
 }
 
-fn is_missing(found: &Found, option: OptionRow) -> bool
-    ensures { result ≡ is_missing (slot found.now) option }
+fn is_missing(items: &[Item<'_>], option: OptionRow) -> bool
+    ensures { result ≡ is_missing (λ text. last_value text (items_shown items.now)) (option_shown option) }
 {
-    matches!(option.1, Takes::Required) && found.value(option.0).is_none()
+    matches!(option.takes, Takes::Required) && last_value(items, option.text).is_none()
 }
 
 /// The first required option of the command that is not given.
-fn first_missing(command: CommandName, found: &Found) -> Option<OptionRow>
-    ensures { result ≡ find (is_missing (slot found.now)) (row command).options }
+fn first_missing(command: CommandName, items: &[Item<'_>]) -> Option<OptionRow>
+    ensures { option_map option_shown result ≡ find (is_missing (gathered command (items_shown items.now)).last) (row command).options }
 {
     let row = command.row();
     row.options
         .iter()
         .copied()
-        .find(|option| is_missing(found, *option))
+        .find(|option| is_missing(items, *option))
 }
 
 /// Every required option is given. The first one that is missing is the reason.
-fn check_required(alloc: Global, command: CommandName, found: &Found) -> Result<(), WordsFault>
-    ensures { Gives (λ _. tt) result (all_required command (slot found.now)) }
+fn check_required(alloc: Global, command: CommandName, items: &[Item<'_>]) -> Result<(), WordsFault>
+    ensures { Gives (λ _. tt) result (all_required command (gathered command (items_shown items.now)).last) }
 {
-    match first_missing(command, found) {
+    match first_missing(command, items) {
         Some(option) => {
-            let word = Text::of(alloc, option.0.text())?;
+            let word = Text::of(alloc, option.text)?;
             Err(UsageReason::Required { word }.into())
         }
         None => Ok(()),
@@ -125,10 +128,12 @@ fn read_command(
 ) -> Result<Command, WordsFault>
     ensures { Gives (λ made. made) result (meant command (texts words.now)) }
 {
-    let found = scan_words(alloc, command, words)?;
-    check_count(found.operands, command.row().operands)?;
-    check_required(alloc, command, &found)?;
-    fill(alloc, command, &found, words)
+    let items = read_items(alloc, command, words)?;
+    let items = items.as_slice();
+    check_count(items, command.row().operands)?;
+    check_required(alloc, command, items)?;
+    let made = fill(alloc, command, items)?;
+    Ok(made)
 }
 
 fn read_words(alloc: Global, words: &[String]) -> Result<Command, WordsFault>
@@ -142,7 +147,7 @@ impl Command {
     /// The command that the words after the program's name give.
     ///
     /// At most 16,777,216 words are taken, each of at most 1,048,576 bytes. Words outside the grammar
-    /// give the first reason, before any memory is taken but for the reason's own word.
+    /// give the first reason.
     pub fn read(alloc: Global, words: &Vec<String>) -> Result<Command, WordsFault>
         ensures { MatchResult result
             (λ command. meaning (texts words.now.items) ≡ Ok command)

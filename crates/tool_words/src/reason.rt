@@ -22,7 +22,7 @@ impl fmt::Display for UsageReason {
             UsageReason::UnknownVerb { word } => write!(f, "unknown verb {word}"),
             UsageReason::UnknownOption { word } => write!(f, "unknown option {word}"),
             UsageReason::NeedsValue { word } => write!(f, "{word} needs a value"),
-            UsageReason::TakesNoValue => write!(f, "--measure takes no value"),
+            UsageReason::TakesNoValue { word } => write!(f, "{word} takes no value"),
             UsageReason::UnknownBank { word } => write!(f, "unknown bank {word}"),
             UsageReason::TooFew => write!(f, "too few operands"),
             UsageReason::TooMany => write!(f, "too many operands"),

@@ -1,76 +1,48 @@
 //! Reads the words after a command, one item after another.
-ghost use Rattle.std.specs.Prelude.{◌≡◌, ◌∷◌, [], ◌++◌, OnOk, IfOk, IfErr};
-ghost use Rattle.tool_words.specs.Items.{items, all_values};
-ghost use Rattle.tool_words.specs.Answers.{FaultIs};
-ghost use Rattle.tool_words.specs.Shown.{texts, item_shown};
-ghost use Rattle.tool_words.specs.Reading.{Finds, values_in};
+ghost use Rattle.std.specs.Prelude.{◌≡◌, ◌∷◌, [], ◌++◌, map, OnOk};
+ghost use Rattle.tool_words.specs.Items.{items, Operand};
+ghost use Rattle.tool_words.specs.Answers.{Gives};
+ghost use Rattle.tool_words.specs.Shown.{texts, item_shown, items_shown};
 
 use crate::fault::WordsFault;
-use crate::found::Found;
 use crate::items::{Item, next_item};
-use boot_base::{Text, TextList};
 use std::alloc::{AllocError, Global};
-use word_grammar::{CommandName, OptionName};
+use word_grammar::CommandName;
 
-/// Reads all the words after a command, from the left, and keeps what they give. It takes memory
-/// for a reason only.
-pub(crate) fn scan_words<'a>(
+/// The items of the words after a command, read from the left.
+pub(crate) fn read_items<'a>(
     alloc: Global,
     command: CommandName,
     words: &'a [String],
-) -> Result<Found<'a>, WordsFault>
-    ensures found { IfOk result (λ found. Finds command (texts words.now) found) }
-    ensures fault { IfErr result (λ fault. FaultIs fault (items command (texts words.now))) }
+) -> Result<Vec<Item<'a>>, WordsFault>
+    ensures { Gives (λ read. items_shown read.items) result (items command (texts words.now)) }
 {
-    let mut found = Found::new();
+    let mut items = Vec::new(alloc);
     let mut rest = words;
     while let Some((word, after)) = rest.split_first() {
         let Some(next) = next_item(alloc, command, word.as_str(), after)? else {
-            found.put_operands(after);
-            return Ok(found);
+            push_operands(&mut items, after)?;
+            return Ok(items);
         };
-        found.put(next.item);
+        push(&mut items, next.item)?;
         rest = next.rest;
     }
-    Ok(found)
+    Ok(items)
 }
 
-/// All values of an option in the words after a command, in order.
-pub(crate) fn collect(
-    alloc: Global,
-    command: CommandName,
-    option: OptionName,
-    words: &[String],
-) -> Result<TextList, WordsFault>
-    ensures values { IfOk result (λ list. list ≡ values_in command (texts words.now) option) }
-    ensures fault { IfErr result (λ fault. FaultIs fault (items command (texts words.now))) }
+fn push<'a>(items: &mut Vec<Item<'a>>, item: Item<'a>) -> Result<(), AllocError>
+    ensures { OnOk result (items.new.items ≡ items.old.items ++ item ∷ []) }
 {
-    let mut list = TextList::new(alloc);
-    let mut rest = words;
-    while let Some((word, after)) = rest.split_first() {
-        let Some(next) = next_item(alloc, command, word.as_str(), after)? else {
-            return Ok(list);
-        };
-        put_value(alloc, &mut list, option, next.item)?;
-        rest = next.rest;
-    }
-    Ok(list)
+    items.push(item)?;
+    Ok(())
 }
 
-/// Puts the item's value at the end, where it is one of this option.
-fn put_value(
-    alloc: Global,
-    list: &mut TextList,
-    option: OptionName,
-    item: Item,
-) -> Result<(), AllocError>
-    ensures { OnOk result (list.new ≡ list.old ++ all_values option (item_shown item.entry ∷ [])) }
+/// Adds words that are all operands.
+fn push_operands<'a>(items: &mut Vec<Item<'a>>, words: &'a [String]) -> Result<(), AllocError>
+    ensures { OnOk result (items_shown items.new.items ≡ items_shown items.old.items ++ map Operand (texts words.now)) }
 {
-    if let Item::Value(name, value) = item {
-        if name.place() == option.place() {
-            let value = Text::of(alloc, value)?;
-            list.push(value)?;
-        }
+    for word in words {
+        items.push(Item::Operand(word.as_str()))?;
     }
     Ok(())
 }

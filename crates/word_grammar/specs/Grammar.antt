@@ -3,116 +3,79 @@ use Rattle.std.specs.Prelude.{ℕ, Bool, false, ◌&&◌, List, [], ◌∷◌, O
 use Rattle.std.specs.Str.{bytes_eq}
 use Rattle.word_grammar.specs.declared.grammar.CommandName.{CommandName}
 use Rattle.word_grammar.specs.declared.grammar.CommandName.TheVariants as command
-use Rattle.word_grammar.specs.declared.grammar.OptionName.{OptionName}
-use Rattle.word_grammar.specs.declared.grammar.OptionName.TheVariants as option
 use Rattle.word_grammar.specs.declared.grammar.Takes.{Takes}
 use Rattle.word_grammar.specs.declared.grammar.Takes.TheVariants.{Required, Once, Repeated, Flag}
-use Rattle.word_grammar.specs.declared.grammar.OptionRow.{OptionRow}
+use Rattle.word_grammar.specs.declared.grammar.ValueKind.{ValueKind}
+use Rattle.word_grammar.specs.declared.grammar.ValueKind.TheVariants.{Any, Bank}
 
 -- a text is the list of its bytes
 abbrev pub Word : Type 0
 Word = List ℕ
 
--- an option as it is written
-abbrev pub option_text : OptionName → Word
-option_text option.Stub = codes "--stub"
-option_text option.Linux = codes "--linux"
-option_text option.Output = codes "--output"
-option_text option.OsRelease = codes "--os-release"
-option_text option.Cmdline = codes "--cmdline"
-option_text option.Devicetree = codes "--devicetree"
-option_text option.Uname = codes "--uname"
-option_text option.Splash = codes "--splash"
-option_text option.Pcrpkey = codes "--pcrpkey"
-option_text option.Initrd = codes "--initrd"
-option_text option.Section = codes "--section"
-option_text option.Sbat = codes "--sbat"
-option_text option.Measure = codes "--measure"
-option_text option.Osrel = codes "--osrel"
-option_text option.Dtb = codes "--dtb"
-option_text option.Bank = codes "--bank"
-option_text option.Phase = codes "--phase"
-option_text option.EspPath = codes "--esp-path"
-option_text option.Tries = codes "--tries"
+-- an option of a command: how it is written, how the command takes it, and what its values are
+pub record OptionRule : Type 0 where
+  pub text : Word
+  pub takes : Takes
+  pub value : ValueKind
 
--- a number of its own for each option
-abbrev pub place : OptionName → ℕ
-place option.Stub = 0
-place option.Linux = 1
-place option.Output = 2
-place option.OsRelease = 3
-place option.Cmdline = 4
-place option.Devicetree = 5
-place option.Uname = 6
-place option.Splash = 7
-place option.Pcrpkey = 8
-place option.Initrd = 9
-place option.Section = 10
-place option.Sbat = 11
-place option.Measure = 12
-place option.Osrel = 13
-place option.Dtb = 14
-place option.Bank = 15
-place option.Phase = 16
-place option.EspPath = 17
-place option.Tries = 18
-
-abbrev pub takes : OptionName → Takes → OptionRow
-takes name how = record { 0 = name; 1 = how }
+abbrev pub option : Word → Takes → ValueKind → OptionRule
+option text takes value = record { text = text; takes = takes; value = value }
 
 -- the options of a command; required ones are looked for in this order
-abbrev pub build_options : List OptionRow
+abbrev pub build_options : List OptionRule
 build_options =
-    takes option.Stub Required
-    ∷ takes option.Linux Required
-    ∷ takes option.Output Required
-    ∷ takes option.OsRelease Once
-    ∷ takes option.Cmdline Once
-    ∷ takes option.Devicetree Once
-    ∷ takes option.Uname Once
-    ∷ takes option.Splash Once
-    ∷ takes option.Pcrpkey Once
-    ∷ takes option.Initrd Repeated
-    ∷ takes option.Section Repeated
-    ∷ takes option.Sbat Once
-    ∷ takes option.Measure Flag
+    option (codes "--stub") Required Any
+    ∷ option (codes "--linux") Required Any
+    ∷ option (codes "--output") Required Any
+    ∷ option (codes "--os-release") Once Any
+    ∷ option (codes "--cmdline") Once Any
+    ∷ option (codes "--devicetree") Once Any
+    ∷ option (codes "--uname") Once Any
+    ∷ option (codes "--splash") Once Any
+    ∷ option (codes "--pcrpkey") Once Any
+    ∷ option (codes "--initrd") Repeated Any
+    ∷ option (codes "--microcode") Once Any
+    ∷ option (codes "--section") Repeated Any
+    ∷ option (codes "--sbat") Once Any
+    ∷ option (codes "--measure") Flag Any
     ∷ []
 
-abbrev pub calculate_options : List OptionRow
+abbrev pub calculate_options : List OptionRule
 calculate_options =
-    takes option.Linux Required
-    ∷ takes option.Osrel Once
-    ∷ takes option.Cmdline Once
-    ∷ takes option.Dtb Once
-    ∷ takes option.Uname Once
-    ∷ takes option.Splash Once
-    ∷ takes option.Pcrpkey Once
-    ∷ takes option.Initrd Once
-    ∷ takes option.Sbat Once
-    ∷ takes option.Bank Repeated
-    ∷ takes option.Phase Repeated
+    option (codes "--linux") Required Any
+    ∷ option (codes "--osrel") Once Any
+    ∷ option (codes "--cmdline") Once Any
+    ∷ option (codes "--initrd") Once Any
+    ∷ option (codes "--ucode") Once Any
+    ∷ option (codes "--splash") Once Any
+    ∷ option (codes "--dtb") Once Any
+    ∷ option (codes "--uname") Once Any
+    ∷ option (codes "--sbat") Once Any
+    ∷ option (codes "--pcrpkey") Once Any
+    ∷ option (codes "--bank") Repeated Bank
+    ∷ option (codes "--phase") Repeated Any
     ∷ []
 
-abbrev pub image_options : List OptionRow
-image_options = takes option.Bank Repeated ∷ takes option.Phase Repeated ∷ []
+abbrev pub image_options : List OptionRule
+image_options = option (codes "--bank") Repeated Bank ∷ option (codes "--phase") Repeated Any ∷ []
 
-abbrev pub esp_options : List OptionRow
-esp_options = takes option.EspPath Once ∷ []
+abbrev pub esp_options : List OptionRule
+esp_options = option (codes "--esp-path") Once Any ∷ []
 
-abbrev pub install_options : List OptionRow
-install_options = takes option.Tries Once ∷ takes option.EspPath Once ∷ []
+abbrev pub install_options : List OptionRule
+install_options = option (codes "--tries") Once Any ∷ option (codes "--esp-path") Once Any ∷ []
 
 -- a command: its first word, its verb where it has one, how many operands it takes, and its options
 pub record Row : Type 0 where
   pub name : Word
   pub verb : Option Word
   pub operands : ℕ
-  pub options : List OptionRow
+  pub options : List OptionRule
 
-abbrev pub verbed : Word → Word → ℕ → List OptionRow → Row
+abbrev pub verbed : Word → Word → ℕ → List OptionRule → Row
 verbed name verb operands options = record { name = name; verb = Some verb; operands = operands; options = options }
 
-abbrev pub alone : Word → ℕ → List OptionRow → Row
+abbrev pub alone : Word → ℕ → List OptionRule → Row
 alone name operands options = record { name = name; verb = None; operands = operands; options = options }
 
 -- the table of the commands
@@ -155,10 +118,6 @@ commands =
     ∷ command.Demo
     ∷ []
 
--- the names of the hash banks
-abbrev pub banks : List Word
-banks = codes "sha1" ∷ codes "sha256" ∷ codes "sha384" ∷ codes "sha512" ∷ []
-
 -- the command is called so
 abbrev pub is_named : Word → CommandName → Bool
 is_named word c = bytes_eq (row c).name word
@@ -172,5 +131,5 @@ abbrev pub is_verbed : Word → Word → CommandName → Bool
 is_verbed name verb c = bytes_eq (row c).name name && is_verb (row c).verb verb
 
 -- the option is written so
-abbrev pub is_text_of : Word → OptionRow → Bool
-is_text_of text option = bytes_eq (option_text option.0) text
+abbrev pub is_text_of : Word → OptionRule → Bool
+is_text_of text option = bytes_eq option.text text

@@ -1,8 +1,7 @@
 //! The table of the commands and their options.
-ghost use Rattle.std.specs.Prelude.{◌≡◌, ◌<◌, find};
-ghost use Rattle.std.specs.Option.{option_copied};
-ghost use Rattle.word_grammar.specs.Grammar.{option_text, place, is_text_of, is_named, is_verbed, commands, row, verbed as verbed_row, alone as alone_row};
-ghost use Rattle.word_grammar.specs.Shown.{row_shown};
+ghost use Rattle.std.specs.Prelude.{◌≡◌, find, map, option_map};
+ghost use Rattle.word_grammar.specs.Grammar.{is_text_of, is_named, is_verbed, commands, row, verbed as verbed_row, alone as alone_row};
+ghost use Rattle.word_grammar.specs.Shown.{row_shown, option_shown};
 
 /// A command, with its verb where it has one.
 #[derive(Clone, Copy)]
@@ -41,49 +40,6 @@ pub enum CommandName {
     Demo,
 }
 
-/// An option of some command.
-#[derive(Clone, Copy)]
-pub enum OptionName {
-    /// `--stub`.
-    Stub,
-    /// `--linux`.
-    Linux,
-    /// `--output`.
-    Output,
-    /// `--os-release`.
-    OsRelease,
-    /// `--cmdline`.
-    Cmdline,
-    /// `--devicetree`.
-    Devicetree,
-    /// `--uname`.
-    Uname,
-    /// `--splash`.
-    Splash,
-    /// `--pcrpkey`.
-    Pcrpkey,
-    /// `--initrd`.
-    Initrd,
-    /// `--section`.
-    Section,
-    /// `--sbat`.
-    Sbat,
-    /// `--measure`.
-    Measure,
-    /// `--osrel`.
-    Osrel,
-    /// `--dtb`.
-    Dtb,
-    /// `--bank`.
-    Bank,
-    /// `--phase`.
-    Phase,
-    /// `--esp-path`.
-    EspPath,
-    /// `--tries`.
-    Tries,
-}
-
 /// How a command takes an option.
 #[derive(Clone, Copy)]
 pub enum Takes {
@@ -97,9 +53,25 @@ pub enum Takes {
     Flag,
 }
 
+/// What the values of an option are.
+#[derive(Clone, Copy)]
+pub enum ValueKind {
+    /// Any text.
+    Any,
+    /// The name of a bank.
+    Bank,
+}
+
 /// An option of a command.
 #[derive(Clone, Copy)]
-pub struct OptionRow(pub OptionName, pub Takes);
+pub struct OptionRow {
+    /// The option as it is written.
+    pub text: &'static str,
+    /// How the command takes it.
+    pub takes: Takes,
+    /// What its values are.
+    pub value: ValueKind,
+}
 
 /// What a command is called and what it takes.
 #[derive(Clone, Copy)]
@@ -114,49 +86,62 @@ pub struct CommandRow {
     pub options: &'static [OptionRow],
 }
 
-static BUILD: [OptionRow; 13] = [
-    OptionRow(OptionName::Stub, Takes::Required),
-    OptionRow(OptionName::Linux, Takes::Required),
-    OptionRow(OptionName::Output, Takes::Required),
-    OptionRow(OptionName::OsRelease, Takes::Once),
-    OptionRow(OptionName::Cmdline, Takes::Once),
-    OptionRow(OptionName::Devicetree, Takes::Once),
-    OptionRow(OptionName::Uname, Takes::Once),
-    OptionRow(OptionName::Splash, Takes::Once),
-    OptionRow(OptionName::Pcrpkey, Takes::Once),
-    OptionRow(OptionName::Initrd, Takes::Repeated),
-    OptionRow(OptionName::Section, Takes::Repeated),
-    OptionRow(OptionName::Sbat, Takes::Once),
-    OptionRow(OptionName::Measure, Takes::Flag),
+// An option whose values are any texts, or of the kind that is named.
+macro_rules! option {
+    ($text:literal, $takes:ident) => {
+        option!($text, $takes, Any)
+    };
+    ($text:literal, $takes:ident, $value:ident) => {
+        OptionRow {
+            text: $text,
+            takes: Takes::$takes,
+            value: ValueKind::$value,
+        }
+    };
+}
+
+static BUILD: &[OptionRow] = &[
+    option!("--stub", Required),
+    option!("--linux", Required),
+    option!("--output", Required),
+    option!("--os-release", Once),
+    option!("--cmdline", Once),
+    option!("--devicetree", Once),
+    option!("--uname", Once),
+    option!("--splash", Once),
+    option!("--pcrpkey", Once),
+    option!("--initrd", Repeated),
+    option!("--microcode", Once),
+    option!("--section", Repeated),
+    option!("--sbat", Once),
+    option!("--measure", Flag),
 ];
 
-static CALCULATE: [OptionRow; 11] = [
-    OptionRow(OptionName::Linux, Takes::Required),
-    OptionRow(OptionName::Osrel, Takes::Once),
-    OptionRow(OptionName::Cmdline, Takes::Once),
-    OptionRow(OptionName::Dtb, Takes::Once),
-    OptionRow(OptionName::Uname, Takes::Once),
-    OptionRow(OptionName::Splash, Takes::Once),
-    OptionRow(OptionName::Pcrpkey, Takes::Once),
-    OptionRow(OptionName::Initrd, Takes::Once),
-    OptionRow(OptionName::Sbat, Takes::Once),
-    OptionRow(OptionName::Bank, Takes::Repeated),
-    OptionRow(OptionName::Phase, Takes::Repeated),
+static CALCULATE: &[OptionRow] = &[
+    option!("--linux", Required),
+    option!("--osrel", Once),
+    option!("--cmdline", Once),
+    option!("--initrd", Once),
+    option!("--ucode", Once),
+    option!("--splash", Once),
+    option!("--dtb", Once),
+    option!("--uname", Once),
+    option!("--sbat", Once),
+    option!("--pcrpkey", Once),
+    option!("--bank", Repeated, Bank),
+    option!("--phase", Repeated),
 ];
 
-static IMAGE: [OptionRow; 2] = [
-    OptionRow(OptionName::Bank, Takes::Repeated),
-    OptionRow(OptionName::Phase, Takes::Repeated),
+static IMAGE: &[OptionRow] = &[
+    option!("--bank", Repeated, Bank),
+    option!("--phase", Repeated),
 ];
 
-static ESP: [OptionRow; 1] = [OptionRow(OptionName::EspPath, Takes::Once)];
+static ESP: &[OptionRow] = &[option!("--esp-path", Once)];
 
-static INSTALL: [OptionRow; 2] = [
-    OptionRow(OptionName::Tries, Takes::Once),
-    OptionRow(OptionName::EspPath, Takes::Once),
-];
+static INSTALL: &[OptionRow] = &[option!("--tries", Once), option!("--esp-path", Once)];
 
-static NONE: [OptionRow; 0] = [];
+static NONE: &[OptionRow] = &[];
 
 /// A command that has verbs.
 fn verbed(
@@ -165,7 +150,7 @@ fn verbed(
     operands: usize,
     options: &'static [OptionRow],
 ) -> CommandRow
-    ensures { row_shown result ≡ verbed_row name.now verb.now operands options.now }
+    ensures { row_shown result ≡ verbed_row name.now verb.now operands (map option_shown options.now) }
 {
     CommandRow {
         name,
@@ -177,7 +162,7 @@ fn verbed(
 
 /// A command without a verb.
 fn alone(name: &'static str, operands: usize, options: &'static [OptionRow]) -> CommandRow
-    ensures { row_shown result ≡ alone_row name.now operands options.now }
+    ensures { row_shown result ≡ alone_row name.now operands (map option_shown options.now) }
 {
     CommandRow {
         name,
@@ -193,27 +178,27 @@ impl CommandName {
         ensures { row_shown result ≡ row self }
     {
         match self {
-            CommandName::Build => verbed("ukify", "build", 0, &BUILD),
-            CommandName::Inspect => verbed("ukify", "inspect", 1, &NONE),
-            CommandName::Calculate => verbed("measure", "calculate", 0, &CALCULATE),
-            CommandName::Image => verbed("measure", "image", 1, &IMAGE),
-            CommandName::ListEntries => verbed("bootctl", "list", 0, &ESP),
-            CommandName::Unlink => verbed("bootctl", "unlink", 1, &ESP),
-            CommandName::Identify => verbed("bootctl", "kernel-identify", 1, &NONE),
-            CommandName::Tidy => alone("tidy", 0, &ESP),
-            CommandName::Install => alone("install", 2, &INSTALL),
-            CommandName::Boot => alone("boot", 0, &ESP),
-            CommandName::BlessGood => verbed("bless", "good", 1, &ESP),
-            CommandName::BlessBad => verbed("bless", "bad", 1, &ESP),
-            CommandName::BlessIndeterminate => verbed("bless", "indeterminate", 1, &ESP),
-            CommandName::BlessStatus => verbed("bless", "status", 1, &ESP),
-            CommandName::Script => alone("script", 0, &NONE),
-            CommandName::Demo => alone("demo", 2, &NONE),
+            CommandName::Build => verbed("ukify", "build", 0, BUILD),
+            CommandName::Inspect => verbed("ukify", "inspect", 1, NONE),
+            CommandName::Calculate => verbed("measure", "calculate", 0, CALCULATE),
+            CommandName::Image => verbed("measure", "image", 1, IMAGE),
+            CommandName::ListEntries => verbed("bootctl", "list", 0, ESP),
+            CommandName::Unlink => verbed("bootctl", "unlink", 1, ESP),
+            CommandName::Identify => verbed("bootctl", "kernel-identify", 1, NONE),
+            CommandName::Tidy => alone("tidy", 0, ESP),
+            CommandName::Install => alone("install", 2, INSTALL),
+            CommandName::Boot => alone("boot", 0, ESP),
+            CommandName::BlessGood => verbed("bless", "good", 1, ESP),
+            CommandName::BlessBad => verbed("bless", "bad", 1, ESP),
+            CommandName::BlessIndeterminate => verbed("bless", "indeterminate", 1, ESP),
+            CommandName::BlessStatus => verbed("bless", "status", 1, ESP),
+            CommandName::Script => alone("script", 0, NONE),
+            CommandName::Demo => alone("demo", 2, NONE),
         }
     }
 }
 
-static COMMANDS: [CommandName; 16] = [
+static COMMANDS: &[CommandName] = &[
     CommandName::Build,
     CommandName::Inspect,
     CommandName::Calculate,
@@ -266,52 +251,12 @@ impl CommandName {
 
     /// The option of the command that is written so.
     pub fn option(self, text: &str) -> Option<OptionRow>
-        ensures { result ≡ find (is_text_of text.now) (row self).options }
+        ensures { option_map option_shown result ≡ find (is_text_of text.now) (row self).options }
     {
         self.row()
             .options
             .iter()
             .copied()
-            .find(|option| option.0.text() == text)
+            .find(|option| option.text == text)
     }
 }
-
-impl OptionName {
-    /// The option as it is written.
-    pub fn text(self) -> &'static str
-        ensures { result.now ≡ option_text self }
-    {
-        match self {
-            OptionName::Stub => "--stub",
-            OptionName::Linux => "--linux",
-            OptionName::Output => "--output",
-            OptionName::OsRelease => "--os-release",
-            OptionName::Cmdline => "--cmdline",
-            OptionName::Devicetree => "--devicetree",
-            OptionName::Uname => "--uname",
-            OptionName::Splash => "--splash",
-            OptionName::Pcrpkey => "--pcrpkey",
-            OptionName::Initrd => "--initrd",
-            OptionName::Section => "--section",
-            OptionName::Sbat => "--sbat",
-            OptionName::Measure => "--measure",
-            OptionName::Osrel => "--osrel",
-            OptionName::Dtb => "--dtb",
-            OptionName::Bank => "--bank",
-            OptionName::Phase => "--phase",
-            OptionName::EspPath => "--esp-path",
-            OptionName::Tries => "--tries",
-        }
-    }
-
-    /// The option's number among all options.
-    pub fn place(self) -> usize
-        ensures value { result ≡ place self }
-        ensures small { result < 19 }
-    {
-        self as usize
-    }
-}
-
-/// How many options there are.
-pub const OPTIONS: usize = 19;

@@ -3,5 +3,7 @@
 #![tactic(auto)]
 
 mod grammar;
+mod laws;
 
-pub use grammar::{CommandName, CommandRow, OPTIONS, OptionName, OptionRow, Takes};
+pub use grammar::{CommandName, CommandRow, OptionRow, Takes, ValueKind};
+pub use laws::{names_have_verbs_or_none, texts_find_their_option, words_find_their_command};
