@@ -1,8 +1,13 @@
--- Lists of four different elements.
-use Rattle.std.proofs.Common.{◌≢◌, ℕ, List, [], ◌∷◌, arith}
+-- Paths that differ, and registers of banks that differ.
+use Rattle.std.proofs.Common.{◌≡◌, ◌≢◌, ℕ, List, [], ◌∷◌, map, length, suc, refl, sym, ap, ◌∙◌, subst, arith}
 use Rattle.std.specs.List.{AllPairs}
 use Rattle.std.proofs.lemmas.List.Elements.{All-cons, All-nil}
 use Rattle.std.proofs.lemmas.List.Kept.{AllPairs-cons}
+use Rattle.std.proofs.Math.ListN.{get_or-map}
+use Rattle.pcr_fold.specs.declared.bank.Bank.{Bank}
+use Rattle.pcr_fold.specs.declared.pcr.Pcr.{Pcr}
+use Rattle.pcr_fold.specs.Values.{pcr_bank}
+use Rattle.boot_phases.specs.Lines.{HasDistinctBanks}
 use Rattle.boot_phases.specs.Phases.{HasDistinctPaths, default_phase_paths}
 
 AllPairs-nil : {A : Type 0} (R : A → A → Type 0) → AllPairs R []
@@ -23,3 +28,15 @@ IsGrowing-distinct a b c d =
 
 pub default_phase_paths-distinct : HasDistinctPaths default_phase_paths
 default_phase_paths-distinct = IsGrowing-distinct _ _ _ _
+
+length_map : (registers : List Pcr) → length (map pcr_bank registers) ≡ length registers
+length_map [] = refl
+length_map (x ∷ xs) = ap suc (length_map xs)
+
+distinct_map : (registers : List Pcr) → AllPairs (λ one other. one ≢ other) (map pcr_bank registers) → HasDistinctBanks registers
+distinct_map registers apart i j d before inside same =
+    apart i j (pcr_bank d) before (omega (arith, length_map registers, inside)) (get_or-map pcr_bank registers i d ∙ same ∙ sym (get_or-map pcr_bank registers j d))
+
+-- registers of banks that differ
+pub distinct_registers : (registers : List Pcr) (banks : List Bank) → map pcr_bank registers ≡ banks → AllPairs (λ one other. one ≢ other) banks → HasDistinctBanks registers
+distinct_registers registers banks has apart = distinct_map registers (subst (AllPairs (λ one other. one ≢ other)) (sym has) apart)

@@ -1,3 +1,4 @@
 pub mod Words
 pub mod Distinct
+pub mod ItemLines
 pub mod ReadBack

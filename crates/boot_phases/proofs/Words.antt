@@ -1,8 +1,6 @@
 -- The words of a path, one at a time.
-use Rattle.std.proofs.Common.{◌≡◌, ◌≤◌, ℕ, Bool, List, [], ◌∷◌, ◌++◌, length, map, take, refl, ap, sym, ◌∙◌, append-nil}
-use Rattle.std.specs.Prelude.{◌&&◌}
+use Rattle.std.proofs.Common.{◌≡◌, ◌≤◌, ℕ, List, [], ◌∷◌, ◌++◌, length, map, take, refl, ap, sym, ◌∙◌, append-nil}
 use Rattle.std.specs.List.{flat_map, join_with_byte}
-use Rattle.std.specs.Cmp.Lexicographic.{pointwise}
 use Rattle.std.proofs.lemmas.List.{take_all}
 use Rattle.boot_phases.specs.Phases.{colon, path_text}
 
@@ -23,9 +21,3 @@ path_text-written f path words first rest n text view split whole is =
     ∙ ap (λ written. f first ++ flat_map behind_colon (map f written)) (take_all n rest whole)
     ∙ sym (join_with_byte-cons (f first) (map f rest))
     ∙ ap path_text (sym (ap (map f) split) ∙ view)
-
-pub pointwise-map : {A B : Type 0} (same : B → B → Bool) (f : A → B) (xs ys : List A) → pointwise same (map f xs) (map f ys) ≡ pointwise (λ x y. same (f x) (f y)) xs ys
-pointwise-map same f [] [] = refl
-pointwise-map same f [] (y ∷ ys) = refl
-pointwise-map same f (x ∷ xs) [] = refl
-pointwise-map same f (x ∷ xs) (y ∷ ys) = ap (λ rest. same (f x) (f y) && rest) (pointwise-map same f xs ys)

@@ -1,8 +1,11 @@
 //! The lines that predict PCR 11.
-ghost use Rattle.std.specs.Prelude.{◌≡◌, ◌++◌, map, IfOk, OnOk, OnErr};
-ghost use Rattle.pcr_fold.specs.Values.{pcr_bank, pcr_bytes};
+ghost use Rattle.std.specs.Prelude.{◌≡◌, ◌++◌, ℕ, List, map, IfOk, OnOk, OnErr};
+ghost use Rattle.std.specs.List.{flat_map};
+ghost use Rattle.pcr_fold.specs.Banks.{extended_by_all, fold_of, folded};
+ghost use Rattle.pcr_fold.specs.Values.{pcr_bank, pcr_bytes, shown};
+ghost use Rattle.pcr_fold.specs.declared.bank.Bank.{Bank};
 ghost use Rattle.boot_phases.specs.Phases.{HasDistinctPaths};
-ghost use Rattle.boot_phases.specs.Lines.{HasDistinctBanks, heading_of, lines_of, result_text, shown, value_line};
+ghost use Rattle.boot_phases.specs.Lines.{HasDistinctBanks, heading_of, value_line, value_lines};
 
 use crate::phase_path::{PhasePath, after_phases};
 use pcr_fold::Pcr;
@@ -32,14 +35,15 @@ pub fn append_value(alloc: Global, out: &mut Vec<u8>, pcr: &Pcr) -> Result<(), A
     out.extend_from_slice(line.as_bytes())
 }
 
-/// Appends the path's heading, and below it the value of each register after the path's words.
+// Appends the path's heading, and below it the value of each register after the path's words.
 fn append_lines(
     alloc: Global,
     out: &mut Vec<u8>,
     starts: &[Pcr],
     path: &PhasePath,
 ) -> Result<(), AllocError>
-    ensures { OnOk result (out.new.items ≡ out.old.items ++ lines_of (map shown starts.now) path.now) }
+    ensures { OnOk result (out.new.items ≡ out.old.items ++ (heading_of path.now ++ flat_map (λ start.
+        value_line (pcr_bank start) (extended_by_all (pcr_bank start) (pcr_bytes start) path.now)) starts.now)) }
 {
     append_heading(out, path)?;
     for start in starts {
@@ -49,7 +53,9 @@ fn append_lines(
 }
 
 /// The lines for registers that have measured the sections: for each path its heading, and below it
-/// a value for each of the registers, which are of different banks, after the path's words.
+/// a value for each of the registers, which are of different banks, after the path's words. A
+/// register that the items of its bank have extended from the start has then been extended by those
+/// items and the path's words.
 pub fn result_lines(
     alloc: Global,
     starts: &[Pcr],
@@ -57,7 +63,9 @@ pub fn result_lines(
 ) -> Result<Vec<u8>, AllocError>
     requires banks { HasDistinctBanks starts.now }
     requires paths { HasDistinctPaths paths.now }
-    ensures { IfOk result (λ lines. lines.items ≡ result_text (map shown starts.now) paths.now) }
+    ensures { IfOk result (λ lines. (items : Bank → List (List ℕ)) (banks : List Bank)
+        → map shown starts.now ≡ map (λ bank. folded (items bank) bank) banks
+        → lines.items ≡ value_lines (λ bank path. fold_of bank (items bank ++ path)) banks paths.now) }
 {
     let mut out = Vec::new(alloc);
     for path in paths {

@@ -6,6 +6,7 @@ ghost use Rattle.boot_phases.specs.Phases.{HasDistinctPaths, default_phase_paths
 
 use pcr_fold::Pcr;
 use std::alloc::{AllocError, Global};
+use std::cmp::Ordering;
 use std::fmt;
 use std::marker::Model;
 
@@ -65,6 +66,38 @@ impl Eq for PhasePath {
     ghost use Rattle.std.proofs.lemmas.Cmp.{lists_equiv, nat_list_eq_equiv};
 
     ghost laws = { lists_equiv nat_list_eq_equiv };
+}
+
+impl PartialOrd for PhasePath {
+    ghost use Rattle.std.specs.Ordering.{as_partial_cmp, nat_cmp};
+    ghost use Rattle.std.specs.Cmp.Lexicographic.{lists_po, slice_cmp, slice_partial_cmp, texts_po};
+
+    ghost partial_cmp = { slice_partial_cmp (as_partial_cmp (slice_cmp nat_cmp)) };
+
+    ghost laws = { lists_po texts_po };
+
+    fn partial_cmp(&self, other: &PhasePath) -> Option<Ordering> {
+        self.words.as_slice().partial_cmp(&other.words.as_slice())
+    }
+}
+
+/// Paths are ordered by the bytes of their words, word by word.
+impl Ord for PhasePath {
+    ghost use Rattle.std.specs.Prelude.{refl};
+    ghost use Rattle.std.specs.Ordering.{nat_cmp};
+    ghost use Rattle.std.specs.Cmp.Lexicographic.{lists_agrees, lists_ties, lists_total, nat_list_cmp_total, slice_cmp, texts_ties};
+
+    ghost cmp = { slice_cmp (slice_cmp nat_cmp) };
+
+    ghost total = { lists_total nat_list_cmp_total };
+
+    ghost matches_partial_cmp = { λ one other. lists_agrees (λ _ _. refl) one other };
+
+    ghost matches_eq = { λ one other. lists_ties (slice_cmp nat_cmp) texts_ties one other };
+
+    fn cmp(&self, other: &PhasePath) -> Ordering {
+        self.words.as_slice().cmp(&other.words.as_slice())
+    }
 }
 
 /// The path as it is printed: its words joined by colons, and `:` for the path without words.

@@ -1,11 +1,12 @@
 -- Lists without repetitions.
-use Rattle.std.proofs.Common.{◌≡◌, ◌≢◌, inl, inr, Bool, true, false, not, cond, List, [], ◌∷◌, ◌++◌, refl, sym, ap, ◌∙◌, arith}
-use Rattle.std.specs.Prelude.{filter}
+use Rattle.std.proofs.Common.{◌≡◌, ◌≢◌, ◌+◌, ◌<◌, inl, inr, ℕ, Bool, true, false, not, cond, List, [], ◌∷◌, ◌++◌, get_or, length, map, take, refl, sym, ap, ◌∙◌, arith}
+use Rattle.std.specs.Prelude.{◌||◌, filter}
 use Rattle.std.specs.List.{All, AllPairs, list_any}
 use Rattle.std.specs.Cmp.{IsEquivalence}
 use Rattle.std.proofs.lemmas.Bool.{cases_Bool}
-use Rattle.std.proofs.lemmas.List.{append-nil}
+use Rattle.std.proofs.lemmas.List.{append-nil, map-append, take_more}
 use Rattle.std.proofs.lemmas.List.Elements.{All-cons, All-nil, filter-append}
+use Rattle.std.proofs.lemmas.List.Folds.{list_any-append}
 use Rattle.std.proofs.lemmas.List.Kept.{AllPairs-cons, AllPairs-filter}
 use Rattle.std.proofs.lemmas.Map.Views.{any-filter_same}
 use Rattle.command_reads.specs.Values.{once}
@@ -75,3 +76,30 @@ itself same one other is apart equal = absurd (cc)
 -- those that aren't the same differ
 pub differ : {X : Type 0} (same : X → X → Bool) → ((x : X) → same x x ≡ true) → (xs : List X) → AllPairs (λ one other. same other one ≡ false) xs → AllPairs (λ one other. one ≢ other) xs
 differ same itself_same xs apart i j d before inside = itself same _ _ (itself_same _) (apart i j d before inside)
+
+-- what is made of one more of a list
+pub map_take_more : {A B : Type 0} (f : A → B) (xs : List A) (i : ℕ) (x : A) (y : B) → i < length xs → x ≡ get_or xs i x → y ≡ f x
+    → map f (take (i + 1) xs) ≡ map f (take i xs) ++ y ∷ []
+map_take_more f xs i x y inside is made =
+    ap (map f) (take_more xs i x inside) ∙ map-append f (take i xs) (get_or xs i x ∷ []) ∙ ap (λ z. map f (take i xs) ++ z ∷ []) (ap f (sym is) ∙ sym made)
+
+or_end : (here before : Bool) → cond here true before ≡ (before || (here || false))
+or_end true true = refl
+or_end true false = refl
+or_end false true = refl
+or_end false false = refl
+
+pub not_true : (found added : Bool) → added ≡ not found → added ≡ true → found ≡ false
+not_true true added is new = absurd (cc (is, new))
+not_true false added is new = refl
+
+pub not_false : (found added : Bool) → added ≡ not found → added ≡ false → found ≡ true
+not_false true added is old = refl
+not_false false added is old = absurd (cc (is, old))
+
+-- a test that tells what is kept tells it after one more
+pub tells_more : {X : Type 0} (same : X → X → Bool) (kept : List X) (x : X) (before after : X → Bool)
+    → ((q : X) → before q ≡ list_any (λ y. same y q) kept) → ((q : X) → after q ≡ cond (same x q) true (before q))
+    → (q : X) → after q ≡ list_any (λ y. same y q) (kept ++ x ∷ [])
+tells_more same kept x before after told now q =
+    now q ∙ ap (cond (same x q) true) (told q) ∙ or_end (same x q) (list_any (λ y. same y q) kept) ∙ sym (list_any-append (λ y. same y q) kept (x ∷ []))

@@ -1,6 +1,6 @@
 use Rattle.std.proofs.Common.{◌≡◌, take}
 use Rattle.std.specs.List.{filter_map}
-use Rattle.command_reads.specs.Values.{bank_named}
+use Rattle.pcr_fold.specs.Banks.{bank_named}
 use Rattle.command_reads.proofs.choices.banks_named.Given as goal
 
 abbrev pub invariant-loop-name : goal.invariant-loop-name
