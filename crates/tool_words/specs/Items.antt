@@ -108,22 +108,22 @@ items command (word ∷ next ∷ words) =
     said command word >>= λ s. more_items word next words s (items command (next ∷ words)) (items command words)
 
 -- the value that the item gives the option that is written so
-abbrev pub value_of : Word → Item → Option Word
-value_of option (Value text value) = if bytes_eq text option then Some value else None
-value_of option (Operand word) = None
+abbrev pub value_in : Word → Item → Option Word
+value_in option (Value text value) = if bytes_eq text option then Some value else None
+value_in option (Operand word) = None
 
 -- the operand that the item is
-abbrev pub operand_of : Item → Option Word
-operand_of (Value text value) = None
-operand_of (Operand word) = Some word
+abbrev pub operand_in : Item → Option Word
+operand_in (Value text value) = None
+operand_in (Operand word) = Some word
 
 -- all values of an option, in order
 abbrev pub all_values : Word → List Item → List Word
-all_values option items = filter_map (value_of option) items
+all_values option items = filter_map (value_in option) items
 
 -- the value of an option that isn't repeatable: the last one
 abbrev pub last_value : Word → List Item → Option Word
 last_value option items = last_or None (all_values option items)
 
 abbrev pub operands : List Item → List Word
-operands items = filter_map operand_of items
+operands items = filter_map operand_in items

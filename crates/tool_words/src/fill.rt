@@ -1,5 +1,5 @@
 //! The fields of a command, each copied once from the words.
-ghost use Rattle.std.specs.Prelude.{◌≡◌, [], IfOk, unwrap_or, option_map, slice_index_or};
+ghost use Rattle.std.specs.Prelude.{◌≡◌, [], IfOk, is_some, unwrap_or, option_map, slice_index_or};
 ghost use Rattle.std.specs.Option.{option_copied};
 ghost use Rattle.tool_words.specs.Items.{last_value, operands};
 ghost use Rattle.tool_words.specs.Meaning.{given as given_text, required, gathered, filled, build_words as build_meant, calculate_words as calculate_meant, esp as esp_meant};
@@ -76,11 +76,18 @@ fn optional_given(
     })
 }
 
+// Whether the option is given.
+fn is_given(items: &[Item<'_>], option: &str) -> bool
+    ensures { result ≡ is_some (last_value option.now (items_shown items.now)) }
+{
+    last_value(items, option).is_some()
+}
+
 // The operand at a place. As many as the command takes have been counted.
 fn operand(alloc: Global, items: &[Item<'_>], place: usize) -> Result<Text, AllocError>
     ensures { IfOk result (λ text. text ≡ slice_index_or (operands (items_shown items.now)) place []) }
 {
-    Text::of(alloc, operand_at(items, place).unwrap_or(""))
+    Text::of(alloc, operand_at(items, place))
 }
 
 // The fields of `ukify build`.
@@ -101,7 +108,7 @@ fn build_words(alloc: Global, items: &[Item<'_>]) -> Result<BuildWords, AllocErr
         initrds: all_values(alloc, items, "--initrd")?,
         ucode: optional(alloc, items, "--microcode")?,
         sections: all_values(alloc, items, "--section")?,
-        measure: last_value(items, "--measure").is_some(),
+        measure: is_given(items, "--measure"),
     })
 }
 

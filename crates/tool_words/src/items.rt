@@ -27,7 +27,7 @@ pub(crate) enum Said<'a> {
     Open(OptionRow),
 }
 
-/// The value, where the option takes it: that of `--bank` must be a bank's name.
+// The value, where the option takes it: that of `--bank` must be a bank's name.
 fn valued<'a>(alloc: Global, option: OptionRow, value: &'a str) -> Result<&'a str, WordsFault>
     ensures { Gives (λ v. v.now) result (valued (option_shown option) value.now) }
 {
@@ -50,7 +50,7 @@ fn is_flag(takes: Takes) -> bool
     matches!(takes, Takes::Flag)
 }
 
-/// The option of the command that is written so.
+// The option of the command that is written so.
 fn option(alloc: Global, command: CommandName, text: &str) -> Result<OptionRow, WordsFault>
     ensures { Gives option_shown result (option_of command text.now) }
 {
@@ -69,7 +69,7 @@ fn unknown_option(alloc: Global, word: &str) -> WordsFault
     }
 }
 
-/// What a word says that begins with `--` and is longer. It is split at its first `=`.
+// What a word says that begins with `--` and is longer. It is split at its first `=`.
 fn read_option<'a>(
     alloc: Global,
     command: CommandName,
@@ -90,7 +90,7 @@ fn read_option<'a>(
     Ok(Said::Whole(option.text, value))
 }
 
-/// What an option without a `=` says.
+// What an option without a `=` says.
 fn without_value<'a>(option: OptionRow) -> Said<'a>
     ensures { said_shown result ≡ value_missing (option_shown option) }
 {
@@ -135,7 +135,7 @@ pub(crate) struct Next<'a> {
     pub(crate) rest: &'a [String],
 }
 
-/// The option of this word with the next word as its value.
+// The option of this word with the next word as its value.
 fn with_next_word<'a>(
     alloc: Global,
     option: OptionRow,

@@ -30,7 +30,7 @@ impl SoFar {
         }
     }
 
-    /// Takes a quote, which begins a word where none is begun.
+    // Takes a quote, which begins a word where none is begun.
     fn take_quote(self, alloc: Global) -> SoFar
         ensures { (rest : List ℕ) → all_words self (39 ∷ rest) ≡ all_words result rest }
     {
@@ -47,7 +47,7 @@ impl SoFar {
         }
     }
 
-    /// Takes a gap, which ends the word that is begun.
+    // Takes a gap, which ends the word that is begun.
     fn take_gap(self) -> Result<SoFar, AllocError>
         ensures { IfOk result (λ after. (c : ℕ) (rest : List ℕ) → mark self.quoted c ≡ Gap → all_words self (c ∷ rest) ≡ all_words after rest) }
     {
@@ -66,7 +66,7 @@ impl SoFar {
         })
     }
 
-    /// Takes a character that stands for itself.
+    // Takes a character that stands for itself.
     fn take_itself(self, alloc: Global, c: char) -> Result<SoFar, AllocError>
         ensures { IfOk result (λ after. (rest : List ℕ) → mark self.quoted c ≡ Itself c → all_words self (c ∷ rest) ≡ all_words after rest) }
     {
@@ -84,7 +84,7 @@ impl SoFar {
         })
     }
 
-    /// Takes the next character.
+    // Takes the next character.
     fn take(self, alloc: Global, c: char) -> Result<SoFar, AllocError>
         ensures { IfOk result (λ after. (rest : List ℕ) → all_words self (c ∷ rest) ≡ all_words after rest) }
     {
@@ -97,7 +97,7 @@ impl SoFar {
         self.take_itself(alloc, c)
     }
 
-    /// The words at the end of the line.
+    // The words at the end of the line.
     fn finish(self) -> Result<Vec<String>, AllocError>
         ensures { IfOk result (λ words. texts words.items ≡ all_words self []) }
     {
@@ -113,21 +113,21 @@ impl SoFar {
     }
 }
 
-/// A space or a tab.
+// A space or a tab.
 fn is_blank(c: char) -> bool
     ensures { result ≡ is_blank c }
 {
     c == ' ' || c == '\t'
 }
 
-/// How many single quotes there are.
+// How many single quotes there are.
 fn quotes(line: &str) -> usize
     ensures { result ≡ count_by is_quote (chars line.now) }
 {
     line.chars().filter(|c| *c == '\'').count()
 }
 
-/// The words of a line whose quotes are even in number.
+// The words of a line whose quotes are even in number.
 fn words_of(alloc: Global, line: &str) -> Result<Vec<String>, AllocError>
     ensures { IfOk result (λ words. texts words.items ≡ line_words (chars line.now)) }
 {

@@ -36,7 +36,7 @@ fn has_long_word(words: &[String]) -> bool
     words.iter().any(|word| word.as_str().len() > MAX_WORD)
 }
 
-/// The command that the first words name, and the words after them.
+// The command that the first words name, and the words after them.
 fn command_of<'a>(
     alloc: Global,
     words: &'a [String],
@@ -56,7 +56,7 @@ fn command_of<'a>(
     }
 }
 
-/// The command with the verb that comes next, and the words after it.
+// The command with the verb that comes next, and the words after it.
 fn with_verb<'a>(
     alloc: Global,
     word: &str,
@@ -74,7 +74,7 @@ fn with_verb<'a>(
     Ok((command, rest))
 }
 
-/// As many operands as the command takes.
+// As many operands as the command takes.
 fn check_count(items: &[Item<'_>], wanted: usize) -> Result<(), UsageReason>
     ensures { MatchResult result
         (λ _. counted wanted (length (operands (items_shown items.now))) ≡ Ok tt)
@@ -96,7 +96,7 @@ fn is_missing(items: &[Item<'_>], option: OptionRow) -> bool
     matches!(option.takes, Takes::Required) && last_value(items, option.text).is_none()
 }
 
-/// The first required option of the command that is not given.
+// The first required option of the command that is not given.
 fn first_missing(command: CommandName, items: &[Item<'_>]) -> Option<OptionRow>
     ensures { option_map option_shown result ≡ find (is_missing (gathered command (items_shown items.now)).last) (row command).options }
 {
@@ -107,7 +107,7 @@ fn first_missing(command: CommandName, items: &[Item<'_>]) -> Option<OptionRow>
         .find(|option| is_missing(items, *option))
 }
 
-/// Every required option is given. The first one that is missing is the reason.
+// Every required option is given. The first one that is missing is the reason.
 fn check_required(alloc: Global, command: CommandName, items: &[Item<'_>]) -> Result<(), WordsFault>
     ensures { Gives (λ _. tt) result (all_required command (gathered command (items_shown items.now)).last) }
 {
@@ -120,7 +120,7 @@ fn check_required(alloc: Global, command: CommandName, items: &[Item<'_>]) -> Re
     }
 }
 
-/// The command with the words after it.
+// The command with the words after it.
 fn read_command(
     alloc: Global,
     command: CommandName,

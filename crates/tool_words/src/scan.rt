@@ -31,13 +31,13 @@ pub(crate) fn read_items<'a>(
 }
 
 fn push<'a>(items: &mut Vec<Item<'a>>, item: Item<'a>) -> Result<(), AllocError>
-    ensures { OnOk result (items.new.items ≡ items.old.items ++ item ∷ []) }
+    ensures { OnOk result (items_shown items.new.items ≡ items_shown items.old.items ++ item_shown item.entry ∷ []) }
 {
     items.push(item)?;
     Ok(())
 }
 
-/// Adds words that are all operands.
+// Adds words that are all operands.
 fn push_operands<'a>(items: &mut Vec<Item<'a>>, words: &'a [String]) -> Result<(), AllocError>
     ensures { OnOk result (items_shown items.new.items ≡ items_shown items.old.items ++ map Operand (texts words.now)) }
 {

@@ -1,7 +1,8 @@
 //! What the items of a command give: values of options, and operands.
-ghost use Rattle.std.specs.Prelude.{◌≡◌, length, slice_get, IfOk};
+ghost use Rattle.std.specs.Prelude.{◌≡◌, [], ◌++◌, length, slice_index_or, IfOk, OnOk};
+ghost use Rattle.std.specs.List.{cons_option};
 ghost use Rattle.std.specs.Option.{option_copied};
-ghost use Rattle.tool_words.specs.Items.{value_of, operand_of, all_values, last_value, operands};
+ghost use Rattle.tool_words.specs.Items.{value_in, operand_in, all_values, last_value, operands};
 ghost use Rattle.tool_words.specs.Shown.{item_shown, items_shown};
 
 use crate::items::Item;
@@ -10,8 +11,8 @@ use std::alloc::{AllocError, Global};
 
 impl<'a> Item<'a> {
     // The value that the item gives the option.
-    fn value_of(self, option: &str) -> Option<&'a str>
-        ensures { option_copied result ≡ value_of option.now (item_shown self.entry) }
+    fn value_in(self, option: &str) -> Option<&'a str>
+        ensures { option_copied result ≡ value_in option.now (item_shown self.entry) }
     {
         match self {
             Item::Value(text, value) if text == option => Some(value),
@@ -20,8 +21,8 @@ impl<'a> Item<'a> {
     }
 
     // The operand that the item is.
-    fn operand(self) -> Option<&'a str>
-        ensures { option_copied result ≡ operand_of (item_shown self.entry) }
+    fn operand_in(self) -> Option<&'a str>
+        ensures { option_copied result ≡ operand_in (item_shown self.entry) }
     {
         match self {
             Item::Value(_, _) => None,
@@ -34,7 +35,11 @@ impl<'a> Item<'a> {
 pub(crate) fn last_value<'a>(items: &[Item<'a>], option: &str) -> Option<&'a str>
     ensures { option_copied result ≡ last_value option.now (items_shown items.now) }
 {
-    items.iter().filter_map(|item| item.value_of(option)).last()
+    let mut last = None;
+    for item in items {
+        last = item.value_in(option).or(last);
+    }
+    last
 }
 
 /// All values of the option, in order.
@@ -47,24 +52,47 @@ pub(crate) fn all_values(
 {
     let mut list = TextList::new(alloc);
     for item in items {
-        if let Some(value) = item.value_of(option) {
-            let value = Text::of(alloc, value)?;
-            list.push(value)?;
-        }
+        push_value(alloc, &mut list, item.value_in(option))?;
     }
     Ok(list)
+}
+
+// Puts the value at the end, where there is one.
+fn push_value(alloc: Global, list: &mut TextList, value: Option<&str>) -> Result<(), AllocError>
+    ensures { OnOk result (list.new ≡ list.old ++ cons_option (option_copied value.entry) []) }
+{
+    if let Some(value) = value {
+        let value = Text::of(alloc, value)?;
+        list.push(value)?;
+    }
+    Ok(())
 }
 
 /// How many operands there are.
 pub(crate) fn operand_count(items: &[Item<'_>]) -> usize
     ensures { result ≡ length (operands (items_shown items.now)) }
 {
-    items.iter().filter_map(|item| item.operand()).count()
+    let mut count = 0;
+    for item in items {
+        if item.operand_in().is_some() {
+            count += 1;
+        }
+    }
+    count
 }
 
-/// The operand at a place, counted from 0.
-pub(crate) fn operand_at<'a>(items: &[Item<'a>], place: usize) -> Option<&'a str>
-    ensures { option_copied result ≡ slice_get (operands (items_shown items.now)) place }
+/// The operand at a place, counted from 0. It is empty where there are fewer.
+pub(crate) fn operand_at<'a>(items: &[Item<'a>], place: usize) -> &'a str
+    ensures { result.now ≡ slice_index_or (operands (items_shown items.now)) place [] }
 {
-    items.iter().filter_map(|item| item.operand()).nth(place)
+    let mut left = place;
+    for item in items {
+        if let Some(word) = item.operand_in() {
+            if left == 0 {
+                return word;
+            }
+            left -= 1;
+        }
+    }
+    ""
 }

@@ -143,7 +143,7 @@ static INSTALL: &[OptionRow] = &[option!("--tries", Once), option!("--esp-path",
 
 static NONE: &[OptionRow] = &[];
 
-/// A command that has verbs.
+// A command that has verbs.
 fn verbed(
     name: &'static str,
     verb: &'static str,
@@ -160,7 +160,7 @@ fn verbed(
     }
 }
 
-/// A command without a verb.
+// A command without a verb.
 fn alone(name: &'static str, operands: usize, options: &'static [OptionRow]) -> CommandRow
     ensures { row_shown result ≡ alone_row name.now operands (map option_shown options.now) }
 {
@@ -238,7 +238,7 @@ impl CommandName {
             .find(|command| command.is_verbed(name, verb))
     }
 
-    /// Whether the command has this name and verb.
+    // Whether the command has this name and verb.
     fn is_verbed(self, name: &str, verb: &str) -> bool
         ensures { result ≡ is_verbed name.now verb.now self }
     {
