@@ -10,7 +10,7 @@ use Rattle.boot_base.specs.Paths.{Path}
 use Rattle.boot_base.specs.declared.refusal.Refusal.{Refusal}
 use Rattle.boot_machine.specs.Disk.{Files}
 use Rattle.boot_machine.specs.Rows.{contents}
-use Rattle.pcr_prediction.proofs.Taking.{length-bytes_of}
+use Rattle.stub_replay.proofs.Taking.{length-bytes_of}
 use Rattle.pe_reader.specs.Grammar.{Headers, pe_of}
 use Rattle.uki_parts.specs.declared.name.SectionName.{SectionName}
 use Rattle.uki_parts.specs.declared.part.Part.{Part}

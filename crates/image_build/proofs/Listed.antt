@@ -10,6 +10,7 @@ use Rattle.std.proofs.lemmas.List.Elements.{All-filter, All-head, All-push, All-
 use Rattle.std.proofs.lemmas.List.Filters.{length-filter_both, sum_by-filter_both}
 use Rattle.std.proofs.lemmas.List.Sums.{sum_by-append, sum_by-cons}
 use Rattle.uki_parts.specs.Kinds.{append_place}
+use Rattle.uki_parts.specs.declared.kind.PartKind.TheVariants as kinds
 use Rattle.uki_parts.specs.declared.part.Part.{Part}
 use Rattle.uki_parts.specs.Parts.{part_place, is_up_to, is_after, with_part}
 use Rattle.image_build.specs.Imaged.{AreParts, IsSbatPart, is_filled}
@@ -56,23 +57,32 @@ pub added : (seen : List Part) (part : Part) (rest all list more : List Part) �
 added seen part rest all list more left ordered before is =
     is ∙ ap (with_part part) before ∙ with_part-last part seen (earlier seen part rest (subst (IsNonDecreasingBy part_place) left ordered))
 
+-- the user's own sections, the SBAT text and the kernel come last, in this order
+extra_first : append_place kinds.Extra ≤ append_place kinds.Sbat
+unfolding append_place
+extra_first = omega arith
+
+sbat_first : append_place kinds.Sbat ≤ append_place kinds.Linux
+unfolding append_place
+sbat_first = omega arith
+
 -- the kernel stands behind the parts
 pub linux_added : (parts list more : List Part) (linux : Part) → AreParts parts linux → list ≡ filter is_filled parts → more ≡ with_part linux list
     → more ≡ filter is_filled (parts ++ linux ∷ [])
 linux_added parts list more linux are before is =
-    let last : part_place linux ≡ 10 = ap append_place are.kind in
-    let all = All-weaker (λ part. part_place part ≤ 8) (λ part. part_place part ≤ part_place linux) (λ part early. omega arith) parts are.early in
+    let last : part_place linux ≡ append_place kinds.Linux = ap append_place are.kind in
+    let all = All-weaker (λ part. part_place part ≤ append_place kinds.Extra) (λ part. part_place part ≤ part_place linux) (λ part early. omega (arith, early, last, extra_first, sbat_first)) parts are.early in
     is ∙ ap (with_part linux) before ∙ with_part-last linux parts all
 
 -- and an SBAT text between them
 pub text_added : (parts list more most : List Part) (linux part : Part) (text : List ℕ) → AreParts parts linux → IsSbatPart part text → list ≡ filter is_filled parts
     → more ≡ with_part part list → most ≡ with_part linux more → most ≡ filter is_filled ((parts ++ part ∷ []) ++ linux ∷ [])
 text_added parts list more most linux part text are holds before one two =
-    let last : part_place linux ≡ 10 = ap append_place are.kind in
-    let next : part_place part ≡ 9 = ap append_place holds.kind in
-    let first = All-weaker (λ other. part_place other ≤ 8) (λ other. part_place other ≤ part_place part) (λ other early. omega arith) parts are.early in
-    let all = All-weaker (λ other. part_place other ≤ 8) (λ other. part_place other ≤ part_place linux) (λ other early. omega arith) parts are.early in
-    let both = All-push (λ other. part_place other ≤ part_place linux) parts part all (omega arith) in
+    let last : part_place linux ≡ append_place kinds.Linux = ap append_place are.kind in
+    let next : part_place part ≡ append_place kinds.Sbat = ap append_place holds.kind in
+    let first = All-weaker (λ other. part_place other ≤ append_place kinds.Extra) (λ other. part_place other ≤ part_place part) (λ other early. omega (arith, early, next, extra_first)) parts are.early in
+    let all = All-weaker (λ other. part_place other ≤ append_place kinds.Extra) (λ other. part_place other ≤ part_place linux) (λ other early. omega (arith, early, last, extra_first, sbat_first)) parts are.early in
+    let both = All-push (λ other. part_place other ≤ part_place linux) parts part all (omega (arith, next, last, sbat_first)) in
     let seen : more ≡ filter is_filled (parts ++ part ∷ []) = one ∙ ap (with_part part) before ∙ with_part-last part parts first in
     two ∙ ap (with_part linux) seen ∙ with_part-last linux (parts ++ part ∷ []) both
 

@@ -71,35 +71,30 @@ one_more low kind name sources before next rises =
     here [] = next
     here (source ∷ more) = (next, omega arith)
 
-extras : (sections : List (SectionName × Given)) → Rises 8 (map wanted_place (map extra sections)) 8
+extras : (sections : List (SectionName × Given)) → Rises (append_place kinds.Extra) (map wanted_place (map extra sections)) (append_place kinds.Extra)
 extras [] = omega arith
 extras (section ∷ sections) = (omega arith, extras sections)
 
+with_extras : (low : ℕ) (before : List Wanted) (sections : List (SectionName × Given)) → low ≤ append_place kinds.Extra → Rises 0 (map wanted_place before) low
+    → Rises 0 (map wanted_place (before ++ map extra sections)) (append_place kinds.Extra)
+with_extras low before sections next rises =
+    let last = append_place kinds.Extra in
+    subst (λ l. Rises 0 l last) (sym (map-append wanted_place before (map extra sections)))
+    (joined 0 low last (map wanted_place before) (map wanted_place (map extra sections)) rises (lower low last last (map wanted_place (map extra sections)) next (extras sections)))
+
 -- all of them rise
-wanted_rise : (words : BuildWords) (sections : List (SectionName × Given)) → Rises 0 (map wanted_place (wanted_parts words sections)) 8
+wanted_rise : (words : BuildWords) (sections : List (SectionName × Given)) → Rises 0 (map wanted_place (wanted_parts words sections)) (append_place kinds.Extra)
+unfolding append_place
 wanted_rise words sections =
-    let osrel = given_once words.osrel in
-    let cmdline = given_once (option_map clean words.cmdline) in
-    let dtb = given_once (option_map File words.dtb) in
-    let uname = given_once (option_map Inline words.uname) in
-    let splash = given_once (option_map File words.splash) in
-    let pcrpkey = given_once (option_map File words.pcrpkey) in
-    let one = wanted kinds.Osrel (codes ".osrel") osrel in
-    let two = one ++ wanted kinds.Cmdline (codes ".cmdline") cmdline in
-    let three = two ++ wanted kinds.Dtb (codes ".dtb") dtb in
-    let four = three ++ wanted kinds.Uname (codes ".uname") uname in
-    let five = four ++ wanted kinds.Splash (codes ".splash") splash in
-    let six = five ++ wanted kinds.Pcrpkey (codes ".pcrpkey") pcrpkey in
-    let seven = six ++ wanted kinds.Initrd (codes ".initrd") (map File words.initrds) in
-    let rise = one_more 6 kinds.Initrd (codes ".initrd") (map File words.initrds) six (omega arith)
-    (one_more 5 kinds.Pcrpkey (codes ".pcrpkey") pcrpkey five (omega arith)
-    (one_more 4 kinds.Splash (codes ".splash") splash four (omega arith)
-    (one_more 3 kinds.Uname (codes ".uname") uname three (omega arith)
-    (one_more 2 kinds.Dtb (codes ".dtb") dtb two (omega arith)
-    (one_more 1 kinds.Cmdline (codes ".cmdline") cmdline one (omega arith)
-    (one_more 0 kinds.Osrel (codes ".osrel") osrel [] (omega arith) (omega arith))))))) in
-    subst (λ l. Rises 0 l 8) (sym (map-append wanted_place seven (map extra sections)))
-    (joined 0 7 8 (map wanted_place seven) (map wanted_place (map extra sections)) rise (lower 7 8 8 (map wanted_place (map extra sections)) (omega arith) (extras sections)))
+    let osrel = one_more 0 kinds.Osrel (codes ".osrel") (given_once words.osrel) [] (omega arith) (omega arith) in
+    let cmdline = one_more _ kinds.Cmdline (codes ".cmdline") (given_once (option_map clean words.cmdline)) _ (omega arith) osrel in
+    let dtb = one_more _ kinds.Dtb (codes ".dtb") (given_once (option_map File words.dtb)) _ (omega arith) cmdline in
+    let uname = one_more _ kinds.Uname (codes ".uname") (given_once (option_map Inline words.uname)) _ (omega arith) dtb in
+    let splash = one_more _ kinds.Splash (codes ".splash") (given_once (option_map File words.splash)) _ (omega arith) uname in
+    let pcrpkey = one_more _ kinds.Pcrpkey (codes ".pcrpkey") (given_once (option_map File words.pcrpkey)) _ (omega arith) splash in
+    let initrd = one_more _ kinds.Initrd (codes ".initrd") (map File words.initrds) _ (omega arith) pcrpkey in
+    let ucode = one_more _ kinds.Ucode (codes ".ucode") (given_once (option_map File words.ucode)) _ (omega arith) initrd in
+    with_extras _ _ sections (omega arith) ucode
 
 -- what is named has the places of what is wanted
 kept : {A B : Type 0} (f : A → Result B Refusal) (m : A → ℕ) (n : B → ℕ) (keeps : (x : A) (y : B) → f x ≡ Ok y → n y ≡ m x) (xs : List A) (ys : List B) → each f xs ≡ Ok ys → map n ys ≡ map m xs
@@ -136,8 +131,8 @@ zipped (source ∷ sources) [] all = absurd all
 zipped (source ∷ sources) (part ∷ parts) all =
     ap (λ (kind : PartKind). append_place kind ∷ map part_place parts) all.0.kind ∙ ap (λ (l : List ℕ). append_place source.kind ∷ l) (zipped sources parts all.1)
 
-pub parts_rise : (words : BuildWords) (found : BuildSources) (parts : List Part) → named_of words ≡ Ok (named_as found) → AllZip PartFrom found.parts.items parts → Rises 0 (map part_place parts) 8
+pub parts_rise : (words : BuildWords) (found : BuildSources) (parts : List Part) → named_of words ≡ Ok (named_as found) → AllZip PartFrom found.parts.items parts → Rises 0 (map part_place parts) (append_place kinds.Extra)
 parts_rise words found parts is all =
     let named = parts_found words (named_as found) is in
     let same = zipped found.parts.items parts all ∙ kept sources_of wanted_place named_place kind_kept (wanted_parts words named.0) (map part_named found.parts.items) named.1 in
-    subst (λ (l : List ℕ). Rises 0 l 8) (sym same) (wanted_rise words named.0)
+    subst (λ (l : List ℕ). Rises 0 l (append_place kinds.Extra)) (sym same) (wanted_rise words named.0)

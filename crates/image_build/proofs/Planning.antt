@@ -29,6 +29,8 @@ use Rattle.pe_reader.specs.Grammar.{Headers, pe_of}
 use Rattle.pe_reader.specs.Reads.{headers_of}
 use Rattle.pe_reader.specs.declared.fault.FailedCheck.{FailedCheck}
 use Rattle.tool_words.specs.declared.command.BuildWords.{BuildWords}
+use Rattle.uki_parts.specs.Kinds.{append_place}
+use Rattle.uki_parts.specs.declared.kind.PartKind.TheVariants as kinds
 use Rattle.uki_parts.specs.Parts.{part_place}
 use Rattle.uki_parts.specs.Pieces.{Reading}
 use Rattle.uki_parts.specs.declared.part.Part.{Part}
@@ -40,7 +42,8 @@ use Rattle.boot_phases.specs.Phases.{default_phase_paths}
 use Rattle.stub_replay.specs.Measured.{stub_pcr}
 use Rattle.command_plans.specs.Refusing.{PlansUnsaid}
 use Rattle.command_reads.specs.Saying.{UnsaidFor}
-use Rattle.command_reads.specs.Values.{all_banks, value_lines}
+use Rattle.boot_phases.specs.Lines.{value_lines}
+use Rattle.pcr_fold.specs.Banks.{all_banks}
 use Rattle.command_reads.specs.declared.saying.Unsaid.{Unsaid}
 use Rattle.command_reads.specs.declared.saying.Unsaid.TheVariants as unsaid
 use Rattle.image_build.specs.Reads.{BuiltFrom, BuiltHasSizes, PartFrom, PartHasSizes, material_as}
@@ -84,8 +87,8 @@ plannable words found built is from =
       read = from.head;
       small = from.stub_small;
       linux = from.linux;
-      order = in_order part_place built.parts.items 0 8 rise;
-      early = at_most part_place built.parts.items 0 8 rise;
+      order = in_order part_place built.parts.items 0 (append_place kinds.Extra) rise;
+      early = at_most part_place built.parts.items 0 (append_place kinds.Extra) rise;
       lengths = lengths_from found.parts.items built.parts.items from.parts;
     }
 

@@ -1,26 +1,28 @@
 -- What the sections of a planned image are going to hold.
-use Rattle.std.proofs.Common.{Result, ◌≡◌, ◌<◌, ◌≤◌, ◌+◌, ℕ, Bool, true, false, cond, List, [], ◌∷◌, ◌++◌, Option, Some, None, Ok, Bor, length, map, take, get_or, position, refl, sym, ap, subst, ◌∙◌, append-nil}
+use Rattle.std.proofs.Common.{Result, ◌≡◌, ◌<◌, ◌+◌, ℕ, Bool, true, false, cond, List, [], ◌∷◌, ◌++◌, Option, Some, None, Ok, Bor, length, map, take, position, refl, sym, ap, subst, ◌∙◌}
 use Rattle.std.specs.List.{find, flat_map}
 use Rattle.std.specs.Option.{option_map}
 use Rattle.std.specs.Prelude.{All, bytes_eq, is_some}
-use Rattle.std.proofs.lemmas.List.{take_all, take_more}
-use Rattle.std.proofs.lemmas.List.Concat.{flat_map-append}
 use Rattle.std.proofs.lemmas.List.Elements.{All-head, All-tail}
 use Rattle.boot_base.specs.Paths.{Path}
 use Rattle.boot_base.specs.declared.refusal.Refusal.{Refusal}
 use Rattle.boot_machine.specs.Disk.{Files}
-use Rattle.boot_phases.specs.Lines.{result_text}
+use Rattle.boot_phases.specs.Lines.{value_lines}
 use Rattle.boot_phases.specs.Phases.{default_phase_paths}
-use Rattle.command_reads.proofs.Lines.{lines_join}
 use Rattle.command_reads.proofs.Registers.{AreSaid}
-use Rattle.command_reads.specs.Values.{all_banks, starts_of, value_lines}
+use Rattle.pcr_fold.specs.Banks.{all_banks, fold_of, folded}
+use Rattle.pcr_fold.specs.Values.{shown}
+use Rattle.pcr_fold.specs.declared.pcr.Pcr.{Pcr}
 use Rattle.pcr_fold.specs.declared.bank.Bank.{Bank}
-use Rattle.pcr_prediction.specs.Parts.{folded, items_of, named_bytes}
-use Rattle.pcr_prediction.specs.declared.measurable.Measurable.{Measurable}
+use Rattle.stub_replay.specs.Parts.{content_or, given_part, items_of, named_bytes}
+use Rattle.stub_replay.specs.declared.measurable.Content.{Content}
+use Rattle.stub_replay.proofs.Pushed.{items_pushed}
+use Rattle.stub_replay.proofs.Turns.{IsName, items_more}
+use Rattle.stub_replay.specs.declared.measurable.Measurable.{Measurable}
 use Rattle.boot_machine.specs.Rows.{contents}
 use Rattle.image_writer.specs.Sourced.{IsPieced, new_sbat, part_list, parts_bytes, planned_image}
 use Rattle.image_writer.proofs.PlannedImages.{planned_image-is}
-use Rattle.pcr_prediction.specs.declared.measurable.Content.TheVariants as content
+use Rattle.stub_replay.specs.declared.measurable.Content.TheVariants as content
 use Rattle.pe_builder.specs.Image.{finished}
 use Rattle.pe_builder.specs.Laws.{HasFinished}
 use Rattle.pe_builder.specs.Planned.{given, sbat_place}
@@ -118,20 +120,16 @@ section_kept view plan on name is =
     let files = contents view in
     sym (ap (λ (o : Option (List ℕ)). or_kept o (kept_bytes view plan on.own.in_place name)) (part_found files name (part_list plan.image.sources) ∙ ap (option_map (λ (p : Part). bytes_of files p.pieces.items)) is))
 
--- nothing is measured of what is empty
-pub nothing_more : (items : List (List ℕ)) (name : List ℕ) → items ≡ items ++ section_items name []
-unfolding section_items
-nothing_more items name = sym (append-nil items)
-
--- one name more
-pub names_more : (f : List ℕ → List (List ℕ)) (i : ℕ) (name : List ℕ) → i < 9 → name ≡ get_or measured_names i [] → flat_map f (take i measured_names) ++ f name ≡ flat_map f (take (i + 1) measured_names)
-names_more f i name few is =
-    ap (λ (l : List (List ℕ)). flat_map f (take i measured_names) ++ l) (ap f is ∙ sym (append-nil (f (get_or measured_names i []))))
-    ∙ sym (flat_map-append f (take i measured_names) (get_or measured_names i [] ∷ []))
-    ∙ ap (flat_map f) (sym (take_more measured_names i [] few))
-
-pub names_all : (f : List ℕ → List (List ℕ)) (i : ℕ) → 9 ≤ i → flat_map f (take i measured_names) ≡ flat_map f measured_names
-names_all f i end = ap (flat_map f) (take_all i measured_names end)
+-- one section more is measured
+pub section_more : (files : Reading) (bytes : List ℕ → List ℕ) (i : ℕ) (parts more : List Measurable) (name : Bor (List ℕ)) (part : Option Content) → more ≡ parts ++ given_part name part
+    → items_of (map (named_bytes files) parts) ≡ flat_map (λ n. section_items n (bytes n)) (take i measured_names) → content_or files part ≡ bytes name.now → IsName i name.now
+    → items_of (map (named_bytes files) more) ≡ flat_map (λ n. section_items n (bytes n)) (take (i + 1) measured_names)
+section_more files bytes i parts more name part is before holds at =
+    ap (λ (l : List Measurable). items_of (map (named_bytes files) l)) is
+    ∙ items_pushed files parts name part
+    ∙ ap (λ (l : List (List ℕ)). l ++ section_items name.now (content_or files part)) before
+    ∙ ap (λ (b : List ℕ). flat_map (λ n. section_items n (bytes n)) (take i measured_names) ++ section_items name.now b) holds
+    ∙ items_more (λ n. section_items n (bytes n)) i name.now at
 
 -- and all of them are what a stub measures of the image
 has_finished : (view : Files) (plan : PlannedBuild) (on : IsPlannedOn view plan)
@@ -158,17 +156,17 @@ image_items view plan on =
 
 -- the registers after them
 pub registers_are : (files : Reading) (parts seen_parts : List Measurable) (items : List (List ℕ)) (banks : List Bank) (starts : List (Bank × List ℕ)) → seen_parts ≡ parts
-    → items_of (map (named_bytes files) parts) ≡ items → starts ≡ map (folded (items_of (map (named_bytes files) seen_parts))) banks → AreSaid (starts_of items banks) starts
+    → items_of (map (named_bytes files) parts) ≡ items → starts ≡ map (folded (items_of (map (named_bytes files) seen_parts))) banks → AreSaid (map (folded items) banks) starts
 registers_are files parts seen_parts items banks starts are_parts are_items is =
     ap Ok (sym (is ∙ ap (λ (ps : List Measurable). map (folded (items_of (map (named_bytes files) ps))) banks) are_parts ∙ ap (λ (l : List (List ℕ)). map (folded l) banks) are_items))
 
 -- and the lines of all of them
-pub values_said : (image : List ℕ) (starts : List (Bank × List ℕ)) (banks : List Bank) (paths : List (List (List ℕ))) (text : List ℕ) → AreSaid (starts_of (measured_list image) banks) starts → banks ≡ all_banks → paths ≡ default_phase_paths
-    → text ≡ result_text starts paths → ◌≡◌ {A = Result (List ℕ) Refusal} (Ok (value_lines (stub_pcr image) all_banks default_phase_paths)) (Ok text)
+pub values_said : (image : List ℕ) (starts : List Pcr) (banks : List Bank) (paths : List (List (List ℕ))) (text : List ℕ) → AreSaid (map (folded (measured_list image)) banks) (map shown starts)
+    → banks ≡ all_banks → paths ≡ default_phase_paths
+    → ((items : Bank → List (List ℕ)) (bs : List Bank) → map shown starts ≡ map (λ (bank : Bank). folded (items bank) bank) bs → text ≡ value_lines (λ bank path. fold_of bank (items bank ++ path)) bs paths)
+    → ◌≡◌ {A = Result (List ℕ) Refusal} (Ok (value_lines (stub_pcr image) all_banks default_phase_paths)) (Ok text)
 values_said image starts banks paths text are_starts are_banks are_paths is =
-    let found : starts_of (measured_list image) banks ≡ starts = cc are_starts in
-    ap Ok (sym (is
-    ∙ ap (λ (s : List (Bank × List ℕ)). result_text s paths) (sym found)
-    ∙ ap (λ (bs : List Bank). result_text (starts_of (measured_list image) bs) paths) are_banks
-    ∙ ap (result_text (starts_of (measured_list image) all_banks)) are_paths
-    ∙ lines_join (measured_list image) all_banks default_phase_paths))
+    let found : map (folded (measured_list image)) banks ≡ map shown starts = cc are_starts in
+    ap Ok (sym (is (λ bank. measured_list image) banks (sym found)
+    ∙ ap (λ (bs : List Bank). value_lines (stub_pcr image) bs paths) are_banks
+    ∙ ap (value_lines (stub_pcr image) all_banks) are_paths))

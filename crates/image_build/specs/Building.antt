@@ -36,7 +36,8 @@ use Rattle.image_build.specs.declared.source.BuildSources.{BuildSources}
 use Rattle.image_build.specs.declared.source.Source.TheVariants as sources
 use Rattle.command_reads.specs.Files.{bytes_at, each, headers_or, if_given}
 use Rattle.command_reads.specs.Names.{shown_byte}
-use Rattle.command_reads.specs.Values.{all_banks, value_lines}
+use Rattle.boot_phases.specs.Lines.{value_lines}
+use Rattle.pcr_fold.specs.Banks.{all_banks}
 use Rattle.boot_phases.specs.Phases.{default_phase_paths}
 use Rattle.stub_replay.specs.Measured.{stub_pcr}
 
@@ -86,6 +87,7 @@ wanted_parts words sections =
     ++ wanted kinds.Splash (codes ".splash") (given_once (option_map File words.splash))
     ++ wanted kinds.Pcrpkey (codes ".pcrpkey") (given_once (option_map File words.pcrpkey))
     ++ wanted kinds.Initrd (codes ".initrd") (map File words.initrds)
+    ++ wanted kinds.Ucode (codes ".ucode") (given_once (option_map File words.ucode))
     ++ map extra sections
 
 -- where bytes come from: a text, or a file whose word is read as a path

@@ -10,6 +10,7 @@ use Rattle.uki_parts.specs.declared.kind.PartKind.TheVariants as kinds
 use Rattle.uki_parts.specs.declared.part.Part.{Part}
 use Rattle.uki_parts.specs.declared.piece.Piece.TheVariants as pieces
 use Rattle.uki_parts.specs.Names.{named}
+use Rattle.uki_parts.specs.Kinds.{append_place}
 use Rattle.uki_parts.specs.Parts.{part_place}
 use Rattle.uki_parts.specs.Pieces.{HasSizes, Reading, bytes_of, total_length}
 use Rattle.pe_builder.specs.declared.fault.PlanFault.{PlanFault}
@@ -43,7 +44,7 @@ pub record IsSbatPart (part : Part) (text : List ℕ) : Type 0 where
 -- order, and the kernel.
 pub record AreOrdered (parts : List Part) (linux : Part) : Type 0 where
   pub order : IsNonDecreasingBy part_place parts
-  pub early : All (λ part. part_place part ≤ 8) parts
+  pub early : All (λ part. part_place part ≤ append_place kinds.Extra) parts
   pub kind : linux.kind ≡ kinds.Linux
   pub name : linux.name ≡ named (codes ".linux")
   pub small : linux.length ≤ 268435456
@@ -57,7 +58,7 @@ pub record IsCountable (parts : List Part) (sbat : List ℕ) : Type 0 where
 -- both
 pub record AreParts (parts : List Part) (linux : Part) : Type 0 where
   pub order : IsNonDecreasingBy part_place parts
-  pub early : All (λ part. part_place part ≤ 8) parts
+  pub early : All (λ part. part_place part ≤ append_place kinds.Extra) parts
   pub few : length parts ≤ 16777000
   pub total : sum_by (λ part. part.length) parts ≤ 2 ^ 61
   pub kind : linux.kind ≡ kinds.Linux

@@ -1,17 +1,19 @@
 -- The plan of a build, and what the sections of its image are going to hold.
-use Rattle.std.specs.Prelude.{◌≡◌, ◌≤◌, ◌-◌, ◌^◌, ℕ, List, [], length, map, min, All, IfSome, Option, Some, None, Ok}
+use Rattle.std.specs.Prelude.{◌≡◌, ◌≤◌, ◌-◌, ◌^◌, ℕ, List, length, map, min, All, IfSome, Option, Ok}
 use Rattle.std.specs.List.Sorted.{IsNonDecreasingBy}
 use Rattle.boot_machine.specs.Disk.{Files}
 use Rattle.boot_machine.specs.Rows.{contents}
 use Rattle.image_writer.specs.Sourced.{IsSourced, new_sbat, part_list, parts_bytes, planned_image, stub_path}
-use Rattle.pcr_prediction.specs.Parts.{IsWhole, content_bytes}
-use Rattle.pcr_prediction.specs.declared.measurable.Content.{Content}
+use Rattle.stub_replay.specs.Parts.{IsWhole, content_or}
+use Rattle.stub_replay.specs.declared.measurable.Content.{Content}
 use Rattle.pe_builder.specs.Planned.{given}
 use Rattle.pe_reader.specs.Grammar.{pe_of}
 use Rattle.pe_reader.specs.Reads.{ReadFrom, headers_of}
 use Rattle.stub_replay.specs.Laws.{given_parts, kept_of}
+use Rattle.uki_parts.specs.Kinds.{append_place}
 use Rattle.uki_parts.specs.Parts.{part_place}
 use Rattle.uki_parts.specs.Pieces.{Reading, total_length}
+use Rattle.uki_parts.specs.declared.kind.PartKind.TheVariants as kinds
 use Rattle.uki_parts.specs.declared.part.Part.{Part}
 use Rattle.image_build.specs.Building.{Built}
 use Rattle.image_build.specs.Imaged.{IsOwnPlan, any_size}
@@ -33,7 +35,7 @@ pub record IsPlannable (built : BuildParts) : Type 0 where
   pub small : built.stub_length ≤ 268435456
   pub linux : IsKernel built.linux
   pub order : IsNonDecreasingBy part_place built.parts.items
-  pub early : All (λ part. part_place part ≤ 8) built.parts.items
+  pub early : All (λ part. part_place part ≤ append_place kinds.Extra) built.parts.items
   pub lengths : All HasItsLength built.parts.items
 
 -- the stub's bytes on a view
@@ -55,11 +57,6 @@ abbrev pub section_bytes : Files → PlannedBuild → Option ℕ → List ℕ �
 section_bytes view plan in_place name =
     given_parts (map any_size (part_list plan.image.sources)) (parts_bytes (contents view) (part_list plan.image.sources))
     (given in_place (new_sbat plan.image.sources)) (stub_bytes view plan) name
-
--- the bytes of a content, if there is one
-abbrev pub content_or : Reading → Option Content → List ℕ
-content_or files None = []
-content_or files (Some content) = content_bytes files content
 
 -- the content has these bytes, and is whole in these files
 pub record IsContent (files : Reading) (content : Option Content) (bytes : List ℕ) : Type 0 where

@@ -1,25 +1,25 @@
 //! PCR 11 of a planned image, by what its sections are going to hold (systemd's TPM2 PCR document, PCR 11).
-ghost use Rattle.std.specs.Prelude.{◌≡◌, ◌++◌, All, IfOk, IfSome, IsTrue, Ok, OnOk, bytes_eq, map};
+ghost use Rattle.std.specs.Prelude.{◌≡◌, All, IfOk, IfSome, IsTrue, Ok, bytes_eq, map};
 ghost use Rattle.std.specs.List.{find};
 ghost use Rattle.std.specs.Option.{option_copied};
 ghost use Rattle.boot_machine.specs.Disk.{Files};
 ghost use Rattle.boot_machine.specs.Reading.{OnlyReads};
 ghost use Rattle.boot_machine.specs.Rows.{contents};
 ghost use Rattle.boot_machine.specs.Sent.{seen};
-ghost use Rattle.boot_phases.specs.Lines.{shown};
+ghost use Rattle.boot_phases.specs.Lines.{value_lines};
 ghost use Rattle.boot_phases.specs.Phases.{default_phase_paths};
 ghost use Rattle.image_writer.specs.Sourced.{planned_image};
-ghost use Rattle.pcr_fold.specs.Values.{pcr_bank};
-ghost use Rattle.pcr_prediction.specs.Parts.{HaveSizes, IsPlaced, IsWhole, items_of, named_bytes};
+ghost use Rattle.pcr_fold.specs.Banks.{all_banks, folded};
+ghost use Rattle.pcr_fold.specs.Values.{pcr_bank, shown};
+ghost use Rattle.stub_replay.specs.Parts.{HaveSizes, IsPlaced, items_of, named_bytes};
 ghost use Rattle.pe_reader.specs.Grammar.{pe_of};
 ghost use Rattle.pe_reader.specs.Loaded.{loaded};
 ghost use Rattle.pe_reader.specs.Reads.{headers_of};
-ghost use Rattle.stub_replay.specs.Measured.{measured_list, section_items, stub_pcr};
+ghost use Rattle.stub_replay.specs.Measured.{measured_list, stub_pcr};
 ghost use Rattle.uki_parts.specs.Names.{name_bytes};
 ghost use Rattle.uki_parts.specs.Pieces.{Reading};
 ghost use Rattle.command_reads.specs.Saying.{CountsUnsaid, Says};
-ghost use Rattle.command_reads.specs.Values.{all_banks, starts_of, value_lines};
-ghost use Rattle.image_build.specs.Planning.{IsContent, IsPlannedOn, content_or, kept_bytes, section_bytes};
+ghost use Rattle.image_build.specs.Planning.{IsContent, IsPlannedOn, kept_bytes, section_bytes};
 
 use crate::planned::PlannedBuild;
 use boot_base::{BootPath, PIECE_SIZE};
@@ -27,10 +27,9 @@ use boot_machine::Machine;
 use boot_phases::result_lines;
 use command_reads::{Unsaid, banks_of, paths_of};
 use pcr_fold::{Bank, Pcr};
-use pcr_prediction::{Content, Measurable, PredictFault, predict};
 use pe_reader::Pe;
 use std::alloc::{AllocError, Global};
-use stub_replay::{MEASURED_COUNT, measured_name};
+use stub_replay::{Content, Measurable, PredictFault, measured_names, predict, push_part};
 use uki_parts::Part;
 
 // The first part of that name.
@@ -73,27 +72,6 @@ fn section_content<'a>(plan: &'a PlannedBuild, name: &[u8]) -> Option<Content<'a
     }
 }
 
-// Puts the part of that name behind the others, if it has a content.
-fn push_part<'a>(
-    parts: &mut Vec<Measurable<'a>>,
-    name: &'a [u8],
-    content: Option<Content<'a>>,
-) -> Result<(), AllocError>
-    ensures items { OnOk result ((files : Reading) → items_of (map (named_bytes files) parts.new.items)
-        ≡ items_of (map (named_bytes files) parts.old.items) ++ section_items name.now (content_or files content.entry)) }
-    ensures whole { OnOk result ((files : Reading) → IfSome content.entry (IsWhole files) → HaveSizes files parts.old.items → HaveSizes files parts.new.items) }
-    ensures placed { OnOk result (IfSome content.entry IsPlaced → All (λ part. IsPlaced part.content) parts.old.items
-        → All (λ part. IsPlaced part.content) parts.new.items) }
-{
-    match content {
-        None => Ok(()),
-        Some(content) => {
-            parts.push(Measurable { name, content })?;
-            Ok(())
-        }
-    }
-}
-
 // The measured sections of the image, in the order in which they are measured.
 fn measured_parts<'a>(
     alloc: Global,
@@ -105,8 +83,7 @@ fn measured_parts<'a>(
     ensures placed { IfOk result (λ parts. All (λ part. IsPlaced part.content) parts.items) }
 {
     let mut parts = Vec::new(alloc);
-    for index in 0..MEASURED_COUNT {
-        let name = measured_name(index);
+    for name in measured_names() {
         push_part(&mut parts, name, section_content(plan, name))?;
     }
     Ok(parts)
@@ -121,7 +98,7 @@ fn registers<M: Machine>(
 ) -> Result<Vec<Pcr>, Unsaid>
     ensures banks { IfOk result (λ registers. map pcr_bank registers.items ≡ banks.now) }
     ensures says { IsTrue M.tells → IsPlannedOn (seen (M.state machine.old)) plan.now → Says (λ registers. map shown registers.items) result
-        (Ok (starts_of (measured_list (planned_image plan.now.image.plan plan.now.image.sources (seen (M.state machine.old)))) banks.now)) }
+        (Ok (map (folded (measured_list (planned_image plan.now.image.plan plan.now.image.sources (seen (M.state machine.old))))) banks.now)) }
     ensures reads { IsTrue M.tells → OnlyReads M.clock M.since M.state machine.old machine.new }
     ensures counts { CountsUnsaid result (M.counts machine.old) (M.counts machine.new) }
 {

@@ -295,6 +295,7 @@ fn parts_of(
     append_file(alloc, PartKind::Splash, &words.splash, &mut parts)?;
     append_file(alloc, PartKind::Pcrpkey, &words.pcrpkey, &mut parts)?;
     append_initrds(alloc, words.initrds.as_slice(), &mut parts)?;
+    append_file(alloc, PartKind::Ucode, &words.ucode, &mut parts)?;
     append_sections(alloc, sections, &mut parts)?;
     Ok(parts)
 }

@@ -2,6 +2,7 @@ pub mod GivenParts
 pub mod Measuring
 pub mod Ordered
 pub mod Predicting
+pub mod Pushed
 pub mod Ranges
 pub mod Sections
 pub mod Shown

@@ -1,5 +1,6 @@
 -- What is measured of parts.
-use Rattle.std.specs.Prelude.{ℕ, ◌+◌, ◌^◌, ◌<◌, ◌≤◌, List, drop, length, sum_by}
+use Rattle.std.specs.Prelude.{ℕ, ◌+◌, ◌^◌, ◌<◌, ◌≤◌, List, [], ◌∷◌, Option, Some, None, drop, length, sum_by}
+use Rattle.std.specs.Borrow.{Bor}
 use Rattle.std.specs.List.{All, flat_map}
 use Rattle.pe_reader.specs.Loaded.{bytes_in}
 use Rattle.uki_parts.specs.declared.piece.Piece.{Piece}
@@ -21,6 +22,16 @@ abbrev pub content_length : Content → ℕ
 content_length (contents.Pieces pieces) = total_length pieces.now
 content_length (contents.Bytes bytes) = length bytes.now
 content_length (contents.Loaded path range) = range.length + range.zeros
+
+-- the bytes of a content, none where it isn't given
+abbrev pub content_or : Reading → Option Content → List ℕ
+content_or files None = []
+content_or files (Some content) = content_bytes files content
+
+-- the part of a name, if its content is given
+abbrev pub given_part : Bor (List ℕ) → Option Content → List Measurable
+given_part name None = []
+given_part name (Some content) = record { name = name; content = content } ∷ []
 
 -- a loaded range is one that a section of 32-bit numbers says
 abbrev pub IsPlaced : Content → Type 0

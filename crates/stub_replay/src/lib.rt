@@ -24,6 +24,6 @@ pub use laws::{
     image_shows_its_parts, prediction_is_replay, prediction_of_ordered_parts,
     prediction_of_parts_is_replay,
 };
-pub use measurable::{Content, Measurable};
+pub use measurable::{Content, Measurable, push_part};
 pub use measured::{after_name, measured_names};
 pub use prediction::predict;

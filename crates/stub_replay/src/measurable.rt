@@ -1,9 +1,10 @@
 //! A part that is to be measured.
-ghost use Rattle.std.specs.Prelude.{◌≡◌, ◌-◌, ◌^◌, length, min};
-ghost use Rattle.stub_replay.specs.Parts.{IsPlaced, content_length};
+ghost use Rattle.std.specs.Prelude.{◌≡◌, ◌-◌, ◌^◌, ◌++◌, OnErr, OnOk, length, min};
+ghost use Rattle.stub_replay.specs.Parts.{IsPlaced, content_length, given_part};
 
 use boot_base::BootPath;
 use pe_reader::LoadedRange;
+use std::alloc::AllocError;
 use uki_parts::{Piece, pieces_length};
 
 /// Where the bytes of a part come from.
@@ -27,6 +28,28 @@ pub struct Measurable<'a> {
     pub name: &'a [u8],
     /// Its bytes.
     pub content: Content<'a>,
+}
+
+/// Puts the part of that name behind the others, where its content is given.
+///
+/// # Errors
+///
+/// Only where there is no memory for it; then the parts are as before.
+pub fn push_part<'a>(
+    parts: &mut Vec<Measurable<'a>>,
+    name: &'a [u8],
+    content: Option<Content<'a>>,
+) -> Result<(), AllocError>
+    ensures ok { OnOk result (parts.new.items ≡ parts.old.items ++ given_part name.entry content.entry) }
+    ensures err { OnErr result (parts.new.items ≡ parts.old.items) }
+{
+    match content {
+        None => Ok(()),
+        Some(content) => {
+            parts.push(Measurable { name, content })?;
+            Ok(())
+        }
+    }
 }
 
 /// How many bytes the content has, or the greatest u64 where they are more. It takes no memory.

@@ -3,14 +3,14 @@ use Rattle.std.specs.List.{flat_map}
 use Rattle.std.specs.Prelude.{All}
 use Rattle.boot_machine.specs.Disk.{Files}
 use Rattle.boot_machine.specs.Rows.{contents}
-use Rattle.pcr_prediction.specs.Parts.{HaveSizes, IsPlaced, items_of, named_bytes}
+use Rattle.stub_replay.specs.Parts.{HaveSizes, IsPlaced, items_of, named_bytes}
 use Rattle.stub_replay.specs.Measured.{measured_names, section_items}
 use Rattle.image_build.specs.Planning.{IsPlannedOn, section_bytes}
 use Rattle.image_build.proofs.build_values.measured_parts.Given as goal
 
-abbrev pub invariant-loop-index : goal.invariant-loop-index
-invariant-loop-index l = record {
-  items : (view : Files) (on : IsPlannedOn view l.plan) → items_of (map (named_bytes (contents view)) l.parts.items) ≡ flat_map (λ name. section_items name (section_bytes view l.plan on.own.in_place name)) (take l.index measured_names);
+abbrev pub invariant-loop-name : goal.invariant-loop-name
+invariant-loop-name l = record {
+  items : (view : Files) (on : IsPlannedOn view l.plan) → items_of (map (named_bytes (contents view)) l.parts.items) ≡ flat_map (λ name. section_items name (section_bytes view l.plan on.own.in_place name)) (take l.name-index measured_names);
   whole : (view : Files) → IsPlannedOn view l.plan → HaveSizes (contents view) l.parts.items;
   placed : All (λ part. IsPlaced part.content) l.parts.items;
 }

@@ -1,10 +1,10 @@
-use Rattle.std.proofs.Common.{List, ap, map, subst, sym, ◌∙◌}
+use Rattle.std.proofs.Common.{ap, map, subst, sym, ◌∙◌}
 use Rattle.boot_machine.proofs.Reading.{reads_none}
 use Rattle.boot_machine.specs.Sent.{seen}
-use Rattle.boot_phases.specs.Lines.{HasDistinctBanks, result_text, shown}
-use Rattle.command_reads.proofs.Registers.{distinct_registers}
+use Rattle.boot_phases.specs.Lines.{HasDistinctBanks}
+use Rattle.boot_phases.proofs.Distinct.{distinct_registers}
+use Rattle.pcr_fold.specs.Values.{shown}
 use Rattle.image_writer.specs.Sourced.{planned_image}
-use Rattle.pcr_fold.specs.declared.pcr.Pcr.{Pcr}
 use Rattle.image_build.proofs.Values.{values_said}
 use Rattle.image_build.proofs.build_values.planned_values.Goals as goal
 
@@ -23,6 +23,7 @@ pub returns-clause-says : goal.returns-clause-says
 returns-clause-says g c told on =
     let view = seen (g.M.Machine.state c.args.machine.now) in
     let plan = c.args.plan.now in
-    values_said (planned_image plan.image.plan plan.image.sources view) (map shown c.in_ok-registers.registers.items) c.deref.result.now c.deref-3.result.now c.in_ok-result_lines.field-0.items
+    let starts = c.in_ok-registers.registers.items in
+    values_said (planned_image plan.image.plan plan.image.sources view) starts c.deref.result.now c.deref-3.result.now c.in_ok-result_lines.field-0.items
     (c.in_ok-registers.ensures.says told on) (c.deref.ensures.value ∙ c.in_ok-banks.ensures.value) (c.deref-3.ensures.value ∙ c.in_ok-paths.ensures.value)
-    (c.in_ok-result_lines.ensures ∙ ap (λ (l : List Pcr). result_text (map shown l) c.deref-3.result.now) c.deref-2.ensures.value)
+    (λ items bs are. c.in_ok-result_lines.ensures items bs (ap (map shown) c.deref-2.ensures.value ∙ are))

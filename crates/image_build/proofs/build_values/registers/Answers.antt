@@ -2,9 +2,9 @@ use Rattle.std.proofs.Common.{map, subst, sym}
 use Rattle.boot_machine.proofs.Reading.{reads_none}
 use Rattle.boot_machine.specs.Rows.{contents}
 use Rattle.boot_machine.specs.Sent.{seen}
-use Rattle.boot_phases.specs.Lines.{shown}
+use Rattle.pcr_fold.specs.Values.{shown}
 use Rattle.image_writer.specs.Sourced.{planned_image}
-use Rattle.pcr_prediction.specs.Parts.{HaveSizes}
+use Rattle.stub_replay.specs.Parts.{HaveSizes}
 use Rattle.stub_replay.specs.Measured.{measured_list}
 use Rattle.image_build.proofs.Values.{registers_are}
 use Rattle.image_build.proofs.build_values.registers.Goals as goal

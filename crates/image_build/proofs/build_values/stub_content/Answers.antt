@@ -1,5 +1,5 @@
 use Rattle.std.proofs.Common.{sym, subst, ◌∙◌, Option}
-use Rattle.pcr_prediction.specs.declared.measurable.Content.{Content}
+use Rattle.stub_replay.specs.declared.measurable.Content.{Content}
 use Rattle.pe_reader.specs.Loaded.{loaded}
 use Rattle.pe_reader.specs.Reads.{headers_of}
 use Rattle.image_build.specs.Planning.{IsContent}

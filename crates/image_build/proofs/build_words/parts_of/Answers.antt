@@ -15,7 +15,8 @@ returns-in_err-append_given c =
     (with_more_declined declined _ _ _
     (with_more_declined declined _ _ _
     (with_more_declined declined _ _ _
-    (with_more_declined declined _ _ _ (c.in_err-append_given.ensures (codes ".osrel") refl)))))))))
+    (with_more_declined declined _ _ _
+    (with_more_declined declined _ _ _ (c.in_err-append_given.ensures (codes ".osrel") refl))))))))))
 
 pub returns-in_err-append_cmdline : goal.returns-in_err-append_cmdline
 returns-in_err-append_cmdline c =
@@ -29,7 +30,8 @@ returns-in_err-append_cmdline c =
     (with_more_declined declined _ _ _
     (with_more_declined declined _ _ _
     (with_more_declined declined _ _ _
-    (after_more_declined declined _ _ _ _ osrel c.in_err-append_cmdline.ensures))))))))
+    (with_more_declined declined _ _ _
+    (after_more_declined declined _ _ _ _ osrel c.in_err-append_cmdline.ensures)))))))))
 
 pub returns-in_err-append_file : goal.returns-in_err-append_file
 returns-in_err-append_file c =
@@ -43,7 +45,8 @@ returns-in_err-append_file c =
     (with_more_declined declined _ _ _
     (with_more_declined declined _ _ _
     (with_more_declined declined _ _ _
-    (after_more_declined declined _ _ _ _ cmdline (c.in_err-append_file.ensures (codes ".dtb") refl))))))))
+    (with_more_declined declined _ _ _
+    (after_more_declined declined _ _ _ _ cmdline (c.in_err-append_file.ensures (codes ".dtb") refl)))))))))
 
 pub returns-in_err-append_uname : goal.returns-in_err-append_uname
 returns-in_err-append_uname c =
@@ -57,7 +60,8 @@ returns-in_err-append_uname c =
     (with_more_declined declined _ _ _
     (with_more_declined declined _ _ _
     (with_more_declined declined _ _ _
-    (after_more_declined declined _ _ _ _ dtb c.in_err-append_uname.ensures))))))
+    (with_more_declined declined _ _ _
+    (after_more_declined declined _ _ _ _ dtb c.in_err-append_uname.ensures)))))))
 
 pub returns-in_err-append_file-2 : goal.returns-in_err-append_file-2
 returns-in_err-append_file-2 c =
@@ -71,7 +75,8 @@ returns-in_err-append_file-2 c =
     (with_more_declined declined _ _ _
     (with_more_declined declined _ _ _
     (with_more_declined declined _ _ _
-    (after_more_declined declined _ _ _ _ uname (c.in_err-append_file-2.ensures (codes ".splash") refl))))))
+    (with_more_declined declined _ _ _
+    (after_more_declined declined _ _ _ _ uname (c.in_err-append_file-2.ensures (codes ".splash") refl)))))))
 
 pub returns-in_err-append_file-3 : goal.returns-in_err-append_file-3
 returns-in_err-append_file-3 c =
@@ -85,7 +90,8 @@ returns-in_err-append_file-3 c =
     (all_declined declined _ (wanted_parts c.args.words.now c.args.sections.now) (ap (map part_named) c.new-parts.ensures.items)
     (with_more_declined declined _ _ _
     (with_more_declined declined _ _ _
-    (after_more_declined declined _ _ _ _ splash (c.in_err-append_file-3.ensures (codes ".pcrpkey") refl)))))
+    (with_more_declined declined _ _ _
+    (after_more_declined declined _ _ _ _ splash (c.in_err-append_file-3.ensures (codes ".pcrpkey") refl))))))
 
 pub returns-in_err-append_initrds : goal.returns-in_err-append_initrds
 returns-in_err-append_initrds c =
@@ -99,7 +105,23 @@ returns-in_err-append_initrds c =
     means_declined _ declined _ _ c.from_residual-in_err-append_initrds.ensures.0 c.from_residual-in_err-append_initrds.ensures.1
     (all_declined declined _ (wanted_parts c.args.words.now c.args.sections.now) (ap (map part_named) c.new-parts.ensures.items)
     (with_more_declined declined _ _ _
-    (after_more_declined declined _ _ _ _ pcrpkey (rw c.as_slice.ensures at c.in_err-append_initrds.ensures))))
+    (with_more_declined declined _ _ _
+    (after_more_declined declined _ _ _ _ pcrpkey (rw c.as_slice.ensures at c.in_err-append_initrds.ensures)))))
+
+pub returns-in_err-append_file-4 : goal.returns-in_err-append_file-4
+returns-in_err-append_file-4 c =
+    let declined = c.in_err-append_file-4.field-0.0 in
+    let osrel = c.in_ok-append_given.ensures (codes ".osrel") refl in
+    let cmdline = done_more _ _ _ _ _ osrel c.in_ok-append_cmdline.ensures in
+    let dtb = done_more _ _ _ _ _ cmdline (c.in_ok-append_file.ensures (codes ".dtb") refl) in
+    let uname = done_more _ _ _ _ _ dtb c.in_ok-append_uname.ensures in
+    let splash = done_more _ _ _ _ _ uname (c.in_ok-append_file-2.ensures (codes ".splash") refl) in
+    let pcrpkey = done_more _ _ _ _ _ splash (c.in_ok-append_file-3.ensures (codes ".pcrpkey") refl) in
+    let initrds = done_more _ _ _ _ _ pcrpkey (rw c.as_slice.ensures at c.in_ok-append_initrds.ensures) in
+    means_declined _ declined _ _ c.from_residual-in_err-append_file-4.ensures.0 c.from_residual-in_err-append_file-4.ensures.1
+    (all_declined declined _ (wanted_parts c.args.words.now c.args.sections.now) (ap (map part_named) c.new-parts.ensures.items)
+    (with_more_declined declined _ _ _
+    (after_more_declined declined _ _ _ _ initrds (c.in_err-append_file-4.ensures (codes ".ucode") refl))))
 
 pub returns-in_err-append_sections : goal.returns-in_err-append_sections
 returns-in_err-append_sections c =
@@ -111,9 +133,10 @@ returns-in_err-append_sections c =
     let splash = done_more _ _ _ _ _ uname (c.in_ok-append_file-2.ensures (codes ".splash") refl) in
     let pcrpkey = done_more _ _ _ _ _ splash (c.in_ok-append_file-3.ensures (codes ".pcrpkey") refl) in
     let initrds = done_more _ _ _ _ _ pcrpkey (rw c.as_slice.ensures at c.in_ok-append_initrds.ensures) in
+    let ucode = done_more _ _ _ _ _ initrds (c.in_ok-append_file-4.ensures (codes ".ucode") refl) in
     means_declined _ declined _ _ c.from_residual-in_err-append_sections.ensures.0 c.from_residual-in_err-append_sections.ensures.1
     (all_declined declined _ (wanted_parts c.args.words.now c.args.sections.now) (ap (map part_named) c.new-parts.ensures.items)
-    (after_more_declined declined _ _ _ _ initrds c.in_err-append_sections.ensures))
+    (after_more_declined declined _ _ _ _ ucode c.in_err-append_sections.ensures))
 
 pub returns : goal.returns
 returns c =
@@ -124,5 +147,6 @@ returns c =
     let splash = done_more _ _ _ _ _ uname (c.in_ok-append_file-2.ensures (codes ".splash") refl) in
     let pcrpkey = done_more _ _ _ _ _ splash (c.in_ok-append_file-3.ensures (codes ".pcrpkey") refl) in
     let initrds = done_more _ _ _ _ _ pcrpkey (rw c.as_slice.ensures at c.in_ok-append_initrds.ensures) in
-    let sections = done_more _ _ _ _ _ initrds c.in_ok-append_sections.ensures in
+    let ucode = done_more _ _ _ _ _ initrds (c.in_ok-append_file-4.ensures (codes ".ucode") refl) in
+    let sections = done_more _ _ _ _ _ ucode c.in_ok-append_sections.ensures in
     all_found _ _ (wanted_parts c.args.words.now c.args.sections.now) (ap (map part_named) c.new-parts.ensures.items) sections
