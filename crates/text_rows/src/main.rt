@@ -17,6 +17,10 @@
 //! - `lines TEXT`: the lines of a text of settings, each before a `;`.
 //! - `values KEY,..|TEXT`, `release TEXT`: values of an os-release text by their keys; its title, version and sort key.
 //! - `entry TEXT`: what an entry file says.
+//! - `matches PATTERN|TEXT`, `pattern BYTES`: whether a pattern matches a text, and whether bytes are a pattern.
+//! - `value KEY|VALUE`, `settings TEXT`, `change KEY|VALUE|TEXT`: whether a value may be written for a key of loader.conf,
+//!   what such a text says, and the text with another value. The keys are `default` and `timeout`.
+//! - `chosen TEXT|IDS`: the place, counted from 0, of the id that a text of loader.conf chooses; newlines part the ids.
 //! - `split LINE`, `words LINE`: the words of a line, parted by `|`, and the command that they mean or the usage line.
 //!
 //! The arguments are written in the notation of `notation`, and so is what is told. Lines that begin with `#` are
@@ -25,6 +29,7 @@
 
 mod counters;
 mod fault;
+mod loader;
 mod notation;
 mod paths;
 mod refusals;

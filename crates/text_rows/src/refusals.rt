@@ -17,6 +17,7 @@ fn refusal_of_text(kind: &str, text: Text) -> Result<Refusal, RowFault> {
         "NoCounter" => Ok(Refusal::NoCounter { path: text }),
         "NoSource" => Ok(Refusal::NoSource { path: text }),
         "BadNumber" => Ok(Refusal::BadNumber { text }),
+        "BadPattern" => Ok(Refusal::BadPattern { text }),
         _ => Err(RowFault::Unclear),
     }
 }

@@ -7,8 +7,12 @@ use os_release::OsRelease;
 use std::alloc::{AllocError, Global};
 use text_lines::TextLines;
 
-// Adds a name and its value, if it has one, before a `;`.
-fn add_value(told: &mut Vec<u8>, name: &str, value: Option<&[u8]>) -> Result<(), AllocError> {
+/// Adds a name and its value, if it has one, before a `;`.
+pub(crate) fn add_value(
+    told: &mut Vec<u8>,
+    name: &str,
+    value: Option<&[u8]>,
+) -> Result<(), AllocError> {
     told.extend_from_slice(name.as_bytes())?;
     match value {
         Some(value) => {

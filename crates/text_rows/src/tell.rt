@@ -1,6 +1,7 @@
 //! The rows, and what the calls answer.
 use crate::counters::{bad_name, booted, choices, counter, good_name, joined};
 use crate::fault::RowFault;
+use crate::loader::{change, choice, matched, pattern, settings, value};
 use crate::notation::written;
 use crate::paths::{
     file_name, intent, leftover, name, named, path, printed_path, sibling, target, under,
@@ -48,6 +49,19 @@ fn told_text(alloc: Global, row: &Row<'_>) -> Result<String, RowFault> {
     }
 }
 
+// What a call on patterns and loader.conf answers.
+fn told_of_loader(alloc: Global, row: &Row<'_>) -> Result<Vec<u8>, RowFault> {
+    match row.call {
+        "matches" => matched(alloc, row),
+        "pattern" => pattern(alloc, row),
+        "value" => value(alloc, row),
+        "settings" => settings(alloc, row),
+        "change" => change(alloc, row),
+        "chosen" => choice(alloc, row),
+        _ => Ok(told_text(alloc, row)?.into_bytes()),
+    }
+}
+
 fn told(alloc: Global, line: &str) -> Result<Vec<u8>, RowFault> {
     let row = Row::read(alloc, line)?;
     match row.call {
@@ -55,7 +69,7 @@ fn told(alloc: Global, line: &str) -> Result<Vec<u8>, RowFault> {
         "values" => values(alloc, &row),
         "release" => release(alloc, &row),
         "entry" => entry(alloc, &row),
-        _ => Ok(told_text(alloc, &row)?.into_bytes()),
+        _ => told_of_loader(alloc, &row),
     }
 }
 

@@ -1,0 +1,3 @@
+mod Menus
+mod Limits
+mod Told

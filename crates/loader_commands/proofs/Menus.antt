@@ -1,0 +1,41 @@
+-- What a scan of two folders comes to.
+use Rattle.std.proofs.Common.{◌≡◌, ◌≤◌, ◌<◌, arith, ℕ, List, true, false, Result, Ok, Err, ap, refl, sym}
+use Rattle.std.specs.Prelude.{nat_lt}
+use Rattle.std.proofs.lemmas.Bool.Decides.{nat_tests}
+use Rattle.boot_base.specs.declared.refusal.Refusal.TheVariants as refusals
+use Rattle.boot_machine.specs.Disk.{Files, view}
+use Rattle.menu_order.specs.declared.item.MenuItem.{MenuItem}
+use Rattle.boot_folder.specs.Entries.{boot_menu, entry_count}
+use Rattle.boot_folder.specs.Scanning.{fault_many}
+use Rattle.boot_folder.specs.declared.fault.ScanFault.{ScanFault}
+use Rattle.boot_folder.specs.declared.fault.ScanFault.TheVariants as scans
+use Rattle.boot_folder.specs.declared.folders.Folders.{Folders}
+use Rattle.boot_folder.proofs.EntryFiles.{view_count}
+use Rattle.command_reads.specs.Saying.{UnsaidFor}
+use Rattle.loader_commands.specs.Places.{loader_menu, menu_unsaid}
+
+not_many : (n : ℕ) → n ≤ 4096 → nat_lt 4096 n ≡ false
+not_many n few = grind (arith, nat_tests)
+
+are_many : (n : ℕ) → 4096 < n → nat_lt 4096 n ≡ true
+are_many n many = grind (arith, nat_tests)
+
+-- few files have a menu
+pub few_said : (files : Files) (folders : Folders) (menu : List MenuItem) → entry_count files folders ≤ 4096
+    → menu ≡ boot_menu (view files) folders → loader_menu (view files) folders ≡ Ok menu
+few_said files folders menu few is =
+    rw (view_count files folders, not_many (entry_count files folders) few) (ap (λ (m : List MenuItem). Ok m) (sym is))
+
+-- too many are refused
+pub many_said : (files : Files) (folders : Folders) (count : ℕ) → 4096 < count → entry_count files folders ≡ count
+    → loader_menu (view files) folders ≡ Err (refusals.TooMany count)
+many_said files folders count many is = rw (view_count files folders, is, are_many count many) refl
+
+-- what a fault of the scan is told as
+pub unsaid_menu : (Told : Type 0) (files : Files) (folders : Folders) (fault : ScanFault) → Told
+    → fault_many fault (λ count. (4096 < count) × (Told → entry_count files folders ≡ count))
+    → UnsaidFor (menu_unsaid fault) (loader_menu (view files) folders)
+unsaid_menu Told files folders scans.Memory told many = tt
+unsaid_menu Told files folders scans.Disk told many = tt
+unsaid_menu Told files folders scans.LongEsp told many = tt
+unsaid_menu Told files folders (scans.TooMany count) told many = many_said files folders count many.0 (many.1 told)

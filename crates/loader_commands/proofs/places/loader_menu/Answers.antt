@@ -1,0 +1,16 @@
+use Rattle.std.proofs.Common.{sym, subst}
+use Rattle.boot_machine.specs.Sent.{seen}
+use Rattle.command_reads.specs.Saying.{UnsaidFor}
+use Rattle.loader_commands.specs.Places.{loader_menu}
+use Rattle.loader_commands.proofs.Menus.{few_said, unsaid_menu}
+use Rattle.loader_commands.proofs.places.loader_menu.Goals as goal
+
+pub returns-in-Ok-clause-says : goal.returns-in-Ok-clause-says
+returns-in-Ok-clause-says g c told =
+    let files = (g.M.Machine.state c.args.machine.now).files in
+    few_said files c.args.folders.now c.in-Ok.menu.items (c.in-Ok.ensures.few told) (c.in-Ok.ensures.value told)
+
+pub returns-in-Err-clause-says : goal.returns-in-Err-clause-says
+returns-in-Err-clause-says g c told =
+    let s = g.M.Machine.state c.args.machine.now in
+    subst (λ fault. UnsaidFor fault (loader_menu (seen s) c.args.folders.now)) (sym c.menu_unsaid.ensures) (unsaid_menu _ s.files c.args.folders.now c.in-Err.fault told c.in-Err.ensures.many)

@@ -1,0 +1,6 @@
+use Rattle.boot_machine.proofs.Reading.{reads_none}
+use Rattle.loader_commands.proofs.show.shown.Goals as goal
+
+pub returns-in_err-paths-clause-reads : goal.returns-in_err-paths-clause-reads
+returns-in_err-paths-clause-reads g c told =
+    reads_none g.M.Machine.clock g.M.Machine.since g.M.Machine.state c.args.machine.now (λ m o left. g.met.M.Machine.only_now c.args.machine.now m o told left)

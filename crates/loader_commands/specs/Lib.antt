@@ -1,0 +1,4 @@
+pub mod Places
+pub mod Showing
+pub mod Setting
+pub mod Laws

@@ -1,0 +1,49 @@
+-- `loader show`: the entry that boots by default, where it stands, and how long the menu waits (loader.conf(5)).
+use Rattle.std.specs.Prelude.{ℕ, List, ◌++◌, codes, map, slice_get, Option, Some, None, option_and_then, Result, Ok, Err}
+use Rattle.boot_base.specs.declared.refusal.Refusal.{Refusal}
+use Rattle.boot_base.specs.declared.refusal.Refusal.TheVariants as refusals
+use Rattle.boot_counter.specs.Counter.{suffix_text}
+use Rattle.boot_machine.specs.Disk.{Files}
+use Rattle.command_plans.specs.Answers.{Answer, said}
+use Rattle.command_reads.specs.Refusing.{◌>>=◌, printed_path}
+use Rattle.loader_commands.specs.Places.{conf_bytes, loader_menu, loader_paths}
+use Rattle.loader_conf.specs.Choice.{default_place}
+use Rattle.loader_conf.specs.Conf.{conf_default, conf_timeout}
+use Rattle.menu_order.specs.declared.item.MenuItem.{MenuItem}
+
+-- the id of an entry: the name of its file without the counter (UAPI Boot Loader Specification)
+abbrev pub entry_id : MenuItem → List ℕ
+entry_id item = item.base ++ suffix_text item.suffix
+
+-- the entry of the menu that a default chooses; nothing where the menu is empty
+abbrev pub default_item : Option (List ℕ) → List MenuItem → Option MenuItem
+default_item default menu = option_and_then (slice_get menu) (default_place default (map entry_id menu))
+
+abbrev pub timeout_or_none : Option (List ℕ) → List ℕ
+timeout_or_none None = codes "none"
+timeout_or_none (Some timeout) = timeout
+
+-- what is told of the default entry
+abbrev pub show_text : MenuItem → Option (List ℕ) → List ℕ
+show_text item timeout =
+    codes "chosen " ++ (entry_id item
+    ++ (codes "\nsource " ++ (printed_path item.path
+    ++ (codes "\ntimeout " ++ (timeout_or_none timeout ++ codes "\n")))))
+
+abbrev pub shown_or_empty : Option (List ℕ) → Option MenuItem → Result (List ℕ) Refusal
+shown_or_empty timeout None = Err refusals.NoEntries
+shown_or_empty timeout (Some item) = Ok (show_text item timeout)
+
+-- what is told of a menu by the bytes of a loader.conf
+abbrev pub menu_shown : List ℕ → List MenuItem → Result (List ℕ) Refusal
+menu_shown bytes menu = shown_or_empty (conf_timeout bytes) (default_item (conf_default bytes) menu)
+
+-- what is told of an ESP by its word
+abbrev pub show_said : Files → List ℕ → Result (List ℕ) Refusal
+show_said view word =
+    loader_paths word >>= λ paths.
+    conf_bytes view paths.conf >>= λ bytes.
+    loader_menu view paths.folders >>= menu_shown bytes
+
+abbrev pub show_answer : Files → List ℕ → Answer
+show_answer view word = said view (show_said view word)

@@ -1,0 +1,162 @@
+//! `loader set-default` and `loader set-timeout`.
+ghost use Rattle.std.specs.Prelude.{◌≡◌, IfOk, IsTrue, OnOk};
+ghost use Rattle.boot_base.specs.Paths.{IsFree};
+ghost use Rattle.boot_machine.specs.Counts.{Counts};
+ghost use Rattle.boot_machine.specs.Reading.{OnlyReads};
+ghost use Rattle.boot_machine.specs.Sent.{seen};
+ghost use Rattle.command_reads.specs.Refusing.{Means};
+ghost use Rattle.command_reads.specs.Saying.{CountsUnsaid, Says};
+ghost use Rattle.loader_commands.specs.Places.{within_limit};
+ghost use Rattle.loader_commands.specs.Setting.{bad_value, conf_set, set_text, text_set, value_in};
+ghost use Rattle.loader_conf.specs.Conf.{IsConfValue, conf_key_name};
+ghost use Rattle.loader_conf.specs.FileLines.{text_with_value};
+ghost use Rattle.loader_conf.specs.declared.change.ConfKey.TheVariants as keys;
+
+use crate::places::{CONF_LIMIT, conf_bytes, conf_path, too_long};
+use boot_base::{BootPath, Bytes, Refusal, Target, Text};
+use boot_machine::Machine;
+use command_reads::{Declined, Unsaid};
+use loader_conf::{ConfKey, may_be_value, with_key};
+use std::alloc::{AllocError, Global};
+
+/// A change of a loader.conf: where it is written, its whole new text, and what is told of it.
+#[derive(Debug, Drop)]
+pub struct ConfChange {
+    pub target: Target,
+    pub bytes: Bytes,
+    pub text: Bytes,
+}
+
+fn bad_value(alloc: Global, key: ConfKey, word: &str) -> Result<Refusal, AllocError>
+    ensures { IfOk result (λ why. why ≡ bad_value key word.now) }
+{
+    let text = Text::of(alloc, word)?;
+    match key {
+        ConfKey::Default => Ok(Refusal::BadPattern { text }),
+        ConfKey::Timeout => Ok(Refusal::BadNumber { text }),
+    }
+}
+
+// The word may be written for the key, or the refusal of the word.
+fn check_value(alloc: Global, key: ConfKey, word: &str) -> Result<(), Declined>
+    ensures means { Means (λ _. word.now) result (value_in key word.now) }
+    ensures fits { OnOk result (IsConfValue key word.now) }
+{
+    if !may_be_value(key, word.as_bytes()) {
+        return Err(Declined::Refused(bad_value(alloc, key, word)?));
+    }
+    Ok(())
+}
+
+// The text, unless it is too long for the loader.conf at the path.
+fn within_limit(alloc: Global, path: &BootPath, text: Vec<u8>) -> Result<Vec<u8>, Unsaid>
+    ensures says { Says (λ text. text.items) result (within_limit path.now text.items) }
+    ensures counts { (counts : Counts) → CountsUnsaid result counts counts }
+{
+    let size = text.len() as u64;
+    if size > CONF_LIMIT {
+        return Err(Unsaid::Refused(too_long(alloc, path, size)?));
+    }
+    Ok(text)
+}
+
+// The text of the loader.conf at a path with the key's value.
+fn text_set<M: Machine>(
+    alloc: Global,
+    key: ConfKey,
+    value: &str,
+    path: &BootPath,
+    machine: &mut M,
+) -> Result<Vec<u8>, Unsaid>
+    requires { IsConfValue key value.now }
+    ensures says { IsTrue M.tells
+        → Says (λ text. text.items) result (text_set (seen (M.state machine.old)) key value.now path.now) }
+    ensures reads { IsTrue M.tells → OnlyReads M.clock M.since M.state machine.old machine.new }
+    ensures counts { CountsUnsaid result (M.counts machine.old) (M.counts machine.new) }
+{
+    let bytes = conf_bytes(alloc, path, machine)?;
+    let text = with_key(alloc, &bytes, key, value.as_bytes())?;
+    within_limit(alloc, path, text)
+}
+
+// What is told of the change.
+fn set_text(alloc: Global, key: ConfKey, value: &str) -> Result<Bytes, AllocError>
+    ensures { IfOk result (λ text. text ≡ set_text key value.now) }
+{
+    let key = key.name();
+    let text = format!(in alloc; "{key} {value}\n")?;
+    Ok(Bytes::from(text.into_bytes()))
+}
+
+fn change_of(
+    alloc: Global,
+    key: ConfKey,
+    value: &str,
+    path: BootPath,
+    bytes: Vec<u8>,
+) -> Result<ConfChange, AllocError>
+    ensures path { IfOk result (λ change. change.target.path ≡ path) }
+    ensures bytes { IfOk result (λ change. change.bytes ≡ bytes.items) }
+    ensures text { IfOk result (λ change. change.text ≡ set_text key value.now) }
+{
+    Ok(ConfChange {
+        text: set_text(alloc, key, value)?,
+        target: Target::of(alloc, path)?,
+        bytes: Bytes::from(bytes),
+    })
+}
+
+// The change that gives the key of the partition's loader.conf the value.
+fn conf_set<M: Machine>(
+    alloc: Global,
+    key: ConfKey,
+    value: &str,
+    esp: &str,
+    machine: &mut M,
+) -> Result<ConfChange, Unsaid>
+    ensures says { IsTrue M.tells → Says (λ change. (change.target.path, change.bytes)) result
+        (conf_set (seen (M.state machine.old)) key value.now esp.now) }
+    ensures free { IfOk result (λ change. IsFree change.target.path) }
+    ensures text { IfOk result (λ change. change.text ≡ set_text key value.now) }
+    ensures reads { IsTrue M.tells → OnlyReads M.clock M.since M.state machine.old machine.new }
+    ensures counts { CountsUnsaid result (M.counts machine.old) (M.counts machine.new) }
+{
+    check_value(alloc, key, value)?;
+    let path = conf_path(alloc, esp)?;
+    let bytes = text_set(alloc, key, value, &path, machine)?;
+    Ok(change_of(alloc, key, value, path, bytes)?)
+}
+
+/// The change that sets the pattern of the default entry in the loader.conf of an EFI system partition.
+pub fn set_default<M: Machine>(
+    alloc: Global,
+    pattern: &str,
+    esp: &str,
+    machine: &mut M,
+) -> Result<ConfChange, Unsaid>
+    ensures says { IsTrue M.tells → Says (λ change. (change.target.path, change.bytes)) result
+        (conf_set (seen (M.state machine.old)) keys.Default pattern.now esp.now) }
+    ensures free { IfOk result (λ change. IsFree change.target.path) }
+    ensures text { IfOk result (λ change. change.text ≡ set_text keys.Default pattern.now) }
+    ensures reads { IsTrue M.tells → OnlyReads M.clock M.since M.state machine.old machine.new }
+    ensures counts { CountsUnsaid result (M.counts machine.old) (M.counts machine.new) }
+{
+    conf_set(alloc, ConfKey::Default, pattern, esp, machine)
+}
+
+/// The change that sets how long the menu waits in the loader.conf of an EFI system partition.
+pub fn set_timeout<M: Machine>(
+    alloc: Global,
+    value: &str,
+    esp: &str,
+    machine: &mut M,
+) -> Result<ConfChange, Unsaid>
+    ensures says { IsTrue M.tells → Says (λ change. (change.target.path, change.bytes)) result
+        (conf_set (seen (M.state machine.old)) keys.Timeout value.now esp.now) }
+    ensures free { IfOk result (λ change. IsFree change.target.path) }
+    ensures text { IfOk result (λ change. change.text ≡ set_text keys.Timeout value.now) }
+    ensures reads { IsTrue M.tells → OnlyReads M.clock M.since M.state machine.old machine.new }
+    ensures counts { CountsUnsaid result (M.counts machine.old) (M.counts machine.new) }
+{
+    conf_set(alloc, ConfKey::Timeout, value, esp, machine)
+}

@@ -1,0 +1,114 @@
+//! `loader show`.
+ghost use Rattle.std.specs.Prelude.{◌≡◌, IfOk, IsTrue, map, option_copied};
+ghost use Rattle.boot_machine.specs.Counts.{Counts};
+ghost use Rattle.boot_machine.specs.Reading.{OnlyReads};
+ghost use Rattle.boot_machine.specs.Sent.{seen};
+ghost use Rattle.command_plans.specs.Performs.{CountsStop};
+ghost use Rattle.command_plans.specs.Plans.{IsMakeable, Plans};
+ghost use Rattle.command_reads.specs.Saying.{CountsUnsaid, Says};
+ghost use Rattle.loader_commands.specs.Showing.{entry_id, default_item, menu_shown, show_answer, show_said, show_text, timeout_or_none};
+ghost use Rattle.loader_conf.specs.Conf.{conf_of};
+
+use crate::places::{conf_bytes, loader_menu, loader_paths};
+use boot_base::{Bytes, BytesList, Refusal};
+use boot_machine::Machine;
+use command_plans::{Plan, Stop, said};
+use command_reads::Unsaid;
+use loader_conf::{LoaderConf, chosen};
+use menu_order::MenuItem;
+use std::alloc::{AllocError, Global};
+
+// The id of an entry.
+fn entry_id(alloc: Global, item: &MenuItem) -> Result<Bytes, AllocError>
+    ensures { IfOk result (λ id. id ≡ entry_id item.now) }
+{
+    let mut id = item.base.as_slice().to_vec(alloc)?;
+    id.extend_from_slice(item.suffix.as_str().as_bytes())?;
+    Ok(Bytes::from(id))
+}
+
+// The ids of a menu, in order.
+fn entry_ids(alloc: Global, menu: &[MenuItem]) -> Result<BytesList, AllocError>
+    ensures { IfOk result (λ ids. ids ≡ map entry_id menu.now) }
+{
+    let mut ids = BytesList::new(alloc);
+    for item in menu {
+        ids.push(entry_id(alloc, item)?)?;
+    }
+    Ok(ids)
+}
+
+// The entry of the menu that the settings choose.
+fn default_item<'a>(
+    alloc: Global,
+    menu: &'a [MenuItem],
+    conf: &LoaderConf,
+) -> Result<Option<&'a MenuItem>, AllocError>
+    ensures { IfOk result (λ item. option_copied item ≡ default_item conf.now.default menu.now) }
+{
+    let ids = entry_ids(alloc, menu)?;
+    match chosen(ids.as_slice(), conf) {
+        Some(place) => Ok(menu.get(place)),
+        None => Ok(None),
+    }
+}
+
+// How long the menu waits, as it is told.
+fn timeout_or_none(timeout: &Option<Bytes>) -> &[u8]
+    ensures { result.now ≡ timeout_or_none timeout.now }
+{
+    match timeout {
+        Some(timeout) => timeout.as_slice(),
+        None => b"none",
+    }
+}
+
+// What is told of an entry.
+fn show_text(alloc: Global, item: &MenuItem, conf: &LoaderConf) -> Result<Vec<u8>, AllocError>
+    ensures { IfOk result (λ text. text.items ≡ show_text item.now conf.now.timeout) }
+{
+    let mut text = b"chosen ".to_vec(alloc)?;
+    text.extend_from_slice(entry_id(alloc, item)?.as_slice())?;
+    text.extend_from_slice(b"\nsource /")?;
+    text.extend_from_slice(item.path.as_str().as_bytes())?;
+    text.extend_from_slice(b"\ntimeout ")?;
+    text.extend_from_slice(timeout_or_none(&conf.timeout))?;
+    text.push(b'\n')?;
+    Ok(text)
+}
+
+// What is told of a menu by the bytes of a loader.conf.
+fn menu_shown(alloc: Global, bytes: &[u8], menu: &[MenuItem]) -> Result<Vec<u8>, Unsaid>
+    ensures says { Says (λ text. text.items) result (menu_shown bytes.now menu.now) }
+    ensures counts { (counts : Counts) → CountsUnsaid result counts counts }
+{
+    let conf = LoaderConf::read(alloc, bytes)?;
+    match default_item(alloc, menu, &conf)? {
+        Some(item) => Ok(show_text(alloc, item, &conf)?),
+        None => Err(Unsaid::Refused(Refusal::NoEntries)),
+    }
+}
+
+fn shown<M: Machine>(alloc: Global, esp: &str, machine: &mut M) -> Result<Vec<u8>, Unsaid>
+    ensures says { IsTrue M.tells → Says (λ text. text.items) result (show_said (seen (M.state machine.old)) esp.now) }
+    ensures reads { IsTrue M.tells → OnlyReads M.clock M.since M.state machine.old machine.new }
+    ensures counts { CountsUnsaid result (M.counts machine.old) (M.counts machine.new) }
+{
+    let paths = loader_paths(alloc, esp)?;
+    let bytes = conf_bytes(alloc, &paths.conf, machine)?;
+    let menu = loader_menu(alloc, &paths.folders, machine)?;
+    menu_shown(alloc, &bytes, menu.as_slice())
+}
+
+/// What is going to be told of the entry that boots by default in an EFI system partition: its id, its file and how long
+/// the menu waits. Of the entries only headers and texts are read, and at most 65,536 bytes of loader.conf.
+pub fn plan_show<M: Machine>(alloc: Global, esp: &str, machine: &mut M) -> Result<Plan, Stop>
+    ensures plans { IfOk result (λ plan. IsTrue M.tells → Plans (M.state machine.old) plan
+        (show_answer (seen (M.state machine.old)) esp.now)) }
+    ensures makeable { IfOk result (λ plan. IsMakeable plan.change) }
+    ensures reads { IsTrue M.tells → OnlyReads M.clock M.since M.state machine.old machine.new }
+    ensures counts { CountsStop result (M.counts machine.old) (M.counts machine.new) }
+{
+    let text = shown(alloc, esp, machine);
+    said(alloc, text)
+}
