@@ -38,6 +38,7 @@ impl RefusalLine {
 pub fn refused(alloc: Global, why: &Refusal) -> Result<Plan, AllocError>
     ensures plans { IfOk result (λ plan. (s : State) → Plans s plan (refusal (seen s) why.now)) }
     ensures makeable { IfOk result (λ plan. IsMakeable plan.change) }
+    ensures idle { IfOk result (λ plan. plan.change ≡ Change.Nothing) }
 {
     Ok(Plan {
         change: Change::Nothing,
@@ -52,6 +53,7 @@ pub fn refused(alloc: Global, why: &Refusal) -> Result<Plan, AllocError>
 pub fn plan_declined(alloc: Global, declined: Declined) -> Result<Plan, AllocError>
     ensures plans { IfOk result (PlansDeclined declined) }
     ensures makeable { IfOk result (λ plan. IsMakeable plan.change) }
+    ensures idle { IfOk result (λ plan. plan.change ≡ Change.Nothing) }
 {
     match declined {
         Declined::Memory => Err(AllocError),

@@ -21,6 +21,7 @@ use std::alloc::Global;
 pub fn plan_unsaid(alloc: Global, unsaid: Unsaid) -> Result<Plan, Stop>
     ensures plans { IfOk result (PlansUnsaid unsaid) }
     ensures makeable { IfOk result (λ plan. IsMakeable plan.change) }
+    ensures idle { IfOk result (λ plan. plan.change ≡ Change.Nothing) }
     ensures counts { (old new : Counts) → unsaid_counts unsaid old new → CountsStop result old new }
 {
     match unsaid {
@@ -35,6 +36,7 @@ pub fn said(alloc: Global, text: Result<Vec<u8>, Unsaid>) -> Result<Plan, Stop>
     ensures plans { IfOk result (λ plan. (s : State) (meant : Result (List ℕ) Refusal)
         → Says (λ text. text.items) text meant → Plans s plan (said (seen s) meant)) }
     ensures makeable { IfOk result (λ plan. IsMakeable plan.change) }
+    ensures idle { IfOk result (λ plan. plan.change ≡ Change.Nothing) }
     ensures counts { (old new : Counts) → CountsUnsaid text old new → CountsStop result old new }
 {
     match text {

@@ -2,7 +2,7 @@
 ghost use Rattle.std.specs.Prelude.{◌≡◌, ◌≤◌, ◌<◌, ◌+◌, ◌^◌, IfOk, IsTrue, OnOk, Ok, Result, drop, length, true, vec_len};
 ghost use Rattle.boot_machine.specs.Counts.{Counts};
 ghost use Rattle.boot_machine.specs.Disk.{has};
-ghost use Rattle.boot_machine.specs.Reading.{OnlyReads, zero_filled};
+ghost use Rattle.boot_machine.specs.Reading.{OnlyReads, TakesAtMost, zero_filled};
 ghost use Rattle.boot_machine.specs.Rows.{contents};
 ghost use Rattle.boot_machine.specs.Sent.{seen};
 ghost use Rattle.pe_reader.specs.Grammar.{Headers, pe_of};
@@ -29,7 +29,8 @@ fn too_large(alloc: Global, path: &BootPath, size: u64) -> Result<Refusal, Alloc
     Ok(Refusal::TooLarge { path, size })
 }
 
-/// The size in bytes of the file at a path, which is refused unless it is there and has no more than are read.
+/// The size in bytes of the file at a path, which is refused unless it is there and has no more than are read. None of
+/// its bytes are read.
 pub fn readable<M: Machine>(alloc: Global, path: &BootPath, machine: &mut M) -> Result<u64, Unsaid>
     ensures file { IsTrue M.tells → Says (λ _. contents (M.state machine.old).files path.now) result
         (bytes_at (seen (M.state machine.old)) path.now) }
@@ -41,6 +42,7 @@ pub fn readable<M: Machine>(alloc: Global, path: &BootPath, machine: &mut M) -> 
         → contents (seen (M.state machine.old)) path.now ≡ contents (M.state machine.old).files path.now) }
     ensures reads { IsTrue M.tells → OnlyReads M.clock M.since M.state machine.old machine.new }
     ensures counts { CountsUnsaid result (M.counts machine.old) (M.counts machine.new) }
+    ensures taken { IsTrue M.tells → TakesAtMost 0 (M.taken machine.old) (M.taken machine.new) }
 {
     path.know();
     match seen_size(path, machine)? {
@@ -73,7 +75,7 @@ fn headless(alloc: Global, fault: HeadFault) -> Unsaid
     }
 }
 
-/// The headers of the image at a path.
+/// The headers of the image at a path: of its bytes they alone are read, which are at most 69,463.
 pub fn image_head<M: Machine>(alloc: Global, path: &BootPath, machine: &mut M) -> Result<Pe, Unsaid>
     ensures image { IsTrue M.tells → Says (λ head. (contents (M.state machine.old).files path.now, headers_of head)) result
         (image_at (seen (M.state machine.old)) path.now) }
@@ -81,6 +83,7 @@ pub fn image_head<M: Machine>(alloc: Global, path: &BootPath, machine: &mut M) -
         → pe_of (contents (M.state machine.old).files path.now) ≡ Ok (headers_of head)) }
     ensures reads { IsTrue M.tells → OnlyReads M.clock M.since M.state machine.old machine.new }
     ensures counts { CountsUnsaid result (M.counts machine.old) (M.counts machine.new) }
+    ensures taken { IsTrue M.tells → TakesAtMost 69463 (M.taken machine.old) (M.taken machine.new) }
 {
     readable(alloc, path, machine)?;
     match Pe::read_head(alloc, machine, path) {
