@@ -8,6 +8,9 @@ use Rattle.boot_folder.specs.Entries.{boot_menu, entry_count}
 use Rattle.boot_folder.specs.declared.folders.Folders.{Folders}
 use Rattle.boot_machine.specs.Disk.{Files}
 use Rattle.command_reads.specs.Refusing.{◌>>=◌, printed_path}
+use Rattle.command_reads.specs.Saying.{Says}
+use Rattle.command_reads.specs.declared.saying.Unsaid.{Unsaid}
+use Rattle.command_reads.proofs.Declining.{done_next}
 use Rattle.loader_commands.specs.Laws.{ChangesOneKey, ShowsDefaultEntry}
 use Rattle.loader_commands.specs.Places.{conf_bytes, conf_limit, conf_path, loader_menu, loader_paths, within_limit}
 use Rattle.loader_commands.specs.Setting.{bad_value, conf_set, text_set, value_in}
@@ -79,6 +82,17 @@ tells view word text is =
       item_is = subst (λ (menu : List MenuItem). slice_get menu place.0 ≡ Some item.0) (sym whole) place.2;
       text_is = item.2;
     }
+
+-- what is told of a menu is told of the ESP
+pub shown_by : {X : Type 0} (shows : X → List ℕ) (result : Result X Unsaid) (view : Files) (word : List ℕ) (paths : LoaderPaths) (bytes : List ℕ) (menu : List MenuItem)
+    → loader_paths word ≡ Ok paths → conf_bytes view paths.conf ≡ Ok bytes → loader_menu view paths.folders ≡ Ok menu
+    → Says shows result (menu_shown bytes menu) → Says shows result (show_said view word)
+shown_by shows result view word paths bytes menu paths_are bytes_are menu_is says =
+    let whole : show_said view word ≡ menu_shown bytes menu =
+    done_next (loader_paths word) paths (λ (paths : LoaderPaths). conf_bytes view paths.conf >>= λ bytes. loader_menu view paths.folders >>= menu_shown bytes) paths_are
+    ∙ done_next (conf_bytes view paths.conf) bytes (λ (bytes : List ℕ). loader_menu view paths.folders >>= menu_shown bytes) bytes_are
+    ∙ done_next (loader_menu view paths.folders) menu (menu_shown bytes) menu_is in
+    subst (λ (meant : Result (List ℕ) Refusal). Says shows result meant) (sym whole) says
 
 -- ---- a change
 
