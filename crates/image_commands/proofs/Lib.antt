@@ -1,6 +1,7 @@
-mod Given
+mod Calculated
 mod Heads
 mod Inspecting
 mod Parts
 mod Printed
 mod Registers
+mod Taking

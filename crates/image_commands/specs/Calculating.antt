@@ -1,35 +1,37 @@
 -- `measure calculate`: PCR 11 as it is predicted from the files of parts (systemd-measure(1)).
-use Rattle.std.specs.Prelude.{◌≡◌, ℕ, List, length, map, [], ◌∷◌, Option, Some, None, Result, Ok}
-use Rattle.std.specs.List.{zip}
-use Rattle.std.specs.Option.{option_map}
+use Rattle.std.specs.Prelude.{ℕ, List, [], ◌∷◌, codes, Option, Some, Result, Ok}
 use Rattle.boot_base.specs.declared.refusal.Refusal.{Refusal}
 use Rattle.boot_machine.specs.Disk.{Files}
-use Rattle.stub_replay.specs.Measured.{measured_names, predicted_pcr}
+use Rattle.boot_phases.specs.Lines.{value_lines}
+use Rattle.stub_replay.specs.Measured.{predicted_pcr}
+use Rattle.stub_replay.specs.Ordered.{part_of, present}
 use Rattle.tool_words.specs.declared.command.CalculateWords.{CalculateWords}
-use Rattle.uki_parts.specs.Pieces.{Reading, piece_bytes, piece_length}
-use Rattle.uki_parts.specs.declared.piece.Piece.{Piece}
-use Rattle.pcr_prediction.specs.Ordered.{part_of, present}
 use Rattle.command_reads.specs.Refusing.{◌>>=◌, path_in}
-use Rattle.command_reads.specs.Files.{bytes_at, each, if_given}
-use Rattle.command_reads.specs.Values.{banks_of, paths_of, value_lines}
+use Rattle.command_reads.specs.Files.{bytes_at, each}
+use Rattle.command_reads.specs.Values.{banks_of, paths_of}
 
--- the words of the parts' files, in the order in which parts are measured
-abbrev pub part_words : CalculateWords → List (Option (List ℕ))
+-- the names of the measured sections, each with the word of the part's file where one is given
+abbrev pub part_words : CalculateWords → List (List ℕ × Option (List ℕ))
 part_words words =
-    Some words.linux ∷ words.osrel ∷ words.cmdline ∷ words.initrd ∷ words.splash ∷ words.dtb ∷ words.uname ∷ words.sbat ∷ words.pcrpkey ∷ []
+    (codes ".linux", Some words.linux)
+    ∷ (codes ".osrel", words.osrel)
+    ∷ (codes ".cmdline", words.cmdline)
+    ∷ (codes ".initrd", words.initrd)
+    ∷ (codes ".ucode", words.ucode)
+    ∷ (codes ".splash", words.splash)
+    ∷ (codes ".dtb", words.dtb)
+    ∷ (codes ".uname", words.uname)
+    ∷ (codes ".sbat", words.sbat)
+    ∷ (codes ".pcrpkey", words.pcrpkey)
+    ∷ []
 
--- all words are read as paths, then each part's file is read, then the values are printed
+-- what is made of a part, under the part's name, or the refusal
+abbrev pub under_name : {A B : Type 0} → (A → Result B Refusal) → List ℕ × A → Result (List ℕ × B) Refusal
+under_name f part = f part.1 >>= λ made. Ok (part.0, made)
+
+-- all words that are given are read as paths, then each part's file is read, then the values are printed
 abbrev pub calculate_said : Files → CalculateWords → Result (List ℕ) Refusal
 calculate_said view words =
-    each (if_given path_in) (part_words words) >>= λ paths.
-    each (if_given (bytes_at view)) paths >>= λ parts.
-    Ok (value_lines (predicted_pcr (part_of (present (zip measured_names parts)))) (banks_of words.banks) (paths_of words.phases))
-
--- a part's file has the size that its piece says, where it is given
-abbrev pub HasItsSize : Reading → Option Piece → Type 0
-HasItsSize files None = Unit {0}
-HasItsSize files (Some piece) = length (piece_bytes files piece) ≡ piece_length piece
-
--- the names and bytes of the parts whose files are given, in the order in which they are measured
-abbrev pub given_bytes : Reading → List (Option Piece) → List (List ℕ × List ℕ)
-given_bytes files parts = present (zip measured_names (map (option_map (piece_bytes files)) parts))
+    each (under_name path_in) (present (part_words words)) >>= λ paths.
+    each (under_name (bytes_at view)) paths >>= λ parts.
+    Ok (value_lines (predicted_pcr (part_of parts)) (banks_of words.banks) (paths_of words.phases))

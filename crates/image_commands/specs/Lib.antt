@@ -1,3 +1,5 @@
 pub mod Calculating
 pub mod Laws
+pub mod Parts
 pub mod Said
+pub mod Taking

@@ -1,10 +1,11 @@
 -- What the commands say that only read images.
-use Rattle.std.specs.Prelude.{ℕ, ◌&&◌, ◌==◌, Bool, not, List, [], ◌∷◌, ◌++◌, codes, length, nat_le, Result, Ok, Err, if◌then◌else◌}
+use Rattle.std.specs.Prelude.{ℕ, ◌&&◌, ◌==◌, Bool, not, List, ◌++◌, codes, length, Result, Ok, Err, if◌then◌else◌}
 use Rattle.std.specs.List.{flat_map}
 use Rattle.std.specs.Fmt.{decimal}
 use Rattle.boot_base.specs.Paths.{Path}
 use Rattle.boot_base.specs.declared.refusal.Refusal.{Refusal}
 use Rattle.boot_machine.specs.Disk.{Files}
+use Rattle.boot_phases.specs.Lines.{value_lines}
 use Rattle.hex.specs.Hex.{encode_lower}
 use Rattle.pcr_fold.specs.declared.bank.Bank.TheVariants as banks
 use Rattle.pcr_fold.specs.Banks.{digest_of}
@@ -17,15 +18,18 @@ use Rattle.stub_replay.specs.Measured.{stub_pcr}
 use Rattle.command_reads.specs.Refusing.{◌>>=◌, path_in, printed_path}
 use Rattle.command_reads.specs.Files.{bytes_at, image_at}
 use Rattle.command_reads.specs.Names.{shown_byte}
-use Rattle.command_reads.specs.Values.{banks_of, paths_of, value_lines}
+use Rattle.command_reads.specs.Values.{banks_of, paths_of}
 
 -- what is printed behind a section's name: the number and the SHA-256 digest of its loaded bytes
 unfoldable pub measures : ℕ → List ℕ → List ℕ
-measures size digest = codes ":\n  size: " ++ (decimal size ++ (codes " bytes\n  sha256: " ++ (encode_lower digest ++ codes "\n")))
+measures size digest =
+    codes ":\n  size: " ++ (decimal size ++ (codes " bytes\n  sha256: " ++ (encode_lower digest ++ codes "\n")))
 
 -- the three lines of a section
 abbrev pub section_lines : List ℕ → Section → List ℕ
-section_lines bytes s = flat_map shown_byte (short_name s.name) ++ measures (length (loaded_by bytes s)) (digest_of banks.Sha256 (loaded_by bytes s))
+section_lines bytes s =
+    flat_map shown_byte (short_name s.name)
+    ++ measures (length (loaded_by bytes s)) (digest_of banks.Sha256 (loaded_by bytes s))
 
 -- the path and the number of sections
 abbrev pub first_line : Path → ℕ → List ℕ
@@ -33,7 +37,8 @@ first_line path count = printed_path path ++ (codes ": " ++ (decimal count ++ co
 
 -- `ukify inspect`: the path, the number of sections, and the lines of each in the table's order
 abbrev pub inspection : Path → List ℕ → Headers → List ℕ
-inspection path bytes headers = first_line path (length headers.sections) ++ flat_map (section_lines bytes) headers.sections
+inspection path bytes headers =
+    first_line path (length headers.sections) ++ flat_map (section_lines bytes) headers.sections
 
 abbrev pub inspection_at : Files → Path → Result (List ℕ) Refusal
 inspection_at view path = image_at view path >>= λ image. Ok (inspection path image.0 image.1)
@@ -47,7 +52,8 @@ has_loaded bytes name = not (length (loaded bytes name) == 0)
 
 -- `bootctl kernel-identify`: a unified image has loaded bytes of a kernel and of an os-release text
 abbrev pub kind_of : List ℕ → Result Headers FailedCheck → List ℕ
-kind_of bytes (Ok headers) = if has_loaded bytes (codes ".linux") && has_loaded bytes (codes ".osrel") then codes "uki\n" else codes "pe\n"
+kind_of bytes (Ok headers) =
+    if has_loaded bytes (codes ".linux") && has_loaded bytes (codes ".osrel") then codes "uki\n" else codes "pe\n"
 kind_of bytes (Err check) = codes "unknown\n"
 
 abbrev pub kind_at : Files → Path → Result (List ℕ) Refusal
@@ -58,7 +64,8 @@ identify_said view file = path_in file >>= kind_at view
 
 -- `measure image`: what a stub that measures the image comes to, in each bank and after each phase path
 abbrev pub values_at : Files → List (List ℕ) → List (List ℕ) → Path → Result (List ℕ) Refusal
-values_at view bank_names phase_texts path = image_at view path >>= λ image. Ok (value_lines (stub_pcr image.0) (banks_of bank_names) (paths_of phase_texts))
+values_at view bank_names phase_texts path =
+    image_at view path >>= λ image. Ok (value_lines (stub_pcr image.0) (banks_of bank_names) (paths_of phase_texts))
 
 abbrev pub image_said : Files → List ℕ → List (List ℕ) → List (List ℕ) → Result (List ℕ) Refusal
 image_said view file bank_names phase_texts = path_in file >>= values_at view bank_names phase_texts

@@ -1,23 +1,24 @@
 //! `measure calculate`.
-ghost use Rattle.std.specs.Prelude.{◌≤◌, Ok, ◌≡◌, ◌<◌, ◌++◌, ◌∷◌, [], List, ℕ, None, Option, All, IfOk, IsTrue, OnOk, get_or, length, map};
-ghost use Rattle.std.specs.Option.{option_copied, option_map};
-ghost use Rattle.boot_machine.specs.Reading.{OnlyReads};
+ghost use Rattle.std.specs.Prelude.{◌≡◌, ◌≤◌, ◌++◌, List, ℕ, All, IfOk, IsTrue, Ok, length, map, sum_by};
+ghost use Rattle.std.specs.Option.{option_copied};
+ghost use Rattle.boot_machine.specs.Reading.{OnlyReads, TakesAtMost};
 ghost use Rattle.boot_machine.specs.Rows.{contents};
 ghost use Rattle.boot_machine.specs.Sent.{seen};
-ghost use Rattle.uki_parts.specs.Pieces.{piece_bytes};
-ghost use Rattle.uki_parts.specs.Pieces.{Reading};
-ghost use Rattle.pcr_fold.specs.Values.{pcr_bank};
-ghost use Rattle.boot_phases.specs.Lines.{shown};
-ghost use Rattle.pcr_prediction.specs.Ordered.{as_part};
-ghost use Rattle.pcr_prediction.specs.Parts.{HaveSizes, IsPlaced, items_of, named_bytes};
-ghost use Rattle.command_reads.specs.Values.{starts_of};
+ghost use Rattle.uki_parts.specs.Pieces.{Reading, piece_bytes, piece_length};
+ghost use Rattle.pcr_fold.specs.Banks.{folded};
+ghost use Rattle.pcr_fold.specs.Values.{pcr_bank, shown};
+ghost use Rattle.stub_replay.specs.Ordered.{present};
+ghost use Rattle.stub_replay.specs.Parts.{HaveSizes, IsPlaced, items_of, named_bytes};
 ghost use Rattle.command_plans.specs.Answers.{said};
 ghost use Rattle.command_plans.specs.Performs.{CountsStop};
 ghost use Rattle.command_plans.specs.Plans.{IsMakeable, Plans};
+ghost use Rattle.command_plans.specs.declared.plan.Change.TheVariants.{Nothing};
+ghost use Rattle.command_reads.specs.Files.{bytes_at, each};
 ghost use Rattle.command_reads.specs.Refusing.{Means, path_in};
-ghost use Rattle.command_reads.specs.Files.{bytes_at, each, if_given};
-ghost use Rattle.image_commands.specs.Calculating.{HasItsSize, calculate_said, given_bytes, part_words};
 ghost use Rattle.command_reads.specs.Saying.{CountsUnsaid, Says};
+ghost use Rattle.image_commands.specs.Calculating.{calculate_said, part_words, under_name};
+ghost use Rattle.image_commands.specs.Parts.{HasItsSize, named_file, named_path, named_word};
+ghost use Rattle.image_commands.specs.Taking.{named_length};
 
 use boot_base::{BootPath, PIECE_SIZE, Text};
 use boot_machine::Machine;
@@ -25,16 +26,13 @@ use boot_phases::result_lines;
 use command_plans::{Plan, Stop, said};
 use command_reads::{Declined, Unsaid, banks_of, path_in, paths_of, push, readable};
 use pcr_fold::{Bank, Pcr};
-use pcr_prediction::{Content, Measurable, PredictFault, predict};
 use std::alloc::{AllocError, Global};
 use std::slice;
-use stub_replay::measured_name;
+use stub_replay::{Content, Measurable, PredictFault, predict};
 use tool_words::CalculateWords;
 use uki_parts::Piece;
 
-/// How many parts are measured.
-const PART_COUNT: usize = 9;
-
+// The text of a word, if it is given.
 fn text_of(word: &Option<Text>) -> Option<&str>
     ensures { option_copied result ≡ word.now }
 {
@@ -44,122 +42,102 @@ fn text_of(word: &Option<Text>) -> Option<&str>
     }
 }
 
-// The word of a part's file, by the part's place in the order of measurement.
-fn part_word(words: &CalculateWords, index: usize) -> Option<&str>
-    requires { index < 9 }
-    ensures { option_copied result ≡ get_or (part_words words.now) index None }
-{
-    match index {
-        0 => Some(words.linux.as_str()),
-        1 => text_of(&words.osrel),
-        2 => text_of(&words.cmdline),
-        3 => text_of(&words.initrd),
-        4 => text_of(&words.splash),
-        5 => text_of(&words.dtb),
-        6 => text_of(&words.uname),
-        7 => text_of(&words.sbat),
-        _ => text_of(&words.pcrpkey),
-    }
-}
-
-fn part_path(alloc: Global, word: Option<&str>) -> Result<Option<BootPath>, Declined>
-    ensures { Means (λ path. path) result (if_given path_in (option_copied word.entry)) }
-{
-    match word {
-        None => Ok(None),
-        Some(word) => Ok(Some(path_in(alloc, word)?)),
-    }
-}
-
-// The paths of the parts' files, or the first refusal of a word.
-fn part_paths(alloc: Global, words: &CalculateWords) -> Result<Vec<Option<BootPath>>, Declined>
-    ensures means { Means (λ paths. paths.items) result (each (if_given path_in) (part_words words.now)) }
-    ensures count { IfOk result (λ paths. length paths.items ≡ 9) }
+// The paths of the words that are given, each under its part's name, or the first refusal of a word.
+fn given_paths(
+    alloc: Global,
+    words: &[(&'static [u8], Option<&str>)],
+) -> Result<Vec<(&'static [u8], BootPath)>, Declined>
+    ensures { Means (λ paths. map named_path paths.items) result
+        (each (under_name path_in) (present (map named_word words.now))) }
 {
     let mut paths = Vec::new(alloc);
-    for index in 0..PART_COUNT {
-        let path = part_path(alloc, part_word(words, index))?;
-        push(&mut paths, path)?;
+    for (name, word) in words {
+        let Some(word) = word else {
+            continue;
+        };
+        let path = path_in(alloc, word)?;
+        push(&mut paths, (*name, path))?;
     }
     Ok(paths)
 }
 
-// The file of a part with its size, or its refusal.
-fn part_file<M: Machine>(
+// The paths of the parts' files, each under its part's name, or the first refusal of a word.
+fn part_paths(
     alloc: Global,
-    path: Option<BootPath>,
-    machine: &mut M,
-) -> Result<Option<Piece>, Unsaid>
-    ensures says { IsTrue M.tells → Says (option_map (piece_bytes (contents (seen (M.state machine.old))))) result
-        (if_given (bytes_at (seen (M.state machine.old))) path) }
-    ensures size { IfOk result (λ file. IsTrue M.tells → HasItsSize (contents (seen (M.state machine.old))) file) }
-    ensures reads { IsTrue M.tells → OnlyReads M.clock M.since M.state machine.old machine.new }
-    ensures counts { CountsUnsaid result (M.counts machine.old) (M.counts machine.new) }
+    words: &CalculateWords,
+) -> Result<Vec<(&'static [u8], BootPath)>, Declined>
+    ensures { Means (λ paths. map named_path paths.items) result
+        (each (under_name path_in) (present (part_words words.now))) }
 {
-    match path {
-        None => Ok(None),
-        Some(path) => {
-            let size = readable(alloc, &path, machine)?;
-            Ok(Some(Piece::File { path, size }))
-        }
-    }
+    given_paths(
+        alloc,
+        &[
+            (b".linux", Some(words.linux.as_str())),
+            (b".osrel", text_of(&words.osrel)),
+            (b".cmdline", text_of(&words.cmdline)),
+            (b".initrd", text_of(&words.initrd)),
+            (b".ucode", text_of(&words.ucode)),
+            (b".splash", text_of(&words.splash)),
+            (b".dtb", text_of(&words.dtb)),
+            (b".uname", text_of(&words.uname)),
+            (b".sbat", text_of(&words.sbat)),
+            (b".pcrpkey", text_of(&words.pcrpkey)),
+        ],
+    )
 }
 
-// The files of the parts, or the first refusal of one.
-fn part_files<M: Machine>(
-    alloc: Global,
-    paths: Vec<Option<BootPath>>,
-    machine: &mut M,
-) -> Result<Vec<Option<Piece>>, Unsaid>
-    ensures says { IsTrue M.tells → Says (λ files. map (option_map (piece_bytes (contents (seen (M.state machine.old))))) files.items) result
-        (each (if_given (bytes_at (seen (M.state machine.old)))) paths.items) }
-    ensures count { IfOk result (λ files. length files.items ≡ length paths.items) }
-    ensures sizes { IfOk result (λ files. IsTrue M.tells → All (HasItsSize (contents (seen (M.state machine.old)))) files.items) }
+// The file at a path with its size, or its refusal.
+fn part_file<M: Machine>(alloc: Global, path: BootPath, machine: &mut M) -> Result<Piece, Unsaid>
+    ensures says { IsTrue M.tells → Says (piece_bytes (contents (seen (M.state machine.old)))) result
+        (bytes_at (seen (M.state machine.old)) path) }
+    ensures size { IfOk result (λ file. IsTrue M.tells
+        → length (piece_bytes (contents (seen (M.state machine.old))) file) ≡ piece_length file) }
     ensures reads { IsTrue M.tells → OnlyReads M.clock M.since M.state machine.old machine.new }
     ensures counts { CountsUnsaid result (M.counts machine.old) (M.counts machine.new) }
+    ensures taken { IsTrue M.tells → TakesAtMost 0 (M.taken machine.old) (M.taken machine.new) }
+{
+    let size = readable(alloc, &path, machine)?;
+    Ok(Piece::File { path, size })
+}
+
+// The files of the parts with their sizes, or the first refusal of one.
+fn part_files<M: Machine>(
+    alloc: Global,
+    paths: Vec<(&'static [u8], BootPath)>,
+    machine: &mut M,
+) -> Result<Vec<(&'static [u8], Piece)>, Unsaid>
+    ensures says { IsTrue M.tells
+        → Says (λ files. map (named_file (contents (seen (M.state machine.old)))) files.items) result
+        (each (under_name (bytes_at (seen (M.state machine.old)))) (map named_path paths.entry.items)) }
+    ensures sizes { IfOk result (λ files. IsTrue M.tells
+        → All (HasItsSize (contents (seen (M.state machine.old)))) files.items) }
+    ensures reads { IsTrue M.tells → OnlyReads M.clock M.since M.state machine.old machine.new }
+    ensures counts { CountsUnsaid result (M.counts machine.old) (M.counts machine.new) }
+    ensures taken { IsTrue M.tells → TakesAtMost 0 (M.taken machine.old) (M.taken machine.new) }
 {
     let mut files = Vec::new(alloc);
-    for path in paths {
+    for (name, path) in paths {
         let file = part_file(alloc, path, machine)?;
-        push(&mut files, file)?;
+        push(&mut files, (name, file))?;
     }
     Ok(files)
 }
 
-// Puts a part of that name behind the others, where its file is given.
-fn push_given<'a>(
-    parts: &mut Vec<Measurable<'a>>,
-    name: &'a [u8],
-    file: &'a Option<Piece>,
-) -> Result<(), AllocError>
-    ensures bytes { OnOk result ((reading : Reading) → map (named_bytes reading) parts.new.items
-        ≡ map (named_bytes reading) parts.old.items ++ as_part name.now (option_map (piece_bytes reading) file.now)) }
-    ensures sizes { OnOk result ((reading : Reading) → HasItsSize reading file.now → HaveSizes reading parts.old.items → HaveSizes reading parts.new.items) }
-    ensures ranges { OnOk result (All (λ part. IsPlaced part.content) parts.old.items → All (λ part. IsPlaced part.content) parts.new.items) }
-{
-    match file {
-        None => Ok(()),
-        Some(piece) => {
-            let content = Content::Pieces(slice::from_ref(piece));
-            parts.push(Measurable { name, content })?;
-            Ok(())
-        }
-    }
-}
-
-// The parts whose files are given, in the order in which they are measured.
-fn given_parts<'a>(
+// The parts of these files, in their order.
+fn file_parts<'a>(
     alloc: Global,
-    files: &'a [Option<Piece>],
+    files: &'a [(&'static [u8], Piece)],
 ) -> Result<Vec<Measurable<'a>>, AllocError>
-    requires { length files.now ≤ 9 }
-    ensures bytes { IfOk result (λ parts. (reading : Reading) → map (named_bytes reading) parts.items ≡ given_bytes reading files.now) }
-    ensures sizes { IfOk result (λ parts. (reading : Reading) → All (HasItsSize reading) files.now → HaveSizes reading parts.items) }
+    ensures bytes { IfOk result (λ parts. (reading : Reading)
+        → map (named_bytes reading) parts.items ≡ map (named_file reading) files.now) }
+    ensures sizes { IfOk result (λ parts. (reading : Reading)
+        → All (HasItsSize reading) files.now → HaveSizes reading parts.items) }
     ensures ranges { IfOk result (λ parts. All (λ part. IsPlaced part.content) parts.items) }
 {
     let mut parts = Vec::new(alloc);
-    for index in 0..files.len() {
-        push_given(&mut parts, measured_name(index), &files[index])?;
+    for (name, file) in files {
+        let content = Content::Pieces(slice::from_ref(file));
+        parts.push(Measurable { name, content })?;
     }
     Ok(parts)
 }
@@ -167,19 +145,22 @@ fn given_parts<'a>(
 // The register of each bank, as it is predicted from these files.
 fn registers<M: Machine>(
     alloc: Global,
-    files: &[Option<Piece>],
+    files: &[(&'static [u8], Piece)],
     banks: &[Bank],
     machine: &mut M,
 ) -> Result<Vec<Pcr>, Unsaid>
-    requires { length files.now ≤ 9 }
     ensures banks { IfOk result (λ registers. map pcr_bank registers.items ≡ banks.now) }
-    ensures says { IsTrue M.tells → All (HasItsSize (contents (seen (M.state machine.old)))) files.now → Says (λ registers. map shown registers.items) result
-        (Ok (starts_of (items_of (given_bytes (contents (seen (M.state machine.old))) files.now)) banks.now)) }
+    ensures says { IsTrue M.tells → All (HasItsSize (contents (seen (M.state machine.old)))) files.now
+        → Says (λ registers. map shown registers.items) result
+        (Ok (map (folded (items_of (map (named_file (contents (seen (M.state machine.old)))) files.now))) banks.now)) }
     ensures reads { IsTrue M.tells → OnlyReads M.clock M.since M.state machine.old machine.new }
     ensures counts { CountsUnsaid result (M.counts machine.old) (M.counts machine.new) }
+    ensures taken { IsTrue M.tells → All (HasItsSize (contents (seen (M.state machine.old)))) files.now
+        → TakesAtMost (sum_by (λ part. length part.1) (map (named_file (contents (seen (M.state machine.old)))) files.now))
+        (M.taken machine.old) (M.taken machine.new) }
 {
     let mut buffer = [0; PIECE_SIZE];
-    let parts = given_parts(alloc, files)?;
+    let parts = file_parts(alloc, files)?;
     match predict(alloc, machine, &parts, banks, &mut buffer) {
         Ok(registers) => Ok(registers),
         Err(PredictFault::Memory) => Err(Unsaid::Memory),
@@ -187,14 +168,19 @@ fn registers<M: Machine>(
     }
 }
 
+// What the calculation says, or why there is nothing to say.
 fn calculated<M: Machine>(
     alloc: Global,
     words: &CalculateWords,
     machine: &mut M,
 ) -> Result<Vec<u8>, Unsaid>
-    ensures says { IsTrue M.tells → Says (λ text. text.items) result (calculate_said (seen (M.state machine.old)) words.now) }
+    ensures says { IsTrue M.tells → Says (λ text. text.items) result
+        (calculate_said (seen (M.state machine.old)) words.now) }
     ensures reads { IsTrue M.tells → OnlyReads M.clock M.since M.state machine.old machine.new }
     ensures counts { CountsUnsaid result (M.counts machine.old) (M.counts machine.new) }
+    ensures taken { IsTrue M.tells
+        → TakesAtMost (named_length (seen (M.state machine.old)) words.now)
+        (M.taken machine.old) (M.taken machine.new) }
 {
     let paths = part_paths(alloc, words)?;
     let files = part_files(alloc, paths, machine)?;
@@ -205,7 +191,7 @@ fn calculated<M: Machine>(
 }
 
 /// What the calculation is going to say: for each phase path the value of PCR 11, in each bank, that is
-/// predicted from the files of the parts. Each file is read once.
+/// predicted from the files of the parts. Each file is read once, for all banks.
 pub fn plan_calculate<M: Machine>(
     alloc: Global,
     words: &CalculateWords,
@@ -214,8 +200,12 @@ pub fn plan_calculate<M: Machine>(
     ensures plans { IfOk result (λ plan. IsTrue M.tells → Plans (M.state machine.old) plan
         (said (seen (M.state machine.old)) (calculate_said (seen (M.state machine.old)) words.now))) }
     ensures makeable { IfOk result (λ plan. IsMakeable plan.change) }
+    ensures idle { IfOk result (λ plan. plan.change ≡ Nothing) }
     ensures reads { IsTrue M.tells → OnlyReads M.clock M.since M.state machine.old machine.new }
     ensures counts { CountsStop result (M.counts machine.old) (M.counts machine.new) }
+    ensures taken { IsTrue M.tells
+        → TakesAtMost (named_length (seen (M.state machine.old)) words.now)
+        (M.taken machine.old) (M.taken machine.new) }
 {
     let text = calculated(alloc, words, machine);
     said(alloc, text)

@@ -1,12 +1,13 @@
 //! `bootctl kernel-identify`.
 ghost use Rattle.std.specs.Prelude.{◌≡◌, IfOk, IsTrue, List, Ok, ℕ};
-ghost use Rattle.boot_machine.specs.Reading.{OnlyReads};
+ghost use Rattle.boot_machine.specs.Reading.{OnlyReads, TakesAtMost};
 ghost use Rattle.boot_machine.specs.Sent.{seen};
 ghost use Rattle.pe_reader.specs.Grammar.{pe_of};
 ghost use Rattle.pe_reader.specs.Reads.{headers_of};
 ghost use Rattle.command_plans.specs.Answers.{said};
 ghost use Rattle.command_plans.specs.Performs.{CountsStop};
 ghost use Rattle.command_plans.specs.Plans.{IsMakeable, Plans};
+ghost use Rattle.command_plans.specs.declared.plan.Change.TheVariants.{Nothing};
 ghost use Rattle.image_commands.specs.Said.{has_loaded, identify_said, kind_at, kind_of};
 ghost use Rattle.command_reads.specs.Saying.{CountsUnsaid, Says};
 
@@ -45,6 +46,7 @@ fn kind<M: Machine>(alloc: Global, path: &BootPath, machine: &mut M) -> Result<&
     ensures kind { IsTrue M.tells → Says (λ text. text.now) result (kind_at (seen (M.state machine.old)) path.now) }
     ensures reads { IsTrue M.tells → OnlyReads M.clock M.since M.state machine.old machine.new }
     ensures counts { CountsUnsaid result (M.counts machine.old) (M.counts machine.new) }
+    ensures taken { IsTrue M.tells → TakesAtMost 69463 (M.taken machine.old) (M.taken machine.new) }
 {
     readable(alloc, path, machine)?;
     match Pe::read_head(alloc, machine, path) {
@@ -55,10 +57,13 @@ fn kind<M: Machine>(alloc: Global, path: &BootPath, machine: &mut M) -> Result<&
     }
 }
 
+// What is told of the file that a word names.
 fn identified<M: Machine>(alloc: Global, file: &str, machine: &mut M) -> Result<Vec<u8>, Unsaid>
-    ensures says { IsTrue M.tells → Says (λ text. text.items) result (identify_said (seen (M.state machine.old)) file.now) }
+    ensures says { IsTrue M.tells → Says (λ text. text.items) result
+        (identify_said (seen (M.state machine.old)) file.now) }
     ensures reads { IsTrue M.tells → OnlyReads M.clock M.since M.state machine.old machine.new }
     ensures counts { CountsUnsaid result (M.counts machine.old) (M.counts machine.new) }
+    ensures taken { IsTrue M.tells → TakesAtMost 69463 (M.taken machine.old) (M.taken machine.new) }
 {
     let path = path_in(alloc, file)?;
     let kind = kind(alloc, &path, machine)?;
@@ -66,13 +71,15 @@ fn identified<M: Machine>(alloc: Global, file: &str, machine: &mut M) -> Result<
 }
 
 /// What is going to be told of a file: `uki` of a unified kernel image, `pe` of any other PE32+ file, and
-/// `unknown` of the rest. No section's bytes are read.
+/// `unknown` of the rest. Its headers alone are read, which are at most 69,463 bytes.
 pub fn plan_identify<M: Machine>(alloc: Global, file: &str, machine: &mut M) -> Result<Plan, Stop>
     ensures plans { IfOk result (λ plan. IsTrue M.tells → Plans (M.state machine.old) plan
         (said (seen (M.state machine.old)) (identify_said (seen (M.state machine.old)) file.now))) }
     ensures makeable { IfOk result (λ plan. IsMakeable plan.change) }
+    ensures idle { IfOk result (λ plan. plan.change ≡ Nothing) }
     ensures reads { IsTrue M.tells → OnlyReads M.clock M.since M.state machine.old machine.new }
     ensures counts { CountsStop result (M.counts machine.old) (M.counts machine.new) }
+    ensures taken { IsTrue M.tells → TakesAtMost 69463 (M.taken machine.old) (M.taken machine.new) }
 {
     let text = identified(alloc, file, machine);
     said(alloc, text)

@@ -1,19 +1,21 @@
 //! `measure image`: the value of PCR 11 that an image's stub comes to.
-ghost use Rattle.std.specs.Prelude.{◌≡◌, IfOk, IsTrue, Ok, map};
-ghost use Rattle.boot_machine.specs.Reading.{OnlyReads};
+ghost use Rattle.std.specs.Prelude.{◌≡◌, ◌+◌, IfOk, IsTrue, Ok, map};
+ghost use Rattle.boot_machine.specs.Reading.{OnlyReads, TakesAtMost};
 ghost use Rattle.boot_machine.specs.Rows.{contents};
 ghost use Rattle.boot_machine.specs.Sent.{seen};
-ghost use Rattle.boot_phases.specs.Lines.{shown};
-ghost use Rattle.pcr_fold.specs.Values.{pcr_bank};
+ghost use Rattle.pcr_fold.specs.Banks.{folded};
+ghost use Rattle.pcr_fold.specs.Values.{pcr_bank, shown};
 ghost use Rattle.pe_reader.specs.Grammar.{pe_of};
 ghost use Rattle.pe_reader.specs.Reads.{headers_of};
-ghost use Rattle.stub_replay.specs.Measured.{measured_list};
+ghost use Rattle.stub_replay.specs.Measured.{measured_length, measured_list};
 ghost use Rattle.command_plans.specs.Answers.{said};
 ghost use Rattle.command_plans.specs.Performs.{CountsStop};
 ghost use Rattle.command_plans.specs.Plans.{IsMakeable, Plans};
+ghost use Rattle.command_plans.specs.declared.plan.Change.TheVariants.{Nothing};
 ghost use Rattle.image_commands.specs.Said.{image_said, values_at};
+ghost use Rattle.image_commands.specs.Taking.{found_bytes, named_content};
 ghost use Rattle.command_reads.specs.Saying.{CountsUnsaid, Says};
-ghost use Rattle.command_reads.specs.Values.{starts_of};
+ghost use Rattle.command_reads.specs.Files.{bytes_at};
 
 use boot_base::{BootPath, PIECE_SIZE, Text};
 use boot_machine::Machine;
@@ -23,7 +25,7 @@ use command_reads::{Unsaid, banks_of, image_head, path_in, paths_of};
 use pcr_fold::{Bank, Pcr};
 use pe_reader::Pe;
 use std::alloc::Global;
-use stub_replay::replay;
+use stub_replay::{PredictFault, replay_all};
 
 // The register of each bank after the image's stub has measured it.
 fn registers<M: Machine>(
@@ -36,16 +38,19 @@ fn registers<M: Machine>(
     requires { IsTrue M.tells → pe_of (contents (M.state machine.old).files path.now) ≡ Ok (headers_of head.now) }
     ensures banks { IfOk result (λ registers. map pcr_bank registers.items ≡ banks.now) }
     ensures says { IsTrue M.tells → Says (λ registers. map shown registers.items) result
-        (Ok (starts_of (measured_list (contents (M.state machine.old).files path.now)) banks.now)) }
+        (Ok (map (folded (measured_list (contents (M.state machine.old).files path.now))) banks.now)) }
     ensures reads { IsTrue M.tells → OnlyReads M.clock M.since M.state machine.old machine.new }
     ensures counts { CountsUnsaid result (M.counts machine.old) (M.counts machine.new) }
+    ensures taken { IsTrue M.tells
+        → TakesAtMost (measured_length (contents (M.state machine.old).files path.now))
+        (M.taken machine.old) (M.taken machine.new) }
 {
     let mut buffer = [0; PIECE_SIZE];
-    let mut registers = Vec::new(alloc);
-    for bank in banks {
-        registers.push(replay(machine, path, head, *bank, &mut buffer)?)?;
+    match replay_all(alloc, machine, path, head, banks, &mut buffer) {
+        Ok(registers) => Ok(registers),
+        Err(PredictFault::Memory) => Err(Unsaid::Memory),
+        Err(PredictFault::Disk) => Err(Unsaid::Disk),
     }
-    Ok(registers)
 }
 
 // The lines of the image at a path.
@@ -56,9 +61,13 @@ fn values<M: Machine>(
     phases: &[Text],
     machine: &mut M,
 ) -> Result<Vec<u8>, Unsaid>
-    ensures says { IsTrue M.tells → Says (λ text. text.items) result (values_at (seen (M.state machine.old)) banks.now phases.now path.now) }
+    ensures says { IsTrue M.tells → Says (λ text. text.items) result
+        (values_at (seen (M.state machine.old)) banks.now phases.now path.now) }
     ensures reads { IsTrue M.tells → OnlyReads M.clock M.since M.state machine.old machine.new }
     ensures counts { CountsUnsaid result (M.counts machine.old) (M.counts machine.new) }
+    ensures taken { IsTrue M.tells → TakesAtMost
+        (69463 + measured_length (found_bytes (bytes_at (seen (M.state machine.old)) path.now)))
+        (M.taken machine.old) (M.taken machine.new) }
 {
     let head = image_head(alloc, path, machine)?;
     let banks = banks_of(alloc, banks)?;
@@ -67,6 +76,7 @@ fn values<M: Machine>(
     Ok(result_lines(alloc, registers.as_slice(), paths.as_slice())?)
 }
 
+// The lines of the image that a word names.
 fn measured<M: Machine>(
     alloc: Global,
     file: &str,
@@ -74,16 +84,21 @@ fn measured<M: Machine>(
     phases: &[Text],
     machine: &mut M,
 ) -> Result<Vec<u8>, Unsaid>
-    ensures says { IsTrue M.tells → Says (λ text. text.items) result (image_said (seen (M.state machine.old)) file.now banks.now phases.now) }
+    ensures says { IsTrue M.tells → Says (λ text. text.items) result
+        (image_said (seen (M.state machine.old)) file.now banks.now phases.now) }
     ensures reads { IsTrue M.tells → OnlyReads M.clock M.since M.state machine.old machine.new }
     ensures counts { CountsUnsaid result (M.counts machine.old) (M.counts machine.new) }
+    ensures taken { IsTrue M.tells → TakesAtMost
+        (69463 + measured_length (named_content (seen (M.state machine.old)) file.now))
+        (M.taken machine.old) (M.taken machine.new) }
 {
     let path = path_in(alloc, file)?;
     values(alloc, &path, banks, phases, machine)
 }
 
 /// What is going to be said of an image: for each phase path the value of PCR 11, in each bank, after the
-/// image's stub has measured it and the path's words have followed.
+/// image's stub has measured it and the path's words have followed. The headers are read, and the raw data
+/// of the measured sections, once for all banks.
 pub fn plan_image<M: Machine>(
     alloc: Global,
     file: &str,
@@ -94,8 +109,12 @@ pub fn plan_image<M: Machine>(
     ensures plans { IfOk result (λ plan. IsTrue M.tells → Plans (M.state machine.old) plan
         (said (seen (M.state machine.old)) (image_said (seen (M.state machine.old)) file.now banks.now phases.now))) }
     ensures makeable { IfOk result (λ plan. IsMakeable plan.change) }
+    ensures idle { IfOk result (λ plan. plan.change ≡ Nothing) }
     ensures reads { IsTrue M.tells → OnlyReads M.clock M.since M.state machine.old machine.new }
     ensures counts { CountsStop result (M.counts machine.old) (M.counts machine.new) }
+    ensures taken { IsTrue M.tells → TakesAtMost
+        (69463 + measured_length (named_content (seen (M.state machine.old)) file.now))
+        (M.taken machine.old) (M.taken machine.new) }
 {
     let text = measured(alloc, file, banks, phases, machine);
     said(alloc, text)

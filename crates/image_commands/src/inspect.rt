@@ -1,8 +1,8 @@
 //! `ukify inspect`: the sections of an image.
-ghost use Rattle.std.specs.Prelude.{◌≡◌, ◌<◌, ◌≤◌, ◌++◌, IfOk, IsTrue, List, Ok, OnOk, codes, drop, length, ℕ};
+ghost use Rattle.std.specs.Prelude.{◌≡◌, ◌<◌, ◌≤◌, ◌+◌, ◌++◌, IfOk, IsTrue, List, Ok, OnOk, codes, drop, length, sum_by, ℕ};
 ghost use Rattle.std.specs.Fmt.{decimal};
 ghost use Rattle.std.specs.List.{flat_map};
-ghost use Rattle.boot_machine.specs.Reading.{OnlyReads};
+ghost use Rattle.boot_machine.specs.Reading.{OnlyReads, TakesAtMost};
 ghost use Rattle.boot_machine.specs.Rows.{contents};
 ghost use Rattle.boot_machine.specs.Sent.{seen};
 ghost use Rattle.pcr_fold.specs.Values.{bytes_of};
@@ -12,9 +12,12 @@ ghost use Rattle.pe_reader.specs.Reads.{headers_of};
 ghost use Rattle.command_plans.specs.Answers.{said};
 ghost use Rattle.command_plans.specs.Performs.{CountsStop};
 ghost use Rattle.command_plans.specs.Plans.{IsMakeable, Plans};
+ghost use Rattle.command_plans.specs.declared.plan.Change.TheVariants.{Nothing};
+ghost use Rattle.command_reads.specs.Files.{bytes_at};
 ghost use Rattle.command_reads.specs.Refusing.{printed_path};
 ghost use Rattle.command_reads.specs.Names.{shown_byte};
 ghost use Rattle.image_commands.specs.Said.{first_line, inspect_said, inspection_at, measures, section_lines};
+ghost use Rattle.image_commands.specs.Taking.{all_raw_length, found_bytes, named_content, raw_length};
 ghost use Rattle.command_reads.specs.Saying.{CountsUnsaid, Says};
 
 use boot_base::{BootPath, PIECE_SIZE, short_name};
@@ -47,11 +50,13 @@ fn append_section<M: Machine>(
     requires room { 0 < length buffer.old }
     ensures room { length buffer.new ≡ length buffer.old }
     ensures says { IsTrue M.tells
-        → (range_of section.now).length ≤ length (drop (range_of section.now).place (contents (M.state machine.old).files path.now))
+        → (range_of section.now).length
+        ≤ length (drop (range_of section.now).place (contents (M.state machine.old).files path.now))
         → Says (λ _. out.new.items) result
         (Ok (out.old.items ++ section_lines (contents (M.state machine.old).files path.now) section.now)) }
     ensures reads { IsTrue M.tells → OnlyReads M.clock M.since M.state machine.old machine.new }
     ensures counts { CountsUnsaid result (M.counts machine.old) (M.counts machine.new) }
+    ensures taken { IsTrue M.tells → TakesAtMost (raw_length section.now) (M.taken machine.old) (M.taken machine.new) }
 {
     let range = section.loaded_range();
     let digest = range_digest(Bank::Sha256, machine, path, range, buffer)?;
@@ -74,9 +79,12 @@ fn append_sections<M: Machine>(
     requires head { IsTrue M.tells → pe_of (contents (M.state machine.old).files path.now) ≡ Ok (headers_of head.now) }
     requires room { 0 < length buffer.old }
     ensures says { IsTrue M.tells → Says (λ _. out.new.items) result
-        (Ok (out.old.items ++ flat_map (section_lines (contents (M.state machine.old).files path.now)) (headers_of head.now).sections)) }
+        (Ok (out.old.items
+        ++ flat_map (section_lines (contents (M.state machine.old).files path.now)) (headers_of head.now).sections)) }
     ensures reads { IsTrue M.tells → OnlyReads M.clock M.since M.state machine.old machine.new }
     ensures counts { CountsUnsaid result (M.counts machine.old) (M.counts machine.new) }
+    ensures taken { IsTrue M.tells
+        → TakesAtMost (sum_by raw_length (headers_of head.now).sections) (M.taken machine.old) (M.taken machine.new) }
 {
     for section in head.sections() {
         append_section(alloc, out, section, path, buffer, machine)?;
@@ -84,6 +92,7 @@ fn append_sections<M: Machine>(
     Ok(())
 }
 
+// The path, and how many sections there are.
 fn first_line(alloc: Global, path: &BootPath, count: usize) -> Result<Vec<u8>, AllocError>
     ensures { IfOk result (λ line. line.items ≡ first_line path.now count) }
 {
@@ -97,9 +106,13 @@ fn inspection<M: Machine>(
     path: &BootPath,
     machine: &mut M,
 ) -> Result<Vec<u8>, Unsaid>
-    ensures says { IsTrue M.tells → Says (λ text. text.items) result (inspection_at (seen (M.state machine.old)) path.now) }
+    ensures says { IsTrue M.tells → Says (λ text. text.items) result
+        (inspection_at (seen (M.state machine.old)) path.now) }
     ensures reads { IsTrue M.tells → OnlyReads M.clock M.since M.state machine.old machine.new }
     ensures counts { CountsUnsaid result (M.counts machine.old) (M.counts machine.new) }
+    ensures taken { IsTrue M.tells → TakesAtMost
+        (69463 + all_raw_length (pe_of (found_bytes (bytes_at (seen (M.state machine.old)) path.now))))
+        (M.taken machine.old) (M.taken machine.new) }
 {
     let head = image_head(alloc, path, machine)?;
     let mut buffer = [0; PIECE_SIZE];
@@ -108,23 +121,32 @@ fn inspection<M: Machine>(
     Ok(text)
 }
 
+// The lines of the image that a word names.
 fn inspected<M: Machine>(alloc: Global, file: &str, machine: &mut M) -> Result<Vec<u8>, Unsaid>
-    ensures says { IsTrue M.tells → Says (λ text. text.items) result (inspect_said (seen (M.state machine.old)) file.now) }
+    ensures says { IsTrue M.tells → Says (λ text. text.items) result
+        (inspect_said (seen (M.state machine.old)) file.now) }
     ensures reads { IsTrue M.tells → OnlyReads M.clock M.since M.state machine.old machine.new }
     ensures counts { CountsUnsaid result (M.counts machine.old) (M.counts machine.new) }
+    ensures taken { IsTrue M.tells → TakesAtMost
+        (69463 + all_raw_length (pe_of (named_content (seen (M.state machine.old)) file.now)))
+        (M.taken machine.old) (M.taken machine.new) }
 {
     let path = path_in(alloc, file)?;
     inspection(alloc, &path, machine)
 }
 
 /// What is going to be said of an image: how many sections it has, and of each its name, and the number and
-/// the SHA-256 digest of its loaded bytes. Each section's bytes are read once.
+/// the SHA-256 digest of its loaded bytes. The headers are read, and each section's raw data once.
 pub fn plan_inspect<M: Machine>(alloc: Global, file: &str, machine: &mut M) -> Result<Plan, Stop>
     ensures plans { IfOk result (λ plan. IsTrue M.tells → Plans (M.state machine.old) plan
         (said (seen (M.state machine.old)) (inspect_said (seen (M.state machine.old)) file.now))) }
     ensures makeable { IfOk result (λ plan. IsMakeable plan.change) }
+    ensures idle { IfOk result (λ plan. plan.change ≡ Nothing) }
     ensures reads { IsTrue M.tells → OnlyReads M.clock M.since M.state machine.old machine.new }
     ensures counts { CountsStop result (M.counts machine.old) (M.counts machine.new) }
+    ensures taken { IsTrue M.tells → TakesAtMost
+        (69463 + all_raw_length (pe_of (named_content (seen (M.state machine.old)) file.now)))
+        (M.taken machine.old) (M.taken machine.new) }
 {
     let text = inspected(alloc, file, machine);
     said(alloc, text)

@@ -1,13 +1,13 @@
-use Rattle.std.proofs.Common.{List, map, ap, sym, subst, ◌∙◌}
+use Rattle.std.proofs.Common.{ap, sym, subst, ◌∙◌}
 use Rattle.boot_machine.specs.Disk.{State}
 use Rattle.boot_machine.specs.Rows.{contents}
 use Rattle.boot_machine.specs.Sent.{seen}
-use Rattle.boot_phases.specs.Lines.{HasDistinctBanks, result_text, shown}
-use Rattle.pcr_fold.specs.declared.pcr.Pcr.{Pcr}
+use Rattle.boot_phases.specs.Lines.{HasDistinctBanks}
+use Rattle.boot_phases.proofs.Distinct.{distinct_registers}
 use Rattle.pe_reader.specs.Reads.{headers_of}
 use Rattle.boot_machine.proofs.Reading.{reads_on}
-use Rattle.command_reads.proofs.Registers.{distinct_registers}
 use Rattle.image_commands.proofs.Registers.{values_are}
+use Rattle.image_commands.proofs.Taking.{image_taken}
 use Rattle.command_reads.proofs.Unsaying.{says_unsaid, unrefused}
 use Rattle.image_commands.proofs.image.values.Goals as goal
 
@@ -35,6 +35,22 @@ returns-clause-reads g c told =
 
 pub returns-clause-says : goal.returns-clause-says
 returns-clause-says g c told =
-    values_are (seen (g.M.Machine.state c.args.machine.now)) c.args.path.now c.args.banks.now c.args.phases.now (contents (g.M.Machine.state c.args.machine.now).files c.args.path.now) _ (headers_of c.in_ok-head.head) (map shown c.in_ok-registers.registers.items) c.as_slice.result.now c.as_slice-3.result.now c.in_ok-result_lines.field-0.items
-    (c.in_ok-head.ensures.image told) (ap (λ (s : State). contents s.files c.args.path.now) (c.image_head.ensures.reads told).same) (cc (c.in_ok-registers.ensures.says told)) (c.as_slice.ensures.value ∙ c.in_ok-banks.ensures.value) (c.as_slice-3.ensures.value ∙ c.in_ok-paths.ensures.value)
-    (c.in_ok-result_lines.ensures ∙ ap (λ (l : List Pcr). result_text (map shown l) c.as_slice-3.result.now) c.as_slice-2.ensures.value)
+    values_are (seen (g.M.Machine.state c.args.machine.now)) c.args.path.now c.args.banks.now c.args.phases.now (contents (g.M.Machine.state c.args.machine.now).files c.args.path.now) _ (headers_of c.in_ok-head.head)
+    c.as_slice.result.now c.as_slice-3.result.now c.in_ok-registers.registers.items c.as_slice-2.result.now c.in_ok-result_lines.field-0.items
+    (c.in_ok-head.ensures.image told) (ap (λ (s : State). contents s.files c.args.path.now) (c.image_head.ensures.reads told).same) (c.in_ok-registers.ensures.says told) c.as_slice-2.ensures.value
+    (c.as_slice.ensures.value ∙ c.in_ok-banks.ensures.value) (c.as_slice-3.ensures.value ∙ c.in_ok-paths.ensures.value) c.in_ok-result_lines.ensures
+
+pub returns-in_err-registers-clause-taken : goal.returns-in_err-registers-clause-taken
+returns-in_err-registers-clause-taken g c told =
+    image_taken (seen (g.M.Machine.state c.args.machine.now)) c.args.path.now (contents (g.M.Machine.state c.args.machine.now).files c.args.path.now) _ (headers_of c.in_ok-head.head) _ _ _
+    (c.in_ok-head.ensures.image told) (ap (λ (s : State). contents s.files c.args.path.now) (c.image_head.ensures.reads told).same) (c.image_head.ensures.taken told) (c.registers.ensures.taken told)
+
+pub returns-in_err-result_lines-clause-taken : goal.returns-in_err-result_lines-clause-taken
+returns-in_err-result_lines-clause-taken g c told =
+    image_taken (seen (g.M.Machine.state c.args.machine.now)) c.args.path.now (contents (g.M.Machine.state c.args.machine.now).files c.args.path.now) _ (headers_of c.in_ok-head.head) _ _ _
+    (c.in_ok-head.ensures.image told) (ap (λ (s : State). contents s.files c.args.path.now) (c.image_head.ensures.reads told).same) (c.image_head.ensures.taken told) (c.registers.ensures.taken told)
+
+pub returns-clause-taken : goal.returns-clause-taken
+returns-clause-taken g c told =
+    image_taken (seen (g.M.Machine.state c.args.machine.now)) c.args.path.now (contents (g.M.Machine.state c.args.machine.now).files c.args.path.now) _ (headers_of c.in_ok-head.head) _ _ _
+    (c.in_ok-head.ensures.image told) (ap (λ (s : State). contents s.files c.args.path.now) (c.image_head.ensures.reads told).same) (c.image_head.ensures.taken told) (c.registers.ensures.taken told)

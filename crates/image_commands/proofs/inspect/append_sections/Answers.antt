@@ -1,9 +1,10 @@
-use Rattle.std.proofs.Common.{rules, refl, ap, ◌∙◌}
+use Rattle.std.proofs.Common.{rules, refl, ap, arith, ◌∙◌}
 use Rattle.boot_machine.specs.Disk.{State}
 use Rattle.boot_machine.specs.Rows.{contents}
 use Rattle.pe_reader.specs.Reads.{headers_of}
 use Rattle.boot_machine.proofs.Reading.{reads_none, reads_on}
 use Rattle.image_commands.proofs.Inspecting.{item_inside, lines_more, unwrapped}
+use Rattle.image_commands.proofs.Taking.{all_sections_taken, sections_taken}
 use Rattle.command_reads.proofs.Unsaying.{says_unsaid, unrefused}
 use Rattle.image_commands.proofs.inspect.append_sections.Goals as goal
 
@@ -13,6 +14,7 @@ loop-section-init g c = record {
   lines = λ told. search rules;
   reads = λ told. reads_none g.M.Machine.clock g.M.Machine.since g.M.Machine.state c.args.machine.now (λ m o left. g.met.M.Machine.only_now c.args.machine.now m o told left);
   counts = refl;
+  taken = λ told. omega arith;
 }
 
 pub returns-in_err-append_section-clause-reads : goal.returns-in_err-append_section-clause-reads
@@ -38,4 +40,13 @@ loop-section-preserved g c =
           (item_inside (contents (g.M.Machine.state c.args.machine.now).files c.args.path.now) _ (headers_of c.args.head.now) c.sections-section-items.result.now c.loop-section.section-index _ (c.requires.head told) same c.sections-section-items.ensures c.loop-section-test.true)));
       reads = λ told. reads_on g.M.Machine.clock g.M.Machine.since g.M.Machine.state c.args.machine.now c.loop-section.machine c.append_section.new.machine (before.reads told) (c.append_section.ensures.reads told);
       counts = search rules;
+      taken = λ told. sections_taken c.sections-section-items.result.now c.loop-section.section-index _ _ _ _ c.loop-section-test.true (before.taken told) (c.append_section.ensures.taken told);
     }
+
+pub returns-in_err-append_section-clause-taken : goal.returns-in_err-append_section-clause-taken
+returns-in_err-append_section-clause-taken g c told =
+    all_sections_taken c.sections-section-items.result.now _ _ _ _ c.sections-section-items.ensures
+    (sections_taken c.sections-section-items.result.now c.loop-section.section-index _ _ _ _ c.loop-section-test.true (c.loop-section.invariant.taken told) (c.append_section.ensures.taken told))
+
+pub returns-clause-taken : goal.returns-clause-taken
+returns-clause-taken g c told = all_sections_taken c.sections-section-items.result.now _ _ _ _ c.sections-section-items.ensures (c.loop-section.invariant.taken told)
