@@ -5,26 +5,34 @@ use Rattle.boot_base.specs.Paths.{Path}
 use Rattle.boot_base.specs.declared.refusal.Refusal.{Refusal}
 use Rattle.boot_base.specs.declared.refusal.Refusal.TheVariants as refusals
 use Rattle.boot_machine.specs.Disk.{Files}
-use Rattle.boot_phases.specs.Lines.{heading_of}
+use Rattle.boot_phases.specs.Lines.{heading_of, value_lines}
 use Rattle.tool_words.specs.declared.command.Command.{Command}
 use Rattle.tool_words.specs.declared.command.Command.TheVariants as command
-use Rattle.command_plans.specs.Answers.{Answer}
+use Rattle.command_plans.specs.Answers.{Answer, answered}
 use Rattle.pcr_fold.specs.declared.bank.Bank.{Bank}
 use Rattle.pe_reader.specs.declared.fault.FailedCheck.{FailedCheck}
 use Rattle.pe_reader.specs.Grammar.{Headers, pe_of}
 use Rattle.image_build.specs.Building.{Built, build_of, built_answer}
-use Rattle.command_reads.specs.Files.{bytes_at, each, if_given, image_at}
-use Rattle.image_commands.specs.Calculating.{calculate_said, part_words}
+use Rattle.command_reads.specs.Files.{bytes_at, each, image_at}
+use Rattle.image_commands.specs.Calculating.{calculate_said, part_words, under_name}
+use Rattle.stub_replay.specs.Ordered.{present}
 use Rattle.image_commands.specs.Said.{has_loaded, identify_said, image_said, inspect_said, inspection_at, kind_at, kind_of, values_at}
-use Rattle.command_reads.specs.Values.{banks_of, once, paths_of, value_lines}
+use Rattle.command_reads.specs.Values.{banks_of, once, paths_of}
 use Rattle.boot_commands.specs.Commands.{step_reply}
 use Rattle.boot_commands.specs.Demonstration.{demo_said, number_up_to}
 use Rattle.entry_commands.specs.Folders.{folders_of}
-use Rattle.entry_commands.proofs.Replies.{some_boot, some_install, some_line, some_list, some_marked, some_said, text_next}
-use Rattle.command_reads.specs.Refusing.{path_in, printed_path}
+use Rattle.entry_commands.proofs.Replies.{HasText, some_boot, some_install, some_line, some_list, some_marked, some_said, text_next}
+use Rattle.command_reads.specs.Refusing.{◌>>=◌, path_in, printed_path}
 use Rattle.command_plans.specs.Refusing.{unless_refused}
 use Rattle.entry_commands.specs.Tidying.{tidy_answer}
 use Rattle.entry_commands.specs.Unlinking.{entry_path, removal, unlink_answer}
+use Rattle.loader_commands.specs.Places.{conf_bytes, loader_menu, loader_paths}
+use Rattle.loader_commands.specs.Setting.{conf_changed, conf_set}
+use Rattle.loader_commands.specs.Showing.{default_item, menu_shown, show_said, shown_or_empty}
+use Rattle.loader_conf.specs.Conf.{conf_default, conf_timeout}
+use Rattle.loader_conf.specs.declared.change.ConfKey.{ConfKey}
+use Rattle.loader_conf.specs.declared.change.ConfKey.TheVariants.{Default, Timeout}
+use Rattle.menu_order.specs.declared.item.MenuItem.{MenuItem}
 
 -- refused for the words, or what comes next has a text
 some_unless : {X : Type 0} (view : Files) (read : Result X Refusal) (next : X → Answer) → ((x : X) → 0 < length (next x).text) → 0 < length (unless_refused view read next).text
@@ -61,12 +69,21 @@ some_built : (view : Files) (measure : Bool) (built : Result Built Refusal) → 
 some_built view measure (Err why) = some_line why
 some_built view measure (Ok built) = omega arith
 
+some_shown : (timeout : Option (List ℕ)) (item : Option MenuItem) → HasText (shown_or_empty timeout item)
+some_shown timeout None = tt
+some_shown timeout (Some item) = omega arith
+
+some_changed : (view : Files) (key : ConfKey) (value : List ℕ) (change : Result (Path × List ℕ) Refusal) → 0 < length (answered view (change >>= λ change. Ok (conf_changed view key value change))).text
+some_changed view Default value (Ok change) = omega arith
+some_changed view Timeout value (Ok change) = omega arith
+some_changed view key value (Err why) = some_line why
+
 -- no command's reply is empty: a case for each command
 pub some_text : (view : Files) (c : Command) → 0 < length (step_reply view c).text
 some_text view (command.Build words) = some_built view words.measure (build_of view words)
 some_text view (command.Calculate words) =
     some_said view (calculate_said view words)
-    (text_next (each (if_given path_in) (part_words words)) _ (λ paths. text_next (each (if_given (bytes_at view)) paths) _ (λ parts. some_values _ (banks_of words.banks) words.phases)))
+    (text_next (each (under_name path_in) (present (part_words words))) _ (λ paths. text_next (each (under_name (bytes_at view)) paths) _ (λ parts. some_values _ (banks_of words.banks) words.phases)))
 some_text view (command.Inspect file) =
     some_said view (inspect_said view file) (text_next (path_in file) (inspection_at view) (λ path. text_next (image_at view path) _ (λ image. omega arith)))
 some_text view (command.Image file banks phases) =
@@ -80,6 +97,10 @@ some_text view (command.Boot esp) = some_boot view esp
 some_text view (command.Unlink name esp) = some_unless view (entry_path name esp) (unlink_answer view) (λ path. some_removal view path (get view path))
 some_text view (command.Install file name tries esp) = some_install view file name tries esp
 some_text view (command.Bless verb path esp) = some_marked view verb path esp
+some_text view (command.LoaderShow esp) = some_said view (show_said view esp)
+    (text_next (loader_paths esp) _ (λ paths. text_next (conf_bytes view paths.conf) _ (λ bytes. text_next (loader_menu view paths.folders) (menu_shown bytes) (λ menu. some_shown (conf_timeout bytes) (default_item (conf_default bytes) menu)))))
+some_text view (command.LoaderDefault pattern esp) = some_changed view Default pattern (conf_set view Default pattern esp)
+some_text view (command.LoaderTimeout value esp) = some_changed view Timeout value (conf_set view Timeout value esp)
 some_text view command.Script = some_line (refusals.BadScript 0)
 some_text view (command.Demo seed count) =
     some_said view (demo_said seed count)

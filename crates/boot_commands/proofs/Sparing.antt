@@ -5,9 +5,9 @@ use Rattle.boot_base.specs.Paths.{Path}
 use Rattle.boot_base.specs.declared.refusal.Refusal.{Refusal}
 use Rattle.boot_folder.specs.declared.folders.Folders.{Folders}
 use Rattle.boot_machine.specs.Disk.{Files}
-use Rattle.command_plans.specs.Answers.{Answer, said}
+use Rattle.command_plans.specs.Answers.{Answer, answered, said}
 use Rattle.command_plans.specs.Refusing.{unless_refused}
-use Rattle.command_reads.specs.Refusing.{path_in}
+use Rattle.command_reads.specs.Refusing.{◌>>=◌, path_in}
 use Rattle.tool_words.specs.declared.command.Command.{Command}
 use Rattle.tool_words.specs.declared.command.Command.TheVariants as command
 use Rattle.image_build.specs.Building.{Built, build_of, built_answer}
@@ -19,10 +19,24 @@ use Rattle.entry_commands.specs.Listing.{list_said}
 use Rattle.entry_commands.specs.Tidying.{tidy_answer}
 use Rattle.entry_commands.specs.Unlinking.{entry_path, unlink_answer}
 use Rattle.entry_commands.proofs.GoodEntries.{kept_bless, kept_boot, kept_install, kept_unlink, put_apart}
+use Rattle.loader_commands.specs.Places.{conf_path}
+use Rattle.loader_commands.specs.Setting.{conf_changed, conf_set}
+use Rattle.loader_commands.specs.Showing.{show_said}
+use Rattle.loader_conf.specs.declared.change.ConfKey.{ConfKey}
+use Rattle.loader_conf.specs.declared.change.ConfKey.TheVariants.{Default, Timeout}
 use Rattle.boot_commands.specs.Commands.{step_reply}
 use Rattle.boot_commands.specs.Demonstration.{demo_said}
 use Rattle.boot_commands.specs.Sparing.{Spares}
 use Rattle.image_build.proofs.Outputs.{build_output}
+use Rattle.loader_commands.proofs.Told.{changes}
+
+-- what is written by a change of loader.conf isn't at a path that it spares
+set_apart : (view : Files) (key : ConfKey) (value esp : List ℕ) (path : Path) → conf_path esp ≢ Ok path → IfOk (conf_set view key value esp) (λ change. change.0 ≢ path)
+set_apart view key value esp path spares = by (conf_set view key value esp) refl
+  where
+    by : (set : Result (Path × List ℕ) Refusal) → conf_set view key value esp ≡ set → IfOk set (λ change. change.0 ≢ path)
+    by (Ok change) is = λ same. spares ((changes view key value esp change.0 change.1 is).path_is ∙ ap Ok same)
+    by (Err why) is = tt
 
 module _ (folders : Folders) (path : Path) (view : Files) (entry : HasGoodEntry folders path view) where
   kept_said : (text : Result (List ℕ) Refusal) → HasGoodEntry folders path (said view text).after
@@ -42,6 +56,12 @@ module _ (folders : Folders) (path : Path) (view : Files) (entry : HasGoodEntry 
   kept_unless (Ok x) next each = each x refl
   kept_unless (Err why) next each = entry
 
+  kept_changed : (key : ConfKey) (value : List ℕ) (change : Result (Path × List ℕ) Refusal)
+      → IfOk change (λ change. change.0 ≢ path)
+      → HasGoodEntry folders path (answered view (change >>= λ change. Ok (conf_changed view key value change))).after
+  kept_changed key value (Ok change) apart = put_apart folders path view entry change.0 change.1 apart
+  kept_changed key value (Err why) apart = entry
+
   -- a case for each command
   pub kept : (c : Command) → Spares path c → HasGoodEntry folders path (step_reply view c).after
   kept (command.Build words) spares =
@@ -57,5 +77,8 @@ module _ (folders : Folders) (path : Path) (view : Files) (entry : HasGoodEntry 
       kept_unlink folders path view entry at (λ same. spares (is ∙ ap Ok same)))
   kept (command.Install file name tries esp) spares = kept_install folders path view entry file name tries esp
   kept (command.Bless verb word esp) spares = kept_bless folders path view entry verb word esp spares
+  kept (command.LoaderShow esp) spares = kept_said (show_said view esp)
+  kept (command.LoaderDefault pattern esp) spares = kept_changed Default pattern (conf_set view Default pattern esp) (set_apart view Default pattern esp path spares)
+  kept (command.LoaderTimeout value esp) spares = kept_changed Timeout value (conf_set view Timeout value esp) (set_apart view Timeout value esp path spares)
   kept command.Script spares = entry
   kept (command.Demo seed count) spares = kept_said (demo_said seed count)

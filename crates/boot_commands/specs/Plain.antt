@@ -17,6 +17,9 @@ use Rattle.entry_commands.specs.Unlinking.{entry_path, unlink_answer}
 use Rattle.entry_commands.specs.Folders.{folders_of}
 use Rattle.entry_commands.specs.Listing.{list_said}
 use Rattle.entry_commands.specs.Tidying.{tidy_answer}
+use Rattle.loader_commands.specs.Setting.{set_answer}
+use Rattle.loader_commands.specs.Showing.{show_answer}
+use Rattle.loader_conf.specs.declared.change.ConfKey.TheVariants.{Default, Timeout}
 
 -- it runs the lines of standard input
 abbrev pub is_script : Command → Bool
@@ -45,6 +48,9 @@ plain_answer view (command.Boot esp) = Some (boot_answer view esp)
 plain_answer view (command.Unlink name esp) = Some (unless_refused view (entry_path name esp) (unlink_answer view))
 plain_answer view (command.Install file name tries esp) = Some (install_answer view file name tries esp)
 plain_answer view (command.Bless verb path esp) = Some (bless_answer view verb path esp)
+plain_answer view (command.LoaderShow esp) = Some (show_answer view esp)
+plain_answer view (command.LoaderDefault pattern esp) = Some (set_answer view Default pattern esp)
+plain_answer view (command.LoaderTimeout value esp) = Some (set_answer view Timeout value esp)
 plain_answer view c = None
 
 -- the answer; where a command has none of its own, that of a line that is no command. No step is made there

@@ -14,6 +14,7 @@ use command_plans::{Outcome, Plan, Stop, perform};
 use entry_commands::{plan_bless, plan_boot, plan_install, plan_list, plan_tidy, plan_unlink};
 use image_build::plan_build;
 use image_commands::{plan_calculate, plan_identify, plan_image, plan_inspect};
+use loader_commands::{plan_default, plan_show, plan_timeout};
 use std::alloc::Global;
 use tool_words::Command;
 
@@ -60,6 +61,13 @@ pub fn plan_plain<M: Machine>(
         }
         Command::Bless { verb, path, esp } => {
             plan_bless(alloc, *verb, path.as_str(), esp.as_str(), machine)
+        }
+        Command::LoaderShow { esp } => plan_show(alloc, esp.as_str(), machine),
+        Command::LoaderDefault { pattern, esp } => {
+            plan_default(alloc, pattern.as_str(), esp.as_str(), machine)
+        }
+        Command::LoaderTimeout { value, esp } => {
+            plan_timeout(alloc, value.as_str(), esp.as_str(), machine)
         }
         Command::Script | Command::Demo { .. } => unreachable!(),
     }

@@ -8,5 +8,5 @@ mod set;
 mod show;
 
 pub use laws::{setting_changes_one_key, show_tells_of_the_default};
-pub use set::{ConfChange, set_default, set_timeout};
+pub use set::{plan_default, plan_timeout};
 pub use show::plan_show;

@@ -4,10 +4,12 @@ ghost use Rattle.boot_base.specs.Paths.{IsFree};
 ghost use Rattle.boot_machine.specs.Counts.{Counts};
 ghost use Rattle.boot_machine.specs.Reading.{OnlyReads};
 ghost use Rattle.boot_machine.specs.Sent.{seen};
+ghost use Rattle.command_plans.specs.Performs.{CountsStop};
+ghost use Rattle.command_plans.specs.Plans.{IsMakeable, Plans, PlansAs};
 ghost use Rattle.command_reads.specs.Refusing.{Means};
 ghost use Rattle.command_reads.specs.Saying.{CountsUnsaid, Says};
 ghost use Rattle.loader_commands.specs.Places.{within_limit};
-ghost use Rattle.loader_commands.specs.Setting.{bad_value, conf_set, set_text, text_set, value_in};
+ghost use Rattle.loader_commands.specs.Setting.{bad_value, conf_set, set_answer, set_meant, set_text, text_set, value_in};
 ghost use Rattle.loader_conf.specs.Conf.{IsConfValue, conf_key_name};
 ghost use Rattle.loader_conf.specs.FileLines.{text_with_value};
 ghost use Rattle.loader_conf.specs.declared.change.ConfKey.TheVariants as keys;
@@ -15,16 +17,17 @@ ghost use Rattle.loader_conf.specs.declared.change.ConfKey.TheVariants as keys;
 use crate::places::{CONF_LIMIT, conf_bytes, conf_path, too_long};
 use boot_base::{BootPath, Bytes, Refusal, Target, Text};
 use boot_machine::Machine;
+use command_plans::{Change, Outcome, Plan, Stop, answered};
 use command_reads::{Declined, Unsaid};
 use loader_conf::{ConfKey, may_be_value, with_key};
 use std::alloc::{AllocError, Global};
 
 /// A change of a loader.conf: where it is written, its whole new text, and what is told of it.
-#[derive(Debug, Drop)]
-pub struct ConfChange {
-    pub target: Target,
-    pub bytes: Bytes,
-    pub text: Bytes,
+#[derive(Drop)]
+struct ConfChange {
+    target: Target,
+    bytes: Bytes,
+    text: Bytes,
 }
 
 fn bad_value(alloc: Global, key: ConfKey, word: &str) -> Result<Refusal, AllocError>
@@ -127,36 +130,70 @@ fn conf_set<M: Machine>(
     Ok(change_of(alloc, key, value, path, bytes)?)
 }
 
-/// The change that sets the pattern of the default entry in the loader.conf of an EFI system partition.
-pub fn set_default<M: Machine>(
+// The plan that writes the change.
+fn plan_of(change: ConfChange) -> Plan
+    ensures change { result.change ≡ Change.Put change.target change.bytes }
+    ensures outcome { result.outcome ≡ Outcome.Done }
+    ensures text { result.text ≡ change.text }
+{
+    Plan {
+        change: Change::Put {
+            target: change.target,
+            bytes: change.bytes,
+        },
+        outcome: Outcome::Done,
+        text: change.text,
+    }
+}
+
+// The plan that gives the key of the partition's loader.conf the value.
+fn planned<M: Machine>(
+    alloc: Global,
+    key: ConfKey,
+    value: &str,
+    esp: &str,
+    machine: &mut M,
+) -> Result<Plan, Unsaid>
+    ensures plans { IsTrue M.tells → PlansAs (M.state machine.old) result
+        (set_meant (seen (M.state machine.old)) key value.now esp.now) }
+    ensures makeable { IfOk result (λ plan. IsMakeable plan.change) }
+    ensures reads { IsTrue M.tells → OnlyReads M.clock M.since M.state machine.old machine.new }
+    ensures counts { CountsUnsaid result (M.counts machine.old) (M.counts machine.new) }
+{
+    let change = conf_set(alloc, key, value, esp, machine)?;
+    Ok(plan_of(change))
+}
+
+/// What is going to be done where the pattern of the default entry is set in the loader.conf of an EFI system partition.
+pub fn plan_default<M: Machine>(
     alloc: Global,
     pattern: &str,
     esp: &str,
     machine: &mut M,
-) -> Result<ConfChange, Unsaid>
-    ensures says { IsTrue M.tells → Says (λ change. (change.target.path, change.bytes)) result
-        (conf_set (seen (M.state machine.old)) keys.Default pattern.now esp.now) }
-    ensures free { IfOk result (λ change. IsFree change.target.path) }
-    ensures text { IfOk result (λ change. change.text ≡ set_text keys.Default pattern.now) }
+) -> Result<Plan, Stop>
+    ensures plans { IfOk result (λ plan. IsTrue M.tells → Plans (M.state machine.old) plan
+        (set_answer (seen (M.state machine.old)) keys.Default pattern.now esp.now)) }
+    ensures makeable { IfOk result (λ plan. IsMakeable plan.change) }
     ensures reads { IsTrue M.tells → OnlyReads M.clock M.since M.state machine.old machine.new }
-    ensures counts { CountsUnsaid result (M.counts machine.old) (M.counts machine.new) }
+    ensures counts { CountsStop result (M.counts machine.old) (M.counts machine.new) }
 {
-    conf_set(alloc, ConfKey::Default, pattern, esp, machine)
+    let plan = planned(alloc, ConfKey::Default, pattern, esp, machine);
+    answered(alloc, plan)
 }
 
-/// The change that sets how long the menu waits in the loader.conf of an EFI system partition.
-pub fn set_timeout<M: Machine>(
+/// What is going to be done where it is set how long the menu waits.
+pub fn plan_timeout<M: Machine>(
     alloc: Global,
     value: &str,
     esp: &str,
     machine: &mut M,
-) -> Result<ConfChange, Unsaid>
-    ensures says { IsTrue M.tells → Says (λ change. (change.target.path, change.bytes)) result
-        (conf_set (seen (M.state machine.old)) keys.Timeout value.now esp.now) }
-    ensures free { IfOk result (λ change. IsFree change.target.path) }
-    ensures text { IfOk result (λ change. change.text ≡ set_text keys.Timeout value.now) }
+) -> Result<Plan, Stop>
+    ensures plans { IfOk result (λ plan. IsTrue M.tells → Plans (M.state machine.old) plan
+        (set_answer (seen (M.state machine.old)) keys.Timeout value.now esp.now)) }
+    ensures makeable { IfOk result (λ plan. IsMakeable plan.change) }
     ensures reads { IsTrue M.tells → OnlyReads M.clock M.since M.state machine.old machine.new }
-    ensures counts { CountsUnsaid result (M.counts machine.old) (M.counts machine.new) }
+    ensures counts { CountsStop result (M.counts machine.old) (M.counts machine.new) }
 {
-    conf_set(alloc, ConfKey::Timeout, value, esp, machine)
+    let plan = planned(alloc, ConfKey::Timeout, value, esp, machine);
+    answered(alloc, plan)
 }
