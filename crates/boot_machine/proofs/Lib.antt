@@ -3,6 +3,7 @@ pub mod Filling
 pub mod Going
 pub mod Listing
 pub mod Printing
+pub mod Ranges
 pub mod Reading
 pub mod Recovering
 pub mod Seeing

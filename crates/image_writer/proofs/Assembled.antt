@@ -28,7 +28,8 @@ use Rattle.pe_builder.specs.Known.{planned_before, planned_stub_length}
 use Rattle.pe_builder.proofs.PlannedIs.{fitting, image_by-is}
 use Rattle.pe_builder.proofs.Replacing.{raw_inside}
 use Rattle.pe_builder.proofs.Totals.{buildable_image, buildable_sbat}
-use Rattle.image_writer.specs.Chunks.{between, chunks_bytes, number_chunks, table_end, table_chunks, section_chunks, rest_chunks, headers_bytes, stub_bytes, behind_stub}
+use Rattle.boot_machine.specs.Reading.{between}
+use Rattle.image_writer.specs.Chunks.{chunks_bytes, number_chunks, table_end, table_chunks, section_chunks, rest_chunks, headers_bytes, stub_bytes, behind_stub}
 use Rattle.image_writer.specs.Sourced.{parts_bytes, IsPieced}
 use Rattle.image_writer.proofs.Padded.{behind-is}
 use Rattle.image_writer.proofs.Rising.{Patch, puts, Rising, drop-puts, length-puts, put-swap}

@@ -1,16 +1,12 @@
 -- Bytes that are given piece by piece.
-use Rattle.std.proofs.Common.{◌≡◌, inl, inr, ◌<◌, ◌≤◌, ◌+◌, ◌-◌, ℕ, List, [], ◌∷◌, ◌++◌, length, take, drop, get_or, sym, ap, ◌∙◌, arith, append_assoc, length-drop}
+use Rattle.std.proofs.Common.{◌≡◌, ◌<◌, ◌≤◌, ◌+◌, ◌-◌, ℕ, List, [], ◌∷◌, ◌++◌, length, take, get_or, sym, ap, ◌∙◌}
 use Rattle.std.specs.Prelude.{replicate, ◌==◌, false}
 use Rattle.std.specs.List.{flat_map}
-use Rattle.std.proofs.Math.Seq.{take-add}
-use Rattle.std.proofs.lemmas.Bool.{cases_lt}
 use Rattle.std.proofs.lemmas.Grind.{flat_map-append}
-use Rattle.std.proofs.lemmas.List.{take_all, take_more, drop_all, drop-drop, append-nil, take-replicate, replicate-append-replicate}
-use Rattle.boot_machine.specs.Reading.{zero_filled}
-use Rattle.boot_machine.proofs.Filling.{zero_filled-inside}
+use Rattle.std.proofs.lemmas.List.{take_all, take_more, append-nil, take-replicate, replicate-append-replicate}
 use Rattle.uki_parts.specs.declared.part.Part.{Part}
 use Rattle.uki_parts.specs.Pieces.{Reading}
-use Rattle.image_writer.specs.Chunks.{between, gap, padded_part, behind_stub}
+use Rattle.image_writer.specs.Chunks.{gap, padded_part, behind_stub}
 
 -- more zeros
 pub zeros_more : (zeros : List ℕ) (done count : ℕ) → zeros ≡ replicate (length zeros) 0 → count ≤ length zeros
@@ -18,52 +14,6 @@ pub zeros_more : (zeros : List ℕ) (done count : ℕ) → zeros ≡ replicate (
 zeros_more zeros done count all_zero fits =
     ap (λ (l : List ℕ). replicate done 0 ++ l) (ap (take count) all_zero ∙ take-replicate count (length zeros) 0 fits)
     ∙ replicate-append-replicate done count 0
-
-inside_add : (xs : List ℕ) (a b : ℕ) → a ≤ length xs → zero_filled xs (a + b) ≡ zero_filled xs a ++ zero_filled (drop a xs) b
-inside_add xs a b le =
-    let rest : a + b - length xs ≡ b - length (drop a xs) = omega (arith, length-drop a xs) in
-    ap (λ (l : List ℕ). l ++ replicate (a + b - length xs) 0) (take-add a b xs)
-    ∙ ap (λ (n : ℕ). (take a xs ++ take b (drop a xs)) ++ replicate n 0) rest
-    ∙ append_assoc (take a xs) (take b (drop a xs)) _
-    ∙ ap (λ (l : List ℕ). l ++ zero_filled (drop a xs) b) (sym (zero_filled-inside xs a le))
-
-past_add : (xs : List ℕ) (a b : ℕ) → length xs < a → zero_filled xs (a + b) ≡ zero_filled xs a ++ zero_filled (drop a xs) b
-past_add xs a b lt =
-    let rest : a + b - length xs ≡ a - length xs + b = omega arith in
-    let none : drop a xs ≡ [] = drop_all a xs (omega arith) in
-    let all : b - 0 ≡ b = omega arith in
-    let zeros : zero_filled [] b ≡ replicate b 0 = ap (λ (l : List ℕ). l ++ replicate (b - 0) 0) (take_all b [] (omega arith)) ∙ ap (λ (n : ℕ). replicate n 0) all in
-    ap (λ (l : List ℕ). l ++ replicate (a + b - length xs) 0) (take_all (a + b) xs (omega arith) ∙ sym (take_all a xs (omega arith)))
-    ∙ ap (λ (n : ℕ). take a xs ++ replicate n 0) rest
-    ∙ ap (λ (l : List ℕ). take a xs ++ l) (sym (replicate-append-replicate (a - length xs) b 0))
-    ∙ sym (append_assoc (take a xs) (replicate (a - length xs) 0) (replicate b 0))
-    ∙ ap (λ (l : List ℕ). zero_filled xs a ++ l) (sym (ap (λ (l : List ℕ). zero_filled l b) none ∙ zeros))
-
--- bytes in two pieces
-pub zero_filled-add : (xs : List ℕ) (a b : ℕ) → zero_filled xs (a + b) ≡ zero_filled xs a ++ zero_filled (drop a xs) b
-zero_filled-add xs a b = elim (cases_lt (length xs) a) [ inl lt ↦ past_add xs a b lt | inr le ↦ inside_add xs a b le ]
-
-pub between_none : (file : List ℕ) (at : ℕ) → between file at at ≡ []
-between_none file at =
-    let none : at - at ≡ 0 = omega arith in
-    ap (zero_filled (drop at file)) none ∙ zero_filled-inside (drop at file) 0 (omega arith)
-
-pub between_more : (file seen : List ℕ) (from at count : ℕ) → from ≤ at → seen ≡ file
-    → between file from at ++ zero_filled (drop at seen) count ≡ between file from (at + count)
-between_more file seen from at count le same =
-    let all : at - from + count ≡ at + count - from = omega arith in
-    let back : at - from + from ≡ at = omega arith in
-    let rest : drop (at - from) (drop from file) ≡ drop at file = drop-drop (at - from) from file ∙ ap (λ (n : ℕ). drop n file) (omega arith) in
-    ap (λ (l : List ℕ). between file from at ++ zero_filled (drop at l) count) same
-    ∙ ap (λ (l : List ℕ). between file from at ++ zero_filled l count) (sym rest)
-    ∙ sym (zero_filled-add (drop from file) (at - from) count)
-    ∙ ap (zero_filled (drop from file)) all
-
--- up to the end, or no bytes at all
-pub between_all : (file : List ℕ) (from to at : ℕ) → from ≤ at → at - from ≤ to - from → to ≤ at → between file from at ≡ between file from to
-between_all file from to at a b c =
-    let same : at - from ≡ to - from = omega arith in
-    ap (zero_filled (drop from file)) same
 
 -- one item more
 pub flat_map-more : {X : Type 0} (f : X → List ℕ) (xs : List X) (i : ℕ) (x : X) → i < length xs → x ≡ get_or xs i x

@@ -6,7 +6,7 @@ use Rattle.pe_reader.specs.Fields.{part}
 use Rattle.pe_builder.specs.Puts.{put}
 use Rattle.pe_builder.proofs.Putting.{length-put, take-put, drop-put, part-put_before}
 use Rattle.boot_machine.proofs.Filling.{zero_filled-inside}
-use Rattle.image_writer.specs.Chunks.{between}
+use Rattle.boot_machine.specs.Reading.{between}
 
 -- bytes from a place up to an end
 pub record Patch : Type 0 where

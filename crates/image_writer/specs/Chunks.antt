@@ -1,9 +1,9 @@
 -- The chunks of an image.
-use Rattle.std.specs.Prelude.{◌≡◌, ℕ, ◌+◌, ◌*◌, ◌-◌, ◌%◌, false, List, [], ◌∷◌, ◌++◌, drop, replicate, Option, Some, None}
+use Rattle.std.specs.Prelude.{◌≡◌, ℕ, ◌+◌, ◌*◌, ◌-◌, ◌%◌, false, List, [], ◌∷◌, ◌++◌, replicate, Option, Some, None}
 use Rattle.std.specs.List.{flat_map}
 use Rattle.boot_base.specs.Paths.{Path, is_temp}
 use Rattle.boot_machine.specs.Disk.{Files}
-use Rattle.boot_machine.specs.Reading.{zero_filled}
+use Rattle.boot_machine.specs.Reading.{between}
 use Rattle.boot_machine.specs.Rows.{contents}
 use Rattle.byteorder.specs.Endian.{little_bytes}
 use Rattle.pe_reader.specs.declared.head.Head.{Head}
@@ -17,10 +17,6 @@ use Rattle.pe_builder.specs.declared.plan.SbatPlace.{SbatPlace}
 use Rattle.pe_builder.specs.Known.{planned_stub_length, planned_before, planned_after, planned_sections, planned_sbat}
 use Rattle.image_writer.specs.declared.chunk.Chunk.{Chunk}
 use Rattle.image_writer.specs.declared.chunk.Chunk.TheVariants as chunks
-
--- the bytes from a place up to another, zeros where there are none
-abbrev pub between : List ℕ → ℕ → ℕ → List ℕ
-between bytes from to = zero_filled (drop from bytes) (to - from)
 
 -- the bytes that a chunk stands for, with those of the stub and of the new `.sbat`
 abbrev pub chunk_bytes : List ℕ → List ℕ → Chunk → List ℕ

@@ -8,12 +8,13 @@ ghost use Rattle.install_steps.specs.Appends.{AppendsOnly, Grown};
 ghost use Rattle.image_writer.specs.Chunks.{chunk_bytes, chunks_bytes, headers_bytes, stub_bytes};
 ghost use Rattle.image_writer.specs.Sourced.{IsSourced, IsPlannedImage, stub_path, new_sbat};
 
-use crate::append::{append, copy_part, write_zeros};
+use crate::append::write_zeros;
 use crate::chunk::{Chunk, number_chunks, rest_chunks, section_chunks, table_chunks};
 use crate::part::write_parts;
 use crate::sources::Sources;
 use boot_base::{Piece, TempPath};
 use boot_machine::{DiskFault, Machine};
+use install_steps::{append, copy_part};
 use pe_builder::Plan;
 use pe_reader::Section;
 

@@ -8,9 +8,10 @@ ghost use Rattle.uki_parts.specs.Pieces.{Reading};
 ghost use Rattle.install_steps.specs.Appends.{AppendsOnly, Grown};
 ghost use Rattle.image_writer.specs.Chunks.{Agrees, behind_stub, gap, given_bytes, padded_part};
 
-use crate::append::{append, copy_part, write_zeros};
+use crate::append::write_zeros;
 use boot_base::TempPath;
 use boot_machine::{DiskFault, Machine};
+use install_steps::{append, copy_part};
 use uki_parts::{Part, Piece};
 
 /// Appends the parts, each filled up to a multiple of FileAlignment, behind a stub that is filled up likewise.

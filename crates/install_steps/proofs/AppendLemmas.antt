@@ -1,21 +1,22 @@
 -- A file that is appended to under a temporary name.
-use Rattle.std.proofs.Common.{◌≡◌, inl, inr, ℕ, true, false, List, [], ◌++◌, Option, unwrap_or, sym, ap, ◌∙◌, subst}
+use Rattle.std.proofs.Common.{◌≡◌, inl, inr, ℕ, true, false, List, [], ◌++◌, length, Option, unwrap_or, sym, ap, ◌∙◌, subst}
 use Rattle.std.specs.FinMap as map
 use Rattle.boot_base.specs.Paths.{Path, intent, is_temp}
 use Rattle.boot_machine.specs.Disk.{Files, State, has, same, recovered_view}
 use Rattle.boot_machine.specs.Maps.{get-insert_here}
-use Rattle.boot_machine.specs.Reading.{Stays}
+use Rattle.boot_machine.specs.Reading.{Stays, between}
 use Rattle.boot_machine.specs.Rows.{contents, append_to, move_in}
 use Rattle.boot_machine.specs.declared.machine.Printed.{Printed}
 use Rattle.boot_machine.proofs.Elapsing.{joined, weaken}
 use Rattle.boot_machine.proofs.Going.{During, Seen, image_sees}
+use Rattle.boot_machine.proofs.Ranges.{between_whole}
 use Rattle.boot_machine.proofs.Recovering.{IsCalm}
 use Rattle.boot_machine.proofs.Soft.{Stands, stands-appended}
 use Rattle.boot_machine.proofs.Written.{has-created, calm-written, recovered_view-written, temps-written}
-use Rattle.install_steps.specs.Appends.{softened, HasAppended, AppendsOnly}
+use Rattle.install_steps.specs.Appends.{softened, HasAppended, AppendsOnly, Grown}
 use Rattle.install_steps.proofs.Appending.{contents-append_to}
 use Rattle.install_steps.specs.Steps.{Keeps}
-use Rattle.install_steps.proofs.CopyLemmas.{with_file, with_none}
+use Rattle.install_steps.proofs.CopyLemmas.{source_stays, with_file, with_none}
 
 stands-softened : (old : State) (P : Files → Type 0) (s : State) → Stands old P s → (p : Path) → is_temp p ≡ true → Stands old P (softened p s)
 stands-softened old P s so_far p temp = record {
@@ -54,6 +55,16 @@ written_file m p mid new e (inr more) =
     let is : contents new.files p ≡ more.0 =
     ap (λ (n : Files). contents n p) files ∙ contents-append_to (map.insert m p []) p more.0 (has-created m p) ∙ ap (λ (l : List ℕ). l ++ more.0) (contents-created m p) in
     files ∙ ap (λ (l : List ℕ). with_file p l m) (sym is)
+
+-- a whole file is copied to a new one
+pub copied_file : (m : Files) (temp from : Path) (mid new : State) (size : ℕ) → is_temp temp ≡ true → is_temp from ≡ false → mid.files ≡ map.insert m temp [] → HasAppended temp mid new
+    → Grown temp (between (contents mid.files from) 0 size) mid new → size ≡ length (contents m from) → new.files ≡ with_file temp (contents m from) m
+copied_file m temp from mid new size is_temporary shown e left grown long =
+    let source : contents mid.files from ≡ contents m from = ap (λ (n : Files). contents n from) (e ∙ with_none m temp) ∙ source_stays m temp from [] is_temporary shown in
+    let none : contents mid.files temp ≡ [] = ap (λ (n : Files). contents n temp) e ∙ contents-created m temp in
+    let bytes : contents new.files temp ≡ contents m from =
+    grown.bytes ∙ ap (λ (l : List ℕ). l ++ between (contents mid.files from) 0 size) none ∙ ap (λ (l : List ℕ). between l 0 size) source ∙ between_whole (contents m from) size long in
+    written_file m temp mid new e left ∙ ap (λ (l : List ℕ). with_file temp l m) bytes
 
 -- boot sees it in its place
 pub sees_written : (m : Files) (p to : Path) (mid new : State) (image : List ℕ) → IsCalm m → same intent to ≡ false → is_temp p ≡ true → is_temp to ≡ false → mid.files ≡ map.insert m p [] → HasAppended p mid new

@@ -1,15 +1,11 @@
 -- A file that is copied in pieces, under a temporary name and then in its place.
-use Rattle.std.proofs.Common.{◌≡◌, ◌≤◌, ◌+◌, inl, inr, ℕ, true, false, List, [], ◌++◌, length, take, drop, Option, Some, None, is_some, unwrap_or, refl, sym, ap, ◌∙◌, arith, length-drop}
-use Rattle.std.proofs.Math.Seq.{take-add}
-use Rattle.std.proofs.lemmas.List.{take_all}
+use Rattle.std.proofs.Common.{◌≡◌, ◌≤◌, inl, inr, ℕ, true, false, List, [], length, Option, Some, None, is_some, unwrap_or, refl, sym, ap, ◌∙◌, arith}
 use Rattle.std.specs.Option.{option_map}
 use Rattle.std.specs.FinMap as map
 use Rattle.boot_base.specs.Paths.{Path, is_temp}
 use Rattle.boot_machine.specs.Disk.{Files, has, recovered_view, same}
-use Rattle.boot_machine.specs.Reading.{zero_filled}
 use Rattle.boot_machine.specs.Rows.{contents, append_to, move_in}
 use Rattle.boot_machine.specs.Maps.{cases_same, same_self, same_files, get-insert_here, get-insert_apart}
-use Rattle.boot_machine.proofs.Filling.{zero_filled-inside}
 use Rattle.boot_machine.proofs.Views.{get-append_to}
 use Rattle.boot_machine.proofs.Recovering.{IsCalm, get-recovered_view_there, has-recovered_view}
 use Rattle.boot_base.specs.Paths.{intent}
@@ -34,38 +30,15 @@ with_none m p = same_files _ _ (λ q. elim (cases_same q p) [
   | inr apart ↦ get-insert_apart m p [] q apart ∙ sym (with_file_apart m p [] q apart)
 ])
 
--- more bytes are written behind
-with_more : (m : Files) (p : Path) (a b : List ℕ) → append_to p b (with_file p a m) ≡ with_file p (a ++ b) m
-with_more m p a b =
-    let here : map.get (append_to p b (with_file p a m)) p ≡ Some (a ++ b) = rw (get-append_to (with_file p a m) p b p, same_self p, with_file_here m p a) refl in
-    same_files _ _ (λ q. elim (cases_same q p) [
-      | inl is ↦ rw is (here ∙ sym (with_file_here m p (a ++ b)))
-      | inr apart ↦ rw (get-append_to (with_file p a m) p b q, apart) (with_file_apart m p a q apart ∙ sym (with_file_apart m p (a ++ b) q apart))
-    ])
-
 clash : (q p : Path) → is_temp p ≡ true → is_temp q ≡ false → q ≡ p → ⊥
 clash q p temp shown is = cc (temp, shown, ap is_temp is)
 
 -- the file that is copied stays
-source_stays : (m : Files) (temp from : Path) (bytes : List ℕ) → is_temp temp ≡ true → is_temp from ≡ false → contents (with_file temp bytes m) from ≡ contents m from
+pub source_stays : (m : Files) (temp from : Path) (bytes : List ℕ) → is_temp temp ≡ true → is_temp from ≡ false → contents (with_file temp bytes m) from ≡ contents m from
 source_stays m temp from bytes is_temporary shown = elim (cases_same from temp) [
   | inl is ↦ absurd (clash from temp is_temporary shown is)
   | inr apart ↦ ap (λ (o : Option (List ℕ)). unwrap_or o []) (with_file_apart m temp bytes from apart)
 ]
-
--- one piece more
-pub copies_piece : (m now : Files) (temp from : Path) (size at count : ℕ) (piece : List ℕ) → is_temp temp ≡ true → is_temp from ≡ false → size ≡ length (contents m from) → at + count ≤ size
-    → now ≡ with_file temp (take at (contents m from)) m → piece ≡ zero_filled (drop at (contents now from)) count → append_to temp piece now ≡ with_file temp (take (at + count) (contents m from)) m
-copies_piece m now temp from size at count piece is_temporary shown long inside so_far is =
-    let file = contents m from in
-    let source : contents now from ≡ file = ap (λ (n : Files). contents n from) so_far ∙ source_stays m temp from (take at file) is_temporary shown in
-    let bytes : piece ≡ take count (drop at file) = is ∙ ap (λ (l : List ℕ). zero_filled (drop at l) count) source ∙ zero_filled-inside (drop at file) count (omega (arith, long, inside, length-drop at file)) in
-    ap (λ (n : Files). append_to temp piece n) so_far ∙ ap (λ (l : List ℕ). append_to temp l (with_file temp (take at file) m)) bytes ∙ with_more m temp (take at file) (take count (drop at file))
-    ∙ ap (λ (l : List ℕ). with_file temp l m) (sym (take-add at count file))
-
--- all of it is written
-pub copies_all : (m now : Files) (temp from : Path) (size at : ℕ) → size ≡ length (contents m from) → size ≤ at → now ≡ with_file temp (take at (contents m from)) m → now ≡ with_file temp (contents m from) m
-copies_all m now temp from size at long end so_far = so_far ∙ ap (λ (l : List ℕ). with_file temp l m) (take_all at (contents m from) (omega (arith, long, end)))
 
 pub contents-recovered_view : (m : Files) (q : Path) → IsCalm m → is_temp q ≡ false → contents (recovered_view m) q ≡ contents m q
 contents-recovered_view m q calm shown = ap (λ (o : Option (List ℕ)). unwrap_or o []) (get-recovered_view_there m q calm shown)

@@ -10,6 +10,7 @@
 //! intent, and leaves it so after every answer but a fault of the disk.
 #![tactic(auto)]
 
+mod appends;
 mod faults;
 mod intent;
 mod moves;
@@ -17,6 +18,7 @@ mod recovery;
 mod steps;
 mod write;
 
+pub use appends::{append, copy_part};
 pub use faults::{MoveFault, RecoverFault, StepFault};
 pub use moves::move_name;
 pub use recovery::recover;

@@ -9,8 +9,9 @@ ghost use Rattle.boot_base.specs.Paths.{IsFree};
 ghost use Rattle.install_steps.specs.Steps.{Keeps, StepsTo, IsDone, NoNewTemp, PrintsNothing, RestsUnless, CountsStep, copied};
 
 use crate::StepFault;
-use boot_base::{BootPath, FILE_LIMIT, PIECE_SIZE, Piece, Target};
-use boot_machine::{DiskFault, Machine, read_part};
+use crate::appends::copy_part;
+use boot_base::{BootPath, FILE_LIMIT, Piece, Target};
+use boot_machine::{DiskFault, Machine};
 
 /// Writes these bytes at the target, in place of a file that is there. A stop at any moment leaves what
 /// boot saw before, or that with the whole new file. After a fault of the disk either stands, and a
@@ -79,14 +80,7 @@ pub fn write_whole<M: Machine>(
     };
     let size = size.min(FILE_LIMIT);
     machine.create(&target.temp)?;
-    let mut at = 0;
-    while at < size {
-        let count = (size - at).min(PIECE_SIZE as u64);
-        let piece = &mut buffer[..count as usize];
-        read_part(machine, from, at, piece)?;
-        machine.append(&target.temp, piece)?;
-        at += count;
-    }
+    copy_part(machine, &target.temp, from, 0, size, buffer)?;
     put_in_place(machine, target)?;
     Ok(())
 }

@@ -1,5 +1,5 @@
 use Rattle.install_steps.proofs.Appending.{appends_once, grown_once}
-use Rattle.image_writer.proofs.append.append.Goals as goal
+use Rattle.install_steps.proofs.appends.append.Goals as goal
 
 pub returns-in_err-append-clause-appends : goal.returns-in_err-append-clause-appends
 returns-in_err-append-clause-appends g c told =

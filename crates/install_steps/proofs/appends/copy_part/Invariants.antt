@@ -1,8 +1,8 @@
 use Rattle.std.proofs.Common.{◌≡◌, ◌≤◌, ◌-◌, IsTrue, length}
+use Rattle.boot_machine.specs.Reading.{between}
 use Rattle.boot_machine.specs.Rows.{contents}
 use Rattle.install_steps.specs.Appends.{AppendsOnly, Grown}
-use Rattle.image_writer.specs.Chunks.{between}
-use Rattle.image_writer.proofs.append.copy_part.Given as goal
+use Rattle.install_steps.proofs.appends.copy_part.Given as goal
 
 abbrev pub invariant-loop-at : goal.invariant-loop-at
 invariant-loop-at g l = record {
