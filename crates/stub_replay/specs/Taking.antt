@@ -1,7 +1,6 @@
 -- What registers take, as far as it is known.
-use Rattle.std.specs.Prelude.{◌≡◌, ℕ, List, [], Result, MatchResult}
+use Rattle.std.specs.Prelude.{◌≡◌, ℕ, List, []}
 use Rattle.std.specs.List.{AllZip}
-use Rattle.boot_machine.specs.Reading.{TakesAtMost}
 use Rattle.pcr_fold.specs.declared.bank.Bank.{Bank}
 use Rattle.stub_replay.specs.declared.register.Register.{Register}
 use Rattle.stub_replay.specs.Registers.{AllHold, Takes, Extends}
@@ -17,7 +16,3 @@ ExtendsWhere condition items old new = (more : List (List ℕ)) × AllZip (Exten
 -- the same items have extended the registers, and their hashes have taken nothing
 abbrev pub AreBetween : List Register → Type 0
 AreBetween registers = (banks : List Bank) × (items : List (List ℕ)) × AllHold registers banks items []
-
--- a piece of so many bytes has been read, and where that fails no more than are left
-abbrev pub TakesPiece : {E : Type 0} → ℕ → Result ℕ E → ℕ → ℕ → Type 0
-TakesPiece left result old new = MatchResult result (λ count. TakesAtMost count old new) (λ _. TakesAtMost left old new)

@@ -2,12 +2,11 @@
 ghost use Rattle.std.specs.Prelude.{◌≡◌, ◌<◌, ◌≤◌, ◌+◌, ◌^◌, length, take, drop, replicate, sum_by, IfOk, OnOk, IsTrue};
 ghost use Rattle.std.specs.List.{AllZip};
 ghost use Rattle.boot_machine.specs.Counts.{CountsDisk};
-ghost use Rattle.boot_machine.specs.Reading.{OnlyReads, TakesAtMost};
+ghost use Rattle.boot_machine.specs.Reading.{OnlyReads, TakesAtMost, TakesPiece};
 ghost use Rattle.boot_machine.specs.Rows.{contents};
 ghost use Rattle.boot_machine.specs.Sent.{seen};
 ghost use Rattle.pe_reader.specs.Loaded.{bytes_in};
 ghost use Rattle.uki_parts.specs.Pieces.{HasSizes, bytes_of, piece_bytes, piece_length};
-ghost use Rattle.stub_replay.specs.Taking.{TakesPiece};
 ghost use Rattle.stub_replay.specs.Parts.{IsPlaced, IsWhole, content_bytes, file_length, read_length};
 ghost use Rattle.stub_replay.specs.Registers.{Takes};
 ghost use Rattle.stub_replay.specs.Taking.{TakesWhere};
@@ -15,7 +14,7 @@ ghost use Rattle.stub_replay.specs.Taking.{TakesWhere};
 use crate::measurable::Content;
 use crate::register::{Register, update_all};
 use boot_base::BootPath;
-use boot_machine::{DiskFault, Machine, read_part};
+use boot_machine::{DiskFault, Machine, read_piece};
 use pe_reader::LoadedRange;
 use uki_parts::Piece;
 
@@ -185,9 +184,7 @@ fn take_part<M: Machine>(
     ensures taken { IsTrue M.tells → TakesPiece left result (M.taken machine.old) (M.taken machine.new) }
 {
     path.know();
-    let room = buffer.len().min(left as usize);
-    let piece = &mut buffer[..room];
-    read_part(machine, path, at, piece)?;
-    update_all(registers, piece);
-    Ok(room as u64)
+    let count = read_piece(machine, path, at, left, buffer)?;
+    update_all(registers, &buffer[..count]);
+    Ok(count as u64)
 }

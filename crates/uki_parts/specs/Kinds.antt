@@ -32,5 +32,5 @@ unfoldable pub append_place : PartKind → ℕ
 append_place kind = position_or_len (λ row. is_kind kind row.0) part_rows
 
 -- the section name that all parts of a kind have, where they have one
-abbrev pub section_name : PartKind → Option (List ℕ)
-section_name kind = unwrap_or (lookup (is_kind kind) part_rows) None
+abbrev pub kind_name : PartKind → Option (List ℕ)
+kind_name kind = unwrap_or (lookup (is_kind kind) part_rows) None

@@ -3,7 +3,7 @@ use Rattle.std.specs.Prelude.{ℕ, ◌==◌, ◌-◌, Bool, not, ◌&&◌, List,
 use Rattle.std.specs.List.{list_all}
 use Rattle.boot_base.specs.Names.{short_name}
 use Rattle.uki_parts.specs.declared.kind.PartKind.{PartKind}
-use Rattle.uki_parts.specs.Kinds.{section_name}
+use Rattle.uki_parts.specs.Kinds.{kind_name}
 use Rattle.uki_parts.specs.declared.name.SectionName.{SectionName}
 
 -- the eight bytes of a section header that hold the name
@@ -33,4 +33,4 @@ read_name text = if is_section_name text then Some (named text) else None
 
 -- the name that all parts of a kind have, where they have one
 abbrev pub fixed_name : PartKind → Option SectionName
-fixed_name kind = option_map named (section_name kind)
+fixed_name kind = option_map named (kind_name kind)

@@ -29,7 +29,7 @@ pub enum PartKind {
 
 impl PartKind {
     ghost use Rattle.std.specs.Prelude.{◌≡◌, ◌≤◌, nat_lt, length, IfSome, option_map};
-    ghost use Rattle.uki_parts.specs.Kinds.{append_place, section_name};
+    ghost use Rattle.uki_parts.specs.Kinds.{append_place, kind_name};
 
     /// Whether parts of this kind are appended after those of the other.
     pub(crate) fn comes_after(self, other: PartKind) -> bool
@@ -40,7 +40,7 @@ impl PartKind {
 
     /// The section name that all parts of the kind have, where they have one.
     pub(crate) fn section_name(self) -> Option<&'static [u8]>
-        ensures value { option_map (λ name. name.now) result ≡ section_name self }
+        ensures value { option_map (λ name. name.now) result ≡ kind_name self }
         ensures short { IfSome result (λ name. length name.now ≤ 8) }
     {
         match self {
