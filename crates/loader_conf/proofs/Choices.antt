@@ -1,12 +1,12 @@
 -- The place that the function finds is that of the default entry.
-use Rattle.std.proofs.Common.{◌≡◌, ◌≤◌, ◌<◌, ℕ, Bool, true, false, List, [], ◌∷◌, Some, None, Option, length, sym, ◌∙◌, refl, arith, inl, inr, get_or, ltb, cond}
+use Rattle.std.proofs.Common.{◌≡◌, ◌≤◌, ◌<◌, ℕ, Bool, true, false, List, [], ◌∷◌, Some, None, Option, length, refl, arith, inl, inr, get_or, ltb, cond}
 use Rattle.std.specs.Prelude.{MatchOption, position}
 use Rattle.std.specs.Option.{option_or}
 use Rattle.std.specs.List.{position_or_len}
 use Rattle.std.proofs.lemmas.List.Quantifiers.{position-Some}
 use Rattle.std.proofs.lemmas.List.Sums.{fails_before_first}
 use Rattle.std.proofs.lemmas.Bool.{both_ways, ltb-false}
-use Rattle.loader_conf.specs.Choice.{DefaultMatchesNone, IsDefaultEntry, IsFirstMatch, default_place, first_place}
+use Rattle.loader_conf.specs.Choice.{DefaultMatchesNone, IsDefaultEntry, default_place, first_place}
 use Rattle.loader_conf.specs.Decisions.{pattern_matches}
 use Rattle.loader_conf.proofs.Decisions.{pattern_decides}
 

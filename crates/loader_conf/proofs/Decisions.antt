@@ -1,5 +1,5 @@
 -- The function that decides on a match finds what the relation says.
-use Rattle.std.proofs.Common.{◌≡◌, ◌≢◌, ◌≤◌, ◌<◌, ◌↔◌, ◌+◌, ℕ, zero, suc, Bool, true, false, not, ◌||◌, ◌&&◌, eqb, List, [], ◌∷◌, ◌++◌, Some, None, Option, length, subst, sym, ap, ◌∙◌, refl, arith, ◌⊎◌, inl, inr, length-append}
+use Rattle.std.proofs.Common.{◌≡◌, ◌≤◌, ◌↔◌, ℕ, zero, suc, Bool, true, false, not, ◌||◌, ◌&&◌, eqb, List, [], ◌∷◌, ◌++◌, Some, None, Option, length, subst, sym, ap, ◌∙◌, refl, arith, ◌⊎◌, inl, inr, length-append}
 use Rattle.std.specs.List.{flat_map, list_all}
 use Rattle.std.specs.Char.{is_ascii_graphic}
 use Rattle.std.specs.Option.{is_some}

@@ -1,5 +1,5 @@
 -- Whether a pattern matches a text, as a function.
-use Rattle.std.specs.Prelude.{ℕ, zero, suc, Bool, true, false, ◌==◌, ◌&&◌, ◌||◌, List, [], ◌∷◌, length, is_some, Option, Some, None}
+use Rattle.std.specs.Prelude.{ℕ, zero, suc, Bool, false, ◌==◌, ◌&&◌, ◌||◌, List, [], ◌∷◌, length, is_some, Option, Some, None}
 use Rattle.loader_conf.specs.Patterns.{PatternItem, any_run, item_takes}
 use Rattle.loader_conf.specs.Items.{item_reading}
 

@@ -1,6 +1,6 @@
 -- The patterns of loader.conf: shell globs over bytes, as loader.conf(5), "default", has them.
-use Rattle.std.specs.Prelude.{◌≡◌, ℕ, ◌==◌, Bool, false, true, not, ◌&&◌, ◌||◌, List, [], ◌∷◌, ◌++◌, length, drop, take, ◌+◌, Option, Some, None, if◌then◌else◌, nat_le, ◌⊎◌}
-use Rattle.std.specs.List.{flat_map, list_all, list_any, position_or_len}
+use Rattle.std.specs.Prelude.{◌≡◌, ℕ, ◌==◌, Bool, false, true, not, ◌&&◌, List, [], ◌∷◌, ◌++◌, length, if◌then◌else◌, nat_le}
+use Rattle.std.specs.List.{flat_map, list_all, list_any}
 
 -- ---- sets
 

@@ -54,9 +54,11 @@ pub fn with_key(
 ) -> Result<Vec<u8>, AllocError>
     requires { IsConfValue key value.now }
     ensures lines { IfOk result (λ made. made.items ≡ text_with_value (conf_key_name key) value.now bytes.now) }
-    ensures kept { IfOk result (λ made. raw_lines made.items ≡ filter (lacks_value (conf_key_name key)) (raw_lines bytes.now) ++ key_line (conf_key_name key) value.now ∷ []) }
+    ensures kept { IfOk result (λ made. raw_lines made.items
+        ≡ filter (lacks_value (conf_key_name key)) (raw_lines bytes.now) ++ key_line (conf_key_name key) value.now ∷ []) }
     ensures set { IfOk result (λ made. conf_value key (conf_of made.items) ≡ Some value.now) }
-    ensures other { IfOk result (λ made. conf_value (other_conf_key key) (conf_of made.items) ≡ conf_value (other_conf_key key) (conf_of bytes.now)) }
+    ensures other { IfOk result (λ made. conf_value (other_conf_key key) (conf_of made.items)
+        ≡ conf_value (other_conf_key key) (conf_of bytes.now)) }
 {
     let made = changed_lines(alloc, bytes, key.name(), value)?;
     Ok(made)

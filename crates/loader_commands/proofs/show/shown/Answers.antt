@@ -1,4 +1,4 @@
-use Rattle.std.proofs.Common.{◌≡◌, ◌∙◌, List, ℕ, Ok, subst, sym, ap}
+use Rattle.std.proofs.Common.{◌≡◌, List, ℕ, Ok, subst}
 use Rattle.boot_machine.specs.Disk.{State}
 use Rattle.boot_machine.specs.Sent.{seen}
 use Rattle.boot_machine.proofs.Reading.{reads_none, reads_on}
