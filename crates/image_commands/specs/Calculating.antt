@@ -25,6 +25,10 @@ part_words words =
     ∷ (codes ".pcrpkey", words.pcrpkey)
     ∷ []
 
+-- the words that are given, each under the name of its part
+abbrev pub given_words : CalculateWords → List (List ℕ × List ℕ)
+given_words words = present (part_words words)
+
 -- what is made of a part, under the part's name, or the refusal
 abbrev pub under_name : {A B : Type 0} → (A → Result B Refusal) → List ℕ × A → Result (List ℕ × B) Refusal
 under_name f part = f part.1 >>= λ made. Ok (part.0, made)
@@ -32,6 +36,6 @@ under_name f part = f part.1 >>= λ made. Ok (part.0, made)
 -- all words that are given are read as paths, then each part's file is read, then the values are printed
 abbrev pub calculate_said : Files → CalculateWords → Result (List ℕ) Refusal
 calculate_said view words =
-    each (under_name path_in) (present (part_words words)) >>= λ paths.
+    each (under_name path_in) (given_words words) >>= λ paths.
     each (under_name (bytes_at view)) paths >>= λ parts.
     Ok (value_lines (predicted_pcr (part_of parts)) (banks_of words.banks) (paths_of words.phases))

@@ -7,9 +7,9 @@ use Rattle.command_reads.specs.Files.{bytes_at, each}
 use Rattle.command_reads.specs.Refusing.{path_in}
 use Rattle.command_reads.specs.Values.{banks_of, paths_of}
 use Rattle.stub_replay.specs.Measured.{Shows, measured_names, stub_pcr}
-use Rattle.stub_replay.specs.Ordered.{part_of, present}
+use Rattle.stub_replay.specs.Ordered.{part_of}
 use Rattle.tool_words.specs.declared.command.CalculateWords.{CalculateWords}
-use Rattle.image_commands.specs.Calculating.{calculate_said, part_words, under_name}
+use Rattle.image_commands.specs.Calculating.{calculate_said, given_words, part_words, under_name}
 
 -- A calculation has a part for each measured section, under the section's name, in the order of measurement.
 abbrev pub PartsOfCalculations : Type 0
@@ -19,7 +19,7 @@ PartsOfCalculations = (words : CalculateWords) → map (λ part. part.0) (part_w
 abbrev pub ValuesOfCalculations : Type 0
 ValuesOfCalculations = (view : Files) (words : CalculateWords)
     (paths : List (List ℕ × Path)) (parts : List (List ℕ × List ℕ)) (image : List ℕ) →
-    each (under_name path_in) (present (part_words words)) ≡ Ok paths →
+    each (under_name path_in) (given_words words) ≡ Ok paths →
     each (under_name (bytes_at view)) paths ≡ Ok parts →
     Shows image (part_of parts) →
     calculate_said view words ≡ Ok (value_lines (stub_pcr image) (banks_of words.banks) (paths_of words.phases))

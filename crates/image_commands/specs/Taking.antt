@@ -6,11 +6,10 @@ use Rattle.pe_reader.specs.declared.fault.FailedCheck.{FailedCheck}
 use Rattle.pe_reader.specs.declared.section.Section.{Section}
 use Rattle.pe_reader.specs.Grammar.{Headers}
 use Rattle.pe_reader.specs.Loaded.{range_of}
-use Rattle.stub_replay.specs.Ordered.{present}
 use Rattle.tool_words.specs.declared.command.CalculateWords.{CalculateWords}
 use Rattle.command_reads.specs.Refusing.{◌>>=◌, path_in}
 use Rattle.command_reads.specs.Files.{bytes_at}
-use Rattle.image_commands.specs.Calculating.{part_words}
+use Rattle.image_commands.specs.Calculating.{given_words}
 
 -- the bytes that were found, none where the file is refused
 abbrev pub found_bytes : Result (List ℕ) Refusal → List ℕ
@@ -32,4 +31,4 @@ all_raw_length (Err check) = 0
 
 -- how many bytes the files have together that the words of a calculation name
 abbrev pub named_length : Files → CalculateWords → ℕ
-named_length view words = sum_by (λ part. length (named_content view part.1)) (present (part_words words))
+named_length view words = sum_by (λ part. length (named_content view part.1)) (given_words words)

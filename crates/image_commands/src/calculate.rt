@@ -16,7 +16,7 @@ ghost use Rattle.command_plans.specs.declared.plan.Change.TheVariants.{Nothing};
 ghost use Rattle.command_reads.specs.Files.{bytes_at, each};
 ghost use Rattle.command_reads.specs.Refusing.{Means, path_in};
 ghost use Rattle.command_reads.specs.Saying.{CountsUnsaid, Says};
-ghost use Rattle.image_commands.specs.Calculating.{calculate_said, part_words, under_name};
+ghost use Rattle.image_commands.specs.Calculating.{calculate_said, given_words, under_name};
 ghost use Rattle.image_commands.specs.Parts.{HasItsSize, named_file, named_path, named_word};
 ghost use Rattle.image_commands.specs.Taking.{named_length};
 
@@ -67,7 +67,7 @@ fn part_paths(
     words: &CalculateWords,
 ) -> Result<Vec<(&'static [u8], BootPath)>, Declined>
     ensures { Means (λ paths. map named_path paths.items) result
-        (each (under_name path_in) (present (part_words words.now))) }
+        (each (under_name path_in) (given_words words.now)) }
 {
     given_paths(
         alloc,

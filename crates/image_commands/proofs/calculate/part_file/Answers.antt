@@ -1,6 +1,0 @@
-use Rattle.boot_machine.proofs.Reading.{reads_none}
-use Rattle.image_commands.proofs.calculate.part_file.Goals as goal
-
-pub returns-in-None-clause-reads : goal.returns-in-None-clause-reads
-returns-in-None-clause-reads g c told =
-    reads_none g.M.Machine.clock g.M.Machine.since g.M.Machine.state c.args.machine.now (λ m o left. g.met.M.Machine.only_now c.args.machine.now m o told left)
