@@ -6,8 +6,10 @@
 //! - `image PATH TEXT`: an image with that os-release text is written.
 //! - `fill PATH COUNT BYTE`: so many of that byte are written.
 //! - `series PATH COUNT`: so many bytes are written, which rise from 0 to 250 again and again.
+//! - `extend PATH COUNT`: the file is filled up to so many bytes, with ones that rise from 0 on in the same way.
 //! - `crowd FOLDER COUNT SUFFIX`: so many empty files are written into the folder, `a0` with that suffix and so on.
 //! - `leave PATH`: a temporary file is left, as it is where a write of that path is stopped.
+//! - `intent COUNT TEXT`: the intent of a rename is written: the text, filled up with zeros to so many bytes.
 //! - `run WORDS`: the program runs on the words, which are parted as those of a script. Below it stand what it printed
 //!   on Out and on Err, and its status. A byte that isn't printable is told as in `write`, and a backslash twice.
 //! - `menu`: `bootctl list` runs. Below it stand the sources of the entries in their order.
@@ -19,6 +21,7 @@
 //!   all, each outcome once, in the order of the calls. The machine stays as it is.
 //! - `files FOLDER`: the files directly in the folder.
 //! - `text PATH`: the bytes of the file, told as those that a run prints, and how many they are.
+//! - `same ONE OTHER`: whether two files have the same bytes.
 //! - `left`: the boot files, and the intent of a rename. `total`: how many files there are but temporary ones.
 //! - `stops WORDS`: what a stop of that run may leave, each outcome once, in the order of the calls before it. The
 //!   machine stays as it is.

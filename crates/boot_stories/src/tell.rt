@@ -54,6 +54,18 @@ fn text(alloc: Global, story: &mut Story, path: &str) -> Result<String, StoryFau
     Ok(bytes_text(alloc, bytes.as_slice())?)
 }
 
+fn same(alloc: Global, story: &mut Story, rest: &str) -> Result<String, StoryFault> {
+    let (one, other) = parted(rest)?;
+    let one = bytes_of_file(alloc, story, one)?;
+    let other = bytes_of_file(alloc, story, other)?;
+    let told = if one.as_slice() == other.as_slice() {
+        "yes\n"
+    } else {
+        "no\n"
+    };
+    Ok(String::from_str(alloc, told)?)
+}
+
 fn total(alloc: Global, story: &Story) -> Result<String, StoryFault> {
     let count = story.machine.view_files();
     Ok(format!(in alloc; "{count}\n")?)
@@ -114,6 +126,7 @@ fn told(alloc: Global, line: &str, story: &mut Story) -> Result<String, StoryFau
         "reads" => Ok(reads_text(alloc, story.new_reads())?),
         "files" => folder_text(alloc, &mut story.machine, &story.samples, rest),
         "left" => left(alloc, story),
+        "same" => same(alloc, story, rest),
         "text" => text(alloc, story, rest),
         "total" => total(alloc, story),
         "faults" => faults(alloc, story, rest),

@@ -1,6 +1,6 @@
 //! The lines of a story that write files.
 use crate::fault::StoryFault;
-use crate::files::{bytes_at, leave};
+use crate::files::{bytes_at, leave, put_intent};
 use crate::lines::{number, parted, parted_or_whole, unescaped};
 use crate::samples::image_of;
 use crate::story::Story;
@@ -63,6 +63,23 @@ fn write_series(alloc: Global, story: &mut Story, rest: &str) -> Result<(), Stor
     story.write(alloc, path, bytes.as_slice())
 }
 
+fn extend_file(alloc: Global, story: &mut Story, rest: &str) -> Result<(), StoryFault> {
+    let (path, count) = parted(rest)?;
+    let mut bytes = bytes_of_file(alloc, story, path)?;
+    let more = series(alloc, number(count)?.saturating_sub(bytes.len() as u64))?;
+    bytes.extend_from_slice(more.as_slice())?;
+    story.write(alloc, path, bytes.as_slice())
+}
+
+// Writes the intent of a rename: a text, filled up with zeros to so many bytes.
+fn write_intent(alloc: Global, story: &mut Story, rest: &str) -> Result<(), StoryFault> {
+    let (count, text) = parted_or_whole(rest);
+    let mut bytes = unescaped(alloc, text)?;
+    let more = number(count)?.saturating_sub(bytes.len() as u64);
+    bytes.extend_from_slice(filled(alloc, more as usize, 0)?.as_slice())?;
+    put_intent(alloc, &mut story.machine, bytes.as_slice())
+}
+
 fn write_crowd(alloc: Global, story: &mut Story, rest: &str) -> Result<(), StoryFault> {
     let (folder, rest) = parted(rest)?;
     let (count, suffix) = parted(rest)?;
@@ -91,6 +108,8 @@ pub(crate) fn write_files(
         "image" => write_image(alloc, story, rest),
         "fill" => write_filled(alloc, story, rest),
         "series" => write_series(alloc, story, rest),
+        "extend" => extend_file(alloc, story, rest),
+        "intent" => write_intent(alloc, story, rest),
         "crowd" => write_crowd(alloc, story, rest),
         "leave" => leave_temp(alloc, story, rest),
         _ => Err(StoryFault::Unclear),
