@@ -150,9 +150,10 @@ decide_found pattern text (Some items) is decides = (items, items_sound (length 
 
 pub pattern_decides : (pattern text : List ℕ) → (pattern_matches pattern text ≡ true) ↔ PatternMatches pattern text
 unfolding pattern_matches
-pattern_decides pattern text =
-    (decide_found pattern text (items_within (length pattern) pattern) refl,
-    λ m. ap (λ (found : Option (List PatternItem)). items_decide found text) (items_complete (length pattern) m.0 pattern (omega arith) m.1.0 m.1.1) ∙ items_hold m.0 text m.2)
+pattern_decides pattern text = (
+  decide_found pattern text (items_within (length pattern) pattern) refl,
+  λ m. ap (λ (found : Option (List PatternItem)). items_decide found text) (items_complete (length pattern) m.0 pattern (omega arith) m.1.0 m.1.1) ∙ items_hold m.0 text m.2,
+)
 
 -- the bytes are a pattern
 text_found : (bytes : List ℕ) (found : Option (List PatternItem)) → items_within (length bytes) bytes ≡ found → is_some found ≡ true → IsPattern bytes
@@ -161,9 +162,10 @@ text_found bytes (Some items) is some = (items, items_sound (length bytes) bytes
 
 pub pattern_text : (bytes : List ℕ) → (is_pattern_text bytes ≡ true) ↔ IsPattern bytes
 unfolding is_pattern_text
-pattern_text bytes =
-    (text_found bytes (items_within (length bytes) bytes) refl,
-    λ m. ap is_some (items_complete (length bytes) m.0 bytes (omega arith) m.1.0 m.1.1))
+pattern_text bytes = (
+  text_found bytes (items_within (length bytes) bytes) refl,
+  λ m. ap is_some (items_complete (length bytes) m.0 bytes (omega arith) m.1.0 m.1.1),
+)
 
 -- two tests that say the same are the same
 pub same_truth : {P : Type 0} (b c : Bool) → ((b ≡ true) ↔ P) → ((c ≡ true) ↔ P) → b ≡ c
