@@ -1,5 +1,0 @@
-use Rattle.memory_machine.proofs.Distinct.{no_files}
-use Rattle.machine_tests.proofs.starts.empty_machine.Goals as goal
-
-pub new-requires-2 : goal.new-requires-2
-new-requires-2 c = no_files c.new.result.items c.new.ensures.items
