@@ -20,7 +20,7 @@ use Rattle.entry_commands.specs.Tidying.{tidy_answer}
 use Rattle.entry_commands.specs.Unlinking.{entry_path, unlink_answer}
 use Rattle.entry_commands.proofs.GoodEntries.{kept_bless, kept_boot, kept_install, kept_unlink, put_apart}
 use Rattle.loader_commands.specs.Places.{conf_path}
-use Rattle.loader_commands.specs.Setting.{conf_changed, conf_set}
+use Rattle.loader_commands.specs.Setting.{conf_changed, conf_set, text_set, value_in}
 use Rattle.loader_commands.specs.Showing.{show_said}
 use Rattle.loader_conf.specs.declared.change.ConfKey.{ConfKey}
 use Rattle.loader_conf.specs.declared.change.ConfKey.TheVariants.{Default, Timeout}
@@ -28,15 +28,27 @@ use Rattle.boot_commands.specs.Commands.{step_reply}
 use Rattle.boot_commands.specs.Demonstration.{demo_said}
 use Rattle.boot_commands.specs.Sparing.{Spares}
 use Rattle.image_build.proofs.Outputs.{build_output}
-use Rattle.loader_commands.proofs.Told.{changes}
 
--- what is written by a change of loader.conf isn't at a path that it spares
+abbrev write_at : Path → Result (List ℕ) Refusal → Result (Path × List ℕ) Refusal
+write_at place text = text >>= λ text. Ok (place, text)
+
+abbrev write_next : (List ℕ → Path → Result (List ℕ) Refusal) → Result (List ℕ) Refusal → Result Path Refusal → Result (Path × List ℕ) Refusal
+write_next set valued at = valued >>= λ value. at >>= λ place. write_at place (set value place)
+
+-- what is written at a path isn't at another
+apart_at : (place path : Path) (text : Result (List ℕ) Refusal) → place ≢ path → IfOk (write_at place text) (λ change. change.0 ≢ path)
+apart_at place path (Ok text) apart = apart
+apart_at place path (Err why) apart = tt
+
+apart_next : (set : List ℕ → Path → Result (List ℕ) Refusal) (valued : Result (List ℕ) Refusal) (at : Result Path Refusal) (path : Path) → at ≢ Ok path
+    → IfOk (write_next set valued at) (λ change. change.0 ≢ path)
+apart_next set (Err why) at path spares = tt
+apart_next set (Ok value) (Err why) path spares = tt
+apart_next set (Ok value) (Ok place) path spares = apart_at place path (set value place) (λ same. spares (ap Ok same))
+
+-- a change of loader.conf writes at no path that it spares
 set_apart : (view : Files) (key : ConfKey) (value esp : List ℕ) (path : Path) → conf_path esp ≢ Ok path → IfOk (conf_set view key value esp) (λ change. change.0 ≢ path)
-set_apart view key value esp path spares = by (conf_set view key value esp) refl
-  where
-    by : (set : Result (Path × List ℕ) Refusal) → conf_set view key value esp ≡ set → IfOk set (λ change. change.0 ≢ path)
-    by (Ok change) is = λ same. spares ((changes view key value esp change.0 change.1 is).path_is ∙ ap Ok same)
-    by (Err why) is = tt
+set_apart view key value esp path spares = apart_next (text_set view key) (value_in key value) (conf_path esp) path spares
 
 module _ (folders : Folders) (path : Path) (view : Files) (entry : HasGoodEntry folders path view) where
   kept_said : (text : Result (List ℕ) Refusal) → HasGoodEntry folders path (said view text).after
