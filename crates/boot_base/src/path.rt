@@ -2,7 +2,7 @@
 ghost use Rattle.std.specs.Prelude.{◌≡◌, ◌++◌, false, true, not, length, Some, None, IfOk, OnOk, string_bytes, if◌then◌else◌, ◌==◌, ◌∷◌, []};
 ghost use Rattle.std.specs.List.{list_any};
 ghost use Rattle.std.specs.Str.{is_utf8};
-ghost use Rattle.boot_base.specs.Paths.{IsFree, intent, is_form, is_named, is_normal, temp_end, is_temp, is_slash, components, is_kept, is_refused, normal_of, is_path_text, path_of, path_below, file_name_of, beside, is_component, sibling_of, is_file_name, leftover_of};
+ghost use Rattle.boot_base.specs.Paths.{IsFree, intent, is_form, is_named, is_normal, temp_end, is_temp, is_slash, components, is_kept, is_refused, normal_of, is_path_text, path_of, path_below, file_name_of, beside, is_component, sibling_of, is_file_name, leftover_of, TempNamesAreFileNames};
 
 use crate::append::{AppendText, append_displayed};
 use std::alloc::{AllocError, Global};
@@ -225,7 +225,7 @@ impl AppendText for BootPath {
     }
 }
 
-/// The path of a temporary file. It ends in `.tmp`.
+/// The path of a temporary file. It ends in `.tmp`, and its last component is a file's name.
 #[derive(Debug, Drop)]
 pub struct TempPath {
     text: String,
@@ -233,13 +233,13 @@ pub struct TempPath {
 
 impl Model for TempPath {
     ghost use Rattle.std.specs.Prelude.{◌≡◌, true, List, ℕ, string_bytes};
-    ghost use Rattle.boot_base.specs.Paths.{is_temp};
+    ghost use Rattle.boot_base.specs.Paths.{is_temp_path};
 
     ghost Value = { List ℕ };
 
     ghost view = { λ p. string_bytes p.text };
 
-    ghost invariant = { λ p. is_temp (string_bytes p.text) ≡ true };
+    ghost invariant = { λ p. is_temp_path (string_bytes p.text) ≡ true };
 }
 
 impl TempPath {
@@ -247,6 +247,7 @@ impl TempPath {
     pub fn of(alloc: Global, path: &BootPath) -> Result<TempPath, AllocError>
         ensures { IfOk result (λ temp. temp ≡ path.now ++ temp_end) }
     {
+        path.know_normal();
         let mut text = String::from_str(alloc, path.as_str())?;
         text.push_str(TEMP_SUFFIX)?;
         Ok(TempPath { text })
@@ -261,10 +262,11 @@ impl TempPath {
     ) -> Result<Option<TempPath>, AllocError>
         ensures { IfOk result (λ temp. temp ≡ leftover_of folder.now name.now) }
     {
-        if !ends_as_temp(name.as_str()) {
+        let name = name.as_str();
+        if !ends_as_temp(name) {
             return Ok(None);
         }
-        let text = joined_with(alloc, folder.as_str(), "/", name.as_str())?;
+        let text = joined_with(alloc, folder.as_str(), "/", name)?;
         Ok(Some(TempPath { text }))
     }
 
@@ -272,6 +274,7 @@ impl TempPath {
     pub fn as_str(&self) -> &str
         ensures text { result.now ≡ self.now }
         ensures passing { is_temp self.now ≡ true }
+        ensures named { is_file_name (file_name_of self.now) ≡ true }
     {
         self.text.as_str()
     }
@@ -279,6 +282,13 @@ impl TempPath {
     /// It says that the path is that of a temporary file, and does nothing.
     pub fn know(&self)
         ensures { is_temp self.now ≡ true }
+    {
+        let _ = &self.text;
+    }
+
+    /// It says that the path's last component is a file's name, and does nothing.
+    pub fn know_name(&self)
+        ensures { is_file_name (file_name_of self.now) ≡ true }
     {
         let _ = &self.text;
     }
@@ -338,6 +348,11 @@ impl Eq for TempPath {
 
     ghost laws = { eq_by_cmp_equiv nat_list_cmp_total };
 }
+
+/// The name of a target's temporary file is a file name, whatever path of a boot file the target has.
+pub fn temp_names_are_file_names()
+    ensures { TempNamesAreFileNames }
+{}
 
 /// Where a file is to stand, and where it is written first.
 #[derive(Debug, Drop)]
