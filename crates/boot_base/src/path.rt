@@ -285,13 +285,6 @@ impl TempPath {
     {
         let _ = &self.text;
     }
-
-    /// It says that the path's last component is a file's name, and does nothing.
-    pub fn know_name(&self)
-        ensures { is_file_name (file_name_of self.now) ≡ true }
-    {
-        let _ = &self.text;
-    }
 }
 
 /// Paths are ordered by the bytes of their texts.
