@@ -92,7 +92,7 @@ pub fn image_head<M: Machine>(alloc: Global, path: &BootPath, machine: &mut M) -
     }
 }
 
-/// The headers of the file of `size` bytes at a path.
+/// The headers of the file of `size` bytes at a path: of its bytes they alone are read, which are at most 69,463.
 pub fn head_of_size<M: Machine>(
     alloc: Global,
     path: &BootPath,
@@ -105,12 +105,13 @@ pub fn head_of_size<M: Machine>(
     ensures read { IfOk result (λ head. ReadFrom head size) }
     ensures reads { IsTrue M.tells → OnlyReads M.clock M.since M.state machine.old machine.new }
     ensures counts { CountsHead result (M.counts machine.old) (M.counts machine.new) }
+    ensures taken { IsTrue M.tells → TakesAtMost 69463 (M.taken machine.old) (M.taken machine.new) }
 {
     path.know();
     Pe::read_head_of_size(alloc, machine, path, size)
 }
 
-/// The headers of the image of `size` bytes at a path.
+/// The headers of the image of `size` bytes at a path: of its bytes they alone are read, which are at most 69,463.
 pub fn sized_head<M: Machine>(
     alloc: Global,
     path: &BootPath,
@@ -125,6 +126,7 @@ pub fn sized_head<M: Machine>(
     ensures read { IfOk result (λ head. ReadFrom head size) }
     ensures reads { IsTrue M.tells → OnlyReads M.clock M.since M.state machine.old machine.new }
     ensures counts { CountsUnsaid result (M.counts machine.old) (M.counts machine.new) }
+    ensures taken { IsTrue M.tells → TakesAtMost 69463 (M.taken machine.old) (M.taken machine.new) }
 {
     match head_of_size(alloc, path, size, machine) {
         Ok(head) => Ok(head),
@@ -152,6 +154,7 @@ pub fn file_part<M: Machine>(
         (Ok (zero_filled (drop place (contents (seen (M.state machine.old)) path.now)) count)) }
     ensures reads { IsTrue M.tells → OnlyReads M.clock M.since M.state machine.old machine.new }
     ensures counts { CountsUnsaid result (M.counts machine.old) (M.counts machine.new) }
+    ensures taken { IsTrue M.tells → TakesAtMost count (M.taken machine.old) (M.taken machine.new) }
 {
     path.know();
     let mut bytes = zeros(alloc, count as usize)?;
@@ -159,7 +162,7 @@ pub fn file_part<M: Machine>(
     Ok(bytes)
 }
 
-/// The bytes of the file at a path.
+/// The bytes of the file at a path, each of them read once.
 pub fn file_bytes<M: Machine>(
     alloc: Global,
     path: &BootPath,
@@ -168,6 +171,8 @@ pub fn file_bytes<M: Machine>(
     ensures says { IsTrue M.tells → Says (λ bytes. bytes.items) result (bytes_at (seen (M.state machine.old)) path.now) }
     ensures reads { IsTrue M.tells → OnlyReads M.clock M.since M.state machine.old machine.new }
     ensures counts { CountsUnsaid result (M.counts machine.old) (M.counts machine.new) }
+    ensures taken { IsTrue M.tells
+        → TakesAtMost (length (contents (seen (M.state machine.old)) path.now)) (M.taken machine.old) (M.taken machine.new) }
 {
     let size = readable(alloc, path, machine)?;
     file_part(alloc, path, 0, size, machine)

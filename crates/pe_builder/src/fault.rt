@@ -22,7 +22,7 @@ pub enum PlanFault {
     /// The new `.sbat` has more bytes than the raw data of the stub's.
     #[error(".sbat has {length} bytes and room for {room}")]
     SbatDoesNotFit { length: u32, room: u32 },
-    /// The section headers of the image need more bytes than there are before the first raw data.
+    /// The section headers of the image need more bytes than the stub's headers have, or than 96 section headers take.
     #[error("headers need {need} bytes and have {have}")]
     NoHeaderSpace { need: u32, have: u32 },
     /// SizeOfImage, or else SizeOfInitializedData, would be this number, which passes 32 bits.

@@ -17,6 +17,7 @@ mod plan;
 mod puts;
 mod refusal;
 mod size;
+mod taken;
 
 pub use fault::PlanFault;
 pub use image::image_bytes;

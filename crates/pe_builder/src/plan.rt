@@ -14,7 +14,7 @@ ghost use Rattle.pe_builder.specs.Known.{planned_stub_length, planned_before, pl
 use crate::extent::{address_after, length_after, sbat_index, stub_end, total, up};
 use crate::fault::PlanFault;
 use crate::layout::sections_for;
-use crate::refusal::plan_refusal;
+use crate::refusal::find_refusal;
 use crate::size::{PartSize, WideSize, wide_sizes};
 use pe_reader::{Head, Pe, Section};
 use std::alloc::{AllocError, Global};
@@ -67,17 +67,39 @@ impl Plan {
         sbat_in_place: Option<u32>,
     ) -> Result<Plan, PlanFault>
         requires read { ReadFrom stub.now stub_length }
-        requires small { stub_length ≤ 268435456 }
         requires few { length sizes.now ≤ 16777216 }
         requires sbat { MayReplace (headers_of stub.now) sbat_in_place }
         ensures { Makes (λ plan. Plans plan (headers_of stub.now) stub_length (map wide sizes.now) sbat_in_place) result
             (first_refusal (headers_of stub.now) stub_length (map wide sizes.now) sbat_in_place) }
     {
         let sizes = wide_sizes(alloc, sizes)?;
-        if let Some(fault) = plan_refusal(stub, stub_length, &sizes, sbat_in_place) {
+        Plan::of_sizes(alloc, stub, stub_length, &sizes, sbat_in_place)
+    }
+
+    /// The same plan of parts that may have any length.
+    ///
+    /// # Errors
+    ///
+    /// As of `make`.
+    pub fn of_sizes(
+        alloc: Global,
+        stub: &Pe,
+        stub_length: u32,
+        sizes: &[WideSize],
+        sbat_in_place: Option<u32>,
+    ) -> Result<Plan, PlanFault>
+        requires read { ReadFrom stub.now stub_length }
+        requires few { length sizes.now ≤ 16777216 }
+        requires total { sum_by (λ p. p.length) sizes.now ≤ 2 ^ 62 }
+        requires fit { AllByRecursion FitsPart sizes.now }
+        requires sbat { MayReplace (headers_of stub.now) sbat_in_place }
+        ensures { Makes (λ plan. Plans plan (headers_of stub.now) stub_length sizes.now sbat_in_place) result
+            (first_refusal (headers_of stub.now) stub_length sizes.now sbat_in_place) }
+    {
+        if let Some(fault) = find_refusal(alloc, stub, stub_length, sizes, sbat_in_place)? {
             return Err(fault);
         }
-        let plan = planned(alloc, stub, stub_length, &sizes, sbat_in_place)?;
+        let plan = planned(alloc, stub, stub_length, sizes, sbat_in_place)?;
         Ok(plan)
     }
 
@@ -133,7 +155,6 @@ fn planned(
     sbat_in_place: Option<u32>,
 ) -> Result<Plan, AllocError>
     requires read { ReadFrom stub.now stub_length }
-    requires small { stub_length ≤ 268435456 }
     requires few { length sizes.now ≤ 16777216 }
     requires total { sum_by (λ p. p.length) sizes.now ≤ 2 ^ 62 }
     requires sbat { MayReplace (headers_of stub.now) sbat_in_place }

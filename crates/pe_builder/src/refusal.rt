@@ -1,19 +1,18 @@
 //! Why there is no image of a stub and parts.
 
-ghost use Rattle.std.specs.Prelude.{◌≡◌, ◌<◌, ◌≤◌, ◌^◌, [], length, nat_le, sum_by};
-ghost use Rattle.std.specs.List.{list_any};
-ghost use Rattle.std.specs.Str.{bytes_eq};
+ghost use Rattle.std.specs.Prelude.{◌≡◌, ◌<◌, ◌≤◌, ◌^◌, [], length, nat_le, sum_by, IfOk};
 ghost use Rattle.pe_reader.specs.Reads.{ReadFrom, headers_of};
-ghost use Rattle.pe_reader.specs.Loaded.{is_named};
 ghost use Rattle.pe_builder.specs.Layout.{length_after};
 ghost use Rattle.pe_builder.specs.Replaced.{with_sbat_size, MayReplace};
-ghost use Rattle.pe_builder.specs.Refusals.{part_is_named, is_taken, first_taken, first_refusal, sbat_refusal, size_refusal};
+ghost use Rattle.pe_builder.specs.Refusals.{first_taken, first_refusal, sbat_refusal, size_refusal};
 
 use crate::extent::{address_after, length_after, sbat_index, stub_end, total, up};
 use crate::fault::PlanFault;
 use crate::size::WideSize;
+use crate::taken::{find_taken, first_taken};
 use boot_base::FILE_LIMIT;
-use pe_reader::{Pe, Section};
+use pe_reader::Pe;
+use std::alloc::{AllocError, Global};
 
 /// The bytes that 96 section headers take, which are as many as an image may have.
 const MAX_TABLE: u32 = 3840;
@@ -31,79 +30,63 @@ pub fn plan_refusal(
     sbat_in_place: Option<u32>,
 ) -> Option<PlanFault>
     requires read { ReadFrom stub.now stub_length }
-    requires small { stub_length ≤ 268435456 }
     requires few { length sizes.now ≤ 16777216 }
     requires total { sum_by (λ p. p.length) sizes.now ≤ 2 ^ 62 }
     requires sbat { MayReplace (headers_of stub.now) sbat_in_place }
     ensures { result ≡ first_refusal (headers_of stub.now) stub_length sizes.now sbat_in_place }
 {
-    refusal(stub, stub_length, sizes, sbat_in_place)
+    let taken = first_taken(stub.sections(), sizes);
+    refusal(stub, stub_length, sizes, sbat_in_place, taken)
 }
 
-/// The first reason, by numbers that the headers of every file are bounded by.
+/// The same reason, found with a set of names, so that many parts take no time that grows with their square.
+///
+/// # Errors
+///
+/// Only where there is no memory for the set.
+pub(crate) fn find_refusal(
+    alloc: Global,
+    stub: &Pe,
+    stub_length: u32,
+    sizes: &[WideSize],
+    sbat_in_place: Option<u32>,
+) -> Result<Option<PlanFault>, AllocError>
+    requires read { ReadFrom stub.now stub_length }
+    requires few { length sizes.now ≤ 16777216 }
+    requires total { sum_by (λ p. p.length) sizes.now ≤ 2 ^ 62 }
+    requires sbat { MayReplace (headers_of stub.now) sbat_in_place }
+    ensures { IfOk result (λ found. found ≡ first_refusal (headers_of stub.now) stub_length sizes.now sbat_in_place) }
+{
+    let taken = find_taken(alloc, stub.sections(), sizes)?;
+    Ok(refusal(stub, stub_length, sizes, sbat_in_place, taken))
+}
+
+/// The first reason, by the first part whose name is taken.
 #[tactic(auto, unfolding(crate::specs::Refusals::first_refusal))]
 fn refusal(
     stub: &Pe,
     stub_length: u32,
     parts: &[WideSize],
     sbat_in_place: Option<u32>,
+    taken: Option<PlanFault>,
 ) -> Option<PlanFault>
-    requires file_unit { 0 < (headers_of stub.now).head.file_alignment }
-    requires memory_unit { 0 < (headers_of stub.now).head.section_alignment }
-    requires units { (headers_of stub.now).head.file_alignment ≤ (headers_of stub.now).head.section_alignment }
-    requires small_unit { (headers_of stub.now).head.section_alignment ≤ 65536 }
-    requires table { (headers_of stub.now).head.table_place ≤ 268435456 }
+    requires read { ReadFrom stub.now stub_length }
     requires few { length parts.now ≤ 16777216 }
     requires total { sum_by (λ p. p.length) parts.now ≤ 2 ^ 62 }
     requires sbat { MayReplace (headers_of stub.now) sbat_in_place }
+    requires taken { taken ≡ first_taken (headers_of stub.now).sections [] parts.now }
     ensures { result ≡ first_refusal (headers_of stub.now) stub_length parts.now sbat_in_place }
 {
     if stub.head().certificate_size != 0 {
         return Some(PlanFault::SignedStub);
     }
-    if let Some(fault) = first_taken(stub.sections(), parts) {
+    if let Some(fault) = taken {
         return Some(fault);
     }
     if let Some(fault) = sbat_refusal(stub, sbat_in_place) {
         return Some(fault);
     }
     size_refusal(stub, stub_length, parts, sbat_in_place)
-}
-
-/// Whether a section has the name.
-fn is_section(sections: &[Section], name: &[u8]) -> bool
-    ensures { result ≡ list_any (is_named name.now) sections.now }
-{
-    sections.iter().any(|section| section.is_named(name))
-}
-
-/// Whether a part has the name.
-fn is_part(parts: &[WideSize], name: &[u8]) -> bool
-    ensures { result ≡ list_any (part_is_named name.now) parts.now }
-{
-    parts.iter().any(|part| part.is_named(name))
-}
-
-/// Whether a section or an earlier part has the name of a part.
-fn is_taken(sections: &[Section], earlier: &[WideSize], part: &WideSize) -> bool
-    ensures { result ≡ is_taken sections.now earlier.now part.now }
-{
-    let name = part.name.bytes();
-    is_section(sections, name) || is_part(earlier, name)
-}
-
-/// The first part whose name is taken.
-fn first_taken(sections: &[Section], parts: &[WideSize]) -> Option<PlanFault>
-    ensures { result ≡ first_taken sections.now [] parts.now }
-{
-    for i in 0..parts.len() {
-        if is_taken(sections, &parts[..i], &parts[i]) {
-            return Some(PlanFault::SectionTwice {
-                name: parts[i].name,
-            });
-        }
-    }
-    None
 }
 
 /// Whether a new `.sbat` has more bytes than the raw data of the stub's.

@@ -40,7 +40,7 @@ impl PartSize {
 }
 
 /// The Characteristics of the section of a part with that name.
-pub(crate) fn part_flags(name: &SectionName) -> u32
+fn part_flags(name: &SectionName) -> u32
     ensures { result ≡ part_flags name.now }
 {
     if name.bytes() == b".linux".as_slice() {
@@ -63,13 +63,35 @@ pub struct WideSize {
 
 impl WideSize {
     ghost use Rattle.std.specs.Prelude.{◌≡◌};
+    ghost use Rattle.pe_builder.specs.Layout.{FitsPart};
     ghost use Rattle.pe_builder.specs.Refusals.{part_is_named};
+    ghost use Rattle.pe_builder.specs.Sizes.{any_size};
+
+    /// The size of a part of any length, flagged as `PartSize::of` says.
+    pub fn of(part: &Part) -> WideSize
+        ensures exact { result ≡ any_size part.now }
+        ensures fits { FitsPart result }
+    {
+        named_size(part.name, part.length)
+    }
 
     /// Whether the bytes of the part's name before its first NUL are these.
     pub(crate) fn is_named(&self, name: &[u8]) -> bool
         ensures { result ≡ part_is_named name.now self.now }
     {
         self.name.bytes() == name
+    }
+}
+
+/// The size of a part with that name and so many bytes.
+fn named_size(name: SectionName, length: u64) -> WideSize
+    ensures exact { result ≡ record { name = name; length = length; flags = part_flags name } }
+    ensures fits { FitsPart result }
+{
+    WideSize {
+        name,
+        length,
+        flags: part_flags(&name),
     }
 }
 

@@ -63,17 +63,18 @@ head_joined size place coff head f h o =
     }
 
 -- The table stands behind the head, and zeros behind the table.
-pub pe_joined : (pe : Pe) (size : ℕ) → pe.head.table_place + 40 * pe.head.section_count ≤ size
+pub pe_joined : (pe : Pe) (size : ℕ) → size ≤ 268435456 → pe.head.table_place + 40 * pe.head.section_count ≤ size
     → HeadFrom pe.head size
     → FromBytes (40 * pe.head.section_count) (sections_of size pe.head.header_size pe.head.section_count pe.head.table_place []) pe.sections.items
     → ReadFrom pe size
-pe_joined pe size inside h t =
+pe_joined pe size small inside h t =
     let place = pe.head.table_place in
     let count = 40 * pe.head.section_count in
     let rest = replicate (size - (place + count)) 0 in
     let bytes = h.before ++ (t.bytes ++ rest) in
     let long : length bytes ≡ size = omega (arith, length-append h.before (t.bytes ++ rest), length-append t.bytes rest, length-replicate {A = ℕ} (size - (place + count)) 0, h.length_is, t.length_is) in
     record {
+      small = small;
       bytes = bytes;
       length_is = long;
       reads = pe_of-parts bytes t.bytes size (headers_of pe) long (h.reads (t.bytes ++ rest) long) (part-middle h.before t.bytes rest place count h.length_is t.length_is) t.reads;

@@ -1,5 +1,5 @@
 -- What a reading function returned, unless memory ran out, and what a `Pe` was read from.
-use Rattle.std.specs.Prelude.{◌≡◌, ℕ, List, ◌++◌, length, Result, Ok, Err, MatchResult}
+use Rattle.std.specs.Prelude.{◌≡◌, ℕ, List, ◌++◌, ◌≤◌, length, Result, Ok, Err, MatchResult}
 use Rattle.boot_machine.specs.Counts.{Counts, DiskFailed}
 use Rattle.pe_reader.specs.declared.fault.FailedCheck.{FailedCheck}
 use Rattle.pe_reader.specs.declared.fault.PeFault.{PeFault}
@@ -60,8 +60,9 @@ pub record HeadFrom (head : Head) (size : ℕ) : Type 0 where
 abbrev pub headers_of : Pe → Headers
 headers_of pe = record { head = pe.head; sections = pe.sections.items }
 
--- a `Pe` was read from a file of that size
+-- a `Pe` was read from a file of that size, which is at most the limit of a file
 pub record ReadFrom (pe : Pe) (size : ℕ) : Type 0 where
+  pub small : size ≤ 268435456
   pub bytes : List ℕ
   pub length_is : length bytes ≡ size
   pub reads : pe_of bytes ≡ Ok (headers_of pe)

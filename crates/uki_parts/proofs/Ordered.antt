@@ -1,10 +1,10 @@
 -- A list in the order of a number is cut where the number first passes a bound.
-use Rattle.std.proofs.Common.{◌≡◌, ℕ, suc, ◌+◌, ◌<◌, ◌≤◌, Bool, true, false, cond, not, List, [], ◌∷◌, filter, take, drop, get_or, nat_le, nat_lt, refl, sym, ◌∙◌, ap, arith}
+use Rattle.std.proofs.Common.{◌≡◌, ℕ, suc, ◌+◌, ◌<◌, ◌≤◌, Bool, true, false, cond, not, List, [], ◌∷◌, filter, take, drop, length, get_or, nat_le, nat_lt, refl, sym, ◌∙◌, ap, arith}
 use Rattle.std.specs.List.{All, position_or_len, insert}
-use Rattle.std.specs.List.Sorted.{IsNonDecreasingBy}
+use Rattle.std.specs.List.Sorted.{IsNonDecreasingBy, IsPartitionPoint, IsPartitionedBy}
 use Rattle.std.proofs.lemmas.Bool.Decides.{nat_tests}
 use Rattle.std.proofs.lemmas.Grind.{common_steps}
-use Rattle.std.proofs.lemmas.List.Sums.{fails_before_first, passes_at_first, prefix_len-le-length}
+use Rattle.std.proofs.lemmas.List.Sums.{fails_before_first, passes_at_first, position_or_len_is, prefix_len-le-length}
 use Rattle.std.proofs.lemmas.List.Sorted.{IsNonDecreasingBy-insert}
 
 -- the number is at most the bound; it is past it
@@ -96,3 +96,24 @@ ordered-insert n xs y ordered =
     let e = passes_at_first (is_past n (n y)) xs d (omega arith) in
     let at : n (get_or xs place d) ≤ n (get_or xs k d) = ordered place k d behind lt in
     grind (arith, nat_tests))
+
+-- a bound parts a list in the order of a number
+pub parted : {X : Type 0} (n : X → ℕ) (bound : ℕ) (xs : List X) → IsNonDecreasingBy n xs → IsPartitionedBy (λ x. not (is_past n bound x)) xs
+parted n bound xs ordered i j d le lt e = let h = ordered i j d le lt in grind (arith, nat_tests)
+
+fails : (b : Bool) → not b ≡ true → b ≡ false
+fails true e = sym e
+fails false e = refl
+
+passes : (b : Bool) → not b ≡ false → b ≡ true
+passes true e = refl
+passes false e = sym e
+
+-- where a list is parted by a test, there the first element stands that the test takes
+pub parted_at : {X : Type 0} (p : X → Bool) (xs : List X) (i : ℕ) → i ≤ length xs
+    → IsPartitionPoint (λ y. not (p y) ≡ true) (λ y. not (p y) ≡ false) xs i → position_or_len p xs ≡ i
+parted_at p [] i le point = omega arith
+parted_at p (x ∷ xs) i le point =
+    position_or_len_is p (x ∷ xs) i x le
+    (λ k before. fails _ (point.0 k x (omega arith) before))
+    (λ inside. passes _ (point.1 i x (omega arith) inside))

@@ -39,7 +39,7 @@ pub head_after-requires-clause-initialized : goal.head_after-requires-clause-ini
 head_after-requires-clause-initialized c = rw c.head-head.ensures (plan_numbers c.args.stub.now c.args.stub_length c.stub_end-start.result c.args.sizes.now c.args.sbat_in_place c.stub_end-start.ensures.exact c.requires.none).initialized
 
 pub sbat_place-requires-clause-small : goal.sbat_place-requires-clause-small
-sbat_place-requires-clause-small c = omega (arith, table_inside c.args.stub.now c.args.stub_length c.requires.read, c.requires.small)
+sbat_place-requires-clause-small c = omega (arith, table_inside c.args.stub.now c.args.stub_length c.requires.read, c.requires.read.small)
 
 pub length_after-requires-clause-unit : goal.length_after-requires-clause-unit
 length_after-requires-clause-unit c = rw c.head-head.ensures (bounds c.args.stub.now c.args.stub_length c.requires.read).file_unit

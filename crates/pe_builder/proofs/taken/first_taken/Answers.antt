@@ -1,6 +1,6 @@
 use Rattle.std.proofs.Common.{sym, ◌∙◌}
 use Rattle.pe_builder.proofs.Taking.{taken_here, taken_later, taken_nowhere}
-use Rattle.pe_builder.proofs.refusal.first_taken.Goals as goal
+use Rattle.pe_builder.proofs.taken.first_taken.Goals as goal
 
 pub returns-then-is_taken : goal.returns-then-is_taken
 returns-then-is_taken c =
