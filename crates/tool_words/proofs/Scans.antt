@@ -1,5 +1,5 @@
 -- Reading the items of words from the left: what is read so far, and what is still to come.
-use Rattle.std.proofs.Common.{arith, length, String, ◌≡◌, List, [], ◌∷◌, ◌++◌, map, Bool, Result, Ok, refl, ap, ◌∙◌}
+use Rattle.std.proofs.Common.{arith, length, String, ◌≡◌, List, [], ◌∷◌, ◌++◌, map, Bool, Ok, refl, ap, ◌∙◌}
 use Rattle.std.specs.Prelude.{◌||◌}
 use Rattle.std.specs.List.{list_any}
 use Rattle.std.proofs.lemmas.List.{append-nil}

@@ -31,11 +31,11 @@ pub data Said : Type 0 where
   Whole : Word → Word → Said
   Open : OptionRule → Said
 
-abbrev pub is_equals : ℕ → Bool
-is_equals b = b == 61
+abbrev pub is_equals_sign : ℕ → Bool
+is_equals_sign b = b == 61
 
 abbrev pub has_equals : Word → Bool
-has_equals word = nat_lt (position_or_len is_equals word) (length word)
+has_equals word = nat_lt (position_or_len is_equals_sign word) (length word)
 
 abbrev pub is_flag : Takes → Bool
 is_flag Flag = true
@@ -73,7 +73,7 @@ without_value option = if is_flag option.takes then Whole option.text [] else Op
 abbrev pub option_said : CommandName → Word → Result Said UsageReason
 option_said command word =
     if has_equals word
-    then (option_of command (before_first is_equals word) >>= λ option. with_value option (after_first is_equals word))
+    then (option_of command (before_first is_equals_sign word) >>= λ option. with_value option (after_first is_equals_sign word))
     else (option_of command word >>= λ option. Ok (without_value option))
 
 abbrev pub said : CommandName → Word → Result Said UsageReason

@@ -6,8 +6,8 @@ abbrev pub is_quote : ℕ → Bool
 is_quote c = c == 39
 
 -- a space or a tab
-abbrev pub is_blank : ℕ → Bool
-is_blank c = c == 32 || c == 9
+abbrev pub is_word_gap : ℕ → Bool
+is_word_gap c = c == 32 || c == 9
 
 -- a quote is left open where the single quotes are odd in number
 abbrev pub is_open : List ℕ → Bool
@@ -21,20 +21,20 @@ pub data Mark : Type 0 where
 
 -- between two single quotes every character stands for itself
 abbrev pub mark : Bool → ℕ → Mark
-mark quoted c = if is_quote c then Quote else (if not quoted && is_blank c then Gap else Itself c)
+mark quoted c = if is_quote c then Quote else (if not quoted && is_word_gap c then Gap else Itself c)
 
 abbrev pub marks : Bool → List ℕ → List Mark
 marks quoted [] = []
 marks quoted (c ∷ line) = mark quoted c ∷ marks (if is_quote c then not quoted else quoted) line
 
-abbrev pub is_gap : Mark → Bool
-is_gap Gap = true
-is_gap Quote = false
-is_gap (Itself c) = false
+abbrev pub is_gap_mark : Mark → Bool
+is_gap_mark Gap = true
+is_gap_mark Quote = false
+is_gap_mark (Itself c) = false
 
-abbrev pub is_piece : List Mark → Bool
-is_piece [] = false
-is_piece (m ∷ ms) = true
+abbrev pub has_marks : List Mark → Bool
+has_marks [] = false
+has_marks (m ∷ ms) = true
 
 -- the characters that stand for themselves
 abbrev pub characters : List Mark → List ℕ
@@ -48,7 +48,7 @@ text ms = encode_utf8_all (characters ms)
 
 -- words are the pieces between the gaps, without their quotes. A piece of quotes alone is an empty word.
 abbrev pub words_between : List (List Mark) → List (List ℕ)
-words_between pieces = map text (filter is_piece pieces)
+words_between pieces = map text (filter has_marks pieces)
 
 abbrev pub line_words : List ℕ → List (List ℕ)
-line_words line = words_between (slice_split is_gap (marks false line))
+line_words line = words_between (slice_split is_gap_mark (marks false line))

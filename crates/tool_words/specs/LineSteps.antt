@@ -3,7 +3,7 @@ use Rattle.std.specs.Prelude.{ℕ, List, [], ◌∷◌, ◌++◌, Option, Some, 
 use Rattle.std.specs.Option.{option_map}
 use Rattle.std.specs.List.{slice_split}
 use Rattle.tool_words.specs.declared.line.SoFar.{SoFar}
-use Rattle.tool_words.specs.Line.{Mark, is_gap, marks, text, words_between}
+use Rattle.tool_words.specs.Line.{Mark, is_gap_mark, marks, text, words_between}
 use Rattle.tool_words.specs.Shown.{texts}
 
 -- the words of the pieces, of which the first goes on a word that is begun
@@ -14,4 +14,4 @@ words_on (Some word) (piece ∷ pieces) = (word ++ text piece) ∷ words_between
 
 -- the words so far, and those of the rest of the line
 abbrev pub all_words : SoFar → List ℕ → List (List ℕ)
-all_words s rest = texts s.words.items ++ words_on (option_map string_bytes s.word) (slice_split is_gap (marks s.quoted rest))
+all_words s rest = texts s.words.items ++ words_on (option_map string_bytes s.word) (slice_split is_gap_mark (marks s.quoted rest))

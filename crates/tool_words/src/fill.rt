@@ -1,15 +1,16 @@
 //! The fields of a command, each copied once from the words.
-ghost use Rattle.std.specs.Prelude.{◌≡◌, [], IfOk, is_some, unwrap_or, option_map, slice_index_or};
+ghost use Rattle.std.specs.Prelude.{◌≡◌, [], List, IfOk, is_some, unwrap_or, option_map, codes, slice_index_or};
 ghost use Rattle.std.specs.Option.{option_copied};
-ghost use Rattle.tool_words.specs.Items.{last_value, operands};
-ghost use Rattle.tool_words.specs.Meaning.{given as given_text, required, gathered, filled, build_words as build_meant, calculate_words as calculate_meant, esp as esp_meant};
+ghost use Rattle.tool_words.specs.Items.{all_values, last_value, operands};
+ghost use Rattle.tool_words.specs.Meaning.{given as given_text, required, gathered, filled, esp as esp_meant};
 ghost use Rattle.tool_words.specs.Shown.{items_shown};
-ghost use Rattle.word_grammar.specs.declared.grammar.CommandName.TheVariants.{Build, Calculate};
+ghost use Rattle.word_grammar.specs.declared.grammar.CommandName.TheVariants.{Build, Calculate, Image, Install, Unlink, LoaderDefault, LoaderTimeout, Demo};
+ghost use Rattle.word_grammar.specs.Grammar.{Word};
 
 use crate::command::{BlessWord, BuildWords, CalculateWords, Command, Given};
 use crate::items::Item;
 use crate::values::{all_values, last_value, operand_at};
-use boot_base::Text;
+use boot_base::{Text, TextList};
 use std::alloc::{AllocError, Global};
 use word_grammar::CommandName;
 
@@ -90,46 +91,308 @@ fn operand(alloc: Global, items: &[Item<'_>], place: usize) -> Result<Text, Allo
     Text::of(alloc, operand_at(items, place))
 }
 
-// The fields of `ukify build`.
-fn build_words(alloc: Global, items: &[Item<'_>]) -> Result<BuildWords, AllocError>
-    ensures { IfOk result (λ made. made ≡ build_meant (gathered Build (items_shown items.now))) }
+// The paths that every build is given.
+#[derive(Drop)]
+struct BuildPaths {
+    stub: Text,
+    linux: Text,
+    output: Text,
+}
+
+// The parts of a build that are texts, or files that hold them.
+#[derive(Drop)]
+struct TextParts {
+    osrel: Option<Given>,
+    cmdline: Option<Given>,
+    sbat: Option<Given>,
+}
+
+// The parts that a build and a calculation take alike, each as it is given.
+#[derive(Drop)]
+struct PlainParts {
+    dtb: Option<Text>,
+    uname: Option<Text>,
+    splash: Option<Text>,
+    pcrpkey: Option<Text>,
+    ucode: Option<Text>,
+}
+
+// The parts that a calculation takes as files alone.
+#[derive(Drop)]
+struct FileParts {
+    osrel: Option<Text>,
+    cmdline: Option<Text>,
+    initrd: Option<Text>,
+    sbat: Option<Text>,
+}
+
+fn build_paths(alloc: Global, items: &[Item<'_>]) -> Result<BuildPaths, AllocError>
+    ensures { let last = (λ (option : Word). last_value option (items_shown items.now)) in
+        IfOk result (λ made. made ≡ record {
+          stub = required (last (codes "--stub"));
+          linux = required (last (codes "--linux"));
+          output = required (last (codes "--output"));
+        }) }
 {
-    Ok(BuildWords {
+    Ok(BuildPaths {
         stub: required(alloc, items, "--stub")?,
         linux: required(alloc, items, "--linux")?,
         output: required(alloc, items, "--output")?,
-        osrel: optional_given(alloc, items, "--os-release")?,
-        cmdline: optional_given(alloc, items, "--cmdline")?,
-        sbat: optional_given(alloc, items, "--sbat")?,
-        dtb: optional(alloc, items, "--devicetree")?,
-        uname: optional(alloc, items, "--uname")?,
-        splash: optional(alloc, items, "--splash")?,
-        pcrpkey: optional(alloc, items, "--pcrpkey")?,
-        initrds: all_values(alloc, items, "--initrd")?,
-        ucode: optional(alloc, items, "--microcode")?,
-        sections: all_values(alloc, items, "--section")?,
-        measure: is_given(items, "--measure"),
     })
 }
 
-// The fields of `measure calculate`.
-fn calculate_words(alloc: Global, items: &[Item<'_>]) -> Result<CalculateWords, AllocError>
-    ensures { IfOk result (λ made. made ≡ calculate_meant (gathered Calculate (items_shown items.now))) }
+fn text_parts(alloc: Global, items: &[Item<'_>]) -> Result<TextParts, AllocError>
+    ensures { let text = (λ (option : Word). option_map given_text (last_value option (items_shown items.now))) in
+        IfOk result (λ made. made ≡ record {
+          osrel = text (codes "--os-release");
+          cmdline = text (codes "--cmdline");
+          sbat = text (codes "--sbat");
+        }) }
 {
-    Ok(CalculateWords {
-        linux: required(alloc, items, "--linux")?,
+    Ok(TextParts {
+        osrel: optional_given(alloc, items, "--os-release")?,
+        cmdline: optional_given(alloc, items, "--cmdline")?,
+        sbat: optional_given(alloc, items, "--sbat")?,
+    })
+}
+
+// The options of the device tree and of the microcode have other names in a build than in a calculation.
+fn plain_parts(
+    alloc: Global,
+    items: &[Item<'_>],
+    dtb: &str,
+    ucode: &str,
+) -> Result<PlainParts, AllocError>
+    ensures { let last = (λ (option : Word). last_value option (items_shown items.now)) in
+        IfOk result (λ made. made ≡ record {
+          dtb = last dtb.now;
+          uname = last (codes "--uname");
+          splash = last (codes "--splash");
+          pcrpkey = last (codes "--pcrpkey");
+          ucode = last ucode.now;
+        }) }
+{
+    Ok(PlainParts {
+        dtb: optional(alloc, items, dtb)?,
+        uname: optional(alloc, items, "--uname")?,
+        splash: optional(alloc, items, "--splash")?,
+        pcrpkey: optional(alloc, items, "--pcrpkey")?,
+        ucode: optional(alloc, items, ucode)?,
+    })
+}
+
+fn file_parts(alloc: Global, items: &[Item<'_>]) -> Result<FileParts, AllocError>
+    ensures { let last = (λ (option : Word). last_value option (items_shown items.now)) in
+        IfOk result (λ made. made ≡ record {
+          osrel = last (codes "--osrel");
+          cmdline = last (codes "--cmdline");
+          initrd = last (codes "--initrd");
+          sbat = last (codes "--sbat");
+        }) }
+{
+    Ok(FileParts {
         osrel: optional(alloc, items, "--osrel")?,
         cmdline: optional(alloc, items, "--cmdline")?,
         initrd: optional(alloc, items, "--initrd")?,
-        ucode: optional(alloc, items, "--ucode")?,
-        splash: optional(alloc, items, "--splash")?,
-        dtb: optional(alloc, items, "--dtb")?,
-        uname: optional(alloc, items, "--uname")?,
         sbat: optional(alloc, items, "--sbat")?,
-        pcrpkey: optional(alloc, items, "--pcrpkey")?,
-        banks: all_values(alloc, items, "--bank")?,
-        phases: all_values(alloc, items, "--phase")?,
     })
+}
+
+// The words of a build, put together.
+fn build_of(
+    paths: BuildPaths,
+    texts: TextParts,
+    parts: PlainParts,
+    lists: (TextList, TextList),
+    measure: bool,
+) -> BuildWords
+    ensures { result ≡ record {
+      stub = paths.stub;
+      linux = paths.linux;
+      output = paths.output;
+      osrel = texts.osrel;
+      cmdline = texts.cmdline;
+      sbat = texts.sbat;
+      dtb = parts.dtb;
+      uname = parts.uname;
+      splash = parts.splash;
+      pcrpkey = parts.pcrpkey;
+      initrds = lists.0;
+      ucode = parts.ucode;
+      sections = lists.1;
+      measure = measure;
+    } }
+{
+    let BuildPaths {
+        stub,
+        linux,
+        output,
+    } = paths;
+    let TextParts {
+        osrel,
+        cmdline,
+        sbat,
+    } = texts;
+    let PlainParts {
+        dtb,
+        uname,
+        splash,
+        pcrpkey,
+        ucode,
+    } = parts;
+    let (initrds, sections) = lists;
+    BuildWords {
+        stub,
+        linux,
+        output,
+        osrel,
+        cmdline,
+        sbat,
+        dtb,
+        uname,
+        splash,
+        pcrpkey,
+        initrds,
+        ucode,
+        sections,
+        measure,
+    }
+}
+
+// The words of a calculation, put together.
+fn calculation_of(
+    linux: Text,
+    files: FileParts,
+    parts: PlainParts,
+    lists: (TextList, TextList),
+) -> CalculateWords
+    ensures { result ≡ record {
+      linux = linux;
+      osrel = files.osrel;
+      cmdline = files.cmdline;
+      initrd = files.initrd;
+      ucode = parts.ucode;
+      splash = parts.splash;
+      dtb = parts.dtb;
+      uname = parts.uname;
+      sbat = files.sbat;
+      pcrpkey = parts.pcrpkey;
+      banks = lists.0;
+      phases = lists.1;
+    } }
+{
+    let FileParts {
+        osrel,
+        cmdline,
+        initrd,
+        sbat,
+    } = files;
+    let PlainParts {
+        dtb,
+        uname,
+        splash,
+        pcrpkey,
+        ucode,
+    } = parts;
+    let (banks, phases) = lists;
+    CalculateWords {
+        linux,
+        osrel,
+        cmdline,
+        initrd,
+        ucode,
+        splash,
+        dtb,
+        uname,
+        sbat,
+        pcrpkey,
+        banks,
+        phases,
+    }
+}
+
+// All values of two options.
+fn two_lists(
+    alloc: Global,
+    items: &[Item<'_>],
+    first: &str,
+    second: &str,
+) -> Result<(TextList, TextList), AllocError>
+    ensures { IfOk {T = List Word × List Word} result (λ lists.
+        (lists.0 ≡ all_values first.now (items_shown items.now)) × (lists.1 ≡ all_values second.now (items_shown items.now))) }
+{
+    let first = all_values(alloc, items, first)?;
+    let second = all_values(alloc, items, second)?;
+    Ok((first, second))
+}
+
+// `ukify build`.
+fn build(alloc: Global, items: &[Item<'_>]) -> Result<Command, AllocError>
+    ensures { IfOk result (λ made. made ≡ filled Build (gathered Build (items_shown items.now))) }
+{
+    let paths = build_paths(alloc, items)?;
+    let texts = text_parts(alloc, items)?;
+    let parts = plain_parts(alloc, items, "--devicetree", "--microcode")?;
+    let lists = two_lists(alloc, items, "--initrd", "--section")?;
+    let measure = is_given(items, "--measure");
+    Ok(Command::Build(build_of(paths, texts, parts, lists, measure)))
+}
+
+// `measure calculate`.
+fn calculate(alloc: Global, items: &[Item<'_>]) -> Result<Command, AllocError>
+    ensures { IfOk result (λ made. made ≡ filled Calculate (gathered Calculate (items_shown items.now))) }
+{
+    let linux = required(alloc, items, "--linux")?;
+    let files = file_parts(alloc, items)?;
+    let parts = plain_parts(alloc, items, "--dtb", "--ucode")?;
+    let lists = two_lists(alloc, items, "--bank", "--phase")?;
+    Ok(Command::Calculate(calculation_of(linux, files, parts, lists)))
+}
+
+// `measure image`.
+fn image(alloc: Global, items: &[Item<'_>]) -> Result<Command, AllocError>
+    ensures { IfOk result (λ made. made ≡ filled Image (gathered Image (items_shown items.now))) }
+{
+    let file = operand(alloc, items, 0)?;
+    let (banks, phases) = two_lists(alloc, items, "--bank", "--phase")?;
+    Ok(Command::Image {
+        file,
+        banks,
+        phases,
+    })
+}
+
+// `install`.
+fn install(alloc: Global, items: &[Item<'_>]) -> Result<Command, AllocError>
+    ensures { IfOk result (λ made. made ≡ filled Install (gathered Install (items_shown items.now))) }
+{
+    Ok(Command::Install {
+        file: operand(alloc, items, 0)?,
+        name: operand(alloc, items, 1)?,
+        tries: optional(alloc, items, "--tries")?,
+        esp: esp(alloc, items)?,
+    })
+}
+
+// `demo`.
+fn demo(alloc: Global, items: &[Item<'_>]) -> Result<Command, AllocError>
+    ensures { IfOk result (λ made. made ≡ filled Demo (gathered Demo (items_shown items.now))) }
+{
+    Ok(Command::Demo {
+        seed: operand(alloc, items, 0)?,
+        count: operand(alloc, items, 1)?,
+    })
+}
+
+// An operand and the folder of the boot files.
+fn operand_and_esp(alloc: Global, items: &[Item<'_>]) -> Result<(Text, Text), AllocError>
+    ensures { IfOk {T = Word × Word} result (λ texts.
+        (texts.0 ≡ slice_index_or (operands (items_shown items.now)) 0 [])
+        × (texts.1 ≡ esp_meant (λ option. last_value option (items_shown items.now)))) }
+{
+    let text = operand(alloc, items, 0)?;
+    let esp = esp(alloc, items)?;
+    Ok((text, esp))
 }
 
 // `bless` with this verb.
@@ -138,11 +401,32 @@ fn bless(alloc: Global, verb: BlessWord, items: &[Item<'_>]) -> Result<Command, 
         (slice_index_or (operands (items_shown items.now)) 0 [])
         (esp_meant (λ option. last_value option (items_shown items.now)))) }
 {
-    Ok(Command::Bless {
-        verb,
-        path: operand(alloc, items, 0)?,
-        esp: esp(alloc, items)?,
-    })
+    let (path, esp) = operand_and_esp(alloc, items)?;
+    Ok(Command::Bless { verb, path, esp })
+}
+
+// `bootctl unlink`.
+fn unlink(alloc: Global, items: &[Item<'_>]) -> Result<Command, AllocError>
+    ensures { IfOk result (λ made. made ≡ filled Unlink (gathered Unlink (items_shown items.now))) }
+{
+    let (name, esp) = operand_and_esp(alloc, items)?;
+    Ok(Command::Unlink { name, esp })
+}
+
+// `loader set-default`.
+fn loader_default(alloc: Global, items: &[Item<'_>]) -> Result<Command, AllocError>
+    ensures { IfOk result (λ made. made ≡ filled LoaderDefault (gathered LoaderDefault (items_shown items.now))) }
+{
+    let (pattern, esp) = operand_and_esp(alloc, items)?;
+    Ok(Command::LoaderDefault { pattern, esp })
+}
+
+// `loader set-timeout`.
+fn loader_timeout(alloc: Global, items: &[Item<'_>]) -> Result<Command, AllocError>
+    ensures { IfOk result (λ made. made ≡ filled LoaderTimeout (gathered LoaderTimeout (items_shown items.now))) }
+{
+    let (value, esp) = operand_and_esp(alloc, items)?;
+    Ok(Command::LoaderTimeout { value, esp })
 }
 
 /// The command that these items give. Its operands have been counted, and its required options looked for.
@@ -153,59 +437,37 @@ pub(crate) fn fill(
 ) -> Result<Command, AllocError>
     ensures { IfOk result (λ made. made ≡ filled command (gathered command (items_shown items.now))) }
 {
-    let made = match command {
-        CommandName::Build => Command::Build(build_words(alloc, items)?),
-        CommandName::Inspect => Command::Inspect {
+    match command {
+        CommandName::Build => build(alloc, items),
+        CommandName::Inspect => Ok(Command::Inspect {
             file: operand(alloc, items, 0)?,
-        },
-        CommandName::Calculate => Command::Calculate(calculate_words(alloc, items)?),
-        CommandName::Image => Command::Image {
+        }),
+        CommandName::Calculate => calculate(alloc, items),
+        CommandName::Image => image(alloc, items),
+        CommandName::ListEntries => Ok(Command::List {
+            esp: esp(alloc, items)?,
+        }),
+        CommandName::Unlink => unlink(alloc, items),
+        CommandName::Identify => Ok(Command::Identify {
             file: operand(alloc, items, 0)?,
-            banks: all_values(alloc, items, "--bank")?,
-            phases: all_values(alloc, items, "--phase")?,
-        },
-        CommandName::ListEntries => Command::List {
+        }),
+        CommandName::Tidy => Ok(Command::Tidy {
             esp: esp(alloc, items)?,
-        },
-        CommandName::Unlink => Command::Unlink {
-            name: operand(alloc, items, 0)?,
+        }),
+        CommandName::Install => install(alloc, items),
+        CommandName::Boot => Ok(Command::Boot {
             esp: esp(alloc, items)?,
-        },
-        CommandName::Identify => Command::Identify {
-            file: operand(alloc, items, 0)?,
-        },
-        CommandName::Tidy => Command::Tidy {
+        }),
+        CommandName::BlessGood => bless(alloc, BlessWord::Good, items),
+        CommandName::BlessBad => bless(alloc, BlessWord::Bad, items),
+        CommandName::BlessIndeterminate => bless(alloc, BlessWord::Indeterminate, items),
+        CommandName::BlessStatus => bless(alloc, BlessWord::Status, items),
+        CommandName::LoaderShow => Ok(Command::LoaderShow {
             esp: esp(alloc, items)?,
-        },
-        CommandName::Install => Command::Install {
-            file: operand(alloc, items, 0)?,
-            name: operand(alloc, items, 1)?,
-            tries: optional(alloc, items, "--tries")?,
-            esp: esp(alloc, items)?,
-        },
-        CommandName::Boot => Command::Boot {
-            esp: esp(alloc, items)?,
-        },
-        CommandName::BlessGood => bless(alloc, BlessWord::Good, items)?,
-        CommandName::BlessBad => bless(alloc, BlessWord::Bad, items)?,
-        CommandName::BlessIndeterminate => bless(alloc, BlessWord::Indeterminate, items)?,
-        CommandName::BlessStatus => bless(alloc, BlessWord::Status, items)?,
-        CommandName::LoaderShow => Command::LoaderShow {
-            esp: esp(alloc, items)?,
-        },
-        CommandName::LoaderDefault => Command::LoaderDefault {
-            pattern: operand(alloc, items, 0)?,
-            esp: esp(alloc, items)?,
-        },
-        CommandName::LoaderTimeout => Command::LoaderTimeout {
-            value: operand(alloc, items, 0)?,
-            esp: esp(alloc, items)?,
-        },
-        CommandName::Script => Command::Script,
-        CommandName::Demo => Command::Demo {
-            seed: operand(alloc, items, 0)?,
-            count: operand(alloc, items, 1)?,
-        },
-    };
-    Ok(made)
+        }),
+        CommandName::LoaderDefault => loader_default(alloc, items),
+        CommandName::LoaderTimeout => loader_timeout(alloc, items),
+        CommandName::Script => Ok(Command::Script),
+        CommandName::Demo => demo(alloc, items),
+    }
 }

@@ -1,7 +1,7 @@
 //! The words of a line of a script.
 ghost use Rattle.std.specs.Prelude.{◌≡◌, ◌↔◌, ◌∷◌, [], List, ℕ, true, false, count_by, IfOk};
 ghost use Rattle.std.specs.Str.{chars};
-ghost use Rattle.tool_words.specs.Line.{is_open, is_quote, is_blank, line_words, mark, Gap, Itself};
+ghost use Rattle.tool_words.specs.Line.{is_open, is_quote, is_word_gap, line_words, mark, Gap, Itself};
 ghost use Rattle.tool_words.specs.LineSteps.{all_words};
 ghost use Rattle.tool_words.specs.Shown.{texts};
 
@@ -91,7 +91,7 @@ impl SoFar {
         if c == '\'' {
             return Ok(self.take_quote(alloc));
         }
-        if !self.quoted && is_blank(c) {
+        if !self.quoted && is_word_gap(c) {
             return self.take_gap();
         }
         self.take_itself(alloc, c)
@@ -114,8 +114,8 @@ impl SoFar {
 }
 
 // A space or a tab.
-fn is_blank(c: char) -> bool
-    ensures { result ≡ is_blank c }
+fn is_word_gap(c: char) -> bool
+    ensures { result ≡ is_word_gap c }
 {
     c == ' ' || c == '\t'
 }

@@ -1,0 +1,9 @@
+use Rattle.tool_words.proofs.fill.file_parts.Goals as goal
+
+pub returns : goal.returns
+returns c = λ i. record {
+  osrel = c.in_ok-optional.ensures i;
+  cmdline = c.in_ok-optional-2.ensures i;
+  initrd = c.in_ok-optional-3.ensures i;
+  sbat = c.in_ok-optional-4.ensures i;
+}
