@@ -1,36 +1,30 @@
 -- Bytes that registers take one behind the other.
-use Rattle.std.proofs.Common.{◌≡◌, ◌<◌, ◌≤◌, ◌+◌, ℕ, Bool, List, [], ◌∷◌, ◌++◌, length, take, drop, get_or, refl, sym, ap, subst, ◌∙◌, arith, IsTrue, append_assoc, append-nil, length-append, length-drop}
+use Rattle.std.proofs.Common.{◌≡◌, false, ◌<◌, ◌≤◌, ◌+◌, ℕ, Bool, List, [], ◌∷◌, ◌++◌, length, take, drop, get_or, refl, sym, ap, subst, ◌∙◌, arith, IsTrue, append-nil, length-append}
 use Rattle.std.specs.Prelude.{replicate}
 use Rattle.std.specs.List.{AllZip}
-use Rattle.std.proofs.Math.Seq.{take-add}
 use Rattle.std.proofs.lemmas.Grind.{flat_map-append}
-use Rattle.std.proofs.lemmas.List.{take_more, drop-drop, replicate-append-replicate}
+use Rattle.std.proofs.lemmas.List.{take_more, replicate-append-replicate}
 use Rattle.std.proofs.lemmas.List.Elements.{All-tail}
 use Rattle.std.proofs.lemmas.List.Sums.{sum_by-cons}
+use Rattle.boot_base.specs.Paths.{Path, is_temp}
+use Rattle.boot_machine.specs.Disk.{State}
+use Rattle.boot_machine.specs.Reading.{zero_filled}
+use Rattle.boot_machine.specs.Rows.{contents}
+use Rattle.boot_machine.specs.Sent.{seen}
+use Rattle.boot_machine.proofs.Filling.{zero_filled-inside}
 use Rattle.uki_parts.specs.declared.piece.Piece.{Piece}
 use Rattle.uki_parts.specs.Pieces.{Reading, HasSizes, piece_length, total_length, piece_bytes, bytes_of}
 use Rattle.pcr_fold.specs.declared.bank.Bank.{Bank}
 use Rattle.stub_replay.proofs.Ranges.{length-bytes_in}
 use Rattle.stub_replay.specs.declared.measurable.Content.{Content}
-use Rattle.stub_replay.specs.declared.measurable.Content.TheVariants as contents
+use Rattle.stub_replay.specs.declared.measurable.Content.TheVariants as variants
 use Rattle.stub_replay.specs.Parts.{IsWhole, content_bytes, content_length}
 use Rattle.stub_replay.specs.declared.register.Register.{Register}
 use Rattle.stub_replay.specs.Registers.{Holds, AreHeld, Takes}
 use Rattle.stub_replay.specs.Taking.{TakesWhere, AreBetween}
-use Rattle.stub_replay.proofs.Zips.{zip_same, zip_joined, zip_moved}
-
--- nothing is taken
-pub takes_none : (xs : List Register) → AllZip (Takes []) xs xs
-takes_none xs = zip_same (Takes []) xs (λ x bank items taken holds. let P = λ (l : List ℕ). Holds x bank items l in subst P (sym (append-nil taken)) holds)
-
--- more is taken
-pub takes_more : (a b : List ℕ) (xs ys zs : List Register) → AllZip (Takes a) xs ys → AllZip (Takes b) ys zs → AllZip (Takes (a ++ b)) xs zs
-takes_more a b xs ys zs first second =
-    zip_joined (Takes a) (Takes b) (Takes (a ++ b)) xs ys zs
-    (λ x y z r s bank items taken holds.
-    let P = λ (l : List ℕ). Holds z bank items l in
-    subst P (append_assoc taken a b) (s bank items (taken ++ a) (r bank items taken holds)))
-    first second
+use Rattle.stub_replay.proofs.Shown.{shown_contents}
+use Rattle.stub_replay.proofs.Zips.{zip_moved}
+use Rattle.stub_replay.specs.TakingLaws.{takes_none, takes_more}
 
 -- zeros behind zeros
 pub zeros_more : (done count : ℕ) (zeros : List ℕ) (xs ys zs : List Register) → zeros ≡ replicate count 0 → AllZip (Takes (replicate done 0)) xs ys
@@ -51,21 +45,17 @@ where_more P Q S a b c xs ys zs to_first to_second joined first second = (
 pub where_none : (P : Type 0) (xs : List Register) → TakesWhere P [] xs xs
 where_none P xs = ([], takes_none xs, λ told. refl)
 
--- the next bytes of a file, from a place on
-pub range_more : (tells : Bool) (file seen : List ℕ) (at done count : ℕ) (xs ys zs : List Register) → (IsTrue tells → seen ≡ file)
-    → TakesWhere (IsTrue tells × (done ≤ length (drop at file))) (take done (drop at file)) xs ys
-    → TakesWhere (IsTrue tells × (count ≤ length (drop (at + done) seen))) (take count (drop (at + done) seen)) ys zs
-    → TakesWhere (IsTrue tells × (done + count ≤ length (drop at file))) (take (done + count) (drop at file)) xs zs
-range_more tells file seen at done count xs ys zs same first second =
-    let there = drop at file in
-    where_more _ _ _ (take done there) (take count (drop (at + done) seen)) (take (done + count) there) xs ys zs
-    (λ told. (told.0, omega (arith, told.1)))
-    (λ told. (told.0, omega (arith, told.1, length-drop at file, length-drop (at + done) seen, ap length (same told.0))))
-    (λ told.
-    ap (λ (f : List ℕ). take done there ++ take count (drop (at + done) f)) (same told.0)
-    ∙ ap (λ (l : List ℕ). take done there ++ take count l) (sym (drop-drop done at file))
-    ∙ sym (take-add done count there))
-    first second
+-- a range of a file that boot sees
+pub range_taken : (tells : Bool) (s : State) (path : Path) (at count : ℕ) (bytes : List ℕ) (xs ys zs : List Register) → is_temp path ≡ false → AllZip (Takes bytes) xs ys
+    → (IsTrue tells → bytes ≡ zero_filled (drop at (contents s.files path)) count) → zs ≡ ys
+    → TakesWhere (IsTrue tells × (count ≤ length (drop at (contents (seen s) path)))) (take count (drop at (contents (seen s) path))) xs zs
+range_taken tells s path at count bytes xs ys zs shown takes are same = (
+  bytes,
+  subst (λ (l : List Register). AllZip (Takes bytes) xs l) (sym same) takes,
+  λ both.
+      let S = λ (file : List ℕ). count ≤ length (drop at file) → bytes ≡ take count (drop at file) in
+      subst S (sym (shown_contents s path shown)) (λ inside. are both.0 ∙ zero_filled-inside (drop at (contents s.files path)) count inside) both.1,
+)
 
 -- zeros behind what is taken
 pub zeros_behind : (P : Type 0) (bytes : List ℕ) (count : ℕ) (xs ys zs : List Register) → TakesWhere P bytes xs ys
@@ -110,9 +100,9 @@ length-bytes_of files (piece ∷ pieces) sizes =
 
 -- a content that is whole has as many bytes as it says
 pub length-content_bytes : (files : Reading) (content : Content) → IsWhole files content → length (content_bytes files content) ≡ content_length content
-length-content_bytes files (contents.Pieces pieces) whole = length-bytes_of files pieces.now whole
-length-content_bytes files (contents.Bytes bytes) whole = refl
-length-content_bytes files (contents.Loaded path range) whole = length-bytes_in (files path.now) range whole
+length-content_bytes files (variants.Pieces pieces) whole = length-bytes_of files pieces.now whole
+length-content_bytes files (variants.Bytes bytes) whole = refl
+length-content_bytes files (variants.Loaded path range) whole = length-bytes_in (files path.now) range whole
 
 -- the registers hold what they have taken
 pub held_after : (taken : List ℕ) (xs ys : List Register) → AreBetween xs → AllZip (Takes taken) xs ys → AreHeld ys

@@ -70,20 +70,6 @@ zip_more {B = B} R xs ys n x d inside all r =
     let P = λ (l : List B). AllZip R (xs ++ x ∷ []) l in
     subst P (sym (take_more ys n d inside)) (zip_push R xs (take n ys) x (get_or ys n d) all r)
 
--- items that stand in a relation each to itself
-pub zip_same : {A : Type 0} (R : A → A → Type 0) (xs : List A) → ((x : A) → R x x) → AllZip R xs xs
-zip_same R [] each = tt
-zip_same R (x ∷ xs) each = (each x, zip_same R xs each)
-
--- one relation behind another
-pub zip_joined : {A : Type 0} (R S T : A → A → Type 0) (xs ys zs : List A) → ((x y z : A) → R x y → S y z → T x z) → AllZip R xs ys → AllZip S ys zs → AllZip T xs zs
-zip_joined R S T [] [] [] join r s = tt
-zip_joined R S T [] [] (z ∷ zs) join r s = absurd s
-zip_joined R S T [] (y ∷ ys) zs join r s = absurd r
-zip_joined R S T (x ∷ xs) [] zs join r s = absurd r
-zip_joined R S T (x ∷ xs) (y ∷ ys) [] join r s = absurd s
-zip_joined R S T (x ∷ xs) (y ∷ ys) (z ∷ zs) join r s = (join x y z r.0 s.0, zip_joined R S T xs ys zs join r.1 s.1)
-
 -- what holds beside a third list goes over to the items that each is related to
 pub zip_moved : {A B : Type 0} (R : A → A → Type 0) (S T : A → B → Type 0) (xs ys : List A) (zs : List B) → ((x y : A) (z : B) → R x y → S x z → T y z)
     → AllZip R xs ys → AllZip S xs zs → AllZip T ys zs

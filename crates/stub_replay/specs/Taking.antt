@@ -1,6 +1,9 @@
 -- What registers take, as far as it is known.
-use Rattle.std.specs.Prelude.{◌≡◌, ℕ, List, []}
+use Rattle.std.specs.Prelude.{◌≡◌, ℕ, Bool, IsTrue, List, []}
 use Rattle.std.specs.List.{AllZip}
+use Rattle.boot_machine.specs.Disk.{Files, State}
+use Rattle.boot_machine.specs.Reading.{OnlyReads}
+use Rattle.boot_machine.specs.declared.machine.Printed.{Printed}
 use Rattle.pcr_fold.specs.declared.bank.Bank.{Bank}
 use Rattle.stub_replay.specs.declared.register.Register.{Register}
 use Rattle.stub_replay.specs.Registers.{AllHold, Takes, Extends}
@@ -16,3 +19,7 @@ ExtendsWhere condition items old new = (more : List (List ℕ)) × AllZip (Exten
 -- the same items have extended the registers, and their hashes have taken nothing
 abbrev pub AreBetween : List Register → Type 0
 AreBetween registers = (banks : List Bank) × (items : List (List ℕ)) × AllHold registers banks items []
+
+-- the hashes take these bytes, and the machine only reads meanwhile
+abbrev pub TakesReading : {D : Type 0} → Bool → (D → ℕ) → (D → ℕ → Files → List Printed → Type 0) → (D → State) → List ℕ → List Register → D → List Register → D → Type 0
+TakesReading tells clock since state bytes old before new after = AllZip (Takes bytes) old new × (IsTrue tells → OnlyReads clock since state before after)

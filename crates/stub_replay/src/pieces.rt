@@ -2,7 +2,7 @@
 ghost use Rattle.std.specs.Prelude.{◌≡◌, ◌<◌, ◌≤◌, ◌+◌, ◌^◌, length, take, drop, replicate, sum_by, IfOk, OnOk, IsTrue};
 ghost use Rattle.std.specs.List.{AllZip};
 ghost use Rattle.boot_machine.specs.Counts.{CountsDisk};
-ghost use Rattle.boot_machine.specs.Reading.{OnlyReads, TakesAtMost, TakesPiece};
+ghost use Rattle.boot_machine.specs.Reading.{OnlyReads, TakesAtMost};
 ghost use Rattle.boot_machine.specs.Rows.{contents};
 ghost use Rattle.boot_machine.specs.Sent.{seen};
 ghost use Rattle.pe_reader.specs.Loaded.{bytes_in};
@@ -12,10 +12,11 @@ ghost use Rattle.stub_replay.specs.Registers.{Takes};
 ghost use Rattle.stub_replay.specs.Taking.{TakesWhere};
 
 use crate::measurable::Content;
-use crate::register::{Register, update_all};
+use crate::register::{Hashes, Register, update_all};
 use boot_base::BootPath;
-use boot_machine::{DiskFault, Machine, read_piece};
+use boot_machine::{DiskFault, Machine};
 use pe_reader::LoadedRange;
+use range_stream::stream_range;
 use uki_parts::Piece;
 
 /// Takes the bytes of the content, each of a file read once and through the buffer, which holds anything afterwards.
@@ -154,37 +155,8 @@ fn take_range<M: Machine>(
     ensures counts { CountsDisk result (M.counts machine.old) (M.counts machine.new) }
     ensures taken { IsTrue M.tells → TakesAtMost count (M.taken machine.old) (M.taken machine.new) }
 {
-    let mut done = 0u64;
-    while done < count {
-        done += take_part(registers, machine, path, at + done, count - done, buffer)?;
-    }
-    Ok(())
-}
-
-// Takes some of the `left` bytes that stand in the file from `at` on, and says how many.
-fn take_part<M: Machine>(
-    registers: &mut [Register],
-    machine: &mut M,
-    path: &BootPath,
-    at: u64,
-    left: u64,
-    buffer: &mut [u8],
-) -> Result<u64, DiskFault>
-    requires left { 0 < left }
-    requires end { at + left < 2 ^ 64 }
-    requires room { 0 < length buffer.old }
-    ensures length { length buffer.new ≡ length buffer.old }
-    ensures some { IfOk result (λ count. 0 < count) }
-    ensures within { IfOk result (λ count. count ≤ left) }
-    ensures data { IfOk result (λ count. TakesWhere
-        (IsTrue M.tells × (count ≤ length (drop at (contents (seen (M.state machine.old)) path.now))))
-        (take count (drop at (contents (seen (M.state machine.old)) path.now))) registers.old registers.new) }
-    ensures reads { IsTrue M.tells → OnlyReads M.clock M.since M.state machine.old machine.new }
-    ensures counts { CountsDisk result (M.counts machine.old) (M.counts machine.new) }
-    ensures taken { IsTrue M.tells → TakesPiece left result (M.taken machine.old) (M.taken machine.new) }
-{
     path.know();
-    let count = read_piece(machine, path, at, left, buffer)?;
-    update_all(registers, &buffer[..count]);
-    Ok(count as u64)
+    let mut hashes = Hashes { registers };
+    stream_range(machine, path, at, count, &mut hashes, buffer)?;
+    Ok(())
 }

@@ -4,7 +4,9 @@ ghost use Rattle.std.specs.List.{AllZip};
 ghost use Rattle.stub_replay.specs.Registers.{Holds, AllHold, IsHeld, AreHeld, Takes, Closes};
 
 use crate::measured::after_name;
+use boot_machine::{DiskFault, Machine};
 use pcr_fold::{Bank, DataHash, Pcr};
+use range_stream::ByteSink;
 use std::alloc::{AllocError, Global};
 use std::mem;
 
@@ -44,6 +46,46 @@ impl Register {
         let next = DataHash::new(self.pcr.bank());
         let hash = mem::replace(&mut self.hash, next);
         self.pcr = after_name(self.pcr, name).extend_digest(&hash.finish());
+    }
+}
+
+/// Registers whose hashes take bytes that are streamed.
+#[derive(Drop)]
+pub(crate) struct Hashes<'a> {
+    pub(crate) registers: &'a mut [Register],
+}
+
+impl<M: Machine> ByteSink<M> for Hashes<'_> {
+    ghost use Rattle.std.specs.Prelude.{◌≡◌, refl};
+    ghost use Rattle.std.proofs.Common.{ap, ◌∙◌};
+    ghost use Rattle.boot_machine.specs.Rows.{contents};
+    ghost use Rattle.boot_machine.proofs.Reading.{reads_on};
+    ghost use Rattle.stub_replay.specs.Taking.{TakesReading};
+    ghost use Rattle.stub_replay.specs.TakingLaws.{takes_none, takes_more};
+
+    ghost can_take = { λ s m. Unit {0} };
+
+    ghost took = { λ bytes s m t n.
+        TakesReading M.tells M.clock M.since M.state bytes s.registers.now m t.registers.now n
+        × (t.registers.ghost_name ≡ s.registers.ghost_name) };
+
+    ghost reads = { λ s m n reads. ((takes_none s.registers.now, reads), refl) };
+
+    ghost more = { λ a b s t u m n o first second. (
+      (
+        takes_more a b s.registers.now t.registers.now u.registers.now first.0.0 second.0.0,
+        λ told. reads_on M.clock M.since M.state m n o (first.0.1 told) (second.0.1 told),
+      ),
+      second.1 ∙ first.1,
+    ) };
+
+    ghost goes_on = { λ bytes s t m n can took. tt };
+
+    ghost keeps = { λ bytes s t m n path can took told shown. ap (λ v. contents v.files path) (took.0.1 told).same };
+
+    fn take(&mut self, piece: &[u8], _machine: &mut M) -> Result<(), DiskFault> {
+        update_all(self.registers, piece);
+        Ok(())
     }
 }
 

@@ -1,5 +1,6 @@
 use Rattle.std.proofs.Common.{rules, arith, refl}
-use Rattle.stub_replay.proofs.Taking.{takes_none, zeros_more}
+use Rattle.stub_replay.proofs.Taking.{zeros_more}
+use Rattle.stub_replay.specs.TakingLaws.{takes_none}
 use Rattle.stub_replay.proofs.pieces.take_zeros.Goals as goal
 
 pub loop-done-init : goal.loop-done-init
