@@ -152,6 +152,7 @@ pub fn file_part<M: Machine>(
         (Ok (zero_filled (drop place (contents (seen (M.state machine.old)) path.now)) count)) }
     ensures reads { IsTrue M.tells → OnlyReads M.clock M.since M.state machine.old machine.new }
     ensures counts { CountsUnsaid result (M.counts machine.old) (M.counts machine.new) }
+    ensures taken { IsTrue M.tells → TakesAtMost count (M.taken machine.old) (M.taken machine.new) }
 {
     path.know();
     let mut bytes = zeros(alloc, count as usize)?;
@@ -168,6 +169,8 @@ pub fn file_bytes<M: Machine>(
     ensures says { IsTrue M.tells → Says (λ bytes. bytes.items) result (bytes_at (seen (M.state machine.old)) path.now) }
     ensures reads { IsTrue M.tells → OnlyReads M.clock M.since M.state machine.old machine.new }
     ensures counts { CountsUnsaid result (M.counts machine.old) (M.counts machine.new) }
+    ensures taken { IsTrue M.tells → TakesAtMost (length (contents (seen (M.state machine.old)) path.now))
+        (M.taken machine.old) (M.taken machine.new) }
 {
     let size = readable(alloc, path, machine)?;
     file_part(alloc, path, 0, size, machine)
