@@ -14,7 +14,7 @@ use Rattle.image_writer.specs.Sourced.{IsSourced, planned_image}
 use Rattle.install_steps.specs.Steps.{Lacks}
 use Rattle.command_reads.specs.Saying.{UnsaidFor}
 use Rattle.command_reads.specs.declared.saying.Unsaid.{Unsaid}
-use Rattle.command_plans.specs.Answers.{Answer}
+use Rattle.command_plans.specs.Answers.{Answer, is_refusal}
 use Rattle.command_plans.specs.declared.outcome.MachineFault.{MachineFault}
 use Rattle.command_plans.specs.declared.outcome.MachineFault.TheVariants as faults
 use Rattle.command_plans.specs.declared.plan.Change.{Change}
@@ -82,6 +82,10 @@ fault_drops faults.Pipe change old new = Drops change old new
 
 abbrev pub DropsBy : {T : Type 0} → Result T MachineFault → Change → Files → Files → Type 0
 DropsBy result change old new = MatchResult result (λ _. Drops change old new) (λ fault. fault_drops fault change old new)
+
+-- a refused command changes nothing, and leaves temporary files where they are
+abbrev pub IsIdleIfRefused : Plan → Type 0
+IsIdleIfRefused plan = is_refusal plan.outcome ≡ true → plan.change ≡ Nothing
 
 -- what a plan comes to
 abbrev pub planned : Files → Plan → Answer

@@ -7,7 +7,7 @@ ghost use Rattle.boot_machine.specs.Sent.{seen};
 ghost use Rattle.command_reads.specs.Saying.{CountsUnsaid, Says, unsaid_counts};
 ghost use Rattle.command_plans.specs.Answers.{Answer, answered, said};
 ghost use Rattle.command_plans.specs.Performs.{CountsStop};
-ghost use Rattle.command_plans.specs.Plans.{IsMakeable, Plans, PlansAs};
+ghost use Rattle.command_plans.specs.Plans.{IsIdleIfRefused, IsMakeable, Plans, PlansAs};
 ghost use Rattle.command_plans.specs.Refusing.{PlansUnsaid};
 
 use crate::outcome::{Outcome, Stop};
@@ -54,6 +54,7 @@ pub fn answered(alloc: Global, plan: Result<Plan, Unsaid>) -> Result<Plan, Stop>
     ensures plans { IfOk result (λ made. (s : State) (meant : Result Answer Refusal)
         → PlansAs s plan meant → Plans s made (answered (seen s) meant)) }
     ensures makeable { IfOk plan (λ made. IsMakeable made.change) → IfOk result (λ made. IsMakeable made.change) }
+    ensures idle { IfOk plan IsIdleIfRefused → IfOk result IsIdleIfRefused }
     ensures counts { (old new : Counts) → CountsUnsaid plan old new → CountsStop result old new }
 {
     match plan {

@@ -4,7 +4,6 @@ use Rattle.std.specs.Prelude.{find}
 use Rattle.std.proofs.lemmas.Bool.{cases_Bool, cond-false, cond-true}
 use Rattle.boot_counter.specs.Bless.{Name, GoodName, CountedName, BadName, choice_from, choice_of, is_there, sources_of, target_of}
 use Rattle.boot_counter.specs.declared.bless.BlessVerb.{BlessVerb}
-use Rattle.boot_counter.specs.declared.bless.Choice.{Choice}
 use Rattle.boot_counter.specs.declared.bless.Choice.TheVariants.{Nothing}
 use Rattle.boot_counter.specs.declared.bless.Present.{Present}
 use Rattle.boot_machine.specs.Disk.{Files, has}

@@ -1,8 +1,7 @@
 -- The first entry of a menu.
-use Rattle.std.proofs.Common.{◌≡◌, ◌<◌, zero, suc, arith, ℕ, List, [], ◌∷◌, true, Option, Some, None, Ok, get_or, refl, sym, ap, ◌∙◌, is_some}
+use Rattle.std.proofs.Common.{◌≡◌, arith, List, [], ◌∷◌, true, Some, Ok, ap, ◌∙◌, is_some}
 use Rattle.std.specs.Prelude.{Contains, slice_get}
-use Rattle.std.specs.FinMap as map
-use Rattle.boot_base.specs.Paths.{Path, path_of, is_temp}
+use Rattle.boot_base.specs.Paths.{path_of}
 use Rattle.boot_folder.specs.Entries.{IsEntry}
 use Rattle.boot_folder.specs.declared.folders.Folders.{Folders}
 use Rattle.boot_folder.proofs.Places.{path_shown}

@@ -1,4 +1,5 @@
 mod Choices
+mod Declined
 mod Firsts
 mod Freeing
 pub mod GoodEntries

@@ -85,8 +85,11 @@ ShowsEntry result entry = MatchResult result (λ _. (item : MenuItem) × (entry 
 abbrev pub image_of : Files → Installation → Result (List ℕ) Refusal
 image_of view words = bytes_at view words.from >>= λ bytes. entry_or (uki_of words.target bytes) >>= λ item. Ok bytes
 
+abbrev pub installed_text : Path → List ℕ
+installed_text target = codes "installed " ++ (printed_path target ++ codes "\n")
+
 abbrev pub installed : Files → Installation → List ℕ → Answer
-installed view words bytes = done (insert view words.target bytes) (codes "installed " ++ (printed_path words.target ++ codes "\n"))
+installed view words bytes = done (insert view words.target bytes) (installed_text words.target)
 
 abbrev pub install_meant : Files → List ℕ → List ℕ → Option (List ℕ) → List ℕ → Result Answer Refusal
 install_meant view file name tries esp =

@@ -5,5 +5,6 @@ pub mod GoodEntries
 pub mod Installing
 pub mod Listing
 pub mod Moving
+pub mod Taking
 pub mod Tidying
 pub mod Unlinking

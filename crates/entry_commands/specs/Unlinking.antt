@@ -28,10 +28,13 @@ entry_under esp name = if is_entry_name name then path_under esp (entry_below na
 abbrev pub entry_path : List ℕ → List ℕ → Result Path Refusal
 entry_path name word = path_in word >>= λ esp. entry_under esp name
 
+abbrev pub unlinked_text : Path → List ℕ
+unlinked_text path = codes "unlinked " ++ (printed_path path ++ codes "\n")
+
 -- the file at the path goes, if one is there
 abbrev pub removal : Files → Path → Option (List ℕ) → Answer
 removal view path None = refusal view (refusals.NotFound (printed_path path))
-removal view path (Some bytes) = done (remove view path) (codes "unlinked " ++ (printed_path path ++ codes "\n"))
+removal view path (Some bytes) = done (remove view path) (unlinked_text path)
 
 abbrev pub unlink_answer : Files → Path → Answer
 unlink_answer view path = removal view path (get view path)

@@ -6,11 +6,12 @@ ghost use Rattle.boot_counter.specs.Bless.{choice_of, target_of};
 ghost use Rattle.boot_counter.specs.Renames.{bad_name_of, good_name_of};
 ghost use Rattle.boot_machine.specs.Counts.{Counts, CountsDisk};
 ghost use Rattle.boot_machine.specs.Disk.{State, has};
-ghost use Rattle.boot_machine.specs.Reading.{OnlyReads};
+ghost use Rattle.boot_machine.specs.Reading.{OnlyReads, TakesAtMost};
 ghost use Rattle.boot_machine.specs.Sent.{seen};
 ghost use Rattle.command_plans.specs.Answers.{said};
 ghost use Rattle.command_plans.specs.Performs.{CountsStop};
-ghost use Rattle.command_plans.specs.Plans.{IsMakeable, Plans, PlansAs};
+ghost use Rattle.command_plans.specs.Plans.{IsIdleIfRefused, IsMakeable, Plans, PlansAs};
+ghost use Rattle.command_plans.specs.Refusing.{DeclinesWords, RefusesWords};
 ghost use Rattle.command_reads.specs.Refusing.{Means, printed_path};
 ghost use Rattle.command_reads.specs.Saying.{CountsUnsaid, Says};
 ghost use Rattle.entry_commands.specs.Blessing.{AreFree, bad_name_in, bless_answer, bless_entry, bless_meant, blessed_by, blessed_from, blessed_text, entry_paths, good_name_in, name_or, path_at, present_at, reported_paths, status_by, status_said, verb_text};
@@ -111,6 +112,7 @@ fn present<M: Machine>(paths: &EntryPaths, machine: &mut M) -> Result<Present, D
         → present ≡ present_at (seen (M.state machine.old)) paths.now) }
     ensures reads { IsTrue M.tells → OnlyReads M.clock M.since M.state machine.old machine.new }
     ensures counts { CountsDisk result (M.counts machine.old) (M.counts machine.new) }
+    ensures taken { IsTrue M.tells → TakesAtMost 0 (M.taken machine.old) (M.taken machine.new) }
 {
     let good = is_there(&paths.good, machine)?;
     let counted = is_there(&paths.counted, machine)?;
@@ -164,6 +166,7 @@ fn bless_from(
     ensures plans { IfOk result (λ plan. (s : State) → has (seen s) from.now ≡ true → has (seen s) target.now ≡ false
         → Plans s plan (blessed_from (seen s) verb target.now from.now)) }
     ensures makeable { IfOk result (λ plan. IsMakeable plan.change) }
+    ensures idle { IfOk result IsIdleIfRefused }
 {
     let text = blessed_text(alloc, verb, target, "\n")?;
     plan_move(alloc, from, target, text)
@@ -180,6 +183,7 @@ fn bless_entry(
     ensures plans { (s : State) → present ≡ present_at (seen s) paths.now
         → PlansAs s result (bless_entry (seen s) verb paths.now) }
     ensures makeable { IfOk result (λ plan. IsMakeable plan.change) }
+    ensures idle { IfOk result IsIdleIfRefused }
     ensures counts { (counts : Counts) → CountsUnsaid result counts counts }
 {
     let target = target_of(paths, verb);
@@ -212,8 +216,11 @@ fn bless<M: Machine>(
     ensures plans { IsTrue M.tells → PlansAs (M.state machine.old) result
         (bless_meant (seen (M.state machine.old)) verb word.now esp.now) }
     ensures makeable { IfOk result (λ plan. IsMakeable plan.change) }
+    ensures idle { IfOk result IsIdleIfRefused }
     ensures reads { IsTrue M.tells → OnlyReads M.clock M.since M.state machine.old machine.new }
     ensures counts { CountsUnsaid result (M.counts machine.old) (M.counts machine.new) }
+    ensures taken { IsTrue M.tells → TakesAtMost 0 (M.taken machine.old) (M.taken machine.new) }
+    ensures words { DeclinesWords (reported_paths word.now esp.now) result }
 {
     let paths = reported_paths(alloc, word, esp)?;
     let present = present(&paths, machine)?;
@@ -247,6 +254,8 @@ fn status<M: Machine>(
         (status_said (seen (M.state machine.old)) word.now esp.now) }
     ensures reads { IsTrue M.tells → OnlyReads M.clock M.since M.state machine.old machine.new }
     ensures counts { CountsUnsaid result (M.counts machine.old) (M.counts machine.new) }
+    ensures taken { IsTrue M.tells → TakesAtMost 0 (M.taken machine.old) (M.taken machine.new) }
+    ensures words { DeclinesWords (reported_paths word.now esp.now) result }
 {
     let paths = reported_paths(alloc, word, esp)?;
     let present = present(&paths, machine)?;
@@ -265,8 +274,11 @@ pub fn plan_bless<M: Machine>(
     ensures plans { IfOk result (λ plan. IsTrue M.tells → Plans (M.state machine.old) plan
         (bless_answer (seen (M.state machine.old)) verb word.now esp.now)) }
     ensures makeable { IfOk result (λ plan. IsMakeable plan.change) }
+    ensures idle { IfOk result IsIdleIfRefused }
     ensures reads { IsTrue M.tells → OnlyReads M.clock M.since M.state machine.old machine.new }
     ensures counts { CountsStop result (M.counts machine.old) (M.counts machine.new) }
+    ensures taken { IsTrue M.tells → TakesAtMost 0 (M.taken machine.old) (M.taken machine.new) }
+    ensures words { RefusesWords (reported_paths word.now esp.now) result }
 {
     match verb {
         BlessWord::Good => answered(alloc, bless(alloc, BlessVerb::Good, word, esp, machine)),

@@ -4,12 +4,15 @@ ghost use Rattle.std.specs.Option.{option_map};
 ghost use Rattle.boot_base.specs.Paths.{IsFree, path_of};
 ghost use Rattle.boot_folder.specs.Entries.{IsEntry, folder_of};
 ghost use Rattle.boot_machine.specs.Disk.{has};
-ghost use Rattle.boot_machine.specs.Reading.{OnlyReads};
+ghost use Rattle.boot_machine.specs.Reading.{OnlyReads, TakesAtMost};
 ghost use Rattle.boot_machine.specs.Sent.{seen};
 ghost use Rattle.command_plans.specs.Performs.{CountsStop};
-ghost use Rattle.command_plans.specs.Plans.{IsMakeable, Plans, PlansAs};
+ghost use Rattle.command_plans.specs.Plans.{IsIdleIfRefused, IsMakeable, Plans, PlansAs};
+ghost use Rattle.command_plans.specs.Refusing.{DeclinesWords, RefusesWords};
 ghost use Rattle.command_reads.specs.Saying.{CountsUnsaid};
 ghost use Rattle.entry_commands.specs.Booting.{boot_answer, boot_entry, boot_meant, booted_entry, booted_text, renamed_entry};
+ghost use Rattle.entry_commands.specs.Folders.{folders_of};
+ghost use Rattle.entry_commands.specs.Taking.{menu_limit};
 
 use crate::folders::folders_in;
 use crate::menus::menu_at;
@@ -53,8 +56,10 @@ fn rename_entry<M: Machine>(
     ensures plans { IsTrue M.tells
         → PlansAs (M.state machine.old) result (renamed_entry (seen (M.state machine.old)) from.now to) }
     ensures makeable { IfOk result (λ plan. IsMakeable plan.change) }
+    ensures idle { IfOk result IsIdleIfRefused }
     ensures reads { IsTrue M.tells → OnlyReads M.clock M.since M.state machine.old machine.new }
     ensures counts { CountsUnsaid result (M.counts machine.old) (M.counts machine.new) }
+    ensures taken { IsTrue M.tells → TakesAtMost 0 (M.taken machine.old) (M.taken machine.new) }
 {
     if is_there(&to, machine)? {
         return Err(Unsaid::Refused(already_there(alloc, &to)?));
@@ -77,8 +82,10 @@ fn boot_named<M: Machine>(
     ensures plans { IsTrue M.tells → PlansAs (M.state machine.old) result
         (booted_entry (seen (M.state machine.old)) folder.now path.now (option_map string_bytes name)) }
     ensures makeable { IfOk result (λ plan. IsMakeable plan.change) }
+    ensures idle { IfOk result IsIdleIfRefused }
     ensures reads { IsTrue M.tells → OnlyReads M.clock M.since M.state machine.old machine.new }
     ensures counts { CountsUnsaid result (M.counts machine.old) (M.counts machine.new) }
+    ensures taken { IsTrue M.tells → TakesAtMost 0 (M.taken machine.old) (M.taken machine.new) }
 {
     let Some(name) = name else {
         return Ok(plan_nothing(booted_text(alloc, path)?));
@@ -99,8 +106,10 @@ fn boot_entry<M: Machine>(
     ensures plans { IsTrue M.tells → PlansAs (M.state machine.old) result
         (boot_entry (seen (M.state machine.old)) folders.now item.now) }
     ensures makeable { IfOk result (λ plan. IsMakeable plan.change) }
+    ensures idle { IfOk result IsIdleIfRefused }
     ensures reads { IsTrue M.tells → OnlyReads M.clock M.since M.state machine.old machine.new }
     ensures counts { CountsUnsaid result (M.counts machine.old) (M.counts machine.new) }
+    ensures taken { IsTrue M.tells → TakesAtMost 0 (M.taken machine.old) (M.taken machine.new) }
 {
     let name = Counted::booted_name(alloc, item.path.file_name())?;
     let folder = folder_of(folders, item.suffix);
@@ -111,8 +120,12 @@ fn boot<M: Machine>(alloc: Global, esp: &str, machine: &mut M) -> Result<Plan, U
     ensures plans { IsTrue M.tells
         → PlansAs (M.state machine.old) result (boot_meant (seen (M.state machine.old)) esp.now) }
     ensures makeable { IfOk result (λ plan. IsMakeable plan.change) }
+    ensures idle { IfOk result IsIdleIfRefused }
     ensures reads { IsTrue M.tells → OnlyReads M.clock M.since M.state machine.old machine.new }
     ensures counts { CountsUnsaid result (M.counts machine.old) (M.counts machine.new) }
+    ensures taken { IsTrue M.tells
+        → TakesAtMost (menu_limit (M.state machine.old).files (folders_of esp.now)) (M.taken machine.old) (M.taken machine.new) }
+    ensures words { DeclinesWords (folders_of esp.now) result }
 {
     let folders = folders_in(alloc, esp)?;
     let menu = menu_at(alloc, &folders, machine)?;
@@ -127,8 +140,12 @@ pub fn plan_boot<M: Machine>(alloc: Global, esp: &str, machine: &mut M) -> Resul
     ensures plans { IfOk result (λ plan. IsTrue M.tells
         → Plans (M.state machine.old) plan (boot_answer (seen (M.state machine.old)) esp.now)) }
     ensures makeable { IfOk result (λ plan. IsMakeable plan.change) }
+    ensures idle { IfOk result IsIdleIfRefused }
     ensures reads { IsTrue M.tells → OnlyReads M.clock M.since M.state machine.old machine.new }
     ensures counts { CountsStop result (M.counts machine.old) (M.counts machine.new) }
+    ensures taken { IsTrue M.tells
+        → TakesAtMost (menu_limit (M.state machine.old).files (folders_of esp.now)) (M.taken machine.old) (M.taken machine.new) }
+    ensures words { RefusesWords (folders_of esp.now) result }
 {
     let plan = boot(alloc, esp, machine);
     answered(alloc, plan)

@@ -10,23 +10,26 @@ ghost use Rattle.boot_folder.specs.Missing.{text_of as missing_text};
 ghost use Rattle.boot_folder.specs.Records.{Unfit, uki_of};
 ghost use Rattle.boot_machine.specs.Counts.{Counts};
 ghost use Rattle.boot_machine.specs.Disk.{State, has};
-ghost use Rattle.boot_machine.specs.Reading.{OnlyReads};
+ghost use Rattle.boot_machine.specs.Reading.{OnlyReads, TakesAtMost};
 ghost use Rattle.boot_machine.specs.Rows.{contents};
 ghost use Rattle.boot_machine.specs.Sent.{seen};
 ghost use Rattle.command_plans.specs.Performs.{CountsStop};
-ghost use Rattle.command_plans.specs.Plans.{CanCopy, IsMakeable, Plans, PlansAs};
+ghost use Rattle.command_plans.specs.Plans.{CanCopy, IsIdleIfRefused, IsMakeable, Plans, PlansAs};
+ghost use Rattle.command_plans.specs.Refusing.{DeclinesWords, RefusesWords};
 ghost use Rattle.command_reads.specs.Files.{if_given};
 ghost use Rattle.command_reads.specs.Refusing.{Means};
 ghost use Rattle.command_reads.specs.Saying.{CountsUnsaid, Says, UnsaidFor, unsaid_counts};
-ghost use Rattle.entry_commands.specs.Installing.{IsImageName, ShowsEntry, entry_or, image_name, image_name_in, image_of, image_path, install_answer, install_meant, install_name, installation_of, installed, is_install_name, is_name_byte, is_name_text, tries_in};
+ghost use Rattle.entry_commands.specs.Installing.{IsImageName, ShowsEntry, entry_or, image_name, image_name_in, image_of, image_path, install_answer, install_meant, install_name, installation_of, installed, installed_text, is_install_name, is_name_byte, is_name_text, tries_in};
+ghost use Rattle.entry_commands.specs.Moving.{IsCopy};
 ghost use Rattle.menu_order.specs.declared.item.MenuItem.{MenuItem};
 
+use crate::moves::gone_line;
 use boot_base::{BootPath, Bytes, PeText, Refusal, Target, Text};
 use boot_counter::{Counted, Suffix, read_count};
 use boot_folder::{ItemFault, Missing, uki_item};
 use boot_machine::Machine;
-use command_plans::{Change, Outcome, Plan, RefusalLine, Stop, answered};
-use command_reads::{Declined, Unsaid, not_pe, not_there, path_in, path_under, readable};
+use command_plans::{Change, Outcome, Plan, Stop, answered};
+use command_reads::{Declined, Unsaid, not_pe, path_in, path_under, readable};
 use std::alloc::{AllocError, Global};
 
 /// The most bytes of a name.
@@ -187,6 +190,7 @@ fn check_entry<M: Machine>(
         (entry_or (uki_of words.now.target (contents (M.state machine.old).files words.now.from))) }
     ensures reads { IsTrue M.tells → OnlyReads M.clock M.since M.state machine.old machine.new }
     ensures counts { CountsUnsaid result (M.counts machine.old) (M.counts machine.new) }
+    ensures taken { IsTrue M.tells → TakesAtMost 134999 (M.taken machine.old) (M.taken machine.new) }
 {
     let target = words.target.copy(alloc)?;
     match uki_item(alloc, machine, &words.from, target) {
@@ -207,9 +211,27 @@ fn check_image<M: Machine>(
     ensures can { OnOk result (IsTrue M.tells → CanCopy (M.state machine.old) words.now.from) }
     ensures reads { IsTrue M.tells → OnlyReads M.clock M.since M.state machine.old machine.new }
     ensures counts { CountsUnsaid result (M.counts machine.old) (M.counts machine.new) }
+    ensures taken { IsTrue M.tells → TakesAtMost 134999 (M.taken machine.old) (M.taken machine.new) }
 {
     readable(alloc, &words.from, machine)?;
     check_entry(alloc, words, machine)
+}
+
+// What is told of an image that comes to stand at a path.
+fn installed_text(alloc: Global, target: &BootPath) -> Result<Bytes, AllocError>
+    ensures { IfOk result (λ text. text ≡ installed_text target.now) }
+{
+    let text = format!(in alloc; "installed {target}\n")?;
+    Ok(Bytes::from(text.into_bytes()))
+}
+
+// The copy of the file at a path to another.
+fn copy_of(alloc: Global, from: BootPath, target: BootPath) -> Result<Change, AllocError>
+    ensures { IfOk result (IsCopy from target) }
+{
+    let gone = gone_line(alloc, &from)?;
+    let target = Target::of(alloc, target)?;
+    Ok(Change::Copy { from, target, gone })
 }
 
 // The plan of an installation.
@@ -218,15 +240,15 @@ fn plan_copy(alloc: Global, words: Installation) -> Result<Plan, AllocError>
     ensures plans { IfOk result (λ plan. (s : State) → CanCopy s words.from
         → Plans s plan (installed (seen s) words (contents (seen s) words.from))) }
     ensures makeable { IfOk result (λ plan. IsMakeable plan.change) }
+    ensures idle { IfOk result IsIdleIfRefused }
 {
     let Installation { from, target } = words;
-    let text = format!(in alloc; "installed {target}\n")?;
-    let gone = RefusalLine::of(alloc, &not_there(alloc, &from)?)?;
-    let target = Target::of(alloc, target)?;
+    let text = installed_text(alloc, &target)?;
+    let change = copy_of(alloc, from, target)?;
     Ok(Plan {
-        change: Change::Copy { from, target, gone },
+        change,
         outcome: Outcome::Done,
-        text: Bytes::from(text.into_bytes()),
+        text,
     })
 }
 
@@ -241,8 +263,12 @@ fn install<M: Machine>(
     ensures plans { IsTrue M.tells → PlansAs (M.state machine.old) result
         (install_meant (seen (M.state machine.old)) file.now name.now (option_map (λ text. text.now) tries.entry) esp.now) }
     ensures makeable { IfOk result (λ plan. IsMakeable plan.change) }
+    ensures idle { IfOk result IsIdleIfRefused }
     ensures reads { IsTrue M.tells → OnlyReads M.clock M.since M.state machine.old machine.new }
     ensures counts { CountsUnsaid result (M.counts machine.old) (M.counts machine.new) }
+    ensures taken { IsTrue M.tells → TakesAtMost 134999 (M.taken machine.old) (M.taken machine.new) }
+    ensures words { DeclinesWords
+        (installation_of file.now name.now (option_map (λ text. text.now) tries.entry) esp.now) result }
 {
     let words = installation_of(alloc, file, name, tries, esp)?;
     check_image(alloc, &words, machine)?;
@@ -262,8 +288,12 @@ pub fn plan_install<M: Machine>(
     ensures plans { IfOk result (λ plan. IsTrue M.tells → Plans (M.state machine.old) plan
         (install_answer (seen (M.state machine.old)) file.now name.now (option_map (λ text. text.now) tries.entry) esp.now)) }
     ensures makeable { IfOk result (λ plan. IsMakeable plan.change) }
+    ensures idle { IfOk result IsIdleIfRefused }
     ensures reads { IsTrue M.tells → OnlyReads M.clock M.since M.state machine.old machine.new }
     ensures counts { CountsStop result (M.counts machine.old) (M.counts machine.new) }
+    ensures taken { IsTrue M.tells → TakesAtMost 134999 (M.taken machine.old) (M.taken machine.new) }
+    ensures words { RefusesWords
+        (installation_of file.now name.now (option_map (λ text. text.now) tries.entry) esp.now) result }
 {
     let plan = install(alloc, file, name, tries, esp, machine);
     answered(alloc, plan)

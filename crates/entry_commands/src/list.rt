@@ -1,13 +1,17 @@
 //! `bootctl list`.
 ghost use Rattle.std.specs.Prelude.{◌≡◌, IfOk, IsTrue};
 ghost use Rattle.boot_machine.specs.Counts.{Counts};
-ghost use Rattle.boot_machine.specs.Reading.{OnlyReads};
+ghost use Rattle.boot_machine.specs.Reading.{OnlyReads, TakesAtMost};
 ghost use Rattle.boot_machine.specs.Sent.{seen};
 ghost use Rattle.command_plans.specs.Answers.{said};
 ghost use Rattle.command_plans.specs.Performs.{CountsStop};
 ghost use Rattle.command_plans.specs.Plans.{IsMakeable, Plans};
+ghost use Rattle.command_plans.specs.Refusing.{DeclinesWords, RefusesWords};
+ghost use Rattle.command_plans.specs.declared.plan.Change.TheVariants.{Nothing};
 ghost use Rattle.command_reads.specs.Saying.{CountsUnsaid, Says};
+ghost use Rattle.entry_commands.specs.Folders.{folders_of};
 ghost use Rattle.entry_commands.specs.Listing.{list_said, menu_said};
+ghost use Rattle.entry_commands.specs.Taking.{menu_limit};
 
 use crate::folders::folders_in;
 use crate::menus::menu_at;
@@ -34,6 +38,9 @@ fn listed<M: Machine>(alloc: Global, esp: &str, machine: &mut M) -> Result<Vec<u
     ensures says { IsTrue M.tells → Says (λ text. text.items) result (list_said (seen (M.state machine.old)) esp.now) }
     ensures reads { IsTrue M.tells → OnlyReads M.clock M.since M.state machine.old machine.new }
     ensures counts { CountsUnsaid result (M.counts machine.old) (M.counts machine.new) }
+    ensures taken { IsTrue M.tells
+        → TakesAtMost (menu_limit (M.state machine.old).files (folders_of esp.now)) (M.taken machine.old) (M.taken machine.new) }
+    ensures words { DeclinesWords (folders_of esp.now) result }
 {
     let folders = folders_in(alloc, esp)?;
     let menu = menu_at(alloc, &folders, machine)?;
@@ -46,8 +53,12 @@ pub fn plan_list<M: Machine>(alloc: Global, esp: &str, machine: &mut M) -> Resul
     ensures plans { IfOk result (λ plan. IsTrue M.tells → Plans (M.state machine.old) plan
         (said (seen (M.state machine.old)) (list_said (seen (M.state machine.old)) esp.now))) }
     ensures makeable { IfOk result (λ plan. IsMakeable plan.change) }
+    ensures idle { IfOk result (λ plan. plan.change ≡ Nothing) }
     ensures reads { IsTrue M.tells → OnlyReads M.clock M.since M.state machine.old machine.new }
     ensures counts { CountsStop result (M.counts machine.old) (M.counts machine.new) }
+    ensures taken { IsTrue M.tells
+        → TakesAtMost (menu_limit (M.state machine.old).files (folders_of esp.now)) (M.taken machine.old) (M.taken machine.new) }
+    ensures words { RefusesWords (folders_of esp.now) result }
 {
     let text = listed(alloc, esp, machine);
     said(alloc, text)

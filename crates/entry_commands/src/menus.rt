@@ -1,10 +1,10 @@
 //! The menu of the folders of boot entries.
-ghost use Rattle.std.specs.Prelude.{◌≡◌, ◌≢◌, IfOk, IsTrue};
+ghost use Rattle.std.specs.Prelude.{◌≡◌, ◌≢◌, IfOk, IsTrue, Some};
 ghost use Rattle.boot_folder.specs.Entries.{IsEntry};
-ghost use Rattle.boot_folder.specs.Scanning.{scan_counts};
+ghost use Rattle.boot_folder.specs.Scanning.{scan_counts, scan_limit};
 ghost use Rattle.boot_folder.specs.declared.fault.ScanFault.TheVariants as scans;
 ghost use Rattle.boot_machine.specs.Counts.{Counts};
-ghost use Rattle.boot_machine.specs.Reading.{OnlyReads};
+ghost use Rattle.boot_machine.specs.Reading.{OnlyReads, TakesAtMost};
 ghost use Rattle.boot_machine.specs.Sent.{seen};
 ghost use Rattle.command_reads.specs.Saying.{CountsUnsaid, Says, unsaid_counts};
 ghost use Rattle.entry_commands.specs.Listing.{menu_at, unlisted};
@@ -42,6 +42,8 @@ pub(crate) fn menu_at<M: Machine>(
         → IsMenu (IsEntry (M.state machine.old).files folders.now) menu.items) }
     ensures reads { IsTrue M.tells → OnlyReads M.clock M.since M.state machine.old machine.new }
     ensures counts { CountsUnsaid result (M.counts machine.old) (M.counts machine.new) }
+    ensures taken { IsTrue M.tells → TakesAtMost
+        (scan_limit (M.state machine.old).files (Some folders.now)) (M.taken machine.old) (M.taken machine.new) }
 {
     match scan_folders(alloc, machine, folders) {
         Ok(menu) => Ok(menu),

@@ -1,13 +1,14 @@
 //! Boot files that get another name.
 ghost use Rattle.std.specs.Prelude.{◌≡◌, true, false, IfOk, IsTrue, string_bytes};
 ghost use Rattle.boot_base.specs.Paths.{IsFree};
+ghost use Rattle.boot_base.specs.Refusals.{line_of, number_of};
 ghost use Rattle.boot_machine.specs.Disk.{State, has};
-ghost use Rattle.boot_machine.specs.Reading.{OnlyReads};
+ghost use Rattle.boot_machine.specs.Reading.{OnlyReads, TakesAtMost};
 ghost use Rattle.boot_machine.specs.Rows.{move_in};
 ghost use Rattle.boot_machine.specs.Sent.{seen};
 ghost use Rattle.boot_machine.specs.Counts.{CountsDisk};
 ghost use Rattle.command_plans.specs.Answers.{done};
-ghost use Rattle.command_plans.specs.Plans.{IsMakeable, Plans};
+ghost use Rattle.command_plans.specs.Plans.{IsIdleIfRefused, IsMakeable, Plans};
 ghost use Rattle.command_reads.specs.Refusing.{printed_path};
 ghost use Rattle.entry_commands.specs.Moving.{IsMove};
 
@@ -22,6 +23,7 @@ pub(crate) fn is_there<M: Machine>(path: &BootPath, machine: &mut M) -> Result<b
     ensures there { IfOk result (λ is. IsTrue M.tells → is ≡ has (seen (M.state machine.old)) path.now) }
     ensures reads { IsTrue M.tells → OnlyReads M.clock M.since M.state machine.old machine.new }
     ensures counts { CountsDisk result (M.counts machine.old) (M.counts machine.new) }
+    ensures taken { IsTrue M.tells → TakesAtMost 0 (M.taken machine.old) (M.taken machine.new) }
 {
     let size = seen_size(path, machine)?;
     Ok(size.is_some())
@@ -35,11 +37,19 @@ pub(crate) fn already_there(alloc: Global, path: &BootPath) -> Result<Refusal, A
     Ok(Refusal::TargetExists { path })
 }
 
+/// What is printed where the file at a path is gone that was to be taken away, copied or moved.
+pub(crate) fn gone_line(alloc: Global, path: &BootPath) -> Result<RefusalLine, AllocError>
+    ensures number { IfOk result (λ gone. gone.number ≡ number_of (Refusal.NotFound (printed_path path.now))) }
+    ensures line { IfOk result (λ gone. gone.line ≡ line_of (Refusal.NotFound (printed_path path.now))) }
+{
+    RefusalLine::of(alloc, &not_there(alloc, path)?)
+}
+
 // The move, with what is printed where a machine has changed its mind about the two files.
 fn move_of(alloc: Global, from: &BootPath, to: &BootPath) -> Result<Change, AllocError>
     ensures { IfOk result (IsMove from.now to.now) }
 {
-    let gone = RefusalLine::of(alloc, &not_there(alloc, from)?)?;
+    let gone = gone_line(alloc, from)?;
     let exists = RefusalLine::of(alloc, &already_there(alloc, to)?)?;
     let intent = Target::of(alloc, BootPath::intent(alloc)?)?;
     Ok(Change::Move {
@@ -63,6 +73,7 @@ pub(crate) fn plan_move(
     ensures plans { IfOk result (λ plan. (s : State) → has (seen s) from.now ≡ true → has (seen s) to.now ≡ false
         → Plans s plan (done (move_in from.now to.now (seen s)) (string_bytes text))) }
     ensures makeable { IfOk result (λ plan. IsMakeable plan.change) }
+    ensures idle { IfOk result IsIdleIfRefused }
 {
     Ok(Plan {
         change: move_of(alloc, from, to)?,
@@ -75,6 +86,7 @@ pub(crate) fn plan_move(
 pub(crate) fn plan_nothing(text: String) -> Plan
     ensures plans { (s : State) → Plans s result (done (seen s) (string_bytes text)) }
     ensures makeable { IsMakeable result.change }
+    ensures idle { IsIdleIfRefused result }
 {
     Plan {
         change: Change::Nothing,

@@ -5,17 +5,18 @@ ghost use Rattle.boot_base.specs.Paths.{Path};
 ghost use Rattle.boot_machine.specs.Disk.{State, has, Files};
 ghost use Rattle.boot_machine.specs.Sent.{seen};
 ghost use Rattle.entry_commands.specs.Folders.{folders_of};
-ghost use Rattle.boot_machine.specs.Reading.{OnlyReads};
+ghost use Rattle.boot_machine.specs.Reading.{OnlyReads, TakesAtMost};
 ghost use Rattle.command_plans.specs.Performs.{CountsStop};
-ghost use Rattle.command_plans.specs.Plans.{Drops, IsMakeable, Plans};
-ghost use Rattle.command_plans.specs.Refusing.{unless_refused};
-ghost use Rattle.entry_commands.specs.Tidying.{HasLeftovers, IsTidied, leftovers_among, tidy_answer};
+ghost use Rattle.command_plans.specs.Plans.{Drops, IsIdleIfRefused, IsMakeable, Plans};
+ghost use Rattle.command_plans.specs.Refusing.{RefusesWords, unless_refused};
+ghost use Rattle.entry_commands.specs.Tidying.{AreClean, HasLeftovers, IsTidied, leftovers_among, tidy_answer};
 
 use crate::folders::folders_in;
 use boot_base::{BootPath, Bytes, FileName, TempPath};
 use boot_folder::Folders;
 use boot_machine::Machine;
-use command_plans::{Change, Outcome, Plan, Stop, plan_declined};
+use command_plans::{Change, Outcome, Plan, Stop, plan_unsaid};
+use command_reads::Unsaid;
 use std::alloc::{AllocError, Global};
 
 // The paths of the temporary files among these names of a folder.
@@ -45,6 +46,7 @@ fn leftovers_in<M: Machine>(
     ensures all { IfOk result (λ temps. IsTrue M.tells → HasLeftovers (M.state machine.old).files folder.now temps.items) }
     ensures reads { IsTrue M.tells → OnlyReads M.clock M.since M.state machine.old machine.new }
     ensures counts { CountsStop result (M.counts machine.old) (M.counts machine.new) }
+    ensures taken { IsTrue M.tells → TakesAtMost 0 (M.taken machine.old) (M.taken machine.new) }
 {
     let names = machine.names(alloc, folder)?;
     Ok(leftovers_among(alloc, folder, names.as_slice())?)
@@ -73,6 +75,7 @@ fn leftovers<M: Machine>(
     ensures images { IfOk result (λ temps. IsTrue M.tells → HasLeftovers (M.state machine.old).files folders.now.images temps.items) }
     ensures reads { IsTrue M.tells → OnlyReads M.clock M.since M.state machine.old machine.new }
     ensures counts { CountsStop result (M.counts machine.old) (M.counts machine.new) }
+    ensures taken { IsTrue M.tells → TakesAtMost 0 (M.taken machine.old) (M.taken machine.new) }
 {
     let mut temps = leftovers_in(alloc, &folders.entries, machine)?;
     let mut images = leftovers_in(alloc, &folders.images, machine)?;
@@ -83,11 +86,28 @@ fn leftovers<M: Machine>(
 fn tidy_plan(alloc: Global, temps: Vec<TempPath>) -> Result<Plan, AllocError>
     ensures { IfOk result (λ plan. (plan.change ≡ Change.Leftovers temps) × (plan.outcome ≡ Outcome.Done) × (plan.text ≡ codes "cleaned\n")) }
 {
+    let text = Bytes::of(alloc, b"cleaned\n")?;
     Ok(Plan {
         change: Change::Leftovers(temps),
         outcome: Outcome::Done,
-        text: Bytes::of(alloc, b"cleaned\n")?,
+        text,
     })
+}
+
+// What the tidying of two folders is going to do.
+fn tidy<M: Machine>(alloc: Global, folders: &Folders, machine: &mut M) -> Result<Plan, Stop>
+    ensures plans { IfOk result (λ plan. IsTrue M.tells → Plans (M.state machine.old) plan
+        (tidy_answer (seen (M.state machine.old)) folders.now)) }
+    ensures makeable { IfOk result (λ plan. IsMakeable plan.change) }
+    ensures idle { IfOk result IsIdleIfRefused }
+    ensures tidies { IfOk result (λ plan. IsTrue M.tells
+        → (files : Files) → Drops plan.change (M.state machine.old).files files → AreClean files folders.now) }
+    ensures reads { IsTrue M.tells → OnlyReads M.clock M.since M.state machine.old machine.new }
+    ensures counts { CountsStop result (M.counts machine.old) (M.counts machine.new) }
+    ensures taken { IsTrue M.tells → TakesAtMost 0 (M.taken machine.old) (M.taken machine.new) }
+{
+    let temps = leftovers(alloc, folders, machine)?;
+    Ok(tidy_plan(alloc, temps)?)
 }
 
 /// What the tidying of an EFI system partition is going to do.
@@ -95,15 +115,15 @@ pub fn plan_tidy<M: Machine>(alloc: Global, esp: &str, machine: &mut M) -> Resul
     ensures plans { IfOk result (λ plan. IsTrue M.tells → Plans (M.state machine.old) plan
         (unless_refused (seen (M.state machine.old)) (folders_of esp.now) (tidy_answer (seen (M.state machine.old))))) }
     ensures makeable { IfOk result (λ plan. IsMakeable plan.change) }
+    ensures idle { IfOk result IsIdleIfRefused }
     ensures tidies { IfOk result (λ plan. IsTrue M.tells → (files : Files) → Drops plan.change (M.state machine.old).files files → IsTidied esp.now files) }
     ensures reads { IsTrue M.tells → OnlyReads M.clock M.since M.state machine.old machine.new }
     ensures counts { CountsStop result (M.counts machine.old) (M.counts machine.new) }
+    ensures taken { IsTrue M.tells → TakesAtMost 0 (M.taken machine.old) (M.taken machine.new) }
+    ensures words { RefusesWords (folders_of esp.now) result }
 {
     match folders_in(alloc, esp) {
-        Err(declined) => Ok(plan_declined(alloc, declined)?),
-        Ok(folders) => {
-            let temps = leftovers(alloc, &folders, machine)?;
-            Ok(tidy_plan(alloc, temps)?)
-        }
+        Err(declined) => plan_unsaid(alloc, Unsaid::from(declined)),
+        Ok(folders) => tidy(alloc, &folders, machine),
     }
 }

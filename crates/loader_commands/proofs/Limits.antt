@@ -1,11 +1,14 @@
 -- What a length tells of a loader.conf.
-use Rattle.std.proofs.Common.{◌≡◌, ◌≤◌, ◌<◌, ℕ, true, false, List, [], length, Option, Some, None, Ok, Err, refl, sym, ap, ◌∙◌, arith}
+use Rattle.std.proofs.Common.{◌≡◌, ◌≤◌, ◌<◌, ◌+◌, ℕ, true, false, unwrap_or, List, [], length, Option, Some, None, Ok, Err, refl, sym, ap, ◌∙◌, arith}
 use Rattle.std.proofs.lemmas.Bool.Decides.{nat_tests}
 use Rattle.std.specs.Prelude.{nat_lt}
+use Rattle.std.specs.FinMap.{get}
 use Rattle.std.specs.Option.{option_map}
 use Rattle.boot_base.specs.Limits.{file_limit}
 use Rattle.boot_base.specs.Paths.{Path}
 use Rattle.boot_base.specs.declared.refusal.Refusal.TheVariants as refusals
+use Rattle.boot_machine.specs.Disk.{Files}
+use Rattle.boot_machine.specs.Rows.{contents}
 use Rattle.command_reads.specs.Files.{readable}
 use Rattle.command_reads.specs.Refusing.{printed_path}
 use Rattle.command_reads.proofs.Sizes.{none_of, some_of}
@@ -41,3 +44,12 @@ conf_small path found size is small =
     let fits : length there.0 ≤ file_limit = omega (arith, short) in
     let whole : readable path (Some there.0) ≡ Ok there.0 = rw (not_above file_limit (length there.0) fits) refl in
     ap (readable path) there.1 ∙ whole ∙ sym (within path there.0 short) ∙ sym (ap (conf_or_empty path) there.1)
+
+-- a loader.conf that isn't too long is read whole
+pub conf_taken : (view now : Files) (path : Path) (size before middle after : ℕ) → now ≡ view → option_map length (get view path) ≡ Some size → size ≤ 65536
+    → middle ≤ before + 0 → after ≤ middle + length (contents now path) → after ≤ before + 65536
+conf_taken view now path size before middle after same is small first second =
+    let there = some_of (get view path) size is in
+    let long : length (contents now path) ≡ size =
+    ap (λ (files : Files). length (contents files path)) same ∙ ap (λ (o : Option (List ℕ)). length (unwrap_or o [])) there.1 ∙ there.2 in
+    omega (arith, long, small, first, second)

@@ -1,4 +1,5 @@
 pub mod Places
 pub mod Showing
+pub mod Taking
 pub mod Setting
 pub mod Laws

@@ -21,6 +21,10 @@ bad_value Timeout word = refusals.BadNumber word
 abbrev pub value_in : ConfKey → List ℕ → Result (List ℕ) Refusal
 value_in key word = if may_be_value key word then Ok word else Err (bad_value key word)
 
+-- where the loader.conf of an ESP stands whose key is to have a value, or the first refusal of the two words
+abbrev pub conf_words : ConfKey → List ℕ → List ℕ → Result Path Refusal
+conf_words key value word = value_in key value >>= λ value. conf_path word
+
 -- the text of the loader.conf at a path with the key's value, unless the old or the new text is too long
 abbrev pub text_set : Files → ConfKey → List ℕ → Path → Result (List ℕ) Refusal
 text_set view key value path = conf_bytes view path >>= λ bytes. within_limit path (text_with_value (conf_key_name key) value bytes)

@@ -1,8 +1,9 @@
 //! Where loader.conf and the entries stand, and what is read of them.
-ghost use Rattle.std.specs.Prelude.{◌≡◌, ◌≢◌, IfOk, IsTrue};
+ghost use Rattle.std.specs.Prelude.{◌≡◌, ◌≢◌, IfOk, IsTrue, Some};
 ghost use Rattle.boot_base.specs.Paths.{IsFree};
+ghost use Rattle.boot_folder.specs.Scanning.{scan_limit};
 ghost use Rattle.boot_folder.specs.declared.fault.ScanFault.TheVariants as scans;
-ghost use Rattle.boot_machine.specs.Reading.{OnlyReads};
+ghost use Rattle.boot_machine.specs.Reading.{OnlyReads, TakesAtMost};
 ghost use Rattle.boot_machine.specs.Sent.{seen};
 ghost use Rattle.command_reads.specs.Refusing.{Means, printed_path};
 ghost use Rattle.command_reads.specs.Saying.{CountsUnsaid, Says};
@@ -68,6 +69,7 @@ pub(crate) fn conf_bytes<M: Machine>(
     ensures says { IsTrue M.tells → Says (λ bytes. bytes.items) result (conf_bytes (seen (M.state machine.old)) path.now) }
     ensures reads { IsTrue M.tells → OnlyReads M.clock M.since M.state machine.old machine.new }
     ensures counts { CountsUnsaid result (M.counts machine.old) (M.counts machine.new) }
+    ensures taken { IsTrue M.tells → TakesAtMost 65536 (M.taken machine.old) (M.taken machine.new) }
 {
     match seen_size(path, machine)? {
         None => Ok(Vec::new(alloc)),
@@ -99,6 +101,8 @@ pub(crate) fn loader_menu<M: Machine>(
         → Says (λ menu. menu.items) result (loader_menu (seen (M.state machine.old)) folders.now) }
     ensures reads { IsTrue M.tells → OnlyReads M.clock M.since M.state machine.old machine.new }
     ensures counts { CountsUnsaid result (M.counts machine.old) (M.counts machine.new) }
+    ensures taken { IsTrue M.tells → TakesAtMost
+        (scan_limit (M.state machine.old).files (Some folders.now)) (M.taken machine.old) (M.taken machine.new) }
 {
     match scan_folders(alloc, machine, folders) {
         Ok(menu) => Ok(menu),

@@ -2,14 +2,15 @@
 ghost use Rattle.std.specs.Prelude.{◌≡◌, IfOk, IsTrue, OnOk};
 ghost use Rattle.boot_base.specs.Paths.{IsFree};
 ghost use Rattle.boot_machine.specs.Counts.{Counts};
-ghost use Rattle.boot_machine.specs.Reading.{OnlyReads};
+ghost use Rattle.boot_machine.specs.Reading.{OnlyReads, TakesAtMost};
 ghost use Rattle.boot_machine.specs.Sent.{seen};
 ghost use Rattle.command_plans.specs.Performs.{CountsStop};
-ghost use Rattle.command_plans.specs.Plans.{IsMakeable, Plans, PlansAs};
+ghost use Rattle.command_plans.specs.Plans.{IsIdleIfRefused, IsMakeable, Plans, PlansAs};
+ghost use Rattle.command_plans.specs.Refusing.{DeclinesWords, RefusesWords};
 ghost use Rattle.command_reads.specs.Refusing.{Means};
 ghost use Rattle.command_reads.specs.Saying.{CountsUnsaid, Says};
 ghost use Rattle.loader_commands.specs.Places.{within_limit};
-ghost use Rattle.loader_commands.specs.Setting.{bad_value, conf_set, set_answer, set_meant, set_text, text_set, value_in};
+ghost use Rattle.loader_commands.specs.Setting.{bad_value, conf_set, conf_words, set_answer, set_meant, set_text, text_set, value_in};
 ghost use Rattle.loader_conf.specs.Conf.{IsConfValue, conf_key_name};
 ghost use Rattle.loader_conf.specs.FileLines.{text_with_value};
 ghost use Rattle.loader_conf.specs.declared.change.ConfKey.TheVariants as keys;
@@ -76,6 +77,7 @@ fn text_set<M: Machine>(
         → Says (λ text. text.items) result (text_set (seen (M.state machine.old)) key value.now path.now) }
     ensures reads { IsTrue M.tells → OnlyReads M.clock M.since M.state machine.old machine.new }
     ensures counts { CountsUnsaid result (M.counts machine.old) (M.counts machine.new) }
+    ensures taken { IsTrue M.tells → TakesAtMost 65536 (M.taken machine.old) (M.taken machine.new) }
 {
     let bytes = conf_bytes(alloc, path, machine)?;
     let text = with_key(alloc, &bytes, key, value.as_bytes())?;
@@ -123,6 +125,8 @@ fn conf_set<M: Machine>(
     ensures text { IfOk result (λ change. change.text ≡ set_text key value.now) }
     ensures reads { IsTrue M.tells → OnlyReads M.clock M.since M.state machine.old machine.new }
     ensures counts { CountsUnsaid result (M.counts machine.old) (M.counts machine.new) }
+    ensures taken { IsTrue M.tells → TakesAtMost 65536 (M.taken machine.old) (M.taken machine.new) }
+    ensures words { DeclinesWords (conf_words key value.now esp.now) result }
 {
     check_value(alloc, key, value)?;
     let path = conf_path(alloc, esp)?;
@@ -157,8 +161,11 @@ fn planned<M: Machine>(
     ensures plans { IsTrue M.tells → PlansAs (M.state machine.old) result
         (set_meant (seen (M.state machine.old)) key value.now esp.now) }
     ensures makeable { IfOk result (λ plan. IsMakeable plan.change) }
+    ensures idle { IfOk result IsIdleIfRefused }
     ensures reads { IsTrue M.tells → OnlyReads M.clock M.since M.state machine.old machine.new }
     ensures counts { CountsUnsaid result (M.counts machine.old) (M.counts machine.new) }
+    ensures taken { IsTrue M.tells → TakesAtMost 65536 (M.taken machine.old) (M.taken machine.new) }
+    ensures words { DeclinesWords (conf_words key value.now esp.now) result }
 {
     let change = conf_set(alloc, key, value, esp, machine)?;
     Ok(plan_of(change))
@@ -174,8 +181,11 @@ pub fn plan_default<M: Machine>(
     ensures plans { IfOk result (λ plan. IsTrue M.tells → Plans (M.state machine.old) plan
         (set_answer (seen (M.state machine.old)) keys.Default pattern.now esp.now)) }
     ensures makeable { IfOk result (λ plan. IsMakeable plan.change) }
+    ensures idle { IfOk result IsIdleIfRefused }
     ensures reads { IsTrue M.tells → OnlyReads M.clock M.since M.state machine.old machine.new }
     ensures counts { CountsStop result (M.counts machine.old) (M.counts machine.new) }
+    ensures taken { IsTrue M.tells → TakesAtMost 65536 (M.taken machine.old) (M.taken machine.new) }
+    ensures words { RefusesWords (conf_words keys.Default pattern.now esp.now) result }
 {
     let plan = planned(alloc, ConfKey::Default, pattern, esp, machine);
     answered(alloc, plan)
@@ -191,8 +201,11 @@ pub fn plan_timeout<M: Machine>(
     ensures plans { IfOk result (λ plan. IsTrue M.tells → Plans (M.state machine.old) plan
         (set_answer (seen (M.state machine.old)) keys.Timeout value.now esp.now)) }
     ensures makeable { IfOk result (λ plan. IsMakeable plan.change) }
+    ensures idle { IfOk result IsIdleIfRefused }
     ensures reads { IsTrue M.tells → OnlyReads M.clock M.since M.state machine.old machine.new }
     ensures counts { CountsStop result (M.counts machine.old) (M.counts machine.new) }
+    ensures taken { IsTrue M.tells → TakesAtMost 65536 (M.taken machine.old) (M.taken machine.new) }
+    ensures words { RefusesWords (conf_words keys.Timeout value.now esp.now) result }
 {
     let plan = planned(alloc, ConfKey::Timeout, value, esp, machine);
     answered(alloc, plan)

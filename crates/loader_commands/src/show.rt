@@ -1,11 +1,15 @@
 //! `loader show`.
 ghost use Rattle.std.specs.Prelude.{◌≡◌, IfOk, IsTrue, map, option_copied};
 ghost use Rattle.boot_machine.specs.Counts.{Counts};
-ghost use Rattle.boot_machine.specs.Reading.{OnlyReads};
+ghost use Rattle.boot_machine.specs.Reading.{OnlyReads, TakesAtMost};
 ghost use Rattle.boot_machine.specs.Sent.{seen};
 ghost use Rattle.command_plans.specs.Performs.{CountsStop};
 ghost use Rattle.command_plans.specs.Plans.{IsMakeable, Plans};
+ghost use Rattle.command_plans.specs.Refusing.{DeclinesWords, RefusesWords};
+ghost use Rattle.command_plans.specs.declared.plan.Change.TheVariants.{Nothing};
 ghost use Rattle.command_reads.specs.Saying.{CountsUnsaid, Says};
+ghost use Rattle.loader_commands.specs.Places.{loader_paths};
+ghost use Rattle.loader_commands.specs.Taking.{show_limit};
 ghost use Rattle.loader_commands.specs.Showing.{entry_id, default_item, menu_shown, show_answer, show_said, show_text, timeout_or_none};
 ghost use Rattle.loader_conf.specs.Conf.{conf_of};
 
@@ -93,6 +97,9 @@ fn shown<M: Machine>(alloc: Global, esp: &str, machine: &mut M) -> Result<Vec<u8
     ensures says { IsTrue M.tells → Says (λ text. text.items) result (show_said (seen (M.state machine.old)) esp.now) }
     ensures reads { IsTrue M.tells → OnlyReads M.clock M.since M.state machine.old machine.new }
     ensures counts { CountsUnsaid result (M.counts machine.old) (M.counts machine.new) }
+    ensures taken { IsTrue M.tells
+        → TakesAtMost (show_limit (M.state machine.old).files (loader_paths esp.now)) (M.taken machine.old) (M.taken machine.new) }
+    ensures words { DeclinesWords (loader_paths esp.now) result }
 {
     let paths = loader_paths(alloc, esp)?;
     let bytes = conf_bytes(alloc, &paths.conf, machine)?;
@@ -106,8 +113,12 @@ pub fn plan_show<M: Machine>(alloc: Global, esp: &str, machine: &mut M) -> Resul
     ensures plans { IfOk result (λ plan. IsTrue M.tells → Plans (M.state machine.old) plan
         (show_answer (seen (M.state machine.old)) esp.now)) }
     ensures makeable { IfOk result (λ plan. IsMakeable plan.change) }
+    ensures idle { IfOk result (λ plan. plan.change ≡ Nothing) }
     ensures reads { IsTrue M.tells → OnlyReads M.clock M.since M.state machine.old machine.new }
     ensures counts { CountsStop result (M.counts machine.old) (M.counts machine.new) }
+    ensures taken { IsTrue M.tells
+        → TakesAtMost (show_limit (M.state machine.old).files (loader_paths esp.now)) (M.taken machine.old) (M.taken machine.new) }
+    ensures words { RefusesWords (loader_paths esp.now) result }
 {
     let text = shown(alloc, esp, machine);
     said(alloc, text)

@@ -1,4 +1,4 @@
-use Rattle.std.proofs.Common.{Option, Some, List, ℕ, ap, ◌∙◌, sym}
+use Rattle.std.proofs.Common.{Some, List, ℕ, ap, ◌∙◌, sym}
 use Rattle.entry_commands.proofs.Siblings.{bad_path, good_path}
 use Rattle.entry_commands.proofs.bless.entry_paths.Goals as goal
 

@@ -1,14 +1,22 @@
+use Rattle.boot_machine.specs.Sent.{seen}
 use Rattle.boot_machine.proofs.Reading.{reads_none}
+use Rattle.entry_commands.specs.Unlinking.{entry_path, unlink_answer}
+use Rattle.entry_commands.proofs.Declined.{plans_unless, refuses_at_once}
 use Rattle.entry_commands.proofs.Freeing.{entry_path-free}
 use Rattle.entry_commands.proofs.unlink.plan_unlink.Goals as goal
 
-pub returns-in_err-plan_declined-in-Err-clause-reads : goal.returns-in_err-plan_declined-in-Err-clause-reads
-returns-in_err-plan_declined-in-Err-clause-reads g c told =
-    reads_none g.M.Machine.clock g.M.Machine.since g.M.Machine.state c.args.machine.now (λ m o left. g.met.M.Machine.only_now c.args.machine.now m o told left)
+pub unlink-requires : goal.unlink-requires
+unlink-requires g c = record { free = entry_path-free c.args.name.now c.args.esp.now c.in-Ok.path c.in-Ok.ensures }
 
-pub returns-in_ok-plan_declined-in-Err-clause-reads : goal.returns-in_ok-plan_declined-in-Err-clause-reads
-returns-in_ok-plan_declined-in-Err-clause-reads g c told =
-    reads_none g.M.Machine.clock g.M.Machine.since g.M.Machine.state c.args.machine.now (λ m o left. g.met.M.Machine.only_now c.args.machine.now m o told left)
+pub returns-in-Err-clause-plans : goal.returns-in-Err-clause-plans
+returns-in-Err-clause-plans g c =
+    let s = g.M.Machine.state c.args.machine.now in
+    plans_unless (entry_path c.args.name.now c.args.esp.now) c.in-Err.declined c.from.result c.plan_unsaid.result _ s (unlink_answer (seen s)) c.from.ensures c.in-Err.ensures c.plan_unsaid.ensures.plans
 
-pub removal-requires : goal.removal-requires
-removal-requires g c = record { free = entry_path-free c.args.name.now c.args.esp.now c.in-Ok.path c.in-Ok.ensures }
+pub returns-in-Err-clause-words : goal.returns-in-Err-clause-words
+returns-in-Err-clause-words g c =
+    refuses_at_once (entry_path c.args.name.now c.args.esp.now) c.in-Err.declined c.from.result c.plan_unsaid.result c.from.ensures c.in-Err.ensures c.plan_unsaid.ensures.plans
+
+pub returns-in-Err-clause-reads : goal.returns-in-Err-clause-reads
+returns-in-Err-clause-reads g c told =
+    reads_none g.M.Machine.clock g.M.Machine.since g.M.Machine.state c.args.machine.now (λ m o left. g.met.M.Machine.only_now c.args.machine.now m o told left)

@@ -1,0 +1,7 @@
+use Rattle.command_plans.proofs.Worded.{answered_words}
+use Rattle.loader_commands.specs.Setting.{conf_words}
+use Rattle.loader_conf.specs.declared.change.ConfKey.TheVariants.{Timeout}
+use Rattle.loader_commands.proofs.set.plan_timeout.Goals as goal
+
+pub returns-clause-words : goal.returns-clause-words
+returns-clause-words g c = answered_words (conf_words Timeout c.args.value.now c.args.esp.now) c.planned-plan.result c.answered.result c.answered.ensures.plans c.planned-plan.ensures.words
