@@ -14,7 +14,7 @@ use Rattle.boot_machine.proofs.Recovering.{IsCalm}
 use Rattle.boot_machine.proofs.Soft.{Stands, stands-appended}
 use Rattle.boot_machine.proofs.Written.{has-created, calm-written, recovered_view-written, temps-written}
 use Rattle.install_steps.specs.Appends.{softened, HasAppended, AppendsOnly, Grown}
-use Rattle.install_steps.proofs.Appending.{contents-append_to}
+use Rattle.install_steps.specs.AppendLaws.{contents-append_to}
 use Rattle.install_steps.specs.Steps.{Keeps}
 use Rattle.install_steps.proofs.CopyLemmas.{source_stays, with_file, with_none}
 

@@ -1,5 +1,4 @@
 pub mod AppendLemmas
-pub mod Appending
 pub mod CopyLemmas
 pub mod LeftoverLemmas
 pub mod MoveLemmas

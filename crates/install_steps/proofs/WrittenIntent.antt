@@ -15,7 +15,7 @@ use Rattle.boot_machine.proofs.Written.{temps-written}
 use Rattle.boot_machine.proofs.Recovering.{intent_shown}
 use Rattle.install_steps.specs.Appends.{HasAppended, Grown}
 use Rattle.install_steps.specs.Steps.{Intends}
-use Rattle.install_steps.proofs.Appending.{has_appended_on}
+use Rattle.install_steps.specs.AppendLaws.{has_appended_on}
 use Rattle.install_steps.proofs.AppendLemmas.{written_file}
 use Rattle.install_steps.proofs.CopyLemmas.{with_file, with_file_here, with_file_apart}
 

@@ -4,10 +4,42 @@ ghost use Rattle.boot_machine.specs.Counts.{CountsDisk};
 ghost use Rattle.boot_machine.specs.Disk.{has};
 ghost use Rattle.boot_machine.specs.Reading.{between};
 ghost use Rattle.boot_machine.specs.Rows.{contents};
+ghost use Rattle.boot_machine.specs.Taken.{TakesNone};
 ghost use Rattle.install_steps.specs.Appends.{AppendsOnly, Grown};
 
 use boot_base::{BootPath, TempPath};
-use boot_machine::{DiskFault, Machine, read_piece};
+use boot_machine::{DiskFault, Machine};
+use range_stream::{ByteSink, stream_range};
+
+/// A temporary file that grows by the bytes that it takes.
+#[derive(Drop)]
+struct Growing<'a> {
+    temp: &'a TempPath,
+}
+
+impl<M: Machine> ByteSink<M> for Growing<'_> {
+    ghost use Rattle.install_steps.specs.Appends.{CanGrow, GrowsAlone};
+    ghost use Rattle.install_steps.specs.GrowingLaws.{grows_reads, grows_more, grows_on, grows_source};
+
+    ghost can_take = { λ s m. CanGrow M.tells M.state s.temp.now m };
+
+    ghost took = { λ bytes s m t n. GrowsAlone M.tells M.clock M.since M.state bytes s.temp.now m t.temp.now n };
+
+    ghost reads = { λ s m n reads. grows_reads M.tells M.clock M.since M.state s.temp.now m n reads };
+
+    ghost more = { λ a b s t u m n o first second.
+        grows_more M.tells M.clock M.since M.state a b s.temp.now t.temp.now u.temp.now m n o first second };
+
+    ghost goes_on = { λ bytes s t m n can took. grows_on M.tells M.clock M.since M.state bytes s.temp.now t.temp.now m n can took };
+
+    ghost keeps = { λ bytes s t m n path can took told shown.
+        grows_source M.tells M.clock M.since M.state bytes s.temp.now t.temp.now m n path can took told shown };
+
+    fn take(&mut self, piece: &[u8], machine: &mut M) -> Result<(), DiskFault> {
+        append(machine, self.temp, piece)?;
+        Ok(())
+    }
+}
 
 /// Appends these bytes.
 pub fn append<M: Machine>(machine: &mut M, temp: &TempPath, bytes: &[u8]) -> Result<(), DiskFault>
@@ -15,6 +47,7 @@ pub fn append<M: Machine>(machine: &mut M, temp: &TempPath, bytes: &[u8]) -> Res
     ensures appends { IsTrue M.tells → AppendsOnly M.clock M.since M.state temp.now machine.old machine.new }
     ensures grows { OnOk result (IsTrue M.tells → Grown temp.now bytes.now (M.state machine.old) (M.state machine.new)) }
     ensures counts { CountsDisk result (M.counts machine.old) (M.counts machine.new) }
+    ensures taken { IsTrue M.tells → TakesNone (M.taken machine.old) (M.taken machine.new) }
 {
     machine.append(temp, bytes)?;
     Ok(())
@@ -40,11 +73,14 @@ pub fn copy_part<M: Machine>(
 {
     file.know();
     temp.know();
-    let mut at = from;
-    while at < to {
-        let count = read_piece(machine, file, at, to - at, buffer)?;
-        append(machine, temp, &buffer[..count])?;
-        at += count as u64;
-    }
+    let mut growing = Growing { temp };
+    stream_range(
+        machine,
+        file,
+        from,
+        to.saturating_sub(from),
+        &mut growing,
+        buffer,
+    )?;
     Ok(())
 }

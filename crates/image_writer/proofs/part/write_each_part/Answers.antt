@@ -1,6 +1,6 @@
 use Rattle.std.proofs.Common.{refl, sym, ◌∙◌, rules}
 use Rattle.boot_base.specs.Paths.{Path}
-use Rattle.install_steps.proofs.Appending.{appends_none, appends_on, appends-there, appends-source, grown_none, grown_on, grown_as}
+use Rattle.install_steps.specs.AppendLaws.{appends_none, appends_on, appends-there, appends-source, grown_none, grown_on, grown_as}
 use Rattle.image_writer.proofs.Filled.{flat_map-more}
 use Rattle.image_writer.specs.Chunks.{padded_part}
 use Rattle.image_writer.proofs.part.write_each_part.Goals as goal
