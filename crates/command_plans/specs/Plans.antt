@@ -1,5 +1,5 @@
 -- A plan: the change that a command is going to make, and its whole reply.
-use Rattle.std.specs.Prelude.{◌≡◌, ◌≤◌, true, false, All, Result, Ok, MatchResult, bytes_eq, length}
+use Rattle.std.specs.Prelude.{◌≡◌, ◌≤◌, ℕ, true, false, All, Result, Ok, MatchResult, bytes_eq, length}
 use Rattle.std.specs.List.{IsDistinct}
 use Rattle.std.specs.FinMap.{insert, remove}
 use Rattle.boot_base.specs.Limits.{file_limit}
@@ -15,6 +15,7 @@ use Rattle.install_steps.specs.Steps.{Lacks}
 use Rattle.command_reads.specs.Saying.{UnsaidFor}
 use Rattle.command_reads.specs.declared.saying.Unsaid.{Unsaid}
 use Rattle.command_plans.specs.Answers.{Answer}
+use Rattle.command_plans.specs.declared.outcome.Outcome.TheVariants.{Refused}
 use Rattle.command_plans.specs.declared.outcome.MachineFault.{MachineFault}
 use Rattle.command_plans.specs.declared.outcome.MachineFault.TheVariants as faults
 use Rattle.command_plans.specs.declared.plan.Change.{Change}
@@ -97,3 +98,7 @@ PlansAs s result meant = MatchResult result
 pub record Plans (s : State) (plan : Plan) (answer : Answer) : Type 0 where
   pub answer_is : planned (seen s) plan ≡ answer
   pub can_make : CanMake s plan.change
+
+-- a plan that refuses changes nothing
+abbrev pub RefusesWithoutChange : Plan → Type 0
+RefusesWithoutChange plan = (number : ℕ) → plan.outcome ≡ Refused number → plan.change ≡ Nothing
