@@ -1,6 +1,6 @@
 -- What the plan of an image comes to on a view.
 use Rattle.std.proofs.Common.{◌≡◌, ℕ, ◌<◌, Bool, true, false, cond, not, List, [], ◌∷◌, ◌++◌, filter, length, map, Option, None, Some, Result, Ok, Err, refl, sym, ap, subst, ◌∙◌, arith}
-use Rattle.std.specs.Prelude.{◌==◌, All, codes, option_and_then}
+use Rattle.std.specs.Prelude.{◌==◌, All, IsErr, IsErrAnd, codes, option_and_then}
 use Rattle.std.specs.Option.{option_map}
 use Rattle.std.proofs.lemmas.Bool.Decides.{nat_tests}
 use Rattle.std.proofs.lemmas.List.{append_assoc, append-nil, map-append}
@@ -22,18 +22,26 @@ use Rattle.pe_builder.specs.declared.fault.PlanFault.{PlanFault}
 use Rattle.pe_builder.specs.declared.fault.PlanFault.TheVariants as faults
 use Rattle.pe_builder.specs.declared.size.WideSize.{WideSize}
 use Rattle.pe_builder.specs.Image.{finished}
-use Rattle.pe_builder.specs.Planned.{Plans, given}
+use Rattle.pe_builder.specs.Planned.{Makes, Plans, given}
 use Rattle.pe_builder.specs.Refusals.{first_refusal}
 use Rattle.pe_builder.specs.Replaced.{sbat_name}
-use Rattle.pe_builder.specs.Sizes.{part_flags}
+use Rattle.pe_builder.specs.Sizes.{any_size, part_flags}
 use Rattle.image_writer.specs.Sourced.{IsPieced, IsSourced, new_sbat, part_list, parts_bytes, planned_image, stub_path}
 use Rattle.image_writer.specs.declared.sources.Sources.{Sources}
 use Rattle.pe_builder.specs.declared.plan.Plan.{Plan}
 use Rattle.image_writer.proofs.PlannedImages.{planned_image-is}
 use Rattle.image_build.specs.declared.build_plan.ImagePlan.{ImagePlan}
 use Rattle.image_build.specs.Building.{Built, builder_refusal, has_bytes, has_sbat, image_of_parts, image_or, size_of_part}
-use Rattle.image_build.specs.Imaged.{AreParts, AreRead, Images, IsPlanOf, IsSbatPart, PlansParts, any_size, image_meant, is_filled}
+use Rattle.image_build.specs.Imaged.{AreOrdered, Images, IsPlanOf, IsSbatPart, PlansParts, image_meant, is_filled}
 use Rattle.image_build.specs.Reads.{part_as}
+
+-- On a view the stub at a path has this length and reads with these headers, and the pieces of all parts have the sizes
+-- that they say, which together are the parts'.
+pub record AreRead (view : Files) (headers : Headers) (stub_length : ℕ) (stub : Path) (parts : List Part) (linux : Part) : Type 0 where
+  pub length_is : length (contents view stub) ≡ stub_length
+  pub reads : pe_of (contents view stub) ≡ Ok headers
+  pub pieced : All (IsPieced (contents view)) parts
+  pub linux_pieced : IsPieced (contents view) linux
 
 -- the bytes of a part are as many as it says
 read_length : (files : Reading) (part : Part) → IsPieced files part → length (bytes_of files part.pieces.items) ≡ part.length
@@ -209,7 +217,7 @@ meant_without view h stub parts linux [] output none = refl
 meant_without view h stub parts linux (byte ∷ text) output none = absurd (omega arith)
 
 -- without an SBAT text
-pub images_without : (view : Files) (h : Headers) (n : ℕ) (stub : Path) (parts list : List Part) (linux : Part) (sbat : List ℕ) (result : Result ImagePlan PlanFault) → AreParts parts linux
+pub images_without : (view : Files) (h : Headers) (n : ℕ) (stub : Path) (parts list : List Part) (linux : Part) (sbat : List ℕ) (result : Result ImagePlan PlanFault) → AreOrdered parts linux
     → list ≡ filter is_filled (parts ++ linux ∷ []) → length sbat ≡ 0 → PlansParts h n stub list None sbat result → AreRead view h n stub parts linux
     → Images view (image_meant view h stub parts linux sbat) result
 images_without view h n stub parts list linux sbat result are is none planned read =
@@ -227,7 +235,7 @@ meant_in_place view h stub parts linux [] output some has = absurd (omega arith)
 meant_in_place view h stub parts linux (byte ∷ text) output some has = rw has refl
 
 -- with one in the place of the stub's
-pub images_in_place : (view : Files) (h : Headers) (n : ℕ) (stub : Path) (parts list : List Part) (linux : Part) (sbat : List ℕ) (count : ℕ) (result : Result ImagePlan PlanFault) → AreParts parts linux
+pub images_in_place : (view : Files) (h : Headers) (n : ℕ) (stub : Path) (parts list : List Part) (linux : Part) (sbat : List ℕ) (count : ℕ) (result : Result ImagePlan PlanFault) → AreOrdered parts linux
     → list ≡ filter is_filled (parts ++ linux ∷ []) → 0 < length sbat → has_sbat h ≡ true → length sbat ≡ count → PlansParts h n stub list (Some count) sbat result → AreRead view h n stub parts linux
     → Images view (image_meant view h stub parts linux sbat) result
 images_in_place view h n stub parts list linux sbat count result are is some has len planned read =
@@ -266,7 +274,7 @@ text_listed files parts linux part text is =
     ∙ ap (λ (l : List (SectionName × List ℕ)). l ++ kernel ∷ []) (sym (map-append (part_as files) parts (part ∷ [])))
 
 -- with one as a part
-pub images_as_part : (view : Files) (h : Headers) (n : ℕ) (stub : Path) (parts list : List Part) (linux part : Part) (sbat none : List ℕ) (result : Result ImagePlan PlanFault) → AreParts parts linux → IsSbatPart part sbat
+pub images_as_part : (view : Files) (h : Headers) (n : ℕ) (stub : Path) (parts list : List Part) (linux part : Part) (sbat none : List ℕ) (result : Result ImagePlan PlanFault) → AreOrdered parts linux → IsSbatPart part sbat
     → list ≡ filter is_filled ((parts ++ part ∷ []) ++ linux ∷ []) → 0 < length sbat → has_sbat h ≡ false → PlansParts h n stub list None none result → AreRead view h n stub parts linux
     → Images view (image_meant view h stub parts linux sbat) result
 images_as_part view h n stub parts list linux part sbat none result are holds is some has planned read =
@@ -279,3 +287,16 @@ images_as_part view h n stub parts list linux part sbat none result are holds is
     ∙ ap (λ (l : List (SectionName × List ℕ)). image_of_parts output h (files stub) (filter has_bytes l) None) (text_listed files parts linux part sbat holds)
     ∙ ap (λ (l : List (SectionName × List ℕ)). image_of_parts output h (files stub) l None) (listed_read files more linux are.name pieced ∙ ap (map (part_as files)) (sym is)))
     (images_parts view h n stub list None none result (filled_are_read view h n stub parts (more ++ linux ∷ []) list linux None none read pieced is refl) planned)
+
+-- the fault of the plan of these parts, as it is handed on
+refused_by : (P : Plan → Type 0) (h : Headers) (n : ℕ) (stub : Path) (parts : List Part) (in_place : Option ℕ) (sbat : List ℕ) (fault : PlanFault)
+    → Makes P (Err fault) (first_refusal h n (map any_size parts) in_place) → PlansParts h n stub parts in_place sbat (Err fault)
+refused_by P h n stub parts in_place sbat faults.Memory made = tt
+refused_by P h n stub parts in_place sbat fault made = made
+
+pub plan_refused : (P : Plan → Type 0) (h : Headers) (n : ℕ) (stub : Path) (parts : List Part) (sizes : List WideSize) (in_place : Option ℕ) (sbat : List ℕ) (fault : PlanFault) (result : Result ImagePlan PlanFault)
+    → sizes ≡ map any_size parts → Makes P (Err fault) (first_refusal h n sizes in_place) → IsErr result → IsErrAnd result (λ e. e ≡ fault) → PlansParts h n stub parts in_place sbat result
+plan_refused P h n stub parts sizes in_place sbat fault (Ok image) is made failed same = cc
+plan_refused P h n stub parts sizes in_place sbat fault (Err e) is made failed same =
+    subst (λ (f : PlanFault). PlansParts h n stub parts in_place sbat (Err f)) (sym same)
+    (refused_by P h n stub parts in_place sbat fault (subst (λ (l : List WideSize). Makes P (Err fault) (first_refusal h n l in_place)) is made))

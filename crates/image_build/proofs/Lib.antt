@@ -7,6 +7,6 @@ pub mod Outputs
 mod Pieced
 mod Planning
 mod Printed
-mod Small
+mod Taken
 mod Values
 mod Wants

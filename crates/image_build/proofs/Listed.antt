@@ -1,19 +1,19 @@
 -- Parts that are added in their order.
-use Rattle.std.proofs.Common.{◌≡◌, ℕ, ◌<◌, ◌≤◌, ◌^◌, Bool, true, false, cond, not, List, [], ◌∷◌, ◌++◌, filter, length, get_or, refl, sym, ap, subst, ◌∙◌, arith, append-nil, length-append}
-use Rattle.std.specs.Prelude.{◌==◌, All, sum_by}
+use Rattle.std.proofs.Common.{◌≡◌, ℕ, ◌+◌, ◌<◌, ◌≤◌, ◌^◌, Bool, true, false, cond, not, List, [], ◌∷◌, ◌++◌, filter, length, get_or, refl, sym, ap, subst, ◌∙◌, arith, append-nil, length-append}
+use Rattle.std.specs.Prelude.{◌==◌, All, count_by, sum_by}
 use Rattle.std.specs.List.Sorted.{IsNonDecreasingBy}
 use Rattle.std.proofs.Math.Seq.{get_or-append_seam}
 use Rattle.std.proofs.lemmas.Bool.Decides.{nat_tests}
 use Rattle.std.proofs.lemmas.Grind.{common_steps}
 use Rattle.std.proofs.lemmas.List.{get_or_append_left}
 use Rattle.std.proofs.lemmas.List.Elements.{All-filter, All-head, All-push, All-tail, All-weaker, filter-append}
-use Rattle.std.proofs.lemmas.List.Filters.{length-filter_both, sum_by-filter_both}
-use Rattle.std.proofs.lemmas.List.Sums.{sum_by-append, sum_by-cons}
+use Rattle.std.proofs.lemmas.List.Filters.{sum_by-filter_both}
+use Rattle.std.proofs.lemmas.List.Sums.{count_by-le-length, length-filter, sum_by-append, sum_by-cons}
 use Rattle.uki_parts.specs.Kinds.{append_place}
 use Rattle.uki_parts.specs.declared.kind.PartKind.TheVariants as kinds
 use Rattle.uki_parts.specs.declared.part.Part.{Part}
 use Rattle.uki_parts.specs.Parts.{part_place, is_up_to, is_after, with_part}
-use Rattle.image_build.specs.Imaged.{AreParts, IsSbatPart, is_filled}
+use Rattle.image_build.specs.Imaged.{AreOrdered, IsCountable, IsSbatPart, is_filled}
 
 -- these parts stand before that one
 abbrev pub AreBefore : Part → List Part → Type 0
@@ -67,7 +67,7 @@ unfolding append_place
 sbat_first = omega arith
 
 -- the kernel stands behind the parts
-pub linux_added : (parts list more : List Part) (linux : Part) → AreParts parts linux → list ≡ filter is_filled parts → more ≡ with_part linux list
+pub linux_added : (parts list more : List Part) (linux : Part) → AreOrdered parts linux → list ≡ filter is_filled parts → more ≡ with_part linux list
     → more ≡ filter is_filled (parts ++ linux ∷ [])
 linux_added parts list more linux are before is =
     let last : part_place linux ≡ append_place kinds.Linux = ap append_place are.kind in
@@ -75,7 +75,7 @@ linux_added parts list more linux are before is =
     is ∙ ap (with_part linux) before ∙ with_part-last linux parts all
 
 -- and an SBAT text between them
-pub text_added : (parts list more most : List Part) (linux part : Part) (text : List ℕ) → AreParts parts linux → IsSbatPart part text → list ≡ filter is_filled parts
+pub text_added : (parts list more most : List Part) (linux part : Part) (text : List ℕ) → AreOrdered parts linux → IsSbatPart part text → list ≡ filter is_filled parts
     → more ≡ with_part part list → most ≡ with_part linux more → most ≡ filter is_filled ((parts ++ part ∷ []) ++ linux ∷ [])
 text_added parts list more most linux part text are holds before one two =
     let last : part_place linux ≡ append_place kinds.Linux = ap append_place are.kind in
@@ -94,29 +94,38 @@ pub record Counted (list : List Part) : Type 0 where
 abbrev is_empty : Part → Bool
 is_empty part = part.length == 0
 
-counted : (all list : List Part) → list ≡ filter is_filled all → length all ≤ 16777216 → sum_by (λ part. part.length) all ≤ 2 ^ 62 → Counted list
+counted : (all list : List Part) → list ≡ filter is_filled all → count_by is_filled all ≤ 16777216 → sum_by (λ part. part.length) all ≤ 2 ^ 62 → Counted list
 counted all list is few total =
-    let count = length-filter_both is_empty is_filled (λ part. refl) all in
+    let count = length-filter is_filled all in
     let sum = sum_by-filter_both is_empty is_filled (λ part. refl) (λ part. part.length) all in
     subst Counted (sym is) (record { few = omega (arith, count); total = omega (arith, sum) })
 
-pub linux_counted : (parts list more : List Part) (linux : Part) → AreParts parts linux → list ≡ filter is_filled parts → more ≡ with_part linux list → Counted more
-linux_counted parts list more linux are before is =
-    let few = are.few in
-    let total = are.total in
+one_more : (parts : List Part) (part : Part) → count_by is_filled (parts ++ part ∷ []) ≤ count_by is_filled parts + 1
+one_more parts part =
+    let whole = length-filter is_filled (parts ++ part ∷ []) in
+    let front = length-filter is_filled parts in
+    let last = length-filter is_filled (part ∷ []) in
+    let both = ap length (filter-append is_filled parts (part ∷ [])) in
+    omega (arith, whole, front, last, both, length-append (filter is_filled parts) (filter is_filled (part ∷ [])), count_by-le-length is_filled (part ∷ []))
+
+pub linux_counted : (parts list more : List Part) (linux : Part) (sbat : List ℕ) → AreOrdered parts linux → IsCountable parts sbat → list ≡ filter is_filled parts → more ≡ with_part linux list → Counted more
+linux_counted parts list more linux sbat are few before is =
     let small = are.small in
+    let filled = few.few in
+    let total = few.total in
     counted (parts ++ linux ∷ []) more (linux_added parts list more linux are before is)
-    (omega (arith, length-append parts (linux ∷ [])))
+    (omega (arith, one_more parts linux))
     (omega (arith, sum_by-append (λ (part : Part). part.length) parts (linux ∷ []), sum_by-cons (λ (part : Part). part.length) linux []))
 
-pub text_counted : (parts list more most : List Part) (linux part : Part) (text : List ℕ) → AreParts parts linux → IsSbatPart part text → length text < 2 ^ 32 → list ≡ filter is_filled parts
+pub text_counted : (parts list more most : List Part) (linux part : Part) (text : List ℕ) → AreOrdered parts linux → IsSbatPart part text → IsCountable parts text → list ≡ filter is_filled parts
     → more ≡ with_part part list → most ≡ with_part linux more → Counted most
-text_counted parts list more most linux part text are holds short before one two =
-    let few = are.few in
-    let total = are.total in
+text_counted parts list more most linux part text are holds few before one two =
+    let filled = few.few in
+    let total = few.total in
+    let short = few.text in
     let small = are.small in
     let long = holds.length_is in
     let sum = λ (part : Part). part.length in
     counted ((parts ++ part ∷ []) ++ linux ∷ []) most (text_added parts list more most linux part text are holds before one two)
-    (omega (arith, length-append (parts ++ part ∷ []) (linux ∷ []), length-append parts (part ∷ [])))
+    (omega (arith, one_more (parts ++ part ∷ []) linux, one_more parts part))
     (omega (arith, sum_by-append sum (parts ++ part ∷ []) (linux ∷ []), sum_by-append sum parts (part ∷ []), sum_by-cons sum linux [], sum_by-cons sum part []))

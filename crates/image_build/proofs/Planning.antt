@@ -34,13 +34,18 @@ use Rattle.uki_parts.specs.declared.kind.PartKind.TheVariants as kinds
 use Rattle.uki_parts.specs.Parts.{part_place}
 use Rattle.uki_parts.specs.Pieces.{Reading}
 use Rattle.uki_parts.specs.declared.part.Part.{Part}
-use Rattle.image_build.specs.Building.{Built, build_answer, build_of, built_answer, built_line, built_text, Material, Named, contents_of, material, material_of, named_as, named_of, sbat_of}
-use Rattle.image_build.specs.Imaged.{AreFound, AreOrdered, AreParts, AreRead, Images, IsCountable, IsOwnPlan, IsPlanOf, IsSized, any_size}
+use Rattle.image_build.specs.Building.{Built, build_answer, build_of, built_answer, built_line, built_text, Material, Named, contents_of, material, material_of, build_named, named_as, named_of, sbat_of}
+use Rattle.pe_builder.specs.Sizes.{any_size}
+use Rattle.image_build.specs.Imaged.{AreFound, AreOrdered, Images, IsCountable, IsOwnPlan, IsPlanOf, IsSized}
+use Rattle.image_build.proofs.Imaged.{AreRead}
 use Rattle.image_build.specs.Planning.{HasItsLength, IsPlannable, IsPlannedOn, built_as}
 use Rattle.image_build.specs.declared.planned.PlannedBuild.{PlannedBuild}
 use Rattle.boot_phases.specs.Phases.{default_phase_paths}
 use Rattle.stub_replay.specs.Measured.{stub_pcr}
-use Rattle.command_plans.specs.Refusing.{PlansUnsaid}
+use Rattle.command_plans.specs.Refusing.{PlansDeclined, PlansUnsaid}
+use Rattle.command_reads.specs.Refusing.{◌>>=◌, DeclinedFor}
+use Rattle.command_reads.specs.declared.refusing.Declined.{Declined}
+use Rattle.command_reads.specs.declared.refusing.Declined.TheVariants as declines
 use Rattle.command_reads.specs.Saying.{UnsaidFor}
 use Rattle.boot_phases.specs.Lines.{value_lines}
 use Rattle.pcr_fold.specs.Banks.{all_banks}
@@ -70,9 +75,6 @@ found_read view h n stub parts linux sbat few found = record {
   linux_pieced = found.linux_pieced;
 }
 
-pub parts_counted : (parts : List Part) (linux : Part) (sbat : List ℕ) → AreOrdered parts linux → IsCountable parts sbat → AreParts parts linux
-parts_counted parts linux sbat are few = record { order = are.order; early = are.early; few = few.few; total = few.total; kind = are.kind; name = are.name; small = are.small }
-
 -- what is read of the words can be planned
 lengths_from : (sources : List PartSources) (parts : List Part) → AllZip PartFrom sources parts → All HasItsLength parts
 lengths_from [] [] all = All-nil HasItsLength
@@ -85,7 +87,6 @@ plannable words found built is from =
     let rise = parts_rise words found built.parts.items is from.parts in
     record {
       read = from.head;
-      small = from.stub_small;
       linux = from.linux;
       order = in_order part_place built.parts.items 0 (append_place kinds.Extra) rise;
       early = at_most part_place built.parts.items 0 (append_place kinds.Extra) rise;
@@ -177,11 +178,31 @@ pub ok_weaker : {X E : Type 0} {P Q : X → Type 0} (result : Result X E) → ((
 ok_weaker (Ok x) weaker holds = weaker x holds
 ok_weaker (Err fault) weaker holds = tt
 
+-- what the words mean is built of what they name
+pub build_by_name : (view : Files) (words : BuildWords) (found : BuildSources) → named_of words ≡ Ok (named_as found) → build_of view words ≡ build_named view (named_as found)
+build_by_name view words found named = ap (λ (r : Result Named Refusal). r >>= build_named view) named
+
 -- a refusal of what is built is the answer
-pub unsaid_plan : (s : State) (words : BuildWords) (why : Unsaid) (plan : CommandPlan) → UnsaidFor why (build_of (seen s) words) → PlansUnsaid why plan → Plans s plan (build_answer (seen s) words)
-unsaid_plan s words unsaid.Memory plan meant plans = absurd plans
-unsaid_plan s words unsaid.Disk plan meant plans = absurd plans
-unsaid_plan s words (unsaid.Refused why) plan meant plans = subst (λ (r : Result Built Refusal). Plans s plan (built_answer (seen s) words.measure r)) (sym meant) (plans s)
+pub unsaid_plan : (s : State) (words : BuildWords) (found : BuildSources) (why : Unsaid) (plan : CommandPlan) → named_of words ≡ Ok (named_as found)
+    → UnsaidFor why (build_named (seen s) (named_as found)) → PlansUnsaid why plan → Plans s plan (build_answer (seen s) words)
+unsaid_plan s words found unsaid.Memory plan named meant plans = absurd plans
+unsaid_plan s words found unsaid.Disk plan named meant plans = absurd plans
+unsaid_plan s words found (unsaid.Refused why) plan named meant plans =
+    subst (λ (r : Result Built Refusal). Plans s plan (built_answer (seen s) words.measure r)) (sym (build_by_name (seen s) words found named ∙ meant)) (plans s)
+
+-- and so is that of the words
+pub declined_plan : (s : State) (words : BuildWords) (declined : Declined) (plan : CommandPlan) → DeclinedFor declined (named_of words) → PlansDeclined declined plan → Plans s plan (build_answer (seen s) words)
+declined_plan s words declines.Memory plan meant plans = absurd plans
+declined_plan s words (declines.Refused why) plan meant plans =
+    subst (λ (r : Result Built Refusal). Plans s plan (built_answer (seen s) words.measure r)) (sym (ap (λ (r : Result Named Refusal). r >>= build_named (seen s)) meant)) (plans s)
+
+pub declined_as : (words : BuildWords) (declined : Declined) (why : Refusal) (plan : CommandPlan) → named_of words ≡ Err why → DeclinedFor declined (named_of words) → PlansDeclined declined plan → PlansDeclined (declines.Refused why) plan
+declined_as words declines.Memory why plan is meant plans = absurd plans
+declined_as words (declines.Refused first) why plan is meant plans = subst (λ (r : Refusal). PlansDeclined (declines.Refused r) plan) (cc (is, meant)) plans
+
+-- words that name what is built are not declined
+pub not_declined : (words : BuildWords) (found : BuildSources) (why : Refusal) → named_of words ≡ Ok (named_as found) → named_of words ≡ Err why → ⊥
+not_declined words found why named is = absurd (cc (named, is))
 
 -- what is said of a plan
 pub line_said : (view : Files) (plan : PlannedBuild) (measure : Bool) (size : ℕ) (line : List ℕ) → IsSourced plan.image.plan plan.image.sources view → size ≡ planned_length plan.image.plan → line ≡ built_line plan.output size → measure ≡ false

@@ -2,7 +2,7 @@
 use Rattle.std.proofs.Common.{Result, ◌≡◌, ◌<◌, ◌+◌, ℕ, Bool, true, false, cond, List, [], ◌∷◌, ◌++◌, Option, Some, None, Ok, Bor, length, map, take, position, refl, sym, ap, subst, ◌∙◌}
 use Rattle.std.specs.List.{find, flat_map}
 use Rattle.std.specs.Option.{option_map}
-use Rattle.std.specs.Prelude.{All, bytes_eq, is_some}
+use Rattle.std.specs.Prelude.{All, bytes_eq, is_some, sum_by}
 use Rattle.std.proofs.lemmas.List.Elements.{All-head, All-tail}
 use Rattle.boot_base.specs.Paths.{Path}
 use Rattle.boot_base.specs.declared.refusal.Refusal.{Refusal}
@@ -35,17 +35,18 @@ use Rattle.pe_reader.specs.Reads.{headers_of}
 use Rattle.pe_reader.specs.declared.section.LoadedRange.{LoadedRange}
 use Rattle.pe_reader.proofs.Finding.{loaded-none}
 use Rattle.stub_replay.specs.Laws.{kept_of, or_kept, part_named}
-use Rattle.stub_replay.specs.Measured.{measured_by, measured_list, measured_names, section_items, stub_pcr}
+use Rattle.stub_replay.specs.Measured.{measured_by, measured_length, measured_list, measured_names, section_items, stub_pcr}
 use Rattle.stub_replay.proofs.Predicting.{image_shows, same_items}
 use Rattle.stub_replay.proofs.Ranges.{found_range}
 use Rattle.uki_parts.specs.Names.{name_bytes}
 use Rattle.uki_parts.specs.Pieces.{Reading, HasSizes, bytes_of}
 use Rattle.uki_parts.specs.declared.part.Part.{Part}
 use Rattle.uki_parts.specs.declared.piece.Piece.{Piece}
-use Rattle.image_build.specs.Imaged.{any_size}
+use Rattle.pe_builder.specs.Sizes.{any_size}
 use Rattle.image_build.specs.Planning.{IsContent, IsPlannedOn, kept_bytes, section_bytes, stub_bytes}
 use Rattle.image_build.specs.declared.planned.PlannedBuild.{PlannedBuild}
 use Rattle.image_build.proofs.Imaged.{lengths_read}
+use Rattle.image_build.proofs.Taken.{same_lengths}
 
 -- what the stub has of a name
 pub stub_none : (files : Reading) (stub : Path) (name : List ℕ) (h : Headers) → pe_of (files stub) ≡ Ok h → position (is_named name) h.sections ≡ None → IsContent files None (loaded (files stub) name)
@@ -153,6 +154,21 @@ image_items view plan on =
     let image_is = planned_image-is plan.image.plan plan.image.sources view h sizes on.own.in_place on.reads on.own.plans on.own.sbat_length in
     sym (same_items (loaded (finished h sizes bytes sbat stub)) (section_bytes view plan on.own.in_place) measured_names shows.same)
     ∙ ap (λ (image : List ℕ). measured_list image) (sym image_is)
+
+-- their bytes are as many as its measured sections have loaded
+pub image_long : (view : Files) (plan : PlannedBuild) (on : IsPlannedOn view plan)
+    → sum_by (λ name. length (section_bytes view plan on.own.in_place name)) measured_names ≡ measured_length (planned_image plan.image.plan plan.image.sources view)
+unfolding measured_length
+image_long view plan on =
+    let h = headers_of plan.head in
+    let sizes = map any_size (part_list plan.image.sources) in
+    let bytes = parts_bytes (contents view) (part_list plan.image.sources) in
+    let sbat = given on.own.in_place (new_sbat plan.image.sources) in
+    let stub = stub_bytes view plan in
+    let shows = image_shows h sizes bytes sbat stub (has_finished view plan on) in
+    let image_is = planned_image-is plan.image.plan plan.image.sources view h sizes on.own.in_place on.reads on.own.plans on.own.sbat_length in
+    same_lengths (loaded (finished h sizes bytes sbat stub)) (section_bytes view plan on.own.in_place) measured_names shows.same
+    ∙ ap (λ (image : List ℕ). sum_by (λ name. length (loaded image name)) measured_names) (sym image_is)
 
 -- the registers after them
 pub registers_are : (files : Reading) (parts seen_parts : List Measurable) (items : List (List ℕ)) (banks : List Bank) (starts : List (Bank × List ℕ)) → seen_parts ≡ parts

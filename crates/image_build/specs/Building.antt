@@ -1,5 +1,5 @@
 -- What the words of `ukify build` name, and the image of a stub and parts (ukify(1); UAPI Unified Kernel Image).
-use Rattle.std.specs.Prelude.{ℕ, ◌+◌, ◌==◌, Bool, not, List, [], ◌∷◌, ◌++◌, codes, length, map, filter, take, drop, position, nat_lt, Option, Some, None, option_and_then, Result, Ok, Err, if◌then◌else◌}
+use Rattle.std.specs.Prelude.{◌≡◌, ℕ, ◌+◌, ◌==◌, Bool, not, List, [], ◌∷◌, ◌++◌, codes, length, map, filter, take, drop, position, nat_lt, Option, Some, None, option_and_then, Result, Ok, Err, if◌then◌else◌}
 use Rattle.std.specs.Option.{option_map}
 use Rattle.std.specs.FinMap.{insert}
 use Rattle.std.specs.List.{flat_map}
@@ -231,13 +231,21 @@ part_named part = named_part part.kind part.name part.sources.items
 abbrev pub named_as : BuildSources → Named
 named_as found = record { stub = found.stub; linux = found.linux; parts = map part_named found.parts.items; sbat = found.sbat; output = found.output }
 
+-- these are what some words name
+abbrev pub AreNamed : BuildSources → Type 0
+AreNamed found = (words : BuildWords) × (named_of words ≡ Ok (named_as found))
+
 -- the image that is built of these, and where it is to stand
 abbrev pub image_of : Path → Material → Result Built Refusal
 image_of output m = with_sbat_text output m.headers m.stub m.parts m.linux m.sbat
 
--- `ukify build`: what its words name is found and read, and the image is built of it
+-- what the words name is found and read, and the image is built of it
+abbrev pub build_named : Files → Named → Result Built Refusal
+build_named view named = material_of view named >>= image_of named.output
+
+-- `ukify build`: what its words name is built
 abbrev pub build_of : Files → BuildWords → Result Built Refusal
-build_of view words = named_of words >>= λ named. material_of view named >>= image_of named.output
+build_of view words = named_of words >>= build_named view
 
 -- the path of the image and its number of bytes
 abbrev pub built_line : Path → ℕ → List ℕ

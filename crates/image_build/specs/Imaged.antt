@@ -1,5 +1,5 @@
 -- The plan of an image that is built of parts whose files are read.
-use Rattle.std.specs.Prelude.{◌≡◌, ℕ, ◌≤◌, ◌<◌, ◌-◌, ◌==◌, ◌^◌, Bool, not, List, ◌∷◌, [], codes, length, map, min, All, sum_by, option_map, Option, Some, Result, Ok, Err}
+use Rattle.std.specs.Prelude.{◌≡◌, ℕ, ◌≤◌, ◌<◌, ◌-◌, ◌==◌, ◌^◌, Bool, not, List, ◌∷◌, [], codes, length, map, min, All, count_by, sum_by, option_map, Option, Some, Result, Ok, Err}
 use Rattle.std.specs.List.Sorted.{IsNonDecreasingBy}
 use Rattle.boot_base.specs.Paths.{Path}
 use Rattle.boot_base.specs.declared.refusal.Refusal.{Refusal}
@@ -15,19 +15,14 @@ use Rattle.uki_parts.specs.Parts.{part_place}
 use Rattle.uki_parts.specs.Pieces.{HasSizes, Reading, bytes_of, total_length}
 use Rattle.pe_builder.specs.declared.fault.PlanFault.{PlanFault}
 use Rattle.pe_builder.specs.declared.fault.PlanFault.TheVariants as faults
-use Rattle.pe_builder.specs.declared.size.WideSize.{WideSize}
 use Rattle.pe_builder.specs.Planned.{Plans, given}
-use Rattle.pe_builder.specs.Refusals.{first_refusal, wide}
+use Rattle.pe_builder.specs.Refusals.{first_refusal}
 use Rattle.pe_builder.specs.Replaced.{sbat_name}
-use Rattle.pe_builder.specs.Sizes.{size_of}
+use Rattle.pe_builder.specs.Sizes.{any_size}
 use Rattle.image_writer.specs.Sourced.{IsPieced, IsSourced, new_sbat, part_list, planned_image, stub_path}
 use Rattle.image_build.specs.declared.build_plan.ImagePlan.{ImagePlan}
 use Rattle.image_build.specs.Building.{Built, builder_refusal, with_sbat_text}
 use Rattle.image_build.specs.Reads.{part_as}
-
--- the size of a part of any length
-abbrev pub any_size : Part → WideSize
-any_size part = wide (size_of part)
 
 -- whether a part adds a section, as one without bytes doesn't
 abbrev pub is_filled : Part → Bool
@@ -49,36 +44,19 @@ pub record AreOrdered (parts : List Part) (linux : Part) : Type 0 where
   pub name : linux.name ≡ named (codes ".linux")
   pub small : linux.length ≤ 268435456
 
--- the numbers of an image hold so many parts and bytes
+-- The numbers of an image hold so many parts that add a section, so many bytes, and an SBAT text of that length.
 pub record IsCountable (parts : List Part) (sbat : List ℕ) : Type 0 where
-  pub few : length parts ≤ 16777000
+  pub few : count_by is_filled parts ≤ 16777214
   pub total : sum_by (λ part. part.length) parts ≤ 2 ^ 61
   pub text : length sbat < 2 ^ 32
-
--- both
-pub record AreParts (parts : List Part) (linux : Part) : Type 0 where
-  pub order : IsNonDecreasingBy part_place parts
-  pub early : All (λ part. part_place part ≤ append_place kinds.Extra) parts
-  pub few : length parts ≤ 16777000
-  pub total : sum_by (λ part. part.length) parts ≤ 2 ^ 61
-  pub kind : linux.kind ≡ kinds.Linux
-  pub name : linux.name ≡ named (codes ".linux")
-  pub small : linux.length ≤ 268435456
-
--- On a view the stub at a path has this length and reads with these headers, and the pieces of all parts have the sizes
--- that they say, which together are the parts'.
-pub record AreRead (view : Files) (headers : Headers) (stub_length : ℕ) (stub : Path) (parts : List Part) (linux : Part) : Type 0 where
-  pub length_is : length (contents view stub) ≡ stub_length
-  pub reads : pe_of (contents view stub) ≡ Ok headers
-  pub pieced : All (IsPieced (contents view)) parts
-  pub linux_pieced : IsPieced (contents view) linux
 
 -- the pieces of a part have the sizes that they say, which together are the part's, or the highest number of 64 bits
 pub record IsSized (files : Reading) (part : Part) : Type 0 where
   pub sizes : HasSizes files part.pieces.items
   pub total : part.length ≡ min (total_length part.pieces.items) (2 ^ 64 - 1)
 
--- the same of parts of which nothing more is known
+-- On a view the stub at a path has this length and reads with these headers, and the pieces of all parts have the sizes
+-- that they say.
 pub record AreFound (view : Files) (headers : Headers) (stub_length : ℕ) (stub : Path) (parts : List Part) (linux : Part) : Type 0 where
   pub length_is : length (contents view stub) ≡ stub_length
   pub reads : pe_of (contents view stub) ≡ Ok headers

@@ -1,5 +1,5 @@
 -- The plan of a build, and what the sections of its image are going to hold.
-use Rattle.std.specs.Prelude.{◌≡◌, ◌≤◌, ◌-◌, ◌^◌, ℕ, List, length, map, min, All, IfSome, Option, Ok}
+use Rattle.std.specs.Prelude.{◌≡◌, ◌≤◌, ◌+◌, ◌-◌, ◌^◌, ℕ, Bool, List, length, map, min, All, IfSome, Option, Result, Ok, Err, if◌then◌else◌}
 use Rattle.std.specs.List.Sorted.{IsNonDecreasingBy}
 use Rattle.boot_machine.specs.Disk.{Files}
 use Rattle.boot_machine.specs.Rows.{contents}
@@ -15,9 +15,12 @@ use Rattle.uki_parts.specs.Parts.{part_place}
 use Rattle.uki_parts.specs.Pieces.{Reading, total_length}
 use Rattle.uki_parts.specs.declared.kind.PartKind.TheVariants as kinds
 use Rattle.uki_parts.specs.declared.part.Part.{Part}
-use Rattle.image_build.specs.Building.{Built}
-use Rattle.image_build.specs.Imaged.{IsOwnPlan, any_size}
-use Rattle.image_build.specs.Reads.{IsKernel}
+use Rattle.boot_base.specs.declared.refusal.Refusal.{Refusal}
+use Rattle.stub_replay.specs.Measured.{measured_length}
+use Rattle.image_build.specs.Building.{Built, Named, build_named}
+use Rattle.pe_builder.specs.Sizes.{any_size}
+use Rattle.image_build.specs.Imaged.{IsOwnPlan}
+use Rattle.image_build.specs.Reads.{IsKernel, reading_length}
 use Rattle.image_build.specs.declared.build_reads.BuildParts.{BuildParts}
 use Rattle.image_build.specs.declared.planned.PlannedBuild.{PlannedBuild}
 
@@ -32,7 +35,6 @@ HasItsLength part = part.length ≡ min (total_length part.pieces.items) (2 ^ 64
 -- what an image can be planned of
 pub record IsPlannable (built : BuildParts) : Type 0 where
   pub read : ReadFrom built.head built.stub_length
-  pub small : built.stub_length ≤ 268435456
   pub linux : IsKernel built.linux
   pub order : IsNonDecreasingBy part_place built.parts.items
   pub early : All (λ part. part_place part ≤ append_place kinds.Extra) built.parts.items
@@ -62,3 +64,17 @@ section_bytes view plan in_place name =
 pub record IsContent (files : Reading) (content : Option Content) (bytes : List ℕ) : Type 0 where
   pub bytes_are : content_or files content ≡ bytes
   pub whole : IfSome content (IsWhole files)
+
+-- How many bytes of files are read to measure an image, at most: what its measured sections have loaded, where it is asked
+-- for.
+abbrev pub measuring_length : Bool → List ℕ → ℕ
+measuring_length measure image = if measure then measured_length image else 0
+
+abbrev pub built_measuring : Bool → Result Built Refusal → ℕ
+built_measuring measure (Err why) = 0
+built_measuring measure (Ok built) = measuring_length measure built.image
+
+-- how many bytes of files are read to plan what the words name, at most
+abbrev pub planning_length : Files → Bool → Result Named Refusal → ℕ
+planning_length view measure (Err why) = 0
+planning_length view measure (Ok named) = reading_length (contents view) named + built_measuring measure (build_named view named)

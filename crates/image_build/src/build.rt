@@ -1,23 +1,25 @@
 //! `ukify build`: the plan of what its words mean.
-ghost use Rattle.std.specs.Prelude.{◌≡◌, Bool, IfErr, IfOk, IsTrue, Ok, Result, Some};
+ghost use Rattle.std.specs.Prelude.{◌≡◌, Bool, Err, IfErr, IfOk, IsTrue, Ok, Result, Some};
 ghost use Rattle.std.specs.List.{flat_map};
 ghost use Rattle.boot_base.specs.Paths.{IsFree, Path};
 ghost use Rattle.boot_base.specs.declared.refusal.Refusal.{Refusal};
 ghost use Rattle.boot_machine.specs.Counts.{Counts};
 ghost use Rattle.boot_machine.specs.Disk.{Files, State};
-ghost use Rattle.boot_machine.specs.Reading.{OnlyReads};
+ghost use Rattle.boot_machine.specs.Reading.{OnlyReads, TakesAtMost};
 ghost use Rattle.boot_machine.specs.Rows.{contents};
 ghost use Rattle.boot_machine.specs.Sent.{seen};
 ghost use Rattle.command_plans.specs.Performs.{CountsStop};
-ghost use Rattle.command_plans.specs.Plans.{IsMakeable, Plans};
+ghost use Rattle.command_plans.specs.Plans.{IsIdleIfRefused, IsMakeable, Plans};
+ghost use Rattle.command_plans.specs.Refusing.{PlansDeclined};
 ghost use Rattle.command_reads.specs.Refusing.{printed_path};
-ghost use Rattle.image_writer.specs.Sourced.{IsSourced};
+ghost use Rattle.image_writer.specs.Sourced.{IsSourced, planned_image};
 ghost use Rattle.command_reads.specs.Names.{shown_byte};
+ghost use Rattle.command_reads.specs.declared.refusing.Declined.TheVariants as declines;
 ghost use Rattle.command_reads.specs.Saying.{CountsUnsaid, Says, UnsaidFor};
-ghost use Rattle.image_build.specs.Building.{Built, build_answer, build_of, builder_refusal, built_answer, built_line, built_text, image_of};
+ghost use Rattle.image_build.specs.Building.{AreNamed, Built, build_answer, build_named, builder_refusal, named_as, named_of, built_answer, built_line, built_text, image_of};
 ghost use Rattle.image_build.specs.Imaged.{Images};
-ghost use Rattle.image_build.specs.Planning.{built_as, IsPlannable, IsPlannedOn};
-ghost use Rattle.image_build.specs.Reads.{BuiltHasSizes, material_as};
+ghost use Rattle.image_build.specs.Planning.{built_as, IsPlannable, IsPlannedOn, measuring_length, planning_length};
+ghost use Rattle.image_build.specs.Reads.{BuiltHasSizes, material_as, reading_length};
 ghost use Rattle.pe_reader.specs.Grammar.{pe_of};
 ghost use Rattle.pe_reader.specs.Reads.{headers_of};
 ghost use Rattle.uki_parts.specs.Names.{name_bytes};
@@ -27,9 +29,10 @@ use crate::build_reads::{BuildParts, read_build};
 use crate::build_values::planned_values;
 use crate::build_words::build_sources;
 use crate::planned::PlannedBuild;
+use crate::source::BuildSources;
 use boot_base::{BootPath, Bytes, Refusal, Target, Text};
 use boot_machine::Machine;
-use command_plans::{Change, Outcome, Plan, Stop, plan_unsaid};
+use command_plans::{Change, Outcome, Plan, Stop, plan_declined, plan_unsaid};
 use command_reads::{Unsaid, printed, shown_name};
 use pe_builder::PlanFault;
 use std::alloc::{AllocError, Global};
@@ -98,19 +101,23 @@ fn plan_parts(alloc: Global, built: BuildParts) -> Result<PlannedBuild, Unsaid>
     }
 }
 
-// The plan of the image that the words mean, made by reads alone.
+// The plan of the image that is built of what words name, made by reads alone.
 fn planned<M: Machine>(
     alloc: Global,
-    words: &BuildWords,
+    sources: BuildSources,
     machine: &mut M,
 ) -> Result<PlannedBuild, Unsaid>
-    ensures says { IsTrue M.tells → Says (built_as (seen (M.state machine.old))) result (build_of (seen (M.state machine.old)) words.now) }
+    requires named { AreNamed sources }
+    requires free { IsFree sources.output }
+    ensures says { IsTrue M.tells → Says (built_as (seen (M.state machine.old))) result
+        (build_named (seen (M.state machine.old)) (named_as sources)) }
     ensures planned { IfOk result (λ plan. IsTrue M.tells → IsPlannedOn (seen (M.state machine.old)) plan) }
     ensures free { IfOk result (λ plan. IsFree plan.output) }
     ensures reads { IsTrue M.tells → OnlyReads M.clock M.since M.state machine.old machine.new }
     ensures counts { CountsUnsaid result (M.counts machine.old) (M.counts machine.new) }
+    ensures taken { IsTrue M.tells → TakesAtMost (reading_length (contents (seen (M.state machine.old))) (named_as sources))
+        (M.taken machine.old) (M.taken machine.new) }
 {
-    let sources = build_sources(alloc, words)?;
     let built = read_build(alloc, sources, machine)?;
     plan_parts(alloc, built)
 }
@@ -133,6 +140,9 @@ fn reply<M: Machine>(
         (Ok (built_text measure (built_as (seen (M.state machine.old)) build.now))) }
     ensures reads { IsTrue M.tells → OnlyReads M.clock M.since M.state machine.old machine.new }
     ensures counts { CountsUnsaid result (M.counts machine.old) (M.counts machine.new) }
+    ensures taken { IsTrue M.tells → IsPlannedOn (seen (M.state machine.old)) build.now → TakesAtMost
+        (measuring_length measure (planned_image build.now.image.plan build.now.image.sources (seen (M.state machine.old))))
+        (M.taken machine.old) (M.taken machine.new) }
 {
     let mut text = built_line(alloc, &build.output, build.image.plan.image_length())?;
     if !measure {
@@ -149,6 +159,7 @@ fn writing(alloc: Global, build: PlannedBuild, text: Vec<u8>) -> Result<Plan, Al
     ensures plans { IfOk result (λ plan. (s : State) (measure : Bool) → IsSourced build.image.plan build.image.sources (seen s)
         → text.items ≡ built_text measure (built_as (seen s) build) → Plans s plan (built_answer (seen s) measure (Ok (built_as (seen s) build)))) }
     ensures makeable { IfOk result (λ plan. IsMakeable plan.change) }
+    ensures idle { IfOk result IsIdleIfRefused }
 {
     let PlannedBuild { image, output, .. } = build;
     Ok(Plan {
@@ -162,22 +173,60 @@ fn writing(alloc: Global, build: PlannedBuild, text: Vec<u8>) -> Result<Plan, Al
     })
 }
 
-// The plan of the build, or why there is none.
-fn building<M: Machine>(alloc: Global, words: &BuildWords, machine: &mut M) -> Result<Plan, Unsaid>
+// The plan of the build of what the words name, or why there is none.
+fn building<M: Machine>(
+    alloc: Global,
+    words: &BuildWords,
+    sources: BuildSources,
+    machine: &mut M,
+) -> Result<Plan, Unsaid>
+    requires named { named_of words.now ≡ Ok (named_as sources) }
+    requires free { IsFree sources.output }
     ensures plans { IfOk result (λ plan. IsTrue M.tells → Plans (M.state machine.old) plan
         (build_answer (seen (M.state machine.old)) words.now)) }
-    ensures unsaid { IfErr result (λ unsaid. IsTrue M.tells → UnsaidFor unsaid (build_of (seen (M.state machine.old)) words.now)) }
+    ensures unsaid { IfErr result (λ unsaid. IsTrue M.tells
+        → UnsaidFor unsaid (build_named (seen (M.state machine.old)) (named_as sources))) }
     ensures makeable { IfOk result (λ plan. IsMakeable plan.change) }
+    ensures idle { IfOk result IsIdleIfRefused }
     ensures reads { IsTrue M.tells → OnlyReads M.clock M.since M.state machine.old machine.new }
     ensures counts { CountsUnsaid result (M.counts machine.old) (M.counts machine.new) }
+    ensures taken { IsTrue M.tells → TakesAtMost
+        (planning_length (seen (M.state machine.old)) words.now.measure (Ok (named_as sources)))
+        (M.taken machine.old) (M.taken machine.new) }
 {
-    let build = planned(alloc, words, machine)?;
+    let build = planned(alloc, sources, machine)?;
     let text = reply(alloc, &build, words.measure, machine)?;
     Ok(writing(alloc, build, text)?)
 }
 
+// The plan of the build of what the words name.
+fn plan_sources<M: Machine>(
+    alloc: Global,
+    words: &BuildWords,
+    sources: BuildSources,
+    machine: &mut M,
+) -> Result<Plan, Stop>
+    requires named { named_of words.now ≡ Ok (named_as sources) }
+    requires free { IsFree sources.output }
+    ensures plans { IfOk result (λ plan. IsTrue M.tells → Plans (M.state machine.old) plan
+        (build_answer (seen (M.state machine.old)) words.now)) }
+    ensures makeable { IfOk result (λ plan. IsMakeable plan.change) }
+    ensures idle { IfOk result IsIdleIfRefused }
+    ensures reads { IsTrue M.tells → OnlyReads M.clock M.since M.state machine.old machine.new }
+    ensures counts { CountsStop result (M.counts machine.old) (M.counts machine.new) }
+    ensures taken { IsTrue M.tells → TakesAtMost
+        (planning_length (seen (M.state machine.old)) words.now.measure (Ok (named_as sources)))
+        (M.taken machine.old) (M.taken machine.new) }
+{
+    match building(alloc, words, sources, machine) {
+        Ok(plan) => Ok(plan),
+        Err(unsaid) => plan_unsaid(alloc, unsaid),
+    }
+}
+
 /// What a build is going to do and to say: the image of what its words mean comes to stand at the output. Files are
 /// found and headers read; other bytes are read for the SBAT text alone, and once each where the image is measured.
+/// Words that name no section or no path are refused whatever the machine tells.
 pub fn plan_build<M: Machine>(
     alloc: Global,
     words: &BuildWords,
@@ -185,12 +234,17 @@ pub fn plan_build<M: Machine>(
 ) -> Result<Plan, Stop>
     ensures plans { IfOk result (λ plan. IsTrue M.tells → Plans (M.state machine.old) plan
         (build_answer (seen (M.state machine.old)) words.now)) }
+    ensures declined { (why : Refusal) → named_of words.now ≡ Err why → IfOk result (PlansDeclined (declines.Refused why)) }
     ensures makeable { IfOk result (λ plan. IsMakeable plan.change) }
+    ensures idle { IfOk result IsIdleIfRefused }
     ensures reads { IsTrue M.tells → OnlyReads M.clock M.since M.state machine.old machine.new }
     ensures counts { CountsStop result (M.counts machine.old) (M.counts machine.new) }
+    ensures taken { IsTrue M.tells → TakesAtMost
+        (planning_length (seen (M.state machine.old)) words.now.measure (named_of words.now))
+        (M.taken machine.old) (M.taken machine.new) }
 {
-    match building(alloc, words, machine) {
-        Ok(plan) => Ok(plan),
-        Err(unsaid) => plan_unsaid(alloc, unsaid),
+    match build_sources(alloc, words) {
+        Ok(sources) => plan_sources(alloc, words, sources, machine),
+        Err(declined) => Ok(plan_declined(alloc, declined)?),
     }
 }

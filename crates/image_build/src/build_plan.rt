@@ -1,20 +1,28 @@
 //! The plan of an image that is built of a stub and parts, before any of their bytes are copied.
-ghost use Rattle.std.specs.Prelude.{◌≡◌, ◌≤◌, ◌<◌, ◌^◌, All, IfOk, filter, length, map, sum_by, true};
+ghost use Rattle.std.specs.Prelude.{◌≡◌, ◌≤◌, ◌<◌, ◌-◌, ◌^◌, ◌↔◌, IfOk, count_by, filter, length, map, min, sum_by, true};
+ghost use Rattle.std.specs.List.{AllByRecursion};
 ghost use Rattle.std.specs.List.Sorted.{IsNonDecreasingBy};
 ghost use Rattle.boot_machine.specs.Disk.{Files};
 ghost use Rattle.pe_reader.specs.Reads.{ReadFrom, headers_of};
 ghost use Rattle.pe_builder.specs.Replaced.{MayReplace};
-ghost use Rattle.pe_builder.specs.Sizes.{size_of};
+ghost use Rattle.pe_builder.specs.Layout.{FitsPart};
+ghost use Rattle.pe_builder.specs.Sizes.{any_size};
 ghost use Rattle.uki_parts.specs.Parts.{part_place};
 ghost use Rattle.image_build.specs.Building.{has_sbat};
-ghost use Rattle.image_build.specs.Imaged.{AreFound, AreOrdered, AreParts, AreRead, IsCountable, IsOwnPlan, Images, IsSbatPart, PlansParts, any_size, image_meant, is_filled};
+ghost use Rattle.image_build.specs.Imaged.{AreFound, AreOrdered, IsCountable, IsOwnPlan, Images, IsSbatPart, PlansParts, image_meant, is_filled};
 
 use boot_base::{BootPath, Bytes};
 use image_writer::Sources;
-use pe_builder::{PartSize, Plan, PlanFault, WideSize, plan_refusal};
+use pe_builder::{Plan, PlanFault, WideSize};
 use pe_reader::Pe;
 use std::alloc::{AllocError, Global};
 use uki_parts::{Part, PartKind, PartList, Piece, SectionName};
+
+/// How many parts with bytes an image holds besides the SBAT text and the kernel.
+const MAX_PARTS: usize = 16_777_214;
+
+/// How many bytes they may have together.
+const MAX_BYTES: u64 = 1 << 61;
 
 /// What an image is to be, and where its bytes come from.
 #[derive(Debug, Drop)]
@@ -25,41 +33,13 @@ pub struct ImagePlan {
     pub sources: Sources,
 }
 
-// The size of a part of any length. Its flags go by its name alone.
-fn any_size(alloc: Global, part: &Part) -> WideSize
-    ensures { result ≡ any_size part.now }
-{
-    let named = Part {
-        kind: part.kind,
-        name: part.name,
-        pieces: Vec::new(alloc),
-        length: 0,
-    };
-    WideSize {
-        name: part.name,
-        length: part.length,
-        flags: PartSize::of(&named).flags,
-    }
-}
-
 fn any_sizes(alloc: Global, parts: &[Part]) -> Result<Vec<WideSize>, AllocError>
-    ensures { IfOk result (λ sizes. sizes.items ≡ map any_size parts.now) }
+    ensures exact { IfOk result (λ sizes. sizes.items ≡ map any_size parts.now) }
+    ensures fit { IfOk result (λ sizes. AllByRecursion FitsPart sizes.items) }
 {
     let mut sizes = Vec::new(alloc);
     for part in parts {
-        sizes.push(any_size(alloc, part))?;
-    }
-    Ok(sizes)
-}
-
-// The sizes of parts that an image can hold.
-fn part_sizes(alloc: Global, parts: &[Part]) -> Result<Vec<PartSize>, AllocError>
-    requires { All (λ part. part.length ≤ 268435456) parts.now }
-    ensures { IfOk result (λ sizes. sizes.items ≡ map size_of parts.now) }
-{
-    let mut sizes = Vec::new(alloc);
-    for part in parts {
-        sizes.push(PartSize::of(part))?;
+        sizes.push(WideSize::of(part))?;
     }
     Ok(sizes)
 }
@@ -75,18 +55,13 @@ fn planned(
     sbat: Vec<u8>,
 ) -> Result<ImagePlan, PlanFault>
     requires read { ReadFrom head.now stub_length }
-    requires small { stub_length ≤ 268435456 }
     requires few { length parts ≤ 16777216 }
     requires total { sum_by (λ part. part.length) parts ≤ 2 ^ 62 }
     requires sbat { MayReplace (headers_of head.now) in_place }
     ensures { PlansParts (headers_of head.now) stub_length stub parts in_place sbat.items result }
 {
     let sizes = any_sizes(alloc, parts.parts())?;
-    if let Some(fault) = plan_refusal(head, stub_length, &sizes, in_place) {
-        return Err(fault);
-    }
-    let sizes = part_sizes(alloc, parts.parts())?;
-    let plan = Plan::make(alloc, head, stub_length, &sizes, in_place)?;
+    let plan = Plan::of_sizes(alloc, head, stub_length, &sizes, in_place)?;
     Ok(ImagePlan {
         plan,
         sources: Sources::new(stub, parts, sbat),
@@ -128,19 +103,30 @@ fn sbat_part(alloc: Global, text: Vec<u8>) -> Result<Part, AllocError>
     })
 }
 
-// Whether the numbers of an image can hold so many parts and bytes. They do of every command, whose words and files are
-// short enough.
-fn is_countable(parts: &[Part], sbat: &[u8]) -> bool
-    ensures { result ≡ true → IsCountable parts.now sbat.now }
+// How many of the parts add a section.
+fn filled_count(parts: &[Part]) -> usize
+    ensures { result ≡ count_by is_filled parts.now }
 {
-    let mut room = 1u64 << 61;
+    parts.iter().filter(|part| part.length != 0).count()
+}
+
+// How many bytes the parts have, or the greatest u64 where they have more.
+fn total_bytes(parts: &[Part]) -> u64
+    ensures { result ≡ min (sum_by (λ part. part.length) parts.now) (2 ^ 64 - 1) }
+{
+    let mut total: u64 = 0;
     for part in parts {
-        if room < part.length {
-            return false;
-        }
-        room -= part.length;
+        total = total.saturating_add(part.length);
     }
-    parts.len() <= 16_777_000 && sbat.len() < 1 << 32
+    total
+}
+
+// Whether the numbers of an image hold so many parts and bytes. They hold those of every command: it has at most
+// 16,777,211 words that add a part, and its files and words together have fewer bytes.
+fn is_countable(parts: &[Part], sbat: &[u8]) -> bool
+    ensures { (result ≡ true) ↔ IsCountable parts.now sbat.now }
+{
+    filled_count(parts) <= MAX_PARTS && total_bytes(parts) <= MAX_BYTES && sbat.len() < 1 << 32
 }
 
 // The plan of an image of these, with its numbers.
@@ -154,10 +140,9 @@ fn counted_plan(
     sbat: Vec<u8>,
 ) -> Result<ImagePlan, PlanFault>
     requires read { ReadFrom head.now stub_length }
-    requires small { stub_length ≤ 268435456 }
-    requires parts { AreParts parts.items linux }
-    requires sbat { length sbat.items < 2 ^ 32 }
-    ensures images { (view : Files) → AreRead view (headers_of head.now) stub_length stub parts.items linux
+    requires parts { AreOrdered parts.items linux }
+    requires counted { IsCountable parts.items sbat.items }
+    ensures images { (view : Files) → AreFound view (headers_of head.now) stub_length stub parts.items linux
         → Images view (image_meant view (headers_of head.now) stub parts.items linux sbat.items) result }
     ensures own { IfOk result (λ image. IsOwnPlan image (headers_of head.now) stub_length stub) }
 {
@@ -183,7 +168,8 @@ fn counted_plan(
 /// # Errors
 ///
 /// The first refusal of the builder, as `plan_refusal` has it, exactly where there is one; `Memory` where there is no
-/// memory for the plan, or for so many parts and bytes as no command has.
+/// memory for the plan, or where there are more parts with bytes than 16,777,214, more bytes than 2^61, or an SBAT text of
+/// 4 GiB, which no command's words and files reach.
 pub fn plan_image_of(
     alloc: Global,
     head: &Pe,
@@ -194,7 +180,6 @@ pub fn plan_image_of(
     sbat: Vec<u8>,
 ) -> Result<ImagePlan, PlanFault>
     requires read { ReadFrom head.now stub_length }
-    requires small { stub_length ≤ 268435456 }
     requires parts { AreOrdered parts.items linux }
     ensures images { (view : Files) → AreFound view (headers_of head.now) stub_length stub parts.items linux
         → Images view (image_meant view (headers_of head.now) stub parts.items linux sbat.items) result }

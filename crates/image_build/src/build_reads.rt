@@ -1,7 +1,7 @@
 //! What a build reads of the machine, before the image is planned.
 ghost use Rattle.std.specs.Prelude.{◌≡◌, ◌≤◌, ◌<◌, ◌+◌, ◌-◌, ◌^◌, ◌++◌, ◌∷◌, [], All, IfOk, IsTrue, List, Ok, OnOk, drop, length, map, min, sum_by, ℕ};
 ghost use Rattle.std.specs.List.{AllZip};
-ghost use Rattle.boot_machine.specs.Reading.{OnlyReads};
+ghost use Rattle.boot_machine.specs.Reading.{OnlyReads, TakesAtMost};
 ghost use Rattle.boot_machine.specs.Rows.{contents};
 ghost use Rattle.boot_machine.specs.Sent.{seen};
 ghost use Rattle.pe_builder.specs.Replaced.{sbat_name};
@@ -12,7 +12,7 @@ ghost use Rattle.uki_parts.specs.Pieces.{HasSizes, Reading, bytes_of, piece_byte
 ghost use Rattle.image_build.specs.Building.{contents_of, given_sbat, material_of, named_as, part_bytes, part_named, sbat_of, source_bytes};
 ghost use Rattle.boot_base.specs.Limits.{file_limit};
 ghost use Rattle.command_reads.specs.Files.{bytes_at, each};
-ghost use Rattle.image_build.specs.Reads.{BuiltFrom, BuiltHasSizes, FilesFrom, FilesHaveSizes, IsKernel, PartFrom, PartHasSizes, contents_as, material_as, part_as, source_limit};
+ghost use Rattle.image_build.specs.Reads.{BuiltFrom, BuiltHasSizes, FilesFrom, FilesHaveSizes, IsKernel, PartFrom, PartHasSizes, contents_as, loaded_sbat_length, material_as, part_as, reading_length, source_file_length, source_limit};
 ghost use Rattle.command_reads.specs.Saying.{CountsUnsaid, Says};
 
 use crate::source::{BuildSources, PartSources, Source};
@@ -66,6 +66,7 @@ fn source_piece<M: Machine>(alloc: Global, source: Source, machine: &mut M) -> R
     ensures limit { IfOk result (λ piece. piece_length piece ≤ source_limit source) }
     ensures reads { IsTrue M.tells → OnlyReads M.clock M.since M.state machine.old machine.new }
     ensures counts { CountsUnsaid result (M.counts machine.old) (M.counts machine.new) }
+    ensures taken { IsTrue M.tells → TakesAtMost 0 (M.taken machine.old) (M.taken machine.new) }
 {
     match source {
         Source::Said(bytes) => Ok(Piece::Bytes(bytes)),
@@ -89,6 +90,7 @@ fn source_pieces<M: Machine>(
     ensures count { IfOk result (λ pieces. length pieces.items ≡ length sources.items) }
     ensures reads { IsTrue M.tells → OnlyReads M.clock M.since M.state machine.old machine.new }
     ensures counts { CountsUnsaid result (M.counts machine.old) (M.counts machine.new) }
+    ensures taken { IsTrue M.tells → TakesAtMost 0 (M.taken machine.old) (M.taken machine.new) }
 {
     let mut pieces = Vec::new(alloc);
     for source in sources {
@@ -110,6 +112,7 @@ fn part_of_sources<M: Machine>(
     ensures from { IfOk result (PartFrom sources) }
     ensures reads { IsTrue M.tells → OnlyReads M.clock M.since M.state machine.old machine.new }
     ensures counts { CountsUnsaid result (M.counts machine.old) (M.counts machine.new) }
+    ensures taken { IsTrue M.tells → TakesAtMost 0 (M.taken machine.old) (M.taken machine.new) }
 {
     let PartSources {
         kind,
@@ -140,6 +143,7 @@ fn parts_of_sources<M: Machine>(
     ensures from { IfOk result (λ parts. AllZip PartFrom sources.items parts.items) }
     ensures reads { IsTrue M.tells → OnlyReads M.clock M.since M.state machine.old machine.new }
     ensures counts { CountsUnsaid result (M.counts machine.old) (M.counts machine.new) }
+    ensures taken { IsTrue M.tells → TakesAtMost 0 (M.taken machine.old) (M.taken machine.new) }
 {
     let mut parts = Vec::new(alloc);
     for source in sources {
@@ -162,6 +166,7 @@ fn range_bytes<M: Machine>(
         → Says (λ content. content.items) result (Ok (bytes_in (contents (seen (M.state machine.old)) path.now) range)) }
     ensures reads { IsTrue M.tells → OnlyReads M.clock M.since M.state machine.old machine.new }
     ensures counts { CountsUnsaid result (M.counts machine.old) (M.counts machine.new) }
+    ensures taken { IsTrue M.tells → TakesAtMost range.length (M.taken machine.old) (M.taken machine.new) }
 {
     let mut content = file_part(alloc, path, range.place, range.length, machine)?;
     content.resize(content.len() + range.zeros as usize, 0)?;
@@ -180,6 +185,9 @@ fn loaded_sbat<M: Machine>(
         (Ok (loaded (contents (seen (M.state machine.old)) path.now) sbat_name)) }
     ensures reads { IsTrue M.tells → OnlyReads M.clock M.since M.state machine.old machine.new }
     ensures counts { CountsUnsaid result (M.counts machine.old) (M.counts machine.new) }
+    ensures taken { IsTrue M.tells → TakesAtMost
+        (loaded_sbat_length (contents (seen (M.state machine.old))) path.now)
+        (M.taken machine.old) (M.taken machine.new) }
 {
     match head.find(b".sbat") {
         None => Ok(Vec::new(alloc)),
@@ -200,6 +208,9 @@ fn kernel_sbat<M: Machine>(
         (Ok (loaded (contents (seen (M.state machine.old)) path.now) sbat_name)) }
     ensures reads { IsTrue M.tells → OnlyReads M.clock M.since M.state machine.old machine.new }
     ensures counts { CountsUnsaid result (M.counts machine.old) (M.counts machine.new) }
+    ensures taken { IsTrue M.tells → TakesAtMost
+        (69463 + loaded_sbat_length (contents (seen (M.state machine.old))) path.now)
+        (M.taken machine.old) (M.taken machine.new) }
 {
     match head_of_size(alloc, path, size, machine) {
         Ok(head) => loaded_sbat(alloc, path, &head, machine),
@@ -218,6 +229,9 @@ fn given_sbat<M: Machine>(
     ensures says { IsTrue M.tells → Says (λ text. text.items) result (given_sbat (seen (M.state machine.old)) source) }
     ensures reads { IsTrue M.tells → OnlyReads M.clock M.since M.state machine.old machine.new }
     ensures counts { CountsUnsaid result (M.counts machine.old) (M.counts machine.new) }
+    ensures taken { IsTrue M.tells → TakesAtMost
+        (source_file_length (contents (seen (M.state machine.old))) source)
+        (M.taken machine.old) (M.taken machine.new) }
 {
     match source {
         None => Ok(Vec::new(alloc)),
@@ -238,6 +252,9 @@ fn build_files<M: Machine>(
     ensures from { IfOk result (FilesFrom sources) }
     ensures reads { IsTrue M.tells → OnlyReads M.clock M.since M.state machine.old machine.new }
     ensures counts { CountsUnsaid result (M.counts machine.old) (M.counts machine.new) }
+    ensures taken { IsTrue M.tells → TakesAtMost
+        (source_file_length (contents (seen (M.state machine.old))) sources.sbat)
+        (M.taken machine.old) (M.taken machine.new) }
 {
     let BuildSources {
         stub,
@@ -275,6 +292,9 @@ fn image_sbat<M: Machine>(
         (Ok (sbat_of (contents_as (contents (seen (M.state machine.old))) found.now))) }
     ensures reads { IsTrue M.tells → OnlyReads M.clock M.since M.state machine.old machine.new }
     ensures counts { CountsUnsaid result (M.counts machine.old) (M.counts machine.new) }
+    ensures taken { IsTrue M.tells → TakesAtMost
+        (loaded_sbat_length (contents (seen (M.state machine.old))) found.now.stub + (69463 + loaded_sbat_length (contents (seen (M.state machine.old))) found.now.linux))
+        (M.taken machine.old) (M.taken machine.new) }
 {
     let stub = loaded_sbat(alloc, &found.stub, head, machine)?;
     let kernel = kernel_sbat(alloc, &found.linux, found.linux_length, machine)?;
@@ -300,7 +320,7 @@ fn kernel_part(alloc: Global, path: BootPath, size: u64) -> Result<Part, AllocEr
 }
 
 /// What an image is built of, by what the words of a build name: each file is found, and then the stub's headers and
-/// the SBAT texts are read. Of the files of the other parts only the sizes are asked for.
+/// the SBAT texts are read, no byte of them twice. Of the files of the other parts only the sizes are asked for.
 ///
 /// # Errors
 ///
@@ -317,6 +337,9 @@ pub fn read_build<M: Machine>(
     ensures from { IfOk result (BuiltFrom sources) }
     ensures reads { IsTrue M.tells → OnlyReads M.clock M.since M.state machine.old machine.new }
     ensures counts { CountsUnsaid result (M.counts machine.old) (M.counts machine.new) }
+    ensures taken { IsTrue M.tells → TakesAtMost
+        (reading_length (contents (seen (M.state machine.old))) (named_as sources))
+        (M.taken machine.old) (M.taken machine.new) }
 {
     let found = build_files(alloc, sources, machine)?;
     let head = sized_head(alloc, &found.stub, found.stub_length, machine)?;

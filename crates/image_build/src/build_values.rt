@@ -1,9 +1,9 @@
 //! PCR 11 of a planned image, by what its sections are going to hold (systemd's TPM2 PCR document, PCR 11).
-ghost use Rattle.std.specs.Prelude.{◌≡◌, All, IfOk, IfSome, IsTrue, Ok, bytes_eq, map};
+ghost use Rattle.std.specs.Prelude.{◌≡◌, ◌≤◌, All, IfOk, IfSome, IsTrue, Ok, bytes_eq, map};
 ghost use Rattle.std.specs.List.{find};
 ghost use Rattle.std.specs.Option.{option_copied};
 ghost use Rattle.boot_machine.specs.Disk.{Files};
-ghost use Rattle.boot_machine.specs.Reading.{OnlyReads};
+ghost use Rattle.boot_machine.specs.Reading.{OnlyReads, TakesAtMost};
 ghost use Rattle.boot_machine.specs.Rows.{contents};
 ghost use Rattle.boot_machine.specs.Sent.{seen};
 ghost use Rattle.boot_phases.specs.Lines.{value_lines};
@@ -11,11 +11,11 @@ ghost use Rattle.boot_phases.specs.Phases.{default_phase_paths};
 ghost use Rattle.image_writer.specs.Sourced.{planned_image};
 ghost use Rattle.pcr_fold.specs.Banks.{all_banks, folded};
 ghost use Rattle.pcr_fold.specs.Values.{pcr_bank, shown};
-ghost use Rattle.stub_replay.specs.Parts.{HaveSizes, IsPlaced, items_of, named_bytes};
+ghost use Rattle.stub_replay.specs.Parts.{HaveSizes, IsPlaced, files_length, items_of, named_bytes};
 ghost use Rattle.pe_reader.specs.Grammar.{pe_of};
 ghost use Rattle.pe_reader.specs.Loaded.{loaded};
 ghost use Rattle.pe_reader.specs.Reads.{headers_of};
-ghost use Rattle.stub_replay.specs.Measured.{measured_list, stub_pcr};
+ghost use Rattle.stub_replay.specs.Measured.{measured_length, measured_list, stub_pcr};
 ghost use Rattle.uki_parts.specs.Names.{name_bytes};
 ghost use Rattle.uki_parts.specs.Pieces.{Reading};
 ghost use Rattle.command_reads.specs.Saying.{CountsUnsaid, Says};
@@ -81,6 +81,8 @@ fn measured_parts<'a>(
         ≡ measured_list (planned_image plan.now.image.plan plan.now.image.sources view)) }
     ensures whole { IfOk result (λ parts. (view : Files) → IsPlannedOn view plan.now → HaveSizes (contents view) parts.items) }
     ensures placed { IfOk result (λ parts. All (λ part. IsPlaced part.content) parts.items) }
+    ensures short { IfOk result (λ parts. (view : Files) → IsPlannedOn view plan.now
+        → files_length parts.items ≤ measured_length (planned_image plan.now.image.plan plan.now.image.sources view)) }
 {
     let mut parts = Vec::new(alloc);
     for name in measured_names() {
@@ -101,6 +103,9 @@ fn registers<M: Machine>(
         (Ok (map (folded (measured_list (planned_image plan.now.image.plan plan.now.image.sources (seen (M.state machine.old))))) banks.now)) }
     ensures reads { IsTrue M.tells → OnlyReads M.clock M.since M.state machine.old machine.new }
     ensures counts { CountsUnsaid result (M.counts machine.old) (M.counts machine.new) }
+    ensures taken { IsTrue M.tells → IsPlannedOn (seen (M.state machine.old)) plan.now → TakesAtMost
+        (measured_length (planned_image plan.now.image.plan plan.now.image.sources (seen (M.state machine.old))))
+        (M.taken machine.old) (M.taken machine.new) }
 {
     let mut buffer = [0; PIECE_SIZE];
     let parts = measured_parts(alloc, plan)?;
@@ -122,6 +127,9 @@ pub(crate) fn planned_values<M: Machine>(
         (Ok (value_lines (stub_pcr (planned_image plan.now.image.plan plan.now.image.sources (seen (M.state machine.old)))) all_banks default_phase_paths)) }
     ensures reads { IsTrue M.tells → OnlyReads M.clock M.since M.state machine.old machine.new }
     ensures counts { CountsUnsaid result (M.counts machine.old) (M.counts machine.new) }
+    ensures taken { IsTrue M.tells → IsPlannedOn (seen (M.state machine.old)) plan.now → TakesAtMost
+        (measured_length (planned_image plan.now.image.plan plan.now.image.sources (seen (M.state machine.old))))
+        (M.taken machine.old) (M.taken machine.new) }
 {
     let banks = banks_of(alloc, &[])?;
     let paths = paths_of(alloc, &[])?;

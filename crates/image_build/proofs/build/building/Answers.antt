@@ -1,5 +1,8 @@
 use Rattle.boot_machine.proofs.Reading.{reads_on}
-use Rattle.image_build.proofs.Planning.{meant_plan}
+use Rattle.std.proofs.Common.{◌∙◌}
+use Rattle.boot_machine.specs.Sent.{seen}
+use Rattle.image_build.proofs.Planning.{build_by_name, meant_plan}
+use Rattle.image_build.proofs.Taken.{planning}
 use Rattle.image_build.proofs.build.building.Goals as goal
 
 pub returns-in_err-text-clause-reads : goal.returns-in_err-text-clause-reads
@@ -13,8 +16,26 @@ returns-in_err-writing-clause-reads g c told =
 pub returns-clause-plans : goal.returns-clause-plans
 returns-clause-plans g c told =
     meant_plan (g.M.Machine.state c.args.machine.now) (g.M.Machine.state c.planned.new.machine) c.args.words.now c.in_ok-build.build c.in_ok-writing.field-0 c.in_ok-text.text.items (c.planned.ensures.reads told).same
-    (c.in_ok-build.ensures.says told) (c.in_ok-build.ensures.planned told) (c.in_ok-text.ensures.says told) c.in_ok-writing.ensures.plans
+    (build_by_name (seen (g.M.Machine.state c.args.machine.now)) c.args.words.now c.args.sources c.requires.named ∙ c.in_ok-build.ensures.says told) (c.in_ok-build.ensures.planned told) (c.in_ok-text.ensures.says told) c.in_ok-writing.ensures.plans
 
 pub returns-clause-reads : goal.returns-clause-reads
 returns-clause-reads g c told =
     reads_on g.M.Machine.clock g.M.Machine.since g.M.Machine.state c.args.machine.now c.planned.new.machine c.reply.new.machine (c.planned.ensures.reads told) (c.reply.ensures.reads told)
+
+pub planned-requires-clause-named : goal.planned-requires-clause-named
+planned-requires-clause-named g c = (c.args.words.now, c.requires.named)
+
+pub returns-in_err-text-clause-taken : goal.returns-in_err-text-clause-taken
+returns-in_err-text-clause-taken g c told =
+    planning (g.M.Machine.state c.args.machine.now) (g.M.Machine.state c.planned.new.machine) c.args.words.now.measure c.args.sources c.in_ok-build.build _ _ _ (c.planned.ensures.reads told).same
+    (c.in_ok-build.ensures.says told) (c.in_ok-build.ensures.planned told) (c.planned.ensures.taken told) (c.reply.ensures.taken told)
+
+pub returns-in_err-writing-clause-taken : goal.returns-in_err-writing-clause-taken
+returns-in_err-writing-clause-taken g c told =
+    planning (g.M.Machine.state c.args.machine.now) (g.M.Machine.state c.planned.new.machine) c.args.words.now.measure c.args.sources c.in_ok-build.build _ _ _ (c.planned.ensures.reads told).same
+    (c.in_ok-build.ensures.says told) (c.in_ok-build.ensures.planned told) (c.planned.ensures.taken told) (c.reply.ensures.taken told)
+
+pub returns-clause-taken : goal.returns-clause-taken
+returns-clause-taken g c told =
+    planning (g.M.Machine.state c.args.machine.now) (g.M.Machine.state c.planned.new.machine) c.args.words.now.measure c.args.sources c.in_ok-build.build _ _ _ (c.planned.ensures.reads told).same
+    (c.in_ok-build.ensures.says told) (c.in_ok-build.ensures.planned told) (c.planned.ensures.taken told) (c.reply.ensures.taken told)

@@ -8,6 +8,8 @@ use Rattle.pe_reader.specs.Loaded.{bytes_in, loaded}
 use Rattle.pe_reader.specs.Reads.{headers_of}
 use Rattle.stub_replay.proofs.Ranges.{found_range}
 use Rattle.command_reads.proofs.Unsaying.{says_same}
+use Rattle.std.specs.Prelude.{IsTrue}
+use Rattle.stub_replay.proofs.Sections.{section_long}
 use Rattle.image_build.proofs.build_reads.loaded_sbat.Goals as goal
 
 pub returns-in-None-clause-says : goal.returns-in-None-clause-says
@@ -24,3 +26,8 @@ returns-in-Some-clause-says g c told =
     let file = contents (seen (g.M.Machine.state c.args.machine.now)) c.args.path.now in
     let range = found_range file sbat_name (headers_of c.args.head.now) c.in-Some.index c.loaded_range.result (c.requires told) (sym c.find.ensures.at ∙ c.in-Some.is) c.in-Some.ensures.inside c.loaded_range.ensures.exact in
     says_same (λ (content : Vec ℕ Global). content.items) c.range_bytes.result (bytes_in file c.loaded_range.result) (loaded file sbat_name) (sym range.bytes) (c.range_bytes.ensures.says told range.inside)
+
+pub returns-in-Some-clause-taken : goal.returns-in-Some-clause-taken
+returns-in-Some-clause-taken g c =
+    section_long (IsTrue g.M.Machine.tells) (contents (seen (g.M.Machine.state c.args.machine.now)) c.args.path.now) sbat_name (headers_of c.args.head.now) c.in-Some.index c.loaded_range.result _ _
+    c.requires (sym c.find.ensures.at ∙ c.in-Some.is) c.in-Some.ensures.inside c.loaded_range.ensures.exact c.range_bytes.ensures.taken

@@ -1,7 +1,7 @@
 use Rattle.std.proofs.Common.{◌≡◌, ◌++◌, IsTrue, Ok, map}
 use Rattle.std.specs.List.{AllZip}
 use Rattle.std.specs.Prelude.{All}
-use Rattle.boot_machine.specs.Reading.{OnlyReads}
+use Rattle.boot_machine.specs.Reading.{OnlyReads, TakesAtMost}
 use Rattle.boot_machine.specs.Rows.{contents}
 use Rattle.boot_machine.specs.Sent.{seen}
 use Rattle.image_build.specs.Building.{part_bytes, part_named}
@@ -16,5 +16,6 @@ invariant-loop-source g l = record {
   found : IsTrue g.M.Machine.tells → each (part_bytes (seen (g.M.Machine.state l.initial.machine))) (map part_named l.yielded) ≡ Ok (map (part_as (contents (seen (g.M.Machine.state l.initial.machine)))) l.parts.items);
   sizes : IsTrue g.M.Machine.tells → All (PartHasSizes (contents (seen (g.M.Machine.state l.initial.machine)))) l.parts.items;
   reads : IsTrue g.M.Machine.tells → OnlyReads g.M.Machine.clock g.M.Machine.since g.M.Machine.state l.initial.machine l.machine;
+  taken : IsTrue g.M.Machine.tells → TakesAtMost 0 (g.M.Machine.taken l.initial.machine) (g.M.Machine.taken l.machine);
   counts : g.M.Machine.counts l.machine ≡ g.M.Machine.counts l.initial.machine;
 }

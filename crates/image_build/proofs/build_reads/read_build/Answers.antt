@@ -5,6 +5,11 @@ use Rattle.pe_reader.specs.Reads.{headers_of}
 use Rattle.uki_parts.specs.Pieces.{bytes_of}
 use Rattle.image_build.specs.Building.{named_as}
 use Rattle.image_build.proofs.Material.{material_is}
+use Rattle.std.proofs.Common.{subst, ◌+◌, ◌∙◌, arith}
+use Rattle.boot_machine.specs.Disk.{State}
+use Rattle.boot_machine.specs.Reading.{TakesAtMost}
+use Rattle.image_build.specs.Reads.{loaded_sbat_length}
+use Rattle.image_build.proofs.Taken.{reading}
 use Rattle.image_build.proofs.build_reads.read_build.Goals as goal
 
 pub returns-in_err-head-clause-reads : goal.returns-in_err-head-clause-reads
@@ -29,3 +34,24 @@ returns-clause-says g c told =
     material_is s (g.M.Machine.state c.build_files.new.machine) (g.M.Machine.state c.sized_head.new.machine) (named_as c.args.sources) c.in_ok-found.found (headers_of c.in_ok-head.head)
     (bytes_of (contents (seen s)) c.in_ok-linux.linux.pieces.items) c.in_ok-sbat.sbat.items (c.build_files.ensures.reads told).same (c.sized_head.ensures.reads told).same
     (c.in_ok-found.ensures.says told) (c.in_ok-head.ensures.head told) (c.in_ok-sbat.ensures.says told) (c.in_ok-linux.ensures.bytes (contents (seen s)))
+
+pub returns-in_err-sbat-clause-taken : goal.returns-in_err-sbat-clause-taken
+returns-in_err-sbat-clause-taken g c told =
+    reading (contents (seen (g.M.Machine.state c.args.machine.now))) c.args.sources c.in_ok-found.found _ _ _ _ c.in_ok-found.ensures.from (c.build_files.ensures.taken told) (c.sized_head.ensures.taken told)
+    (subst (λ (s : State). TakesAtMost (loaded_sbat_length (contents (seen s)) c.in_ok-found.found.stub + (69463 + loaded_sbat_length (contents (seen s)) c.in_ok-found.found.linux)) (g.M.Machine.taken c.sized_head.new.machine) (g.M.Machine.taken c.image_sbat.new.machine))
+    ((c.sized_head.ensures.reads told).same ∙ (c.build_files.ensures.reads told).same) (c.image_sbat.ensures.taken told))
+
+pub returns-in_err-linux-clause-taken : goal.returns-in_err-linux-clause-taken
+returns-in_err-linux-clause-taken g c told =
+    reading (contents (seen (g.M.Machine.state c.args.machine.now))) c.args.sources c.in_ok-found.found _ _ _ _ c.in_ok-found.ensures.from (c.build_files.ensures.taken told) (c.sized_head.ensures.taken told)
+    (subst (λ (s : State). TakesAtMost (loaded_sbat_length (contents (seen s)) c.in_ok-found.found.stub + (69463 + loaded_sbat_length (contents (seen s)) c.in_ok-found.found.linux)) (g.M.Machine.taken c.sized_head.new.machine) (g.M.Machine.taken c.image_sbat.new.machine))
+    ((c.sized_head.ensures.reads told).same ∙ (c.build_files.ensures.reads told).same) (c.image_sbat.ensures.taken told))
+
+pub returns-clause-taken : goal.returns-clause-taken
+returns-clause-taken g c told =
+    reading (contents (seen (g.M.Machine.state c.args.machine.now))) c.args.sources c.in_ok-found.found _ _ _ _ c.in_ok-found.ensures.from (c.build_files.ensures.taken told) (c.sized_head.ensures.taken told)
+    (subst (λ (s : State). TakesAtMost (loaded_sbat_length (contents (seen s)) c.in_ok-found.found.stub + (69463 + loaded_sbat_length (contents (seen s)) c.in_ok-found.found.linux)) (g.M.Machine.taken c.sized_head.new.machine) (g.M.Machine.taken c.image_sbat.new.machine))
+    ((c.sized_head.ensures.reads told).same ∙ (c.build_files.ensures.reads told).same) (c.image_sbat.ensures.taken told))
+
+pub returns-in_err-head-clause-taken : goal.returns-in_err-head-clause-taken
+returns-in_err-head-clause-taken g c told = omega (arith, c.build_files.ensures.taken told, c.sized_head.ensures.taken told)

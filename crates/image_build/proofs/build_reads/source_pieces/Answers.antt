@@ -1,4 +1,4 @@
-use Rattle.std.proofs.Common.{◌≡◌, ◌∙◌, ◌++◌, ap, sym, refl, rules, length}
+use Rattle.std.proofs.Common.{◌≡◌, ◌∙◌, ◌++◌, ap, sym, refl, rules, arith, length}
 use Rattle.boot_machine.proofs.Reading.{reads_none, reads_on}
 use Rattle.boot_machine.specs.Disk.{State}
 use Rattle.boot_machine.specs.Rows.{contents}
@@ -19,6 +19,7 @@ loop-source-init g c = record {
   found = λ told. rw c.new-pieces.ensures.items (each_none _);
   sizes = λ told. search rules;
   reads = λ told. reads_none g.M.Machine.clock g.M.Machine.since g.M.Machine.state c.args.machine.now (λ m o left. g.met.M.Machine.only_now c.args.machine.now m o told left);
+  taken = λ told. omega arith;
   counts = refl;
 }
 
@@ -47,9 +48,16 @@ loop-source-preserved g c =
           all_more (λ (s : State) (piece : Piece). length (piece_bytes (contents (seen s)) piece) ≡ piece_length piece) (g.M.Machine.state c.args.machine.now) (g.M.Machine.state c.loop-source.machine)
           c.loop-source.pieces.items c.push.new.self.items c.in_ok-piece.piece (before.reads told).same (before.sizes told) (c.in_ok-piece.ensures.size told) c.in_ok-push.ensures.items;
       reads = λ told. reads_on g.M.Machine.clock g.M.Machine.since g.M.Machine.state _ _ _ (before.reads told) (c.in_ok-piece.ensures.reads told);
+      taken = λ told. omega (arith, before.taken told, c.in_ok-piece.ensures.taken told);
       counts = search rules;
     }
 
 pub returns-in_err-push-clause-reads : goal.returns-in_err-push-clause-reads
 returns-in_err-push-clause-reads g c told =
     reads_on g.M.Machine.clock g.M.Machine.since g.M.Machine.state _ _ _ (c.loop-source.invariant.reads told) (c.in_ok-piece.ensures.reads told)
+
+pub returns-in_err-piece-clause-taken : goal.returns-in_err-piece-clause-taken
+returns-in_err-piece-clause-taken g c told = omega (arith, c.loop-source.invariant.taken told, c.in_err-piece.ensures.taken told)
+
+pub returns-in_err-push-clause-taken : goal.returns-in_err-push-clause-taken
+returns-in_err-push-clause-taken g c told = omega (arith, c.loop-source.invariant.taken told, c.in_ok-piece.ensures.taken told)

@@ -1,5 +1,5 @@
 use Rattle.std.proofs.Common.{◌≡◌, ◌≤◌, ◌++◌, length, IsTrue, Ok, map, sum_by}
-use Rattle.boot_machine.specs.Reading.{OnlyReads}
+use Rattle.boot_machine.specs.Reading.{OnlyReads, TakesAtMost}
 use Rattle.boot_machine.specs.Rows.{contents}
 use Rattle.boot_machine.specs.Sent.{seen}
 use Rattle.uki_parts.specs.Pieces.{HasSizes, piece_bytes, total_length}
@@ -16,5 +16,6 @@ invariant-loop-source g l = record {
   found : IsTrue g.M.Machine.tells → each (source_bytes (seen (g.M.Machine.state l.initial.machine))) l.yielded ≡ Ok (map (piece_bytes (contents (seen (g.M.Machine.state l.initial.machine)))) l.pieces.items);
   sizes : IsTrue g.M.Machine.tells → HasSizes (contents (seen (g.M.Machine.state l.initial.machine))) l.pieces.items;
   reads : IsTrue g.M.Machine.tells → OnlyReads g.M.Machine.clock g.M.Machine.since g.M.Machine.state l.initial.machine l.machine;
+  taken : IsTrue g.M.Machine.tells → TakesAtMost 0 (g.M.Machine.taken l.initial.machine) (g.M.Machine.taken l.machine);
   counts : g.M.Machine.counts l.machine ≡ g.M.Machine.counts l.initial.machine;
 }

@@ -1,9 +1,9 @@
-use Rattle.std.proofs.Common.{◌≡◌, map, take}
+use Rattle.std.proofs.Common.{◌≡◌, ◌≤◌, length, map, take}
 use Rattle.std.specs.List.{flat_map}
-use Rattle.std.specs.Prelude.{All}
+use Rattle.std.specs.Prelude.{All, sum_by}
 use Rattle.boot_machine.specs.Disk.{Files}
 use Rattle.boot_machine.specs.Rows.{contents}
-use Rattle.stub_replay.specs.Parts.{HaveSizes, IsPlaced, items_of, named_bytes}
+use Rattle.stub_replay.specs.Parts.{HaveSizes, IsPlaced, files_length, items_of, named_bytes}
 use Rattle.stub_replay.specs.Measured.{measured_names, section_items}
 use Rattle.image_build.specs.Planning.{IsPlannedOn, section_bytes}
 use Rattle.image_build.proofs.build_values.measured_parts.Given as goal
@@ -12,5 +12,6 @@ abbrev pub invariant-loop-name : goal.invariant-loop-name
 invariant-loop-name l = record {
   items : (view : Files) (on : IsPlannedOn view l.plan) → items_of (map (named_bytes (contents view)) l.parts.items) ≡ flat_map (λ name. section_items name (section_bytes view l.plan on.own.in_place name)) (take l.name-index measured_names);
   whole : (view : Files) → IsPlannedOn view l.plan → HaveSizes (contents view) l.parts.items;
+  short : (view : Files) (on : IsPlannedOn view l.plan) → files_length l.parts.items ≤ sum_by (λ name. length (section_bytes view l.plan on.own.in_place name)) (take l.name-index measured_names);
   placed : All (λ part. IsPlaced part.content) l.parts.items;
 }

@@ -1,10 +1,10 @@
-use Rattle.std.proofs.Common.{map, subst, sym}
+use Rattle.std.proofs.Common.{ap, arith, map, subst, sym}
 use Rattle.boot_machine.proofs.Reading.{reads_none}
 use Rattle.boot_machine.specs.Rows.{contents}
 use Rattle.boot_machine.specs.Sent.{seen}
 use Rattle.pcr_fold.specs.Values.{shown}
 use Rattle.image_writer.specs.Sourced.{planned_image}
-use Rattle.stub_replay.specs.Parts.{HaveSizes}
+use Rattle.stub_replay.specs.Parts.{HaveSizes, files_length}
 use Rattle.stub_replay.specs.Measured.{measured_list}
 use Rattle.image_build.proofs.Values.{registers_are}
 use Rattle.image_build.proofs.build_values.registers.Goals as goal
@@ -19,3 +19,7 @@ returns-in-Ok-clause-says g c told on =
     let parts = c.in_ok-parts.parts.items in
     registers_are (contents view) parts c.deref.result.now (measured_list (planned_image plan.image.plan plan.image.sources view)) c.args.banks.now (map shown c.in-Ok.registers.items) c.deref.ensures.value
     (c.in_ok-parts.ensures.items view on) (c.in-Ok.ensures.value told (subst (HaveSizes (contents view)) (sym c.deref.ensures.value) (c.in_ok-parts.ensures.whole view on)))
+
+pub returns-in-Ok-clause-taken : goal.returns-in-Ok-clause-taken
+returns-in-Ok-clause-taken g c told on =
+    omega (arith, c.predict.ensures.taken told, c.in_ok-parts.ensures.short (seen (g.M.Machine.state c.args.machine.now)) on, ap files_length c.deref.ensures.value)

@@ -1,0 +1,11 @@
+use Rattle.image_build.proofs.Planning.{ok_weaker, unsaid_plan}
+use Rattle.image_build.proofs.build.plan_sources.Goals as goal
+
+pub returns-in-Err-clause-plans : goal.returns-in-Err-clause-plans
+returns-in-Err-clause-plans g c =
+    ok_weaker c.plan_unsaid.result
+    (λ plan plans told. unsaid_plan (g.M.Machine.state c.args.machine.now) c.args.words.now c.args.sources c.in-Err.unsaid plan c.requires.named (c.in-Err.ensures.unsaid told) plans)
+    c.plan_unsaid.ensures.plans
+
+pub returns-in-Err-clause-idle : goal.returns-in-Err-clause-idle
+returns-in-Err-clause-idle g c = ok_weaker c.plan_unsaid.result (λ plan idle is. idle) c.plan_unsaid.ensures.idle
