@@ -12,6 +12,7 @@ ghost use Rattle.stub_replay.specs.Parts.{HaveSizes, IsPlaced, items_of, named_b
 ghost use Rattle.command_plans.specs.Answers.{said};
 ghost use Rattle.command_plans.specs.Performs.{CountsStop};
 ghost use Rattle.command_plans.specs.Plans.{IsMakeable, Plans};
+ghost use Rattle.command_plans.specs.Refusing.{DeclinesWords, RefusesWords};
 ghost use Rattle.command_plans.specs.declared.plan.Change.TheVariants.{Nothing};
 ghost use Rattle.command_reads.specs.Files.{bytes_at, each};
 ghost use Rattle.command_reads.specs.Refusing.{Means, path_in};
@@ -178,6 +179,7 @@ fn calculated<M: Machine>(
         (calculate_said (seen (M.state machine.old)) words.now) }
     ensures reads { IsTrue M.tells → OnlyReads M.clock M.since M.state machine.old machine.new }
     ensures counts { CountsUnsaid result (M.counts machine.old) (M.counts machine.new) }
+    ensures words { DeclinesWords (each (under_name path_in) (given_words words.now)) result }
     ensures taken { IsTrue M.tells
         → TakesAtMost (named_length (seen (M.state machine.old)) words.now)
         (M.taken machine.old) (M.taken machine.new) }
@@ -203,6 +205,7 @@ pub fn plan_calculate<M: Machine>(
     ensures idle { IfOk result (λ plan. plan.change ≡ Nothing) }
     ensures reads { IsTrue M.tells → OnlyReads M.clock M.since M.state machine.old machine.new }
     ensures counts { CountsStop result (M.counts machine.old) (M.counts machine.new) }
+    ensures words { RefusesWords (each (under_name path_in) (given_words words.now)) result }
     ensures taken { IsTrue M.tells
         → TakesAtMost (named_length (seen (M.state machine.old)) words.now)
         (M.taken machine.old) (M.taken machine.new) }

@@ -7,8 +7,10 @@ ghost use Rattle.pe_reader.specs.Reads.{headers_of};
 ghost use Rattle.command_plans.specs.Answers.{said};
 ghost use Rattle.command_plans.specs.Performs.{CountsStop};
 ghost use Rattle.command_plans.specs.Plans.{IsMakeable, Plans};
+ghost use Rattle.command_plans.specs.Refusing.{DeclinesWords, RefusesWords};
 ghost use Rattle.command_plans.specs.declared.plan.Change.TheVariants.{Nothing};
 ghost use Rattle.image_commands.specs.Said.{has_loaded, identify_said, kind_at, kind_of};
+ghost use Rattle.command_reads.specs.Refusing.{path_in};
 ghost use Rattle.command_reads.specs.Saying.{CountsUnsaid, Says};
 
 use boot_base::BootPath;
@@ -63,6 +65,7 @@ fn identified<M: Machine>(alloc: Global, file: &str, machine: &mut M) -> Result<
         (identify_said (seen (M.state machine.old)) file.now) }
     ensures reads { IsTrue M.tells → OnlyReads M.clock M.since M.state machine.old machine.new }
     ensures counts { CountsUnsaid result (M.counts machine.old) (M.counts machine.new) }
+    ensures words { DeclinesWords (path_in file.now) result }
     ensures taken { IsTrue M.tells → TakesAtMost 69463 (M.taken machine.old) (M.taken machine.new) }
 {
     let path = path_in(alloc, file)?;
@@ -79,6 +82,7 @@ pub fn plan_identify<M: Machine>(alloc: Global, file: &str, machine: &mut M) -> 
     ensures idle { IfOk result (λ plan. plan.change ≡ Nothing) }
     ensures reads { IsTrue M.tells → OnlyReads M.clock M.since M.state machine.old machine.new }
     ensures counts { CountsStop result (M.counts machine.old) (M.counts machine.new) }
+    ensures words { RefusesWords (path_in file.now) result }
     ensures taken { IsTrue M.tells → TakesAtMost 69463 (M.taken machine.old) (M.taken machine.new) }
 {
     let text = identified(alloc, file, machine);

@@ -11,9 +11,11 @@ ghost use Rattle.stub_replay.specs.Measured.{measured_length, measured_list};
 ghost use Rattle.command_plans.specs.Answers.{said};
 ghost use Rattle.command_plans.specs.Performs.{CountsStop};
 ghost use Rattle.command_plans.specs.Plans.{IsMakeable, Plans};
+ghost use Rattle.command_plans.specs.Refusing.{DeclinesWords, RefusesWords};
 ghost use Rattle.command_plans.specs.declared.plan.Change.TheVariants.{Nothing};
 ghost use Rattle.image_commands.specs.Said.{image_said, values_at};
 ghost use Rattle.image_commands.specs.Taking.{found_bytes, named_content};
+ghost use Rattle.command_reads.specs.Refusing.{path_in};
 ghost use Rattle.command_reads.specs.Saying.{CountsUnsaid, Says};
 ghost use Rattle.command_reads.specs.Files.{bytes_at};
 
@@ -88,6 +90,7 @@ fn measured<M: Machine>(
         (image_said (seen (M.state machine.old)) file.now banks.now phases.now) }
     ensures reads { IsTrue M.tells → OnlyReads M.clock M.since M.state machine.old machine.new }
     ensures counts { CountsUnsaid result (M.counts machine.old) (M.counts machine.new) }
+    ensures words { DeclinesWords (path_in file.now) result }
     ensures taken { IsTrue M.tells → TakesAtMost
         (69463 + measured_length (named_content (seen (M.state machine.old)) file.now))
         (M.taken machine.old) (M.taken machine.new) }
@@ -112,6 +115,7 @@ pub fn plan_image<M: Machine>(
     ensures idle { IfOk result (λ plan. plan.change ≡ Nothing) }
     ensures reads { IsTrue M.tells → OnlyReads M.clock M.since M.state machine.old machine.new }
     ensures counts { CountsStop result (M.counts machine.old) (M.counts machine.new) }
+    ensures words { RefusesWords (path_in file.now) result }
     ensures taken { IsTrue M.tells → TakesAtMost
         (69463 + measured_length (named_content (seen (M.state machine.old)) file.now))
         (M.taken machine.old) (M.taken machine.new) }

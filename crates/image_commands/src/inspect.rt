@@ -12,9 +12,10 @@ ghost use Rattle.pe_reader.specs.Reads.{headers_of};
 ghost use Rattle.command_plans.specs.Answers.{said};
 ghost use Rattle.command_plans.specs.Performs.{CountsStop};
 ghost use Rattle.command_plans.specs.Plans.{IsMakeable, Plans};
+ghost use Rattle.command_plans.specs.Refusing.{DeclinesWords, RefusesWords};
 ghost use Rattle.command_plans.specs.declared.plan.Change.TheVariants.{Nothing};
 ghost use Rattle.command_reads.specs.Files.{bytes_at};
-ghost use Rattle.command_reads.specs.Refusing.{printed_path};
+ghost use Rattle.command_reads.specs.Refusing.{path_in, printed_path};
 ghost use Rattle.command_reads.specs.Names.{shown_byte};
 ghost use Rattle.image_commands.specs.Said.{first_line, inspect_said, inspection_at, measures, section_lines};
 ghost use Rattle.image_commands.specs.Taking.{all_raw_length, found_bytes, named_content, raw_length};
@@ -127,6 +128,7 @@ fn inspected<M: Machine>(alloc: Global, file: &str, machine: &mut M) -> Result<V
         (inspect_said (seen (M.state machine.old)) file.now) }
     ensures reads { IsTrue M.tells → OnlyReads M.clock M.since M.state machine.old machine.new }
     ensures counts { CountsUnsaid result (M.counts machine.old) (M.counts machine.new) }
+    ensures words { DeclinesWords (path_in file.now) result }
     ensures taken { IsTrue M.tells → TakesAtMost
         (69463 + all_raw_length (pe_of (named_content (seen (M.state machine.old)) file.now)))
         (M.taken machine.old) (M.taken machine.new) }
@@ -144,6 +146,7 @@ pub fn plan_inspect<M: Machine>(alloc: Global, file: &str, machine: &mut M) -> R
     ensures idle { IfOk result (λ plan. plan.change ≡ Nothing) }
     ensures reads { IsTrue M.tells → OnlyReads M.clock M.since M.state machine.old machine.new }
     ensures counts { CountsStop result (M.counts machine.old) (M.counts machine.new) }
+    ensures words { RefusesWords (path_in file.now) result }
     ensures taken { IsTrue M.tells → TakesAtMost
         (69463 + all_raw_length (pe_of (named_content (seen (M.state machine.old)) file.now)))
         (M.taken machine.old) (M.taken machine.new) }

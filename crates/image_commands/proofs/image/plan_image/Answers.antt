@@ -1,0 +1,6 @@
+use Rattle.command_plans.proofs.Worded.{said_words}
+use Rattle.command_reads.specs.Refusing.{path_in}
+use Rattle.image_commands.proofs.image.plan_image.Goals as goal
+
+pub returns-clause-words : goal.returns-clause-words
+returns-clause-words g c = said_words (path_in c.args.file.now) (λ text. text.items) c.measured-text.result c.said.result c.said.ensures.plans c.measured-text.ensures.words
