@@ -1,6 +1,7 @@
 mod Beginning
 pub mod Later
 mod Numbers
+mod Reading
 mod Replied
 pub mod Replies
 pub mod Sparing

@@ -21,6 +21,7 @@ use Rattle.boot_commands.specs.Plain.{is_plain, plain_reply}
 
 -- a command that runs no other is answered the same as a step
 pub plain_is : (view : Files) (c : Command) → is_plain c ≡ true → step_reply view c ≡ plain_reply view c
+unfolding step_reply
 plain_is view (command.Demo seed count) is = absurd (cc is)
 plain_is view c is = refl
 

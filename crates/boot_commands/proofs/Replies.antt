@@ -19,6 +19,7 @@ use Rattle.stub_replay.specs.Ordered.{present}
 use Rattle.image_commands.specs.Said.{has_loaded, identify_said, image_said, inspect_said, inspection_at, kind_at, kind_of, values_at}
 use Rattle.command_reads.specs.Values.{banks_of, once, paths_of}
 use Rattle.boot_commands.specs.Commands.{step_reply}
+use Rattle.boot_commands.specs.Plain.{plain_answer}
 use Rattle.boot_commands.specs.Demonstration.{demo_said, number_up_to}
 use Rattle.entry_commands.specs.Folders.{folders_of}
 use Rattle.entry_commands.proofs.Replies.{HasText, some_boot, some_install, some_line, some_list, some_marked, some_said, text_next}
@@ -80,6 +81,7 @@ some_changed view key value (Err why) = some_line why
 
 -- no command's reply is empty: a case for each command
 pub some_text : (view : Files) (c : Command) → 0 < length (step_reply view c).text
+unfolding step_reply plain_answer
 some_text view (command.Build words) = some_built view words.measure (build_of view words)
 some_text view (command.Calculate words) =
     some_said view (calculate_said view words)

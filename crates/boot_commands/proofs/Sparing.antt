@@ -25,6 +25,7 @@ use Rattle.loader_commands.specs.Showing.{show_said}
 use Rattle.loader_conf.specs.declared.change.ConfKey.{ConfKey}
 use Rattle.loader_conf.specs.declared.change.ConfKey.TheVariants.{Default, Timeout}
 use Rattle.boot_commands.specs.Commands.{step_reply}
+use Rattle.boot_commands.specs.Plain.{plain_answer}
 use Rattle.boot_commands.specs.Demonstration.{demo_said}
 use Rattle.boot_commands.specs.Sparing.{Spares}
 use Rattle.image_build.proofs.Outputs.{build_output}
@@ -76,6 +77,7 @@ module _ (folders : Folders) (path : Path) (view : Files) (entry : HasGoodEntry 
 
   -- a case for each command
   pub kept : (c : Command) → Spares path c → HasGoodEntry folders path (step_reply view c).after
+  unfolding step_reply plain_answer
   kept (command.Build words) spares =
       kept_built words.measure (path_in words.output) (build_of view words) (build_output view words) spares
   kept (command.Calculate words) spares = kept_said (calculate_said view words)

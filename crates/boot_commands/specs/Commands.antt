@@ -17,7 +17,7 @@ answer_of view (command.Demo seed count) = Some (said view (demo_said seed count
 answer_of view c = plain_answer view c
 
 -- the reply of a step, and the view after it
-abbrev pub step_reply : Files → Command → Answer
+unfoldable pub step_reply : Files → Command → Answer
 step_reply view c = answer_or_none view (answer_of view c)
 
 -- what a command does to the machine that shows this view

@@ -36,7 +36,7 @@ abbrev pub is_plain : Command → Bool
 is_plain c = not (is_script c || is_demo c)
 
 -- what a command comes to that runs no other
-abbrev pub plain_answer : Files → Command → Option Answer
+unfoldable pub plain_answer : Files → Command → Option Answer
 plain_answer view (command.Build words) = Some (build_answer view words)
 plain_answer view (command.Calculate words) = Some (said view (calculate_said view words))
 plain_answer view (command.Inspect file) = Some (said view (inspect_said view file))

@@ -13,11 +13,13 @@ ghost use Rattle.command_reads.specs.Refusing.{Means};
 ghost use Rattle.command_reads.specs.Saying.{CountsUnsaid, Says};
 ghost use Rattle.memory_machine.specs.Memory.{mem_state};
 ghost use Rattle.boot_commands.specs.DemoImages.{demo_image};
-ghost use Rattle.boot_commands.specs.Demonstration.{demo_files, demo_said, demo_start, demo_text, demo_turns, count_lines, end_lines, is_long_number, list_digest, long_number, number_up_to, run_line};
-ghost use Rattle.boot_commands.specs.DemoRuns.{IsReady, demo_state};
+ghost use Rattle.boot_commands.specs.Demonstration.{demo_esp, demo_files, demo_said, demo_start, demo_text, demo_turns, count_lines, end_lines, is_long_number, list_digest, long_number, number_up_to, run_line};
+ghost use Rattle.boot_commands.specs.DemoRuns.{IsReady, demo_state, reply_answer};
+ghost use Rattle.boot_commands.specs.Plain.{plain_reply};
+ghost use Rattle.tool_words.specs.declared.command.Command.TheVariants.{List as ListCommand};
 
 use crate::demo_images::demo_image;
-use crate::demo_turns::{Demo, ESP, reply_of};
+use crate::demo_turns::{Demo, ESP, Reply, reply_of};
 use crate::draws::Draws;
 use boot_base::{BootPath, Refusal, Text};
 use command_plans::{Plan, Stop, said};
@@ -107,13 +109,22 @@ fn start(alloc: Global, seed: u64) -> Result<Demo, AllocError>
     })
 }
 
+// What `bootctl list` comes to.
+fn listing(alloc: Global, machine: &mut MemMachine) -> Result<Reply, AllocError>
+    requires ready { IsReady (mem_state machine.old) }
+    ensures { IfOk result (λ reply.
+        reply_answer reply (seen (mem_state machine.new)) ≡ plain_reply (seen (mem_state machine.old)) (ListCommand demo_esp)) }
+{
+    let esp = Text::of(alloc, ESP)?;
+    reply_of(alloc, &Command::List { esp }, machine)
+}
+
 // The SHA-256 of what `bootctl list` prints on Out, in lower-case hex.
 fn list_digest(alloc: Global, machine: &mut MemMachine) -> Result<String, AllocError>
     requires ready { IsReady (mem_state machine.old) }
     ensures { IfOk result (λ text. string_bytes text ≡ list_digest (seen (mem_state machine.old))) }
 {
-    let esp = Text::of(alloc, ESP)?;
-    let reply = reply_of(alloc, &Command::List { esp }, machine)?;
+    let reply = listing(alloc, machine)?;
     let digest = Digest::of(Bank::Sha256, reply.on_out());
     let text = hex::encode(alloc, digest.bytes())?;
     Ok(text)
@@ -192,6 +203,6 @@ pub fn plan_demo(alloc: Global, seed: &str, count: &str) -> Result<Plan, Stop>
     ensures makeable { IfOk result (λ plan. IsMakeable plan.change) }
     ensures counts { (counts : Counts) → CountsStop result counts counts }
 {
-    let plan = said(alloc, demo_said(alloc, seed, count))?;
-    Ok(plan)
+    let text = demo_said(alloc, seed, count);
+    said(alloc, text)
 }

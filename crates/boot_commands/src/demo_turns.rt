@@ -219,7 +219,6 @@ impl Demo {
         ensures ready { OnOk result (IsReady (mem_state machine.new)) }
     {
         let command = self.draw(alloc)?;
-        self.run(alloc, &command, machine)?;
-        Ok(())
+        self.run(alloc, &command, machine)
     }
 }

@@ -2,6 +2,7 @@
 //! carries any of them out on a machine. `demo` carries out others on a machine in memory.
 #![tactic(auto)]
 
+mod carrying;
 mod demo;
 mod demo_images;
 mod demo_turns;

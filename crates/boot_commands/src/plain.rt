@@ -9,8 +9,9 @@ ghost use Rattle.boot_machine.specs.Reading.{OnlyReads};
 ghost use Rattle.command_plans.specs.Performs.{CountsStop, LeavesNoTemp, LeavesRested, Performs, Syncs, end_of};
 ghost use Rattle.command_plans.specs.Plans.{Drops, IsMakeable, Plans};
 
+use crate::carrying::carry_out;
 use boot_machine::Machine;
-use command_plans::{Outcome, Plan, Stop, perform};
+use command_plans::{Outcome, Plan, Stop};
 use entry_commands::{plan_bless, plan_boot, plan_install, plan_list, plan_tidy, plan_unlink};
 use image_build::plan_build;
 use image_commands::{plan_calculate, plan_identify, plan_image, plan_inspect};
@@ -19,6 +20,7 @@ use std::alloc::Global;
 use tool_words::Command;
 
 /// What a command that runs no other is going to do and to say, made by reads alone.
+#[tactic(auto, unfolding(crate::specs::Commands::step_reply, crate::specs::Plain::plain_answer))]
 pub fn plan_plain<M: Machine>(
     alloc: Global,
     command: &Command,
@@ -105,5 +107,5 @@ pub fn plain_step<M: Machine>(
     ensures counts { CountsStop result (M.counts machine.old) (M.counts machine.new) }
 {
     let plan = plan_plain(alloc, command, machine)?;
-    Ok(perform(&plan, machine)?)
+    carry_out(&plan, machine)
 }

@@ -9,14 +9,16 @@ ghost use Rattle.boot_machine.specs.Reading.{OnlyReads};
 ghost use Rattle.command_plans.specs.Performs.{CountsStop, LeavesNoTemp, LeavesRested, Performs, Syncs, end_of};
 ghost use Rattle.command_plans.specs.Plans.{Drops, IsMakeable, Plans};
 
+use crate::carrying::carry_out;
 use crate::demo::plan_demo;
 use crate::plain::plan_plain;
 use boot_machine::Machine;
-use command_plans::{Outcome, Plan, Stop, perform};
+use command_plans::{Outcome, Plan, Stop};
 use std::alloc::Global;
 use tool_words::Command;
 
 // What a command is going to do and to say, made by reads alone.
+#[tactic(auto, unfolding(crate::specs::Commands::step_reply))]
 fn plan_of<M: Machine>(alloc: Global, command: &Command, machine: &mut M) -> Result<Plan, Stop>
     requires step { is_script command.now ≡ false }
     ensures plans { IfOk result (λ plan. IsTrue M.tells
@@ -61,5 +63,5 @@ pub fn step<M: Machine>(alloc: Global, command: &Command, machine: &mut M) -> Re
     ensures counts { CountsStop result (M.counts machine.old) (M.counts machine.new) }
 {
     let plan = plan_of(alloc, command, machine)?;
-    Ok(perform(&plan, machine)?)
+    carry_out(&plan, machine)
 }

@@ -4,16 +4,13 @@ use Rattle.boot_machine.specs.Sent.{seen}
 use Rattle.pcr_fold.specs.declared.bank.Bank.TheVariants as banks
 use Rattle.pcr_fold.specs.Banks.{digest_of}
 use Rattle.command_plans.specs.Answers.{Answer}
-use Rattle.tool_words.specs.declared.command.Command.TheVariants as command
 use Rattle.memory_machine.specs.Memory.{mem_state}
 use Rattle.boot_commands.specs.Demonstration.{listed_on_out}
-use Rattle.boot_commands.specs.Plain.{plain_reply}
 use Rattle.boot_commands.proofs.demo.list_digest.Goals as goal
 
 pub returns : goal.returns
 returns c =
     c.in_ok-text.ensures
     ∙ ap encode_lower (c.bytes.ensures.value ∙ c.of-digest.ensures.bytes
-    ∙ ap (λ (l : List ℕ). digest_of banks.Sha256 l) (c.on_out.ensures (seen (mem_state c.reply_of.new.machine))
-    ∙ ap (λ (a : Answer). listed_on_out a) (c.in_ok-reply.ensures.reply
-    ∙ ap (λ (esp : List ℕ). plain_reply (seen (mem_state c.args.machine.now)) (command.List esp)) c.in_ok-esp.ensures)))
+    ∙ ap (λ (l : List ℕ). digest_of banks.Sha256 l) (c.on_out.ensures (seen (mem_state c.listing.new.machine))
+    ∙ ap (λ (a : Answer). listed_on_out a) c.in_ok-reply.ensures))

@@ -1,0 +1,35 @@
+//! A plan is carried out.
+ghost use Rattle.std.specs.Prelude.{◌≡◌, IsTrue};
+ghost use Rattle.boot_machine.specs.Disk.{Files, IsRested};
+ghost use Rattle.boot_machine.specs.Images.{IsFirm};
+ghost use Rattle.boot_machine.specs.Sent.{seen};
+ghost use Rattle.boot_commands.specs.Commands.{Tidied, TidiesTo};
+ghost use Rattle.command_plans.specs.Deeds.{made};
+ghost use Rattle.command_plans.specs.Performs.{CountsStop, LeavesNoTemp, LeavesRested, Performs, Syncs, end_of};
+ghost use Rattle.command_plans.specs.Plans.{CanMake, Drops, IsMakeable, planned};
+ghost use Rattle.tool_words.specs.declared.command.Command.{Command};
+
+use boot_machine::Machine;
+use command_plans::{Outcome, Plan, Stop, perform};
+
+/// Carries out a plan, as `perform` does it.
+pub(crate) fn carry_out<M: Machine>(plan: &Plan, machine: &mut M) -> Result<Outcome, Stop>
+    requires rested { IsTrue M.tells → IsRested (M.state machine.old) }
+    requires makeable { IsMakeable plan.now.change }
+    requires there { IsTrue M.tells → CanMake (M.state machine.old) plan.now.change }
+    ensures performs { IsTrue M.tells → IsFirm (M.state machine.old)
+        → Performs M.clock M.since M.state end_of machine.old machine.new
+        (made (planned (seen (M.state machine.old)) plan.now)) result }
+    ensures syncs { IsTrue M.tells → IsFirm (M.state machine.old)
+        → Syncs M.clock M.since M.state machine.old machine.new
+        (made (planned (seen (M.state machine.old)) plan.now)) result }
+    ensures tidies { IsTrue M.tells → (c : Command)
+        → ((files : Files) → Drops plan.now.change (M.state machine.old).files files → Tidied c files)
+        → TidiesTo result c (M.state machine.old) (M.state machine.new) }
+    ensures input { IsTrue M.tells → (M.state machine.new).input ≡ (M.state machine.old).input }
+    ensures rests { IsTrue M.tells → LeavesRested result (M.state machine.new) }
+    ensures temps { IsTrue M.tells → LeavesNoTemp result (M.state machine.old) (M.state machine.new) }
+    ensures counts { CountsStop result (M.counts machine.old) (M.counts machine.new) }
+{
+    Ok(perform(plan, machine)?)
+}
