@@ -1,5 +1,5 @@
 -- Boot counters in file names (UAPI Boot Loader Specification, "Boot counting"; that a number has at most nine digits is this project's choice).
-use Rattle.std.specs.Prelude.{◌≡◌, ◌⊎◌, ℕ, Bool, not, nat_le, ◌&&◌, ◌==◌, ◌+◌, ◌-◌, ◌<◌, ◌≤◌, min, List, [], ◌∷◌, ◌++◌, length, take, if◌then◌else◌}
+use Rattle.std.specs.Prelude.{◌≡◌, ◌⊎◌, ℕ, Bool, not, nat_le, ◌&&◌, ◌==◌, ◌+◌, ◌-◌, ◌<◌, ◌≤◌, min, List, [], ◌∷◌, ◌++◌, length, take, codes, if◌then◌else◌}
 use Rattle.std.specs.Char.{is_ascii_digit}
 use Rattle.std.specs.Fmt.{decimal}
 use Rattle.std.specs.List.{list_all}
@@ -11,8 +11,8 @@ use Rattle.boot_counter.specs.declared.counted.Suffix.TheVariants.{Conf, Efi}
 
 -- `.conf` or `.efi`
 abbrev pub suffix_text : Suffix → List ℕ
-suffix_text Conf = 46 ∷ 99 ∷ 111 ∷ 110 ∷ 102 ∷ []
-suffix_text Efi = 46 ∷ 101 ∷ 102 ∷ 105 ∷ []
+suffix_text Conf = codes ".conf"
+suffix_text Efi = codes ".efi"
 
 -- the text is one to nine decimal digits, which write n
 pub record IsNumber (text : List ℕ) (n : ℕ) : Type 0 where

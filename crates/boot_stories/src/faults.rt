@@ -1,6 +1,6 @@
 //! What a run comes to of which one call fails.
 use crate::fault::StoryFault;
-use crate::files::boot_files_text;
+use crate::left::left_text;
 use crate::stops::{CALL_LIMIT, StoppedRun, acknowledged, is_stopped, next_text};
 use crate::story::Story;
 use boot_run::run;
@@ -37,11 +37,11 @@ fn outcome_text(
         return Ok(None);
     }
     if let Some(words) = &faulted.next {
-        let text = next_text(alloc, faulted, words, &mut machine, &story.samples)?;
+        let text = next_text(alloc, faulted, words, &mut machine, &story.known)?;
         return Ok(Some(text));
     }
     let count = acknowledged(alloc, faulted, &machine)?;
-    let files = boot_files_text(alloc, &mut machine, &story.samples)?;
+    let files = left_text(alloc, &mut machine, &story.known)?;
     let text = format!(in alloc; "{count} acknowledged, status {status}: {files}\n")?;
     Ok(Some(text))
 }

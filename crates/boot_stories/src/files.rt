@@ -1,14 +1,12 @@
 //! The files of a machine, read, written and told.
+use crate::contents::content_text;
 use crate::fault::StoryFault;
-use crate::samples::{Sample, sample_of};
+use crate::samples::Sample;
 use boot_base::{BootPath, Target, TempPath, ends_as_temp};
 use boot_machine::Machine;
 use install_steps::{put_in_place, recover, settle, write_bytes};
 use memory_machine::MemMachine;
 use std::alloc::{AllocError, Global};
-
-/// The folders of boot entries.
-pub(crate) const FOLDERS: [&str; 2] = ["efi/loader/entries", "efi/EFI/Linux"];
 
 /// How many calls of the machine `put` makes.
 pub(crate) const CALLS_OF_PUT: u64 = 7;
@@ -19,7 +17,8 @@ pub(crate) const CALLS_OF_PUT_INTENT: u64 = 6;
 /// How many calls of the machine `leave` makes.
 pub(crate) const CALLS_OF_LEAVE: u64 = 2;
 
-fn intent_target(alloc: Global) -> Result<Target, AllocError> {
+/// Where the intent of a rename is written.
+pub(crate) fn intent_target(alloc: Global) -> Result<Target, AllocError> {
     let path = BootPath::intent(alloc)?;
     Target::of(alloc, path)
 }
@@ -32,7 +31,7 @@ pub(crate) fn put(
     bytes: &[u8],
 ) -> Result<(), StoryFault> {
     let target = Target::of(alloc, BootPath::read(alloc, path)?)?;
-    let intent = Target::of(alloc, BootPath::intent(alloc)?)?;
+    let intent = intent_target(alloc)?;
     recover(alloc, machine, &intent)?;
     write_bytes(machine, &target, bytes)?;
     Ok(())
@@ -87,8 +86,8 @@ pub(crate) fn names_in(
     Ok(names)
 }
 
-// A name, and what its file has. Of a temporary file the name alone is told.
-fn file_text(
+/// A name, and what its file has. Of a temporary file the name alone is told.
+pub(crate) fn file_text(
     alloc: Global,
     machine: &mut MemMachine,
     samples: &[Sample],
@@ -100,13 +99,8 @@ fn file_text(
     }
     let path = BootPath::under(alloc, folder, name)?;
     let bytes = bytes_at(alloc, machine, &path)?.unwrap_or(Vec::new(alloc));
-    match sample_of(samples, bytes.as_slice()) {
-        Some(sample) => Ok(format!(in alloc; "{name} = {sample}")?),
-        None => {
-            let count = bytes.len();
-            Ok(format!(in alloc; "{name}, {count} bytes")?)
-        }
-    }
+    let content = content_text(alloc, samples, bytes.as_slice())?;
+    Ok(format!(in alloc; "{name} {content}")?)
 }
 
 /// The files directly in a folder, one line for each.
@@ -127,46 +121,4 @@ pub(crate) fn folder_text(
         text.push_str("none\n")?;
     }
     Ok(text)
-}
-
-// Adds the boot files of a folder, parted by `; `.
-fn add_boot_files(
-    alloc: Global,
-    machine: &mut MemMachine,
-    samples: &[Sample],
-    folder: &str,
-    text: &mut String,
-) -> Result<(), StoryFault> {
-    let folder = BootPath::read(alloc, folder)?;
-    for name in names_in(alloc, machine, &folder)? {
-        if ends_as_temp(name.as_str()) {
-            continue;
-        }
-        if !text.is_empty() {
-            text.push_str("; ")?;
-        }
-        let file = file_text(alloc, machine, samples, &folder, name.as_str())?;
-        text.push_str(file.as_str())?;
-    }
-    Ok(())
-}
-
-/// The boot files of both folders, and whether an intent is there.
-pub(crate) fn boot_files_text(
-    alloc: Global,
-    machine: &mut MemMachine,
-    samples: &[Sample],
-) -> Result<String, StoryFault> {
-    let mut text = String::new(alloc);
-    for folder in FOLDERS {
-        add_boot_files(alloc, machine, samples, folder, &mut text)?;
-    }
-    if text.is_empty() {
-        text.push_str("none")?;
-    }
-    let intent = BootPath::intent(alloc)?;
-    match machine.size(&intent)? {
-        Some(size) => Ok(format!(in alloc; "{text}, with the intent of {size} bytes")?),
-        None => Ok(text),
-    }
 }

@@ -18,11 +18,15 @@
 //! - `input PATH`: that standard input is what the file has.
 //! - `fail N before` and `fail N after`: the call of that number from now on fails.
 //! - `faults WORDS`: what that run comes to of which one call fails, before it has done anything or after it has done
-//!   all, each outcome once, in the order of the calls. The machine stays as it is.
-//! - `files FOLDER`: the files directly in the folder.
+//!   all, each outcome once, in the order of the calls: what is acknowledged, the status, and what is left. The machine
+//!   stays as it is.
+//! - `files FOLDER`: the files directly in the folder, each with what it has: the sample with the same bytes, or a short
+//!   text, or the digest of its bytes.
 //! - `text PATH`: the bytes of the file, told as those that a run prints, and how many they are.
 //! - `same ONE OTHER`: whether two files have the same bytes.
-//! - `left`: the boot files, and the intent of a rename. `total`: how many files there are but temporary ones.
+//! - `left`: all files but temporary ones and samples in their own place: those in the folders of boot entries and beside
+//!   `loader.conf` by their names, others by their paths; how many there are besides; and the intent of a rename.
+//! - `total`: how many files there are but temporary ones.
 //! - `stops WORDS`: what a stop of that run may leave, each outcome once, in the order of the calls before it. The
 //!   machine stays as it is.
 //! - `then WORDS`: what these words come to, with the same standard input, after each stop of the last `stops` or each
@@ -32,9 +36,12 @@
 //! Lines that begin with `#` are comments. A line that isn't understood is told behind `? `.
 #![tactic(auto)]
 
+mod contents;
 mod fault;
 mod faults;
 mod files;
+mod known;
+mod left;
 mod lines;
 mod replies;
 mod samples;

@@ -3,9 +3,9 @@ use boot_machine::{Channel, Printed};
 use memory_machine::ReadSeen;
 use std::alloc::{AllocError, Global};
 
-// Adds a printed byte to a text. A newline and printable ASCII stand for themselves, but that a backslash is written
-// twice; every other byte is `\x` with two digits.
-fn push_escaped(alloc: Global, text: &mut String, byte: u8) -> Result<(), AllocError> {
+/// Adds a printed byte to a text. A newline and printable ASCII stand for themselves, but that a backslash is written
+/// twice; every other byte is `\x` with two digits.
+pub(crate) fn push_escaped(alloc: Global, text: &mut String, byte: u8) -> Result<(), AllocError> {
     match byte {
         b'\\' => text.push_str("\\\\"),
         b'\n' | b' '..=b'~' => text.push(char::from(byte)),

@@ -1,8 +1,8 @@
 //! What stops of a run leave.
 use crate::fault::StoryFault;
-use crate::files::boot_files_text;
+use crate::known::Known;
+use crate::left::left_text;
 use crate::replies::{acknowledged_lines, reply_text};
-use crate::samples::Sample;
 use crate::story::Story;
 use boot_run::run;
 use machine_fuse::Fuse;
@@ -13,8 +13,8 @@ use tool_words::split_line;
 /// More calls than a run of a story makes.
 pub(crate) const CALL_LIMIT: u64 = 10_000;
 
-/// How many candidates are tried after each stop.
-const CANDIDATES: u64 = 4;
+/// How many candidates are tried after each stop: no run of a story changes more than five names before it syncs them.
+const CANDIDATES: u64 = 6;
 
 /// What a stop leaves that chooses this candidate.
 pub(crate) fn left_by(
@@ -98,14 +98,14 @@ pub(crate) fn next_text(
     stopped: &StoppedRun,
     words: &Vec<String>,
     machine: &mut MemMachine,
-    samples: &[Sample],
+    known: &Known,
 ) -> Result<String, StoryFault> {
     machine.set_input(stopped.input.as_slice().to_vec(alloc)?);
     let before = machine.printed().len();
     let status = run(alloc, words, machine);
     let printed = machine.printed();
     let reply = reply_text(alloc, printed.get(before..).unwrap_or(printed), status)?;
-    let files = boot_files_text(alloc, machine, samples)?;
+    let files = left_text(alloc, machine, known)?;
     Ok(format!(in alloc; "{reply}left: {files}\n")?)
 }
 
@@ -113,16 +113,16 @@ pub(crate) fn next_text(
 fn outcome_text(
     alloc: Global,
     stopped: &StoppedRun,
-    samples: &[Sample],
+    known: &Known,
     machine: MemMachine,
     candidate: u64,
 ) -> Result<String, StoryFault> {
     let count = acknowledged(alloc, stopped, &machine)?;
     let mut left = left_by(alloc, machine, candidate)?;
     if let Some(words) = &stopped.next {
-        return next_text(alloc, stopped, words, &mut left, samples);
+        return next_text(alloc, stopped, words, &mut left, known);
     }
-    let files = boot_files_text(alloc, &mut left, samples)?;
+    let files = left_text(alloc, &mut left, known)?;
     Ok(format!(in alloc; "{count} acknowledged: {files}\n")?)
 }
 
@@ -138,7 +138,7 @@ fn add_outcomes(
     for candidate in 0..CANDIDATES {
         let (machine, status) = stopped_after(alloc, story, &stopped.words, calls)?;
         ended = !is_stopped(status);
-        let text = outcome_text(alloc, stopped, &story.samples, machine, candidate)?;
+        let text = outcome_text(alloc, stopped, &story.known, machine, candidate)?;
         if !texts.contains(&text) {
             texts.push(text)?;
         }

@@ -1,10 +1,11 @@
 //! The machine of a story.
 use crate::fault::StoryFault;
 use crate::files::{
-    CALLS_OF_LEAVE, CALLS_OF_PUT, CALLS_OF_PUT_INTENT, FOLDERS, bytes_at, leave, names_in, put,
-    put_intent,
+    CALLS_OF_LEAVE, CALLS_OF_PUT, CALLS_OF_PUT_INTENT, bytes_at, leave, names_in, put, put_intent,
 };
-use crate::samples::{Sample, samples};
+use crate::known::Known;
+use crate::left::FOLDERS;
+use crate::samples::samples;
 use boot_base::{BootPath, TempPath, ends_as_temp};
 use boot_machine::{Machine, Printed};
 use boot_run::run;
@@ -14,7 +15,7 @@ use std::alloc::{AllocError, Global};
 #[derive(Drop)]
 pub(crate) struct Story {
     pub(crate) machine: MemMachine,
-    pub(crate) samples: Vec<Sample>,
+    pub(crate) known: Known,
     /// How many of the printed bytes are told.
     told: usize,
     /// How many of the reads were made before the last run.
@@ -25,20 +26,10 @@ pub(crate) struct Story {
     pub(crate) stopped: String,
     /// Whether one call of that run fails.
     pub(crate) is_faulty: bool,
-    /// The paths of the files that the story has written.
-    paths: Vec<String>,
 }
 
 pub(crate) fn new_machine(alloc: Global) -> Result<MemMachine, AllocError> {
     MemMachine::new(alloc, Vec::new(alloc))
-}
-
-// Adds a path that isn't among them.
-fn add_path(alloc: Global, paths: &mut Vec<String>, path: &str) -> Result<(), AllocError> {
-    if !paths.iter().any(|other| other.as_str() == path) {
-        paths.push(String::from_str(alloc, path)?)?;
-    }
-    Ok(())
 }
 
 // Adds the paths of a folder's files, without those of temporary files.
@@ -46,13 +37,13 @@ fn add_folder(
     alloc: Global,
     machine: &mut MemMachine,
     folder: &str,
-    paths: &mut Vec<String>,
+    known: &mut Known,
 ) -> Result<(), StoryFault> {
     let folder = BootPath::read(alloc, folder)?;
     for name in names_in(alloc, machine, &folder)? {
         if !ends_as_temp(name.as_str()) {
             let path = BootPath::under(alloc, &folder, name.as_str())?;
-            add_path(alloc, paths, path.as_str())?;
+            known.add(alloc, path.as_str())?;
         }
     }
     Ok(())
@@ -63,13 +54,12 @@ impl Story {
     pub(crate) fn new(alloc: Global) -> Result<Story, AllocError> {
         Ok(Story {
             machine: new_machine(alloc)?,
-            samples: Vec::new(alloc),
+            known: Known::new(alloc),
             told: 0,
             read: 0,
             input: Vec::new(alloc),
             stopped: String::new(alloc),
             is_faulty: false,
-            paths: Vec::new(alloc),
         })
     }
 
@@ -80,7 +70,7 @@ impl Story {
         for (path, sample) in &files {
             story.write(alloc, path, sample.bytes())?;
         }
-        story.samples = files;
+        story.known.samples = files;
         Ok(story)
     }
 
@@ -91,7 +81,7 @@ impl Story {
         bytes: &[u8],
     ) -> Result<(), StoryFault> {
         put(alloc, &mut self.machine, path, bytes)?;
-        add_path(alloc, &mut self.paths, path)?;
+        self.known.add(alloc, path)?;
         Ok(())
     }
 
@@ -127,7 +117,7 @@ impl Story {
     // Finds the files that the runs have written.
     fn find_paths(&mut self, alloc: Global) -> Result<(), StoryFault> {
         for folder in FOLDERS {
-            add_folder(alloc, &mut self.machine, folder, &mut self.paths)?;
+            add_folder(alloc, &mut self.machine, folder, &mut self.known)?;
         }
         Ok(())
     }
@@ -135,7 +125,7 @@ impl Story {
     // Copies the files to another machine, and says how many calls of it that takes.
     fn copy_files(&mut self, alloc: Global, copy: &mut MemMachine) -> Result<u64, StoryFault> {
         let mut calls = 0u64;
-        for text in self.paths.iter() {
+        for text in self.known.paths.iter() {
             let path = BootPath::read(alloc, text.as_str())?;
             if let Some(bytes) = bytes_at(alloc, &mut self.machine, &path)? {
                 put(alloc, copy, text.as_str(), bytes.as_slice())?;

@@ -1,7 +1,8 @@
 //! The lines of a story, and what comes of each.
 use crate::fault::StoryFault;
 use crate::faults::faults_text;
-use crate::files::{boot_files_text, folder_text};
+use crate::files::folder_text;
+use crate::left::left_text;
 use crate::lines::{number, parted, parted_or_whole};
 use crate::replies::{bytes_text, reads_text, reply_text, sources_text};
 use crate::stops::{left_by, stopped_after, stops_text};
@@ -45,7 +46,7 @@ fn menu(alloc: Global, story: &mut Story) -> Result<String, StoryFault> {
 }
 
 fn left(alloc: Global, story: &mut Story) -> Result<String, StoryFault> {
-    let files = boot_files_text(alloc, &mut story.machine, &story.samples)?;
+    let files = left_text(alloc, &mut story.machine, &story.known)?;
     Ok(format!(in alloc; "{files}\n")?)
 }
 
@@ -124,7 +125,7 @@ fn told(alloc: Global, line: &str, story: &mut Story) -> Result<String, StoryFau
         "run" => run_words(alloc, story, rest),
         "menu" => menu(alloc, story),
         "reads" => Ok(reads_text(alloc, story.new_reads())?),
-        "files" => folder_text(alloc, &mut story.machine, &story.samples, rest),
+        "files" => folder_text(alloc, &mut story.machine, &story.known.samples, rest),
         "left" => left(alloc, story),
         "same" => same(alloc, story, rest),
         "text" => text(alloc, story, rest),

@@ -1,0 +1,29 @@
+//! The files that a story knows of.
+use crate::samples::Sample;
+use std::alloc::{AllocError, Global};
+
+#[derive(Drop)]
+pub(crate) struct Known {
+    /// The files that the story begins with.
+    pub(crate) samples: Vec<Sample>,
+    /// The paths of the files that the story and its runs have written.
+    pub(crate) paths: Vec<String>,
+}
+
+impl Known {
+    /// No file at all.
+    pub(crate) fn new(alloc: Global) -> Known {
+        Known {
+            samples: Vec::new(alloc),
+            paths: Vec::new(alloc),
+        }
+    }
+
+    /// Adds a path that isn't among them.
+    pub(crate) fn add(&mut self, alloc: Global, path: &str) -> Result<(), AllocError> {
+        if !self.paths.iter().any(|other| other.as_str() == path) {
+            self.paths.push(String::from_str(alloc, path)?)?;
+        }
+        Ok(())
+    }
+}
