@@ -17,8 +17,7 @@ pub(crate) const CALLS_OF_PUT_INTENT: u64 = 6;
 /// How many calls of the machine `leave` makes.
 pub(crate) const CALLS_OF_LEAVE: u64 = 2;
 
-/// Where the intent of a rename is written.
-pub(crate) fn intent_target(alloc: Global) -> Result<Target, AllocError> {
+fn intent_target(alloc: Global) -> Result<Target, AllocError> {
     let path = BootPath::intent(alloc)?;
     Target::of(alloc, path)
 }
@@ -31,7 +30,7 @@ pub(crate) fn put(
     bytes: &[u8],
 ) -> Result<(), StoryFault> {
     let target = Target::of(alloc, BootPath::read(alloc, path)?)?;
-    let intent = intent_target(alloc)?;
+    let intent = Target::of(alloc, BootPath::intent(alloc)?)?;
     recover(alloc, machine, &intent)?;
     write_bytes(machine, &target, bytes)?;
     Ok(())
