@@ -19,6 +19,11 @@ impl Known {
         }
     }
 
+    /// Takes these for the files that the story begins with.
+    pub(crate) fn set_samples(&mut self, samples: Vec<Sample>) {
+        self.samples = samples;
+    }
+
     /// Adds a path that isn't among them.
     pub(crate) fn add(&mut self, alloc: Global, path: &str) -> Result<(), AllocError> {
         if !self.paths.iter().any(|other| other.as_str() == path) {

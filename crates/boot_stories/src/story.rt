@@ -70,7 +70,7 @@ impl Story {
         for (path, sample) in &files {
             story.write(alloc, path, sample.bytes())?;
         }
-        story.known.samples = files;
+        story.known.set_samples(files);
         Ok(story)
     }
 
