@@ -2,7 +2,7 @@
 ghost use Rattle.std.specs.Prelude.{◌≡◌, ◌++◌, false, true, not, length, Some, None, IfOk, OnOk, string_bytes, if◌then◌else◌, ◌==◌, ◌∷◌, []};
 ghost use Rattle.std.specs.List.{list_any};
 ghost use Rattle.std.specs.Str.{is_utf8};
-ghost use Rattle.boot_base.specs.Paths.{IsFree, intent, is_form, is_named, is_normal, temp_end, is_temp, is_slash, components, is_kept, is_refused, normal_of, is_path_text, path_of, path_below, file_name_of, beside, is_component, sibling_of, is_file_name, leftover_of, TempNamesAreFileNames};
+ghost use Rattle.boot_base.specs.Paths.{IsFree, intent, is_form, is_nameable, is_normal, temp_end, is_temp, is_slash, components, is_kept, is_refused, normal_of, is_path_text, path_of, path_below, file_name_of, beside, is_component, sibling_of, is_file_name, leftover_of, TempNamesAreFileNames};
 
 use crate::append::{AppendText, append_displayed};
 use std::alloc::{AllocError, Global};
@@ -100,7 +100,7 @@ impl BootPath {
     /// The path whose text these bytes are, and None where they aren't the normal form of a path that a word may
     /// name. An intent's names are read by it.
     pub fn named(alloc: Global, bytes: &[u8]) -> Result<Option<BootPath>, AllocError>
-        ensures { IfOk result (λ path. path ≡ (if is_named bytes.now then Some bytes.now else None)) }
+        ensures { IfOk result (λ path. path ≡ (if is_nameable bytes.now then Some bytes.now else None)) }
     {
         let Ok(text) = str::from_utf8(bytes) else {
             return Ok(None);

@@ -13,7 +13,7 @@ use Rattle.tool_words.specs.declared.command.Command.{Command}
 use Rattle.tool_words.specs.declared.command.Command.TheVariants as command
 use Rattle.command_plans.specs.Answers.{Answer, channel_of}
 use Rattle.command_plans.specs.Deeds.{made}
-use Rattle.command_plans.specs.Performs.{IsDone}
+use Rattle.command_plans.specs.Performs.{DoesDeed}
 use Rattle.command_plans.specs.declared.outcome.Outcome.{Outcome}
 use Rattle.boot_commands.specs.Commands.{step_reply}
 use Rattle.boot_commands.specs.DemoRuns.{IsReady}
@@ -53,7 +53,7 @@ whole answer outcome files text outcome_is files_is text_is =
     ∙ ap (λ (t : List ℕ). of answer.outcome answer.after t) text_is
 
 -- so the outcome, the files and the bytes that are printed are the answer
-pub replied : (old now : State) (answer : Answer) (outcome : Outcome) (text : List ℕ) → IsDone (made answer) old now outcome → IsReady now
+pub replied : (old now : State) (answer : Answer) (outcome : Outcome) (text : List ℕ) → DoesDeed (made answer) old now outcome → IsReady now
     → text ≡ map (λ (p : Printed). p.byte) (take (length now.printed - length old.printed) (drop (length old.printed) now.printed))
     → (let found : Answer = record { outcome = outcome; after = seen now; text = text } in found) ≡ answer
 replied old now answer outcome text is_done ready text_is =

@@ -5,7 +5,7 @@ use Rattle.boot_base.specs.Paths.{Path}
 use Rattle.boot_base.specs.declared.refusal.Refusal.{Refusal}
 use Rattle.boot_folder.specs.declared.folders.Folders.{Folders}
 use Rattle.boot_machine.specs.Disk.{Files}
-use Rattle.command_plans.specs.Answers.{Answer, answered, said}
+use Rattle.command_plans.specs.Answers.{Answer, answer_of_read, answered}
 use Rattle.command_plans.specs.Refusing.{unless_refused}
 use Rattle.command_reads.specs.Refusing.{◌>>=◌, path_in}
 use Rattle.tool_words.specs.declared.command.Command.{Command}
@@ -52,7 +52,7 @@ set_apart : (view : Files) (key : ConfKey) (value esp : List ℕ) (path : Path) 
 set_apart view key value esp path spares = apart_next (text_set view key) (value_in key value) (conf_path esp) path spares
 
 module _ (folders : Folders) (path : Path) (view : Files) (entry : HasGoodEntry folders path view) where
-  kept_said : (text : Result (List ℕ) Refusal) → HasGoodEntry folders path (said view text).after
+  kept_said : (text : Result (List ℕ) Refusal) → HasGoodEntry folders path (answer_of_read view text).after
   kept_said (Ok text) = entry
   kept_said (Err why) = entry
 

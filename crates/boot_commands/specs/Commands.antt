@@ -4,7 +4,7 @@ use Rattle.std.specs.Prelude.{◌≢◌, Option, Some, Result, MatchResult}
 use Rattle.boot_machine.specs.Disk.{Files, State}
 use Rattle.tool_words.specs.declared.command.Command.{Command}
 use Rattle.tool_words.specs.declared.command.Command.TheVariants as command
-use Rattle.command_plans.specs.Answers.{Answer, said}
+use Rattle.command_plans.specs.Answers.{Answer, answer_of_read}
 use Rattle.command_plans.specs.Deeds.{Deed, made}
 use Rattle.command_plans.specs.declared.outcome.Stop.{Stop}
 use Rattle.command_plans.specs.declared.outcome.Stop.TheVariants as stops
@@ -13,7 +13,7 @@ use Rattle.boot_commands.specs.Demonstration.{demo_said}
 use Rattle.boot_commands.specs.Plain.{answer_or_none, plain_answer}
 
 abbrev pub answer_of : Files → Command → Option Answer
-answer_of view (command.Demo seed count) = Some (said view (demo_said seed count))
+answer_of view (command.Demo seed count) = Some (answer_of_read view (demo_said seed count))
 answer_of view c = plain_answer view c
 
 -- the reply of a step, and the view after it

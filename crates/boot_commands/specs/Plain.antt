@@ -5,7 +5,7 @@ use Rattle.boot_base.specs.declared.refusal.Refusal.TheVariants as refusals
 use Rattle.boot_machine.specs.Disk.{Files}
 use Rattle.tool_words.specs.declared.command.Command.{Command}
 use Rattle.tool_words.specs.declared.command.Command.TheVariants as command
-use Rattle.command_plans.specs.Answers.{Answer, refusal, said}
+use Rattle.command_plans.specs.Answers.{Answer, answer_of_read, refusal}
 use Rattle.command_plans.specs.Refusing.{unless_refused}
 use Rattle.image_build.specs.Building.{build_answer}
 use Rattle.image_commands.specs.Calculating.{calculate_said}
@@ -38,11 +38,11 @@ is_plain c = not (is_script c || is_demo c)
 -- what a command comes to that runs no other
 unfoldable pub plain_answer : Files → Command → Option Answer
 plain_answer view (command.Build words) = Some (build_answer view words)
-plain_answer view (command.Calculate words) = Some (said view (calculate_said view words))
-plain_answer view (command.Inspect file) = Some (said view (inspect_said view file))
-plain_answer view (command.Image file banks phases) = Some (said view (image_said view file banks phases))
-plain_answer view (command.Identify file) = Some (said view (identify_said view file))
-plain_answer view (command.List esp) = Some (said view (list_said view esp))
+plain_answer view (command.Calculate words) = Some (answer_of_read view (calculate_said view words))
+plain_answer view (command.Inspect file) = Some (answer_of_read view (inspect_said view file))
+plain_answer view (command.Image file banks phases) = Some (answer_of_read view (image_said view file banks phases))
+plain_answer view (command.Identify file) = Some (answer_of_read view (identify_said view file))
+plain_answer view (command.List esp) = Some (answer_of_read view (list_said view esp))
 plain_answer view (command.Tidy esp) = Some (unless_refused view (folders_of esp) (tidy_answer view))
 plain_answer view (command.Boot esp) = Some (boot_answer view esp)
 plain_answer view (command.Unlink name esp) = Some (unless_refused view (entry_path name esp) (unlink_answer view))

@@ -6,7 +6,7 @@ ghost use Rattle.boot_base.specs.Paths.{path_of};
 ghost use Rattle.boot_machine.specs.Counts.{Counts};
 ghost use Rattle.boot_machine.specs.Disk.{State, view};
 ghost use Rattle.boot_machine.specs.Sent.{seen};
-ghost use Rattle.command_plans.specs.Answers.{said};
+ghost use Rattle.command_plans.specs.Answers.{answer_of_read};
 ghost use Rattle.command_plans.specs.Performs.{CountsStop};
 ghost use Rattle.command_plans.specs.Plans.{IsMakeable, Plans};
 ghost use Rattle.command_reads.specs.Refusing.{Means};
@@ -199,7 +199,8 @@ fn demo_said(alloc: Global, seed: &str, count: &str) -> Result<Vec<u8>, Unsaid>
 /// The plan of a demonstration, which reads and changes nothing of the machine that is told of it: its five lines, or the
 /// refusal of a word.
 pub fn plan_demo(alloc: Global, seed: &str, count: &str) -> Result<Plan, Stop>
-    ensures plans { IfOk result (λ plan. (s : State) → Plans s plan (said (seen s) (demo_said seed.now count.now))) }
+    ensures plans { IfOk result (λ plan. (s : State)
+        → Plans s plan (answer_of_read (seen s) (demo_said seed.now count.now))) }
     ensures makeable { IfOk result (λ plan. IsMakeable plan.change) }
     ensures counts { (counts : Counts) → CountsStop result counts counts }
 {

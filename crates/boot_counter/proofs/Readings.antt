@@ -2,7 +2,7 @@
 use Rattle.std.proofs.Common.{◌≡◌, ℕ, ◌<◌, List, ◌∷◌, ◌++◌, ap, sym, ◌∙◌, subst, inl, inr, lit<}
 use Rattle.std.proofs.lemmas.List.{append_assoc, append-nil}
 use Rattle.boot_counter.specs.declared.counted.Suffix.{Suffix}
-use Rattle.boot_counter.specs.Counter.{suffix_text, IsNumber, IsDone, IsCounter, IsCounted}
+use Rattle.boot_counter.specs.Counter.{suffix_text, IsNumber, IsDoneText, IsCounter, IsCounted}
 use Rattle.boot_counter.specs.Laws.{OneReading}
 use Rattle.boot_counter.proofs.Cuts.{Lacks, differ, Lacks-at, Lacks-append, Lacks-from_digits, last_cut, first_cut, stem_same}
 
@@ -15,7 +15,7 @@ pub number_lacks : (c : ℕ) (text : List ℕ) (n : ℕ) → c < 48 → IsNumber
 number_lacks c text n low h = Lacks-from_digits c text low h.numeral.1
 
 -- the texts of LEFT and DONE are cut in one way
-pub texts_same : (left left' done done' : List ℕ) (m n : ℕ) → Lacks 45 left → Lacks 45 left' → IsDone done m → IsDone done' n → left ++ done ≡ left' ++ done' → (left ≡ left') × (done ≡ done')
+pub texts_same : (left left' done done' : List ℕ) (m n : ℕ) → Lacks 45 left → Lacks 45 left' → IsDoneText done m → IsDoneText done' n → left ++ done ≡ left' ++ done' → (left ≡ left') × (done ≡ done')
 texts_same left left' done done' m n h k (inl d) (inl d') e =
     (sym (append-nil left) ∙ ap (λ x. left ++ x) (sym d.0) ∙ e ∙ ap (λ x. left' ++ x) d'.0 ∙ append-nil left', d.0 ∙ sym d'.0)
 texts_same left left' done done' m n h k (inl d) (inr d') e =
@@ -30,7 +30,7 @@ texts_same left left' done done' m n h k (inr d) (inr d') e =
     (parts.0, d.1 ∙ ap (λ x. 45 ∷ x) parts.1 ∙ sym d'.1)
 
 -- a text says one DONE
-pub done_same : (text : List ℕ) (m n : ℕ) → IsDone text m → IsDone text n → m ≡ n
+pub done_same : (text : List ℕ) (m n : ℕ) → IsDoneText text m → IsDoneText text n → m ≡ n
 done_same text m n (inl d) (inl d') = d.1 ∙ sym d'.1
 done_same text m n (inl d) (inr d') = let e = sym d.0 ∙ d'.1 in cc
 done_same text m n (inr d) (inl d') = let e = sym d'.0 ∙ d.1 in cc
@@ -44,10 +44,10 @@ pub counter_same : (text : List ℕ) (left left' done done' : ℕ) → IsCounter
 counter_same text left left' done done' r r' =
     let parts = texts_same r.left_text r'.left_text r.done_text r'.done_text done done' (number_lacks 45 r.left_text left (lit< tt) r.left_is) (number_lacks 45 r'.left_text left' (lit< tt) r'.left_is) r.done_is r'.done_is (sym r.parts ∙ r'.parts) in (
       number_same r'.left_text left left' (subst (λ t. IsNumber t left) parts.0 r.left_is) r'.left_is,
-      done_same r'.done_text done done' (subst (λ t. IsDone t done) parts.1 r.done_is) r'.done_is,
+      done_same r'.done_text done done' (subst (λ t. IsDoneText t done) parts.1 r.done_is) r'.done_is,
     )
 
-done_lacks : (text : List ℕ) (n : ℕ) → IsDone text n → Lacks 43 text
+done_lacks : (text : List ℕ) (n : ℕ) → IsDoneText text n → Lacks 43 text
 done_lacks text n (inl d) = subst (Lacks 43) (sym d.0) tt
 done_lacks text n (inr d) = subst (Lacks 43) (sym d.1) (λ e. differ 43 45 (lit< tt) (sym e), number_lacks 43 d.0 n (lit< tt) d.2)
 

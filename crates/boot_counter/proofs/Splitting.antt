@@ -7,7 +7,7 @@ use Rattle.std.specs.Option.{option_map}
 use Rattle.boot_counter.specs.declared.counted.Counted.{Counted}
 use Rattle.boot_counter.specs.declared.counted.Suffix.{Suffix}
 use Rattle.boot_counter.specs.declared.counted.Suffix.TheVariants.{Conf, Efi}
-use Rattle.boot_counter.specs.Counter.{suffix_text, is_number, IsNumber, IsDone, IsCounter, IsCounted, IsUncounted, counted_of}
+use Rattle.boot_counter.specs.Counter.{suffix_text, is_number, IsNumber, IsDoneText, IsCounter, IsCounted, IsUncounted, counted_of}
 use Rattle.boot_counter.specs.Splits.{Cut, cut_first, cut_last, cut_here, longer, number_in, two_numbers, counter_from, counter_in, split_from, split_stem, split_of, has_suffix, stem_of}
 use Rattle.boot_counter.proofs.Cuts.{Lacks, stem_same}
 use Rattle.boot_counter.proofs.Readings.{number_lacks, counter_lacks, counted_stem}
@@ -136,7 +136,7 @@ number_found text n is = elim (cases_Bool (is_number text)) [
   | inr other ↦ absurd (not_number text other n is)
 ]
 
-numbers_found : (text front : List ℕ) (left done : ℕ) → IsNumber front left → (back : List ℕ) → IsDone back done → text ≡ front ++ back → counter_in text ≡ Some (left, done)
+numbers_found : (text front : List ℕ) (left done : ℕ) → IsNumber front left → (back : List ℕ) → IsDoneText back done → text ≡ front ++ back → counter_in text ≡ Some (left, done)
 numbers_found text front left done l back (inl none) is =
     let whole : text ≡ front = is ∙ ap (λ (x : List ℕ). front ++ x) none.0 ∙ append-nil front in
     rw (whole, none.1) (rw (cut_first_none 45 front (number_lacks 45 front left (lit< tt) l), number_found front left l) refl)

@@ -9,7 +9,7 @@ use Rattle.std.proofs.Math.Nat.{pow-le-pow_right}
 use Rattle.std.specs.Fmt.{decimal}
 use Rattle.std.specs.Str.Parse.{AllDigits, digits_value}
 use Rattle.boot_counter.specs.declared.counted.Suffix.{Suffix}
-use Rattle.boot_counter.specs.Counter.{suffix_text, IsNumber, IsDone, IsCounted, done_text_of, written_name}
+use Rattle.boot_counter.specs.Counter.{suffix_text, IsNumber, IsDoneText, IsCounted, done_text_of, written_name}
 use Rattle.boot_counter.specs.Laws.{WrittenReads, IsPlain, IsShortest, ShortestRewrites}
 use Rattle.boot_counter.proofs.Readings.{number_lacks, texts_same}
 
@@ -30,7 +30,7 @@ decimal_number n h =
     let is = decimal_is_IsNumeral n fits in
     record { numeral = is.0; short = length-decimal-le 9 n (lit< tt) digits fits; value = is.1 }
 
-pub done_text_is : (done : ℕ) → done ≤ 999999999 → IsDone (done_text_of done) done
+pub done_text_is : (done : ℕ) → done ≤ 999999999 → IsDoneText (done_text_of done) done
 done_text_is done h = ⊎_elim
     (λ (e : (done == 0) ≡ true). inl (cond-true (done == 0) _ _ e, eqb-true done 0 e))
     (λ (e : (done == 0) ≡ false). inr (decimal done, cond-false (done == 0) _ _ e, decimal_number done h))
@@ -60,7 +60,7 @@ written_plain n h zero_first = ⊎_elim
     absurd (omega (arith, first_decimal n some fits)))
     (cases_eq n 0)
 
-done_written : (text : List ℕ) (done : ℕ) → IsDone text done → ((number : List ℕ) → text ≡ 45 ∷ number → IsPlain number × (done ≢ 0)) → done_text_of done ≡ text
+done_written : (text : List ℕ) (done : ℕ) → IsDoneText text done → ((number : List ℕ) → text ≡ 45 ∷ number → IsPlain number × (done ≢ 0)) → done_text_of done ≡ text
 done_written text done (inl d) shortest = cond-true (done == 0) _ _ (eq-eqb done 0 d.1) ∙ sym d.0
 done_written text done (inr d) shortest =
     let plain = shortest d.0 d.1 in
@@ -76,7 +76,7 @@ done_plain done number h e = ⊎_elim
     (cases_Bool (done == 0))
 
 -- DONE is at most nine digits long
-done_bound : (text : List ℕ) (done : ℕ) → IsDone text done → done ≤ 999999999
+done_bound : (text : List ℕ) (done : ℕ) → IsDoneText text done → done ≤ 999999999
 done_bound text done (inl d) = omega (arith, d.1)
 done_bound text done (inr d) = number_bound d.0 done d.2
 

@@ -19,10 +19,10 @@ target_of Bad = BadName
 target_of Indeterminate = CountedName
 
 -- the names that a verb takes in its place, the first that is there
-abbrev pub sources_of : BlessVerb → List Name
-sources_of Good = CountedName ∷ BadName ∷ []
-sources_of Bad = CountedName ∷ GoodName ∷ []
-sources_of Indeterminate = GoodName ∷ BadName ∷ []
+abbrev pub bless_sources : BlessVerb → List Name
+bless_sources Good = CountedName ∷ BadName ∷ []
+bless_sources Bad = CountedName ∷ GoodName ∷ []
+bless_sources Indeterminate = GoodName ∷ BadName ∷ []
 
 -- whether a name is there
 abbrev pub is_there : Present → Name → Bool
@@ -39,4 +39,4 @@ choice_from None = NoSource
 
 -- nothing where the target is there, else the first source that is
 abbrev pub choice_of : BlessVerb → Present → Choice
-choice_of verb present = if is_there present (target_of verb) then Nothing else choice_from (find (is_there present) (sources_of verb))
+choice_of verb present = if is_there present (target_of verb) then Nothing else choice_from (find (is_there present) (bless_sources verb))

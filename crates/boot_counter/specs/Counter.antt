@@ -25,8 +25,8 @@ abbrev pub is_number : List ℕ → Bool
 is_number text = not (length text == 0) && nat_le (length text) 9 && list_all is_ascii_digit text
 
 -- the text of DONE: nothing for none, or a hyphen (45) and a number
-abbrev pub IsDone : List ℕ → ℕ → Type 0
-IsDone text done = ((text ≡ []) × (done ≡ 0)) ⊎ ((number : List ℕ) × (text ≡ 45 ∷ number) × IsNumber number done)
+abbrev pub IsDoneText : List ℕ → ℕ → Type 0
+IsDoneText text done = ((text ≡ []) × (done ≡ 0)) ⊎ ((number : List ℕ) × (text ≡ 45 ∷ number) × IsNumber number done)
 
 -- the text is a counter: LEFT and DONE
 pub record IsCounter (text : List ℕ) (left done : ℕ) : Type 0 where
@@ -34,7 +34,7 @@ pub record IsCounter (text : List ℕ) (left done : ℕ) : Type 0 where
   pub done_text : List ℕ
   pub parts : text ≡ left_text ++ done_text
   pub left_is : IsNumber left_text left
-  pub done_is : IsDone done_text done
+  pub done_is : IsDoneText done_text done
 
 -- the name is a base that isn't empty, a plus (43), a counter and a suffix
 pub record IsCounted (name base : List ℕ) (left done : ℕ) (suffix : Suffix) : Type 0 where

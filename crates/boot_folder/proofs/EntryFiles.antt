@@ -31,7 +31,7 @@ use Rattle.pe_reader.specs.declared.fault.FailedCheck.{FailedCheck}
 use Rattle.text_lines.specs.Values.{Pair}
 use Rattle.boot_folder.specs.Entries.{IsEntry, boot_menu, entries_of, entry_at, entry_count, entry_if, entry_in, entry_of, folder_of, own_path, stands_in, type_count}
 use Rattle.boot_folder.specs.Laws.{EntriesMenu, ViewMenu, ViewCount}
-use Rattle.boot_folder.specs.Records.{Unfit, demand, found, titled, type1_item, type2_item, uki_from, uki_of}
+use Rattle.boot_folder.specs.Records.{Unfit, found, titled, type1_item, type2_item, uki_from, uki_of, unless_missing}
 use Rattle.boot_folder.specs.Scanning.{AreEntryNames, entries_named, scan_limit}
 use Rattle.boot_folder.specs.declared.fault.Missing.{Missing}
 use Rattle.boot_folder.specs.declared.fault.Missing.TheVariants as missing
@@ -128,7 +128,7 @@ found_if true (Ok x) y is = cc
 found_if true (Err e) y is = cc
 found_if false r y is = cc
 
-demand_met : (b : Bool) (missing : Missing) (rest : Result MenuItem Unfit) (item : MenuItem) → demand b missing rest ≡ Ok item → rest ≡ Ok item
+demand_met : (b : Bool) (missing : Missing) (rest : Result MenuItem Unfit) (item : MenuItem) → unless_missing b missing rest ≡ Ok item → rest ≡ Ok item
 demand_met true missing rest item is = is
 demand_met false missing rest item is = cc
 

@@ -7,7 +7,7 @@ use Rattle.pe_reader.specs.Grammar.{Headers, pe_of}
 use Rattle.pe_reader.specs.Loaded.{bytes_in, loaded}
 use Rattle.pe_reader.specs.declared.section.LoadedRange.{LoadedRange}
 use Rattle.os_release.specs.OsRelease.{os_pairs}
-use Rattle.boot_folder.specs.Records.{NotUki, demand, is_os_length, titled, uki_from, uki_of}
+use Rattle.boot_folder.specs.Records.{NotUki, is_os_length, titled, uki_from, uki_of, unless_missing}
 use Rattle.boot_folder.specs.Ranges.{IsRange}
 use Rattle.boot_folder.specs.declared.fault.Missing.TheVariants as missing
 use Rattle.boot_folder.proofs.Ranges.{length-range}
@@ -15,8 +15,8 @@ use Rattle.boot_folder.proofs.Ranges.{length-range}
 -- the entry of an image, by its loaded bytes
 by_loaded : (path : Path) (file : List ℕ) (h : Headers) → pe_of file ≡ Ok h
     → uki_of path file
-    ≡ demand (not (length (loaded file (codes ".linux")) == 0)) missing.Linux (
-    demand (is_os_length (length (loaded file (codes ".osrel")))) missing.Osrel (
+    ≡ unless_missing (not (length (loaded file (codes ".linux")) == 0)) missing.Linux (
+    unless_missing (is_os_length (length (loaded file (codes ".osrel")))) missing.Osrel (
     titled path (os_pairs (loaded file (codes ".osrel")))))
 unfolding uki_from
 by_loaded path file h reads = rw reads refl

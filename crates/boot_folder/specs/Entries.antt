@@ -18,8 +18,8 @@ folders_from (Some entries) None = None
 folders_from (Some entries) (Some images) = Some (record { entries = entries; images = images })
 
 -- the two folders of an EFI system partition, where both are paths
-abbrev pub folders_of : Path → Option Folders
-folders_of esp = folders_from (path_below esp (codes "loader/entries")) (path_below esp (codes "EFI/Linux"))
+abbrev pub esp_folders : Path → Option Folders
+esp_folders esp = folders_from (path_below esp (codes "loader/entries")) (path_below esp (codes "EFI/Linux"))
 
 -- the folder of the files of a type
 abbrev pub folder_of : Folders → Suffix → Path

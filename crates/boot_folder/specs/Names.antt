@@ -6,12 +6,12 @@ use Rattle.boot_counter.specs.declared.counted.Suffix.{Suffix}
 use Rattle.menu_order.specs.declared.item.Counter.{Counter}
 
 -- the base of a name, and its counter if it has one
-pub record Named : Type 0 where
+pub record EntryNameParts : Type 0 where
   pub base : List ℕ
   pub counter : Option Counter
 
 -- what a name says, by what it is split into: without a counter its base is its stem
-abbrev pub named_by : Suffix → List ℕ → Option Counted → Named
+abbrev pub named_by : Suffix → List ℕ → Option Counted → EntryNameParts
 named_by suffix name None = record { base = stem_of suffix name; counter = None }
 named_by suffix name (Some counted) = record {
   base = take counted.base_length name;
@@ -19,5 +19,5 @@ named_by suffix name (Some counted) = record {
 }
 
 -- what a name of that suffix says
-unfoldable pub named : Suffix → List ℕ → Named
-named suffix name = named_by suffix name (split_of name)
+unfoldable pub parts_of_name : Suffix → List ℕ → EntryNameParts
+parts_of_name suffix name = named_by suffix name (split_of name)

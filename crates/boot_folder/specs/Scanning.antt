@@ -96,9 +96,9 @@ path_fault paths.Memory = faults.Memory
 path_fault paths.BadPath = faults.LongEsp
 
 -- what a fault of listing names comes to
-abbrev pub names_fault : NamesFault → ReadFault
-names_fault names.Memory = reads.Memory
-names_fault names.Disk = reads.Disk
+abbrev pub listing_fault : NamesFault → ReadFault
+listing_fault names.Memory = reads.Memory
+listing_fault names.Disk = reads.Disk
 
 -- entries in the order of their paths
 abbrev pub path_order : MenuItem → MenuItem → Ordering

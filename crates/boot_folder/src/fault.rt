@@ -1,8 +1,8 @@
 //! Why a file is no entry, and why there is no menu.
 ghost use Rattle.std.specs.Prelude.{◌≡◌};
 ghost use Rattle.boot_folder.specs.Items.{item_fault};
-ghost use Rattle.boot_folder.specs.Missing.{text_of};
-ghost use Rattle.boot_folder.specs.Scanning.{names_fault, path_fault, scan_fault};
+ghost use Rattle.boot_folder.specs.Missing.{missing_text};
+ghost use Rattle.boot_folder.specs.Scanning.{listing_fault, path_fault, scan_fault};
 ghost use Rattle.boot_folder.specs.declared.fault.ItemFault.TheVariants as faults;
 ghost use Rattle.boot_folder.specs.declared.fault.ReadFault.TheVariants as reads;
 ghost use Rattle.boot_folder.specs.declared.fault.ScanFault.TheVariants as scans;
@@ -27,7 +27,7 @@ pub enum Missing {
 impl Missing {
     /// Its name.
     pub fn as_str(self) -> &'static str
-        ensures { result.now ≡ text_of self }
+        ensures { result.now ≡ missing_text self }
     {
         match self {
             Missing::Linux => ".linux",
@@ -116,7 +116,7 @@ impl From<DiskFault> for ReadFault {
 }
 
 impl From<NamesFault> for ReadFault {
-    ghost from_gives = { λ error fault. fault ≡ names_fault error };
+    ghost from_gives = { λ error fault. fault ≡ listing_fault error };
 
     fn from(error: NamesFault) -> ReadFault {
         match error {

@@ -1,6 +1,6 @@
 //! The two folders of boot entries.
 ghost use Rattle.std.specs.Prelude.{◌≡◌, IfOk, None, Some};
-ghost use Rattle.boot_folder.specs.Entries.{folders_of};
+ghost use Rattle.boot_folder.specs.Entries.{esp_folders};
 
 use boot_base::{BootPath, PathFault};
 use std::alloc::Global;
@@ -21,8 +21,8 @@ impl Folders {
     ///
     /// `BadPath` exactly where one of them is no path; `Memory` where there is no memory.
     pub fn of(alloc: Global, esp: &BootPath) -> Result<Folders, PathFault>
-        ensures ok { IfOk result (λ folders. folders_of esp.now ≡ Some folders) }
-        ensures bad { result ≡ Err PathFault.BadPath → folders_of esp.now ≡ None }
+        ensures ok { IfOk result (λ folders. esp_folders esp.now ≡ Some folders) }
+        ensures bad { result ≡ Err PathFault.BadPath → esp_folders esp.now ≡ None }
     {
         let entries = BootPath::under(alloc, esp, "loader/entries")?;
         let images = BootPath::under(alloc, esp, "EFI/Linux")?;

@@ -1,7 +1,7 @@
 //! What the name of an entry's file says.
 ghost use Rattle.std.specs.Prelude.{◌≡◌, true, IfOk};
 ghost use Rattle.boot_counter.specs.Splits.{has_suffix, stem_of};
-ghost use Rattle.boot_folder.specs.Names.{named};
+ghost use Rattle.boot_folder.specs.Names.{parts_of_name};
 
 use boot_base::Bytes;
 use boot_counter::{Counted, Suffix};
@@ -9,14 +9,14 @@ use menu_order::Counter;
 use std::alloc::{AllocError, Global};
 
 /// The base of a name with that suffix, and its counter if it has one.
-#[tactic(auto, unfolding(crate::specs::Names::named))]
+#[tactic(auto, unfolding(crate::specs::Names::parts_of_name))]
 pub(crate) fn named(
     alloc: Global,
     name: &str,
     suffix: Suffix,
 ) -> Result<(Bytes, Option<Counter>), AllocError>
-    ensures base { IfOk result (λ parts. parts.0 ≡ (named suffix name.now).base) }
-    ensures counter { IfOk result (λ parts. parts.1 ≡ (named suffix name.now).counter) }
+    ensures base { IfOk result (λ parts. parts.0 ≡ (parts_of_name suffix name.now).base) }
+    ensures counter { IfOk result (λ parts. parts.1 ≡ (parts_of_name suffix name.now).counter) }
 {
     match Counted::split(name) {
         Some(counted) => {

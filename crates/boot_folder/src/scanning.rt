@@ -3,7 +3,7 @@ ghost use Rattle.std.specs.Prelude.{◌≡◌, ◌≤◌, ◌<◌, ◌*◌, ◌+
 ghost use Rattle.boot_base.specs.Paths.{under};
 ghost use Rattle.boot_counter.specs.Splits.{has_suffix};
 ghost use Rattle.boot_counter.specs.declared.counted.Suffix.TheVariants.{Conf, Efi};
-ghost use Rattle.boot_folder.specs.Entries.{IsEntry, boot_menu, entry_count, entry_if, folders_of};
+ghost use Rattle.boot_folder.specs.Entries.{IsEntry, boot_menu, entry_count, entry_if, esp_folders};
 ghost use Rattle.boot_folder.specs.Scanning.{AreEntryNames, CountsRead, CountsScan, FindsFolders, entries_named, fault_many, read_limit, scan_limit};
 ghost use Rattle.boot_machine.specs.Reading.{OnlyReads, TakesAtMost};
 ghost use Rattle.boot_machine.specs.Sent.{seen};
@@ -34,15 +34,15 @@ pub fn scan<M: Machine>(
     machine: &mut M,
     esp: &BootPath,
 ) -> Result<Vec<MenuItem>, ScanFault>
-    ensures folders { FindsFolders result (folders_of esp.now) }
-    ensures menu { IfOk result (λ menu. IsTrue M.tells → IfSome (folders_of esp.now)
+    ensures folders { FindsFolders result (esp_folders esp.now) }
+    ensures menu { IfOk result (λ menu. IsTrue M.tells → IfSome (esp_folders esp.now)
         (λ folders. IsMenu (IsEntry (M.state machine.old).files folders) menu.items)) }
-    ensures value { IfOk result (λ menu. IsTrue M.tells → IfSome (folders_of esp.now)
+    ensures value { IfOk result (λ menu. IsTrue M.tells → IfSome (esp_folders esp.now)
         (λ folders. menu.items ≡ boot_menu (seen (M.state machine.old)) folders)) }
-    ensures few { IfOk result (λ _. IsTrue M.tells → IfSome (folders_of esp.now)
+    ensures few { IfOk result (λ _. IsTrue M.tells → IfSome (esp_folders esp.now)
         (λ folders. entry_count (M.state machine.old).files folders ≤ 4096)) }
     ensures many { IfErr result (λ fault. fault_many fault (λ count. (4096 < count)
-        × (IsTrue M.tells → IfSome (folders_of esp.now)
+        × (IsTrue M.tells → IfSome (esp_folders esp.now)
         (λ folders. entry_count (M.state machine.old).files folders ≡ count)))) }
     ensures own_paths { IfOk result (λ menu. HaveOwnPaths menu.items) }
     ensures unread { IfErr result (λ fault. fault_many fault (λ _. IsTrue M.tells
@@ -50,7 +50,7 @@ pub fn scan<M: Machine>(
     ensures reads { IsTrue M.tells → OnlyReads M.clock M.since M.state machine.old machine.new }
     ensures counts { CountsScan result (M.counts machine.old) (M.counts machine.new) }
     ensures taken { IsTrue M.tells → TakesAtMost
-        (scan_limit (M.state machine.old).files (folders_of esp.now)) (M.taken machine.old) (M.taken machine.new) }
+        (scan_limit (M.state machine.old).files (esp_folders esp.now)) (M.taken machine.old) (M.taken machine.new) }
 {
     let folders = Folders::of(alloc, esp)?;
     scan_folders(alloc, machine, &folders)

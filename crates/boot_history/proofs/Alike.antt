@@ -6,7 +6,7 @@ use Rattle.tool_words.specs.Meaning.{meaning}
 use Rattle.tool_words.specs.declared.fault.UsageReason.{UsageReason}
 use Rattle.boot_machine.specs.Disk.{Files}
 use Rattle.boot_machine.specs.Sent.{Sent, IsPrefix}
-use Rattle.boot_run.specs.Asked.{asked, lines_of}
+use Rattle.boot_run.specs.Asked.{asked, lines_to_run}
 use Rattle.boot_run.specs.Lines.{line_deed}
 use Rattle.boot_run.specs.Step.{Acknowledges, AllUnread, NoneEmpty, joined, replies}
 use Rattle.boot_run.specs.declared.line.Line.{Line}
@@ -28,7 +28,7 @@ alike_self (Err reason) = refl
 -- no command's lines depend on the view
 pub asked_alike : (words : List Word) (input : List ℕ) (view other : Files)
     → AreAlike (asked words input view) (asked words input other)
-asked_alike words input view other = alike_self (lines_of input (meaning words))
+asked_alike words input view other = alike_self (lines_to_run input (meaning words))
 
 -- ---- replies
 

@@ -6,9 +6,9 @@ use Rattle.std.specs.FinMap as map
 use Rattle.std.specs.FinSet as set
 use Rattle.std.specs.Str.{is_utf8}
 use Rattle.std.proofs.lemmas.Map.Text.{is_eq-slice_cmp}
-use Rattle.boot_base.specs.Paths.{Path, is_temp, is_normal, is_named, intent, read_intent, at_nul, second_path, may_stand}
+use Rattle.boot_base.specs.Paths.{Path, is_temp, is_normal, is_nameable, intent, read_intent, at_nul, second_path, may_stand}
 use Rattle.boot_base.proofs.Normal.{normal-temp}
-use Rattle.boot_machine.specs.Disk.{Files, Paths, has, view, is_recovered, is_left, intended, of_intent, recovered_view, same, IsWhole}
+use Rattle.boot_machine.specs.Disk.{Files, Paths, has, view, is_recovered, is_left, intended, of_intent, recovered_view, same, HasNoHalfRename}
 use Rattle.boot_machine.specs.Images.{IsImageOf}
 use Rattle.boot_machine.specs.Rows.{append_to, contents, move_in}
 use Rattle.boot_machine.specs.Maps.{cases_same, get-none, same_self, same_files, get-insert, get-insert_here, get-insert_apart, get-remove, get-remove_here, get-remove_apart, get-retain}
@@ -26,15 +26,15 @@ pub record AreNames (a b : Path) : Type 0 where
   pub second_free : same b intent ≡ false
   pub apart : same a b ≡ false
 
-named_parts : (a : Path) → is_named a ≡ true → (is_temp a ≡ false) × (bytes_eq a intent ≡ false)
+named_parts : (a : Path) → is_nameable a ≡ true → (is_temp a ≡ false) × (bytes_eq a intent ≡ false)
 named_parts a e =
     let outer = and_parts (is_utf8 a && is_normal a) (not (bytes_eq a intent)) e in
     (normal-temp a (and_parts (is_utf8 a) (is_normal a) outer.0).1, not-true (bytes_eq a intent) outer.1)
 
 names_from : (a b : Path) → may_stand a b ≡ true → AreNames a b
 names_from a b e =
-    let outer = and_parts (is_named a && is_named b) (not (bytes_eq a b)) e in
-    let both = and_parts (is_named a) (is_named b) outer.0 in
+    let outer = and_parts (is_nameable a && is_nameable b) (not (bytes_eq a b)) e in
+    let both = and_parts (is_nameable a) (is_nameable b) outer.0 in
     let first = named_parts a both.0 in
     let second = named_parts b both.1 in
     record {
@@ -143,14 +143,14 @@ not_soft soft temps p lasts = elim (cases_Bool (set.contains soft p)) [ inl is_s
 abbrev pub IsCalm : Files → Type 0
 IsCalm m = has m intent ≡ false
 
-pub whole-unread : (m : Files) → intended m ≡ None → IsWhole m
+pub whole-unread : (m : Files) → intended m ≡ None → HasNoHalfRename m
 unfolding is_left
 whole-unread m none = record { none = λ q. rw none refl }
 
-pub whole-calm : (m : Files) → IsCalm m → IsWhole m
+pub whole-calm : (m : Files) → IsCalm m → HasNoHalfRename m
 whole-calm m calm = whole-unread m (ap (option_and_then read_intent) (get-none m intent calm))
 
-pub whole-first : (m : Files) (a b : Path) → intended m ≡ Some (a, b) → has m a ≡ false → IsWhole m
+pub whole-first : (m : Files) (a b : Path) → intended m ≡ Some (a, b) → has m a ≡ false → HasNoHalfRename m
 unfolding is_left
 whole-first m a b named none = record { none = λ q. rw (named, none) (last (same q a)) }
   where
@@ -158,7 +158,7 @@ whole-first m a b named none = record { none = λ q. rw (named, none) (last (sam
     last true = refl
     last false = refl
 
-pub whole-second : (m : Files) (a b : Path) → intended m ≡ Some (a, b) → has m b ≡ false → IsWhole m
+pub whole-second : (m : Files) (a b : Path) → intended m ≡ Some (a, b) → has m b ≡ false → HasNoHalfRename m
 unfolding is_left
 whole-second m a b named none = record { none = λ q. rw (named, none) (last (same q a) (has m a)) }
   where
@@ -167,7 +167,7 @@ whole-second m a b named none = record { none = λ q. rw (named, none) (last (sa
     last true false = refl
     last false y = refl
 
-pub get-view_whole : (m : Files) (q : Path) → IsWhole m → map.get (recovered_view m) q ≡ cond (not (is_temp q) && not (same q intent)) (map.get m q) None
+pub get-view_whole : (m : Files) (q : Path) → HasNoHalfRename m → map.get (recovered_view m) q ≡ cond (not (is_temp q) && not (same q intent)) (map.get m q) None
 unfolding is_recovered
 get-view_whole m q whole = rw (get-recovered_view m q, whole.none q) (ap (λ (b : Bool). cond b (map.get m q) None) (and_true (not (is_temp q) && not (same q intent))))
   where
@@ -200,7 +200,7 @@ unfolding move_in
 calm-move_in m from to free calm = calm-insert (map.remove m from) to (contents m from) free (calm-remove m from calm)
 
 -- Where no rename is half done, boot sees the same without the intent.
-pub recovered_view-drop_intent : (m : Files) → IsWhole m → recovered_view (map.remove m intent) ≡ recovered_view m
+pub recovered_view-drop_intent : (m : Files) → HasNoHalfRename m → recovered_view (map.remove m intent) ≡ recovered_view m
 recovered_view-drop_intent m whole = same_files _ _ (λ q.
     rw (get-view_whole (map.remove m intent) q (whole-calm (map.remove m intent) (calm-removed m)), get-view_whole m q whole, get-remove m intent q)
     (elim (cases_Bool (same q intent)) [
@@ -300,7 +300,7 @@ still_named : (m : Files) (a b : Path) → intended m ≡ Some (a, b) → intend
 still_named m a b named = ap (option_and_then read_intent) (get-remove_apart m a intent (turn intent a (names_of m a b named).first_free)) ∙ named
 
 -- without its first name a rename isn't half done
-pub whole-removed : (m : Files) (a b : Path) → intended m ≡ Some (a, b) → IsWhole (map.remove m a)
+pub whole-removed : (m : Files) (a b : Path) → intended m ≡ Some (a, b) → HasNoHalfRename (map.remove m a)
 whole-removed m a b named = whole-first (map.remove m a) a b (still_named m a b named) (ap is_some (get-remove_here m a))
 
 pub intent_kept : (m : Files) (a b : Path) → intended m ≡ Some (a, b) → has (map.remove m a) intent ≡ true

@@ -47,7 +47,7 @@ unfoldable pub is_left : Files → Path → Bool
 is_left files path = of_intent (intended files) (λ from to. same path from && has files from && has files to)
 
 -- no rename is half done
-pub record IsWhole (files : Files) : Type 0 where
+pub record HasNoHalfRename (files : Files) : Type 0 where
   pub none : (path : Path) → is_left files path ≡ false
 
 -- the file at this path is there still once a recovery has run, and isn't a temporary one

@@ -7,12 +7,12 @@ abbrev pub colon : ℕ
 colon = 58
 
 -- whether a word is kept: it isn't empty
-abbrev pub has_bytes : List ℕ → Bool
-has_bytes word = not (length word == 0)
+abbrev pub is_phase_word : List ℕ → Bool
+is_phase_word word = not (length word == 0)
 
 -- the words of a text: what stands between its colons and isn't empty (systemd-measure(1), --phase=)
 abbrev pub phase_words : List ℕ → List (List ℕ)
-phase_words text = filter has_bytes (slice_split (λ byte. byte == colon) text)
+phase_words text = filter is_phase_word (slice_split (λ byte. byte == colon) text)
 
 -- the printed path: its words joined by colons, and a colon for the path without words
 abbrev pub path_text : List (List ℕ) → List ℕ

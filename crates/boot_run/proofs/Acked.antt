@@ -12,7 +12,7 @@ use Rattle.std.specs.Prelude.{IsErr, IsErrAnd}
 use Rattle.command_plans.specs.declared.outcome.Stop.{Stop}
 use Rattle.command_plans.specs.declared.outcome.Stop.TheVariants.{Disk as DiskStop, Pipe as PipeStop, Memory as MemoryStop}
 use Rattle.boot_run.specs.Endings.{ended_by}
-use Rattle.boot_run.specs.History.{BreaksBehind, said}
+use Rattle.boot_run.specs.History.{BreaksBehind, printed_by}
 use Rattle.boot_run.specs.Lines.{TidiedBy, has_command, is_unread, line_deed}
 use Rattle.boot_run.specs.RunBy.{CleanBehind, CleanBy, LeavesClean}
 use Rattle.boot_run.specs.RunsTo.{PerformsBehind, at_part}
@@ -21,7 +21,7 @@ use Rattle.boot_run.specs.declared.ended.Ended.{Ended}
 use Rattle.boot_run.specs.declared.ended.Ended.TheVariants.{Done, Refused, Usage, Disk, Pipe, Memory}
 use Rattle.boot_run.specs.declared.line.Line.{Line}
 use Rattle.boot_run.proofs.Replying.{none_empty}
-use Rattle.boot_run.proofs.Running.{SoFar, said-is, said_more}
+use Rattle.boot_run.proofs.Running.{SoFar, printed_by-is, said_more}
 use Rattle.boot_run.proofs.Stepping.{length-prefix, some_length}
 
 -- the replies to some lines are the first so many
@@ -47,8 +47,8 @@ acked_most : (s : State) (lines : List Line) (j k : ℕ) (sent : Sent) → Ackno
 acked_most s lines j k sent acked short = fewer (recovered_now s) lines k j (none_empty (recovered_now s) lines) acked.within (omega (arith, short, length-prefix _ _ acked.whole))
 
 -- what was said is so long
-said_length : (s : State) (lines : List Line) (i : ℕ) → length (said (recovered_views s) (take i lines)) ≡ length (end_to_end (take i (replies (recovered_now s) lines)))
-said_length s lines i = ap length (said-is (recovered_views s) (take i lines) ∙ ap (λ v. end_to_end (replies v (take i lines))) (latest-recovered_views s) ∙ ap end_to_end (take-replies (recovered_now s) lines i))
+said_length : (s : State) (lines : List Line) (i : ℕ) → length (printed_by (recovered_views s) (take i lines)) ≡ length (end_to_end (take i (replies (recovered_now s) lines)))
+said_length s lines i = ap length (printed_by-is (recovered_views s) (take i lines) ∙ ap (λ v. end_to_end (replies v (take i lines))) (latest-recovered_views s) ∙ ap end_to_end (take-replies (recovered_now s) lines i))
 
 -- a command among fewer lines is among more
 has_more : (lines : List Line) (k : ℕ) → has_command (take k lines) ≡ true → has_command lines ≡ true
@@ -127,7 +127,7 @@ module _ {D : Type 0} (clock : D → ℕ) (since : D → ℕ → Files → Sent 
       deed = line_deed (recovered_now (state mid)) line
 
       -- so much is printed in all, with that part of the reply
-      in_all : (sent part : Sent) → (state new).printed ≡ (state mid).printed ++ part → (state new).printed ≡ (state old).printed ++ sent → length sent ≡ length (said (recovered_views (state old)) (take i lines)) + length part
+      in_all : (sent part : Sent) → (state new).printed ≡ (state mid).printed ++ part → (state new).printed ≡ (state old).printed ++ sent → length sent ≡ length (printed_by (recovered_views (state old)) (take i lines)) + length part
       in_all sent part is adds = omega (
         arith,
         ap length is,
@@ -135,12 +135,12 @@ module _ {D : Type 0} (clock : D → ℕ) (since : D → ℕ → Files → Sent 
         ap length so_far.all.printed,
         length-append (state mid).printed part,
         length-append (state old).printed sent,
-        length-append (state old).printed (said (recovered_views (state old)) (take i lines)),
+        length-append (state old).printed (printed_by (recovered_views (state old)) (take i lines)),
       )
 
-      more : length (said (recovered_views (state old)) (take (i + 1) lines)) ≡ length (said (recovered_views (state old)) (take i lines)) + length deed.sent
-      more = ap length (said_more (recovered_views (state old)) lines i line within line_is) ∙ length-append (said (recovered_views (state old)) (take i lines)) _
-          ∙ ap (λ v. length (said (recovered_views (state old)) (take i lines)) + length (line_deed v line).sent) (sym (ap latest so_far.all.state) ∙ latest-recovered_views (state mid))
+      more : length (printed_by (recovered_views (state old)) (take (i + 1) lines)) ≡ length (printed_by (recovered_views (state old)) (take i lines)) + length deed.sent
+      more = ap length (said_more (recovered_views (state old)) lines i line within line_is) ∙ length-append (printed_by (recovered_views (state old)) (take i lines)) _
+          ∙ ap (λ v. length (printed_by (recovered_views (state old)) (take i lines)) + length (line_deed v line).sent) (sym (ap latest so_far.all.state) ∙ latest-recovered_views (state mid))
 
       -- a pipe failed with this printed of the reply
       at_pipe : (part : Sent) → (state new).printed ≡ (state mid).printed ++ part → length part ≤ length deed.sent → LeavesClean (take i lines) (state new)

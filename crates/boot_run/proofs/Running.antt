@@ -14,7 +14,7 @@ use Rattle.command_plans.specs.Performs.{end_of}
 use Rattle.command_plans.specs.declared.outcome.Outcome.{Outcome}
 use Rattle.command_plans.specs.declared.outcome.Stop.{Stop}
 use Rattle.command_plans.proofs.Exits.{if_ok, if_err}
-use Rattle.boot_run.specs.History.{BreaksBehind, Recovers, states, said, any_refused, EndsBefore, Runs}
+use Rattle.boot_run.specs.History.{BreaksBehind, Recovers, states, printed_by, any_refused, EndsBefore, Runs}
 use Rattle.boot_run.specs.Lines.{line_deed}
 use Rattle.boot_run.specs.RunsTo.{AllDone, PerformsBehind, RunsTo}
 use Rattle.boot_run.specs.Step.{joined as end_to_end, replies}
@@ -26,18 +26,18 @@ pub states-append : (state : List Files) (xs ys : List Line) → states state (x
 states-append state [] ys = refl
 states-append state (x ∷ xs) ys = states-append (left_by (line_deed (latest state) x) state) xs ys
 
-pub said-append : (state : List Files) (xs ys : List Line) → said state (xs ++ ys) ≡ said state xs ++ said (states state xs) ys
-said-append state [] ys = refl
-said-append state (x ∷ xs) ys =
-    ap (λ (l : Sent). (line_deed (latest state) x).sent ++ l) (said-append (left_by (line_deed (latest state) x) state) xs ys)
-    ∙ sym (append_assoc (line_deed (latest state) x).sent (said (left_by (line_deed (latest state) x) state) xs) _)
+pub printed_by-append : (state : List Files) (xs ys : List Line) → printed_by state (xs ++ ys) ≡ printed_by state xs ++ printed_by (states state xs) ys
+printed_by-append state [] ys = refl
+printed_by-append state (x ∷ xs) ys =
+    ap (λ (l : Sent). (line_deed (latest state) x).sent ++ l) (printed_by-append (left_by (line_deed (latest state) x) state) xs ys)
+    ∙ sym (append_assoc (line_deed (latest state) x).sent (printed_by (left_by (line_deed (latest state) x) state) xs) _)
 
 -- and in the words of the reference
-pub said-is : (old : List Files) (lines : List Line) → said old lines ≡ end_to_end (replies (latest old) lines)
-said-is old [] = refl
-said-is old (line ∷ lines) =
+pub printed_by-is : (old : List Files) (lines : List Line) → printed_by old lines ≡ end_to_end (replies (latest old) lines)
+printed_by-is old [] = refl
+printed_by-is old (line ∷ lines) =
     ap (λ (l : Sent). (line_deed (latest old) line).sent ++ l)
-    (said-is (left_by (line_deed (latest old) line) old) lines ∙ ap (λ v. end_to_end (replies v lines)) (latest_left old line))
+    (printed_by-is (left_by (line_deed (latest old) line) old) lines ∙ ap (λ v. end_to_end (replies v lines)) (latest_left old line))
 
 or_assoc : (a b c : Bool) → ((a || b) || c) ≡ (a || (b || c))
 or_assoc true b c = refl
@@ -66,14 +66,14 @@ module _ (state : List Files) (lines : List Line) (i : ℕ) (line : Line) (withi
   pub states_more : states state (take (i + 1) lines) ≡ left_by deed here
   states_more = ap (states state) one_more ∙ states-append state (take i lines) (line ∷ [])
 
-  pub said_more : said state (take (i + 1) lines) ≡ said state (take i lines) ++ deed.sent
-  said_more = ap (said state) one_more ∙ said-append state (take i lines) (line ∷ []) ∙ ap (λ (l : Sent). said state (take i lines) ++ l) (append-nil deed.sent)
+  pub said_more : printed_by state (take (i + 1) lines) ≡ printed_by state (take i lines) ++ deed.sent
+  said_more = ap (printed_by state) one_more ∙ printed_by-append state (take i lines) (line ∷ []) ∙ ap (λ (l : Sent). printed_by state (take i lines) ++ l) (append-nil deed.sent)
 
   pub refused_more : any_refused state (take (i + 1) lines) ≡ (any_refused state (take i lines) || is_refusal deed.outcome)
   refused_more = ap (any_refused state) one_more ∙ any_refused-append state (take i lines) (line ∷ []) ∙ ap (λ b. any_refused state (take i lines) || b) (or_false (is_refusal deed.outcome))
 
   -- a run ends before this line or in it
-  pub runs_end : (new : List Files) (part : Sent) (end : End) → BreaksBehind deed here new part end → Runs state lines new (said state (take i lines) ++ part) end
+  pub runs_end : (new : List Files) (part : Sent) (end : End) → BreaksBehind deed here new part end → Runs state lines new (printed_by state (take i lines) ++ part) end
   runs_end new part end ends = record {
     whole = i;
     within = omega arith;
@@ -83,7 +83,7 @@ module _ (state : List Files) (lines : List Line) (i : ℕ) (line : Line) (withi
   }
 
   -- a run breaks off in this line
-  pub runs_break : (new : List Files) (part : Sent) (end : End) → Breaks deed here new part end → Runs state lines new (said state (take i lines) ++ part) end
+  pub runs_break : (new : List Files) (part : Sent) (end : End) → Breaks deed here new part end → Runs state lines new (printed_by state (take i lines) ++ part) end
   runs_break new part end breaks = runs_end new part end (inl breaks)
 
 -- nothing is done yet
@@ -121,8 +121,8 @@ module _ {D : Type 0} (clock : D → ℕ) (since : D → ℕ → Files → Sent 
     -- what breaks off in the line
     breaks : (left : List Files) (sent part : Sent) (end : End) → sent ≡ (state mid).printed ++ part → Breaks deed_here (recovered_views (state mid)) left part end → Adds (state old).printed sent (λ sent. Runs first lines left sent end)
     breaks left sent part end is broke = (
-      said first (take i lines) ++ part,
-      is ∙ ap (λ (l : Sent). l ++ part) so_far.all.printed ∙ append_assoc (state old).printed (said first (take i lines)) part,
+      printed_by first (take i lines) ++ part,
+      is ∙ ap (λ (l : Sent). l ++ part) so_far.all.printed ∙ append_assoc (state old).printed (printed_by first (take i lines)) part,
       runs_break first lines i line within line_is left part end
           (subst (λ (s : List Files). Breaks (line_deed (latest s) line) s left part end) so_far.all.state (subst (λ d. Breaks d (recovered_views (state mid)) left part end) (ap (λ v. line_deed v line) (sym (latest-recovered_views (state mid)))) broke)),
     )
@@ -132,8 +132,8 @@ module _ {D : Type 0} (clock : D → ℕ) (since : D → ℕ → Files → Sent 
         → Adds (state old).printed sent (λ sent. Runs first lines left sent end)
     ends left sent part end is (inl broke) = breaks left sent part end is broke
     ends left sent part end is (inr recovers) = (
-      said first (take i lines) ++ part,
-      is ∙ ap (λ (l : Sent). l ++ part) so_far.all.printed ∙ append_assoc (state old).printed (said first (take i lines)) part,
+      printed_by first (take i lines) ++ part,
+      is ∙ ap (λ (l : Sent). l ++ part) so_far.all.printed ∙ append_assoc (state old).printed (printed_by first (take i lines)) part,
       runs_end first lines i line within line_is left part end (inr (recovers.0, subst (λ (s : List Files). Recovers s left end) so_far.all.state recovers.1)),
     )
 
@@ -147,8 +147,8 @@ module _ {D : Type 0} (clock : D → ℕ) (since : D → ℕ → Files → Sent 
       firm = performs.firm;
       all = record {
         state = performs.ok.1 ∙ ap (λ d. left_by d (recovered_views (state mid))) deed_is ∙ ap (left_by (line_deed (latest (states first (take i lines))) line)) so_far.all.state ∙ sym (states_more first lines i line within line_is);
-        printed = performs.ok.2 ∙ ap (λ (l : Sent). l ++ deed_here.sent) so_far.all.printed ∙ append_assoc (state old).printed (said first (take i lines)) deed_here.sent
-            ∙ ap (λ (d : Deed). (state old).printed ++ (said first (take i lines) ++ d.sent)) deed_is ∙ ap (λ (l : Sent). (state old).printed ++ l) (sym (said_more first lines i line within line_is));
+        printed = performs.ok.2 ∙ ap (λ (l : Sent). l ++ deed_here.sent) so_far.all.printed ∙ append_assoc (state old).printed (printed_by first (take i lines)) deed_here.sent
+            ∙ ap (λ (d : Deed). (state old).printed ++ (printed_by first (take i lines) ++ d.sent)) deed_is ∙ ap (λ (l : Sent). (state old).printed ++ l) (sym (said_more first lines i line within line_is));
         answer = ap (λ b. b || is_refusal outcome) so_far.all.answer ∙ ap (λ o. any_refused first (take i lines) || is_refusal o) performs.ok.0
             ∙ ap (λ (d : Deed). any_refused first (take i lines) || is_refusal d.outcome) deed_is ∙ sym (refused_more first lines i line within line_is);
       };

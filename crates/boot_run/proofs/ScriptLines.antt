@@ -13,7 +13,7 @@ use Rattle.tool_words.specs.declared.fault.LineFault.{LineFault}
 use Rattle.tool_words.specs.declared.fault.LineFault.TheVariants.{OpenQuote}
 use Rattle.tool_words.specs.declared.fault.UsageReason.{UsageReason}
 use Rattle.boot_commands.specs.Plain.{is_demo, is_plain, is_script}
-use Rattle.boot_run.specs.Asked.{command_in, in_script, is_passed_over, is_newline, line_at, lines_for, lines_from, lines_in}
+use Rattle.boot_run.specs.Asked.{command_in, in_script, is_passed_over, is_script_newline, line_at, lines_for, lines_from, lines_in}
 use Rattle.boot_run.specs.Lines.{IsStep, script_limit}
 use Rattle.boot_run.specs.declared.line.Line.{Line}
 use Rattle.boot_run.specs.declared.line.Line.TheVariants.{Plain, TooLong}
@@ -109,6 +109,6 @@ steps_from number (piece ∷ pieces) = steps_behind number (is_passed_over piece
 pub all_steps : (input : List ℕ) → All IsStep (lines_in input)
 all_steps input = by_length (nat_lt script_limit (length input))
   where
-    by_length : (long : Bool) → All IsStep (cond long (TooLong ∷ []) (lines_from 1 (slice_split is_newline input)))
+    by_length : (long : Bool) → All IsStep (cond long (TooLong ∷ []) (lines_from 1 (slice_split is_script_newline input)))
     by_length true = All-cons IsStep TooLong [] tt (All-nil IsStep)
-    by_length false = steps_from 1 (slice_split is_newline input)
+    by_length false = steps_from 1 (slice_split is_script_newline input)

@@ -5,7 +5,7 @@ use Rattle.boot_machine.specs.Disk.{Files, IsIn}
 use Rattle.boot_machine.specs.Sent.{Sent, IsPrefix, latest}
 use Rattle.boot_machine.proofs.Printing.{prefix_behind}
 use Rattle.command_plans.specs.Deeds.{End, Stopped, Finished, NoMemory, DiskFails, PipeFails, left_by, Stays, Breaks}
-use Rattle.boot_run.specs.History.{AllAre, states, said, EndsBefore, Recovers, Runs}
+use Rattle.boot_run.specs.History.{AllAre, states, printed_by, EndsBefore, Recovers, Runs}
 use Rattle.boot_run.specs.Lines.{line_deed, is_unread}
 use Rattle.boot_run.specs.Step.{replies, view_after, joined, Acknowledges, AllUnread, KeepsViews, Early, Late, Step, NoneEmpty, IsOneView, SeesBegun, Leaves}
 use Rattle.boot_run.specs.declared.line.Line.{Line}
@@ -271,14 +271,14 @@ ended old new part PipeFails ends = ends
 
 -- a run over lines is a step of the reference
 pub step_of_run : (old : List Files) (lines : List Line) (new : List Files) (end : End) → NoneEmpty (latest old) lines → (whole : ℕ) → whole ≤ length lines → (part : Sent)
-    → EndsBefore (drop whole lines) (states old (take whole lines)) new part end → Step old lines new (said old (take whole lines) ++ part) end
+    → EndsBefore (drop whole lines) (states old (take whole lines)) new part end → Step old lines new (printed_by old (take whole lines) ++ part) end
 step_of_run old [] new end some zero le part ends = let is = ended old new part end ends in subst (λ (l : Sent). Step old [] new l end) (sym is.0) (none_step old new end is.1)
 step_of_run old [] new end some (suc whole) le part ends = absurd (omega arith)
 step_of_run old (line ∷ lines) new end some zero le part ends = ⊎_elim (breaks_step old line lines new part end some.0 some.1)
     (λ done. subst (λ (l : Sent). Step old (line ∷ lines) new l end) (sym done.0) (recovers_step old line lines new end some.0 done.1)) ends
 step_of_run old (line ∷ lines) new end some (suc whole) le part ends =
-    subst (λ (l : Sent). Step old (line ∷ lines) new l end) (sym (append_assoc (line_deed (latest old) line).sent (said (left_by (line_deed (latest old) line) old) (take whole lines)) part))
-    (more_step old line lines new (said (left_by (line_deed (latest old) line) old) (take whole lines) ++ part) end
+    subst (λ (l : Sent). Step old (line ∷ lines) new l end) (sym (append_assoc (line_deed (latest old) line).sent (printed_by (left_by (line_deed (latest old) line) old) (take whole lines)) part))
+    (more_step old line lines new (printed_by (left_by (line_deed (latest old) line) old) (take whole lines) ++ part) end
     (step_of_run (left_by (line_deed (latest old) line) old) lines new end (subst (λ v. NoneEmpty v lines) (sym (latest_left old line)) some.1) whole (omega arith) part ends))
 
 pub step_of : (old : List Files) (lines : List Line) (new : List Files) (sent : Sent) (end : End) → NoneEmpty (latest old) lines → Runs old lines new sent end → Step old lines new sent end
@@ -353,16 +353,16 @@ begun_more old line lines v rest some settled step inner (suc i) within begun =
     now
 
 begun_of_run : (old : List Files) (lines : List Line) (v : Files) → NoneEmpty (latest old) lines → IsOneView old → (whole : ℕ) → whole ≤ length lines → (part : Sent)
-    → EndsBefore (drop whole lines) (states old (take whole lines)) (v ∷ []) part Stopped → SeesBegun (latest old) lines v (said old (take whole lines) ++ part)
+    → EndsBefore (drop whole lines) (states old (take whole lines)) (v ∷ []) part Stopped → SeesBegun (latest old) lines v (printed_by old (take whole lines) ++ part)
 begun_of_run old [] v some settled whole le part ends = λ i within begun. absurd (omega arith)
 begun_of_run old (line ∷ lines) v some settled zero le part ends = begun_first old line lines v part settled (⊎_elim (λ broke. broke) (λ none. absurd none.1) ends)
 begun_of_run old (line ∷ lines) v some settled (suc whole) le part ends =
     let left = left_by (line_deed (latest old) line) old in
     let others = subst (λ w. NoneEmpty w lines) (sym (latest_left old line)) some.1 in
-    subst (SeesBegun (latest old) (line ∷ lines) v) (sym (append_assoc (line_deed (latest old) line).sent (said left (take whole lines)) part))
-    (begun_more old line lines v (said left (take whole lines) ++ part) some.1 settled
+    subst (SeesBegun (latest old) (line ∷ lines) v) (sym (append_assoc (line_deed (latest old) line).sent (printed_by left (take whole lines)) part))
+    (begun_more old line lines v (printed_by left (take whole lines) ++ part) some.1 settled
     (step_of_run left lines (v ∷ []) Stopped others whole (omega arith) part ends)
-    (subst (λ w. SeesBegun w lines v (said left (take whole lines) ++ part)) (latest_left old line) (begun_of_run left lines v others (one_view_left old line settled) whole (omega arith) part ends)))
+    (subst (λ w. SeesBegun w lines v (printed_by left (take whole lines) ++ part)) (latest_left old line) (begun_of_run left lines v others (one_view_left old line settled) whole (omega arith) part ends)))
 
 -- where all views at the start are one, a stop leaves what the headline says
 pub leaves_of_run : (old : List Files) (lines : List Line) (v : Files) (sent : Sent) → NoneEmpty (latest old) lines → IsOneView old → Runs old lines (v ∷ []) sent Stopped → Leaves (latest old) lines v sent

@@ -4,24 +4,24 @@ use Rattle.std.proofs.lemmas.List.{append-nil, take_more}
 use Rattle.boot_machine.specs.Disk.{Files, State, recovered_view}
 use Rattle.boot_machine.specs.Images.{IsImage}
 use Rattle.boot_machine.specs.Moments.{EachSince}
-use Rattle.boot_machine.specs.Reading.{OnlyReads, Stays}
+use Rattle.boot_machine.specs.Reading.{IsIdleMoment, OnlyReads}
 use Rattle.boot_machine.specs.Sent.{Sent, Adds, IsPrefix, PrintsPart, latest, recovered_views, recovered_now}
 use Rattle.boot_machine.proofs.Elapsing.{weaken, joined}
 use Rattle.boot_machine.proofs.Printing.{prefix_behind}
 use Rattle.boot_machine.proofs.Seeing.{latest-recovered_views}
 use Rattle.command_plans.specs.Deeds.{Deed, Stopped, left_by, Breaks}
-use Rattle.boot_run.specs.History.{states, said}
+use Rattle.boot_run.specs.History.{states, printed_by}
 use Rattle.boot_run.specs.Lines.{Prints, has_command, is_unread, line_deed}
 use Rattle.boot_run.specs.RunsTo.{FromSync, IsSyncedBy, IsUnsynced, OnlyPrints, RunsAfresh, SyncsBefore}
 use Rattle.boot_run.specs.Step.{AllUnread, joined as end_to_end, replies}
 use Rattle.boot_run.specs.declared.line.Line.{Line}
 use Rattle.boot_run.specs.declared.line.Line.TheVariants.{Plain, Numbered, Unread, TooLong}
 use Rattle.boot_run.proofs.Staying.{image_stays}
-use Rattle.boot_run.proofs.Running.{SoFar, runs_break, said-is, said_more, states-append}
+use Rattle.boot_run.proofs.Running.{SoFar, runs_break, printed_by-is, said_more, states-append}
 
 -- what is said depends on the last view alone
-said_latest : (a b : List Files) (lines : List Line) → latest a ≡ latest b → said a lines ≡ said b lines
-said_latest a b lines same = said-is a lines ∙ ap (λ v. end_to_end (replies v lines)) same ∙ sym (said-is b lines)
+said_latest : (a b : List Files) (lines : List Line) → latest a ≡ latest b → printed_by a lines ≡ printed_by b lines
+said_latest a b lines same = printed_by-is a lines ∙ ap (λ v. end_to_end (replies v lines)) same ∙ sym (printed_by-is b lines)
 
 -- unread lines leave a state
 unread_states : (a : List Files) (lines : List Line) → AllUnread lines → states a lines ≡ a
@@ -109,22 +109,22 @@ module _ {D : Type 0} (clock : D → ℕ) (since : D → ℕ → Files → Sent 
     one_more_line : take (i + 1) lines ≡ take i lines ++ line ∷ []
     one_more_line = take_more lines i line within ∙ ap (λ (x : Line). take i lines ++ x ∷ []) line_is
 
-    said_alike : said start (take i lines) ≡ said (recovered_views (state old)) (take i lines)
+    said_alike : printed_by start (take i lines) ≡ printed_by (recovered_views (state old)) (take i lines)
     said_alike = said_latest start (recovered_views (state old)) (take i lines) refl
 
     mid_latest : latest (recovered_views (state mid)) ≡ recovered_now (state mid)
     mid_latest = latest-recovered_views (state mid)
 
     -- the replies to the lines so far
-    so_said : said (recovered_views (state old)) (take i lines) ≡ end_to_end (replies (recovered_now (state old)) (take i lines))
-    so_said = said-is (recovered_views (state old)) (take i lines) ∙ ap (λ v. end_to_end (replies v (take i lines))) (latest-recovered_views (state old))
+    so_said : printed_by (recovered_views (state old)) (take i lines) ≡ end_to_end (replies (recovered_now (state old)) (take i lines))
+    so_said = printed_by-is (recovered_views (state old)) (take i lines) ∙ ap (λ v. end_to_end (replies v (take i lines))) (latest-recovered_views (state old))
 
     -- where no line so far is a command, what is printed so far may be before the sync
-    unsynced_so_far : UnreadRun old mid lines i → (m : Files) (o : Sent) → Stays (state mid) m o → IsUnsynced (state old) lines m o
+    unsynced_so_far : UnreadRun old mid lines i → (m : Files) (o : Sent) → IsIdleMoment (state mid) m o → IsUnsynced (state old) lines m o
     unsynced_so_far run m o stays = record {
       stands = image_stays (state old) (state mid) run.same m stays.0;
       part = (
-        said (recovered_views (state old)) (take i lines),
+        printed_by (recovered_views (state old)) (take i lines),
         stays.1 ∙ so_far.all.printed,
         record { leading = i; unread = run.unread; front = ([], append-nil _ ∙ so_said) },
       );
@@ -135,21 +135,21 @@ module _ {D : Type 0} (clock : D → ℕ) (since : D → ℕ → Files → Sent 
     unsynced_more run is m o prints = record {
       stands = image_stays (state old) (state mid) run.same m prints.stands;
       part = (
-        said (recovered_views (state old)) (take i lines) ++ prints.part.0,
-        prints.part.1 ∙ ap (λ (l : Sent). l ++ prints.part.0) so_far.all.printed ∙ append_assoc (state old).printed (said (recovered_views (state old)) (take i lines)) prints.part.0,
+        printed_by (recovered_views (state old)) (take i lines) ++ prints.part.0,
+        prints.part.1 ∙ ap (λ (l : Sent). l ++ prints.part.0) so_far.all.printed ∙ append_assoc (state old).printed (printed_by (recovered_views (state old)) (take i lines)) prints.part.0,
         record {
           leading = i + 1;
           unread = subst AllUnread (sym one_more_line) (unread_push (take i lines) line run.unread is);
-          front = subst (IsPrefix (said (recovered_views (state old)) (take i lines) ++ prints.part.0)) whole_said (prefix_behind (said (recovered_views (state old)) (take i lines)) prints.part.0 _ prints.part.2);
+          front = subst (IsPrefix (printed_by (recovered_views (state old)) (take i lines) ++ prints.part.0)) whole_said (prefix_behind (printed_by (recovered_views (state old)) (take i lines)) prints.part.0 _ prints.part.2);
         },
       );
     }
       where
-        whole_said : said (recovered_views (state old)) (take i lines) ++ (line_deed (recovered_now (state mid)) line).sent ≡ end_to_end (replies (recovered_now (state old)) (take (i + 1) lines))
+        whole_said : printed_by (recovered_views (state old)) (take i lines) ++ (line_deed (recovered_now (state mid)) line).sent ≡ end_to_end (replies (recovered_now (state old)) (take (i + 1) lines))
         whole_said =
-            ap (λ v. said (recovered_views (state old)) (take i lines) ++ (line_deed v line).sent) (sym mid_latest ∙ ap latest so_far.all.state)
+            ap (λ v. printed_by (recovered_views (state old)) (take i lines) ++ (line_deed v line).sent) (sym mid_latest ∙ ap latest so_far.all.state)
             ∙ sym (said_more (recovered_views (state old)) lines i line within line_is)
-            ∙ said-is (recovered_views (state old)) (take (i + 1) lines) ∙ ap (λ v. end_to_end (replies v (take (i + 1) lines))) (latest-recovered_views (state old))
+            ∙ printed_by-is (recovered_views (state old)) (take (i + 1) lines) ∙ ap (λ v. end_to_end (replies v (take (i + 1) lines))) (latest-recovered_views (state old))
 
     -- one more line that is no command
     pub unread_moments : UnreadRun old mid lines i → is_unread line ≡ true → OnlyPrints clock since state mid new (line_deed (recovered_now (state mid)) line).sent → EachSince clock since old new (IsUnsynced (state old) lines)
@@ -167,8 +167,8 @@ module _ {D : Type 0} (clock : D → ℕ) (since : D → ℕ → Files → Sent 
     late_breaks : (here : List Files) → states start (take i lines) ≡ here → (m : Files) (printed part : Sent) → printed ≡ (state mid).printed ++ part → Breaks (line_deed (latest here) line) here (recovered_view m ∷ []) part Stopped
         → RunsAfresh (state old) lines m printed
     late_breaks here here_is m printed part is broke = (
-      said start (take i lines) ++ part,
-      is ∙ ap (λ (l : Sent). l ++ part) (so_far.all.printed ∙ ap (λ (l : Sent). (state old).printed ++ l) (sym said_alike)) ∙ append_assoc (state old).printed (said start (take i lines)) part,
+      printed_by start (take i lines) ++ part,
+      is ∙ ap (λ (l : Sent). l ++ part) (so_far.all.printed ∙ ap (λ (l : Sent). (state old).printed ++ l) (sym said_alike)) ∙ append_assoc (state old).printed (printed_by start (take i lines)) part,
       runs_break start lines i line within line_is (recovered_view m ∷ []) part Stopped (subst (λ (s : List Files). Breaks (line_deed (latest s) line) s (recovered_view m ∷ []) part Stopped) (sym here_is) broke),
     )
 
@@ -194,7 +194,7 @@ module _ {D : Type 0} (clock : D → ℕ) (since : D → ℕ → Files → Sent 
       synced = syncs.synced;
       one = syncs.one;
       before = joined clock since state (IsUnsynced (state old) lines) old mid syncs.synced run.moments
-          (weaken clock since state (Stays (state mid)) (IsUnsynced (state old) lines) mid syncs.synced (unsynced_so_far run) syncs.before);
+          (weaken clock since state (IsIdleMoment (state mid)) (IsUnsynced (state old) lines) mid syncs.synced (unsynced_so_far run) syncs.before);
       after = weaken clock since state _ (RunsAfresh (state old) lines) syncs.synced new
           (λ m o adds. late_breaks start (unread_states start (take i lines) run.unread) m o adds.0 adds.1
           (subst (λ (s : List Files). Breaks (line_deed (latest s) line) (latest s ∷ []) (recovered_view m ∷ []) adds.0 Stopped) (ap recovered_views run.same.stays)
@@ -216,7 +216,7 @@ module _ {D : Type 0} (clock : D → ℕ) (since : D → ℕ → Files → Sent 
     -- the first command is given up with nothing done
     pub first_not : UnreadRun old mid lines i → OnlyReads clock since state mid new → EachSince clock since old new (IsUnsynced (state old) lines)
     first_not run reads = joined clock since state (IsUnsynced (state old) lines) old mid new run.moments
-        (weaken clock since state (Stays (state mid)) (IsUnsynced (state old) lines) mid new (unsynced_so_far run) reads.moments)
+        (weaken clock since state (IsIdleMoment (state mid)) (IsUnsynced (state old) lines) mid new (unsynced_so_far run) reads.moments)
 
   pub synced_done : (old new : D) (lines : List Line) (i : ℕ) → Synced old new lines i → IsSyncedBy clock since state old new lines
   synced_done old new lines i (inl run) = inl run.moments

@@ -6,7 +6,7 @@ use Rattle.tool_words.specs.declared.fault.UsageReason.{UsageReason}
 use Rattle.command_plans.specs.declared.outcome.Stop.{Stop}
 use Rattle.command_plans.specs.declared.outcome.Stop.TheVariants.{Disk as DiskStop, Pipe as PipeStop, Memory as MemoryStop}
 use Rattle.boot_commands.specs.Plain.{is_script}
-use Rattle.boot_run.specs.Asked.{lines_for, lines_of, taken_by}
+use Rattle.boot_run.specs.Asked.{lines_for, lines_to_run, taken_by}
 use Rattle.boot_run.specs.Endings.{AtEnd, FitsWords, TakesInput, UnlessDisk, ended_by, ended_of, status_of}
 use Rattle.boot_run.specs.declared.ended.Ended.{Ended}
 use Rattle.boot_run.specs.declared.ended.Ended.TheVariants.{Done, Refused, Usage, Disk, Pipe, Memory}
@@ -95,10 +95,10 @@ lines_or : Result (List Line) UsageReason → List Line
 lines_or (Ok lines) = lines
 lines_or (Err reason) = []
 
-pub lines_are : (input : List ℕ) (meant : Result Command UsageReason) (c : Command) (lines : List Line) → meant ≡ Ok c → lines_of input meant ≡ Ok lines → lines_for input c ≡ lines
+pub lines_are : (input : List ℕ) (meant : Result Command UsageReason) (c : Command) (lines : List Line) → meant ≡ Ok c → lines_to_run input meant ≡ Ok lines → lines_for input c ≡ lines
 unfolding lines_or
-lines_are input meant c lines is asks = ap lines_or (sym (ap (lines_of input) is) ∙ asks)
+lines_are input meant c lines is asks = ap lines_or (sym (ap (lines_to_run input) is) ∙ asks)
 
 -- words that are no command ask for none
-pub no_lines : (input : List ℕ) (meant : Result Command UsageReason) (reason : UsageReason) (lines : List Line) → meant ≡ Err reason → lines_of input meant ≡ Ok lines → ⊥
-no_lines input meant reason lines is asks = cc (sym (ap (lines_of input) is) ∙ asks)
+pub no_lines : (input : List ℕ) (meant : Result Command UsageReason) (reason : UsageReason) (lines : List Line) → meant ≡ Err reason → lines_to_run input meant ≡ Ok lines → ⊥
+no_lines input meant reason lines is asks = cc (sym (ap (lines_to_run input) is) ∙ asks)

@@ -21,7 +21,7 @@ use Rattle.command_plans.specs.declared.outcome.Stop.TheVariants.{Disk as DiskSt
 use Rattle.command_plans.proofs.Exits.{if_ok, if_err, if_ok_by}
 use Rattle.boot_run.specs.Asked.{usage_line}
 use Rattle.boot_run.specs.Endings.{AnswersRefusals, AtEnd, PrintsUsage, UnlessDisk, end_at, ended_by}
-use Rattle.boot_run.specs.History.{Runs, EndsBefore, states, said, any_refused}
+use Rattle.boot_run.specs.History.{Runs, EndsBefore, states, printed_by, any_refused}
 use Rattle.boot_run.specs.Lines.{line_deed}
 use Rattle.boot_run.specs.RunBy.{AllPrinted, LeavesFromSync, RunsLines, RunsUsage, RunsBy}
 use Rattle.boot_run.specs.RunsTo.{AllDone, IsSyncedBy, IsUnsynced, RunsAfresh, RunsTo}
@@ -30,7 +30,7 @@ use Rattle.boot_run.specs.declared.ended.Ended.{Ended}
 use Rattle.boot_run.specs.declared.ended.Ended.TheVariants.{Done, Refused, Usage, Disk, Pipe, Memory}
 use Rattle.boot_run.specs.declared.line.Line.{Line}
 use Rattle.boot_run.proofs.Replying.{none_empty}
-use Rattle.boot_run.proofs.Running.{said-is}
+use Rattle.boot_run.proofs.Running.{printed_by-is}
 use Rattle.boot_run.proofs.Synced.{unsynced_yet, weaken_after}
 use Rattle.boot_run.proofs.Taken.{but_disk, unless_disk}
 use Rattle.boot_run.proofs.Stepping.{latest_left, one_view_after, step_of, leaves_of_run}
@@ -62,12 +62,12 @@ not_stopped_at Pipe is = cc
 not_stopped_at Memory is = cc
 
 -- all lines done
-all_runs : (old : List Files) (lines : List Line) (new : List Files) → new ≡ states old lines → Runs old lines new (said old lines) Finished
+all_runs : (old : List Files) (lines : List Line) (new : List Files) → new ≡ states old lines → Runs old lines new (printed_by old lines) Finished
 all_runs old lines new is = record {
   whole = length lines;
   within = omega arith;
   part = [];
-  printed = ap (said old) (sym (take_all (length lines) lines (omega arith))) ∙ sym (append-nil _);
+  printed = ap (printed_by old) (sym (take_all (length lines) lines (omega arith))) ∙ sym (append-nil _);
   ends = subst (λ (rest : List Line). EndsBefore rest (states old (take (length lines) lines)) new [] Finished) (sym (drop_all (length lines) lines (omega arith))) (refl, is ∙ ap (states old) (sym (take_all (length lines) lines (omega arith))));
 }
 
@@ -100,8 +100,8 @@ one_view_of_settled s settled v is =
 module _ {D : Type 0} (clock : D → ℕ) (since : D → ℕ → Files → Sent → Type 0) (state : D → State) where
   at_end : (old new : D) (lines : List Line) (result : Result Bool Stop) → RunsTo clock since state old new lines result
       → Adds (state old).printed (state new).printed (λ sent. Step (recovered_views (state old)) lines (recovered_views (state new)) sent (end_at (ended_by result)))
-  at_end old new lines (Ok false) runs = (said (recovered_views (state old)) lines, runs.ok.printed, step _ lines _ _ Finished (all_runs _ lines _ runs.ok.state))
-  at_end old new lines (Ok true) runs = (said (recovered_views (state old)) lines, runs.ok.printed, step _ lines _ _ Finished (all_runs _ lines _ runs.ok.state))
+  at_end old new lines (Ok false) runs = (printed_by (recovered_views (state old)) lines, runs.ok.printed, step _ lines _ _ Finished (all_runs _ lines _ runs.ok.state))
+  at_end old new lines (Ok true) runs = (printed_by (recovered_views (state old)) lines, runs.ok.printed, step _ lines _ _ Finished (all_runs _ lines _ runs.ok.state))
   at_end old new lines (Err DiskStop) runs = (runs.err.0, runs.err.1, step _ lines _ _ DiskFails runs.err.2)
   at_end old new lines (Err PipeStop) runs = (runs.err.0, runs.err.1, step _ lines _ _ PipeFails runs.err.2)
   at_end old new lines (Err MemoryStop) runs = (runs.err.0, runs.err.1, step _ lines _ _ NoMemory runs.err.2)
@@ -115,7 +115,7 @@ module _ {D : Type 0} (clock : D → ℕ) (since : D → ℕ → Files → Sent 
 
   all_printed : (old new : D) (lines : List Line) (refused : Bool) → AllDone (state old) (state new) lines refused → AllPrinted (state old) (state new) lines
   all_printed old new lines refused all = (
-    all.printed ∙ ap (λ (l : Sent). (state old).printed ++ l) (said-is (recovered_views (state old)) lines ∙ ap (λ v. end_to_end (replies v lines)) (latest-recovered_views (state old))),
+    all.printed ∙ ap (λ (l : Sent). (state old).printed ++ l) (printed_by-is (recovered_views (state old)) lines ∙ ap (λ v. end_to_end (replies v lines)) (latest-recovered_views (state old))),
     sym (latest-recovered_views (state new)) ∙ ap latest all.state ∙ states-is (recovered_views (state old)) lines ∙ ap (λ v. view_after v lines) (latest-recovered_views (state old)),
   )
 

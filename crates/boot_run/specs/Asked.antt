@@ -7,7 +7,7 @@ use Rattle.boot_machine.specs.Sent.{latest, recovered_views}
 use Rattle.tool_words.specs.Grammar.{Word}
 use Rattle.tool_words.specs.Line.{is_open, line_words}
 use Rattle.tool_words.specs.Meaning.{meaning}
-use Rattle.tool_words.specs.Reasons.{text_of}
+use Rattle.tool_words.specs.Reasons.{usage_reason_text}
 use Rattle.tool_words.specs.declared.command.Command.{Command}
 use Rattle.tool_words.specs.declared.fault.UsageReason.{UsageReason}
 use Rattle.boot_commands.specs.Plain.{is_plain, is_script}
@@ -38,12 +38,12 @@ abbrev pub lines_from : ℕ → List (List ℕ) → List Line
 lines_from number [] = []
 lines_from number (piece ∷ pieces) = (if is_passed_over piece then [] else line_at number (command_in piece) ∷ []) ++ lines_from (suc number) pieces
 
-abbrev pub is_newline : ℕ → Bool
-is_newline byte = byte == 10
+abbrev pub is_script_newline : ℕ → Bool
+is_script_newline byte = byte == 10
 
 -- the lines of a script: what stands between its newlines, numbered from 1
 abbrev pub script_lines : List ℕ → List Line
-script_lines bytes = lines_from 1 (slice_split is_newline bytes)
+script_lines bytes = lines_from 1 (slice_split is_script_newline bytes)
 
 -- the lines of the script on standard input, or the one refusal of a script that is too long
 abbrev pub lines_in : List ℕ → List Line
@@ -53,13 +53,13 @@ lines_in input = if nat_lt script_limit (length input) then TooLong ∷ [] else 
 abbrev pub lines_for : List ℕ → Command → List Line
 lines_for input c = if is_script c then lines_in (take (script_limit + 1) input) else Plain c ∷ []
 
-abbrev pub lines_of : List ℕ → Result Command UsageReason → Result (List Line) UsageReason
-lines_of input (Err reason) = Err reason
-lines_of input (Ok c) = Ok (lines_for input c)
+abbrev pub lines_to_run : List ℕ → Result Command UsageReason → Result (List Line) UsageReason
+lines_to_run input (Err reason) = Err reason
+lines_to_run input (Ok c) = Ok (lines_for input c)
 
 -- What a run is to do: the lines of its words, asked at what boot sees at its start. No command's lines depend on that yet.
 abbrev pub asked : List Word → List ℕ → Files → Result (List Line) UsageReason
-asked words input view = lines_of input (meaning words)
+asked words input view = lines_to_run input (meaning words)
 
 -- the same of a machine in this state
 abbrev pub asked_of : List Word → State → Result (List Line) UsageReason
@@ -72,4 +72,4 @@ taken_by (Ok c) = if is_script c then script_limit + 1 else 0
 
 -- the line for words that are no command
 abbrev pub usage_line : UsageReason → List ℕ
-usage_line reason = codes "usage: " ++ (text_of reason ++ codes "\n")
+usage_line reason = codes "usage: " ++ (usage_reason_text reason ++ codes "\n")

@@ -14,9 +14,10 @@ states state [] = state
 states state (line ∷ lines) = states (left_by (line_deed (latest state) line) state) lines
 
 -- all that they print
-abbrev pub said : List Files → List Line → Sent
-said state [] = []
-said state (line ∷ lines) = let deed = line_deed (latest state) line in deed.sent ++ said (left_by deed state) lines
+abbrev pub printed_by : List Files → List Line → Sent
+printed_by state [] = []
+printed_by state (line ∷ lines) =
+    let deed = line_deed (latest state) line in deed.sent ++ printed_by (left_by deed state) lines
 
 -- some line is refused
 abbrev pub any_refused : List Files → List Line → Bool
@@ -51,5 +52,5 @@ pub record Runs (old : List Files) (lines : List Line) (new : List Files) (sent 
   pub whole : ℕ
   pub within : whole ≤ length lines
   pub part : Sent
-  pub printed : sent ≡ said old (take whole lines) ++ part
+  pub printed : sent ≡ printed_by old (take whole lines) ++ part
   pub ends : EndsBefore (drop whole lines) (states old (take whole lines)) new part end

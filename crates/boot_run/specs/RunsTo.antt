@@ -3,14 +3,14 @@ use Rattle.std.specs.Prelude.{◌≡◌, ◌≢◌, ◌⊎◌, ℕ, Bool, List, 
 use Rattle.boot_machine.specs.Disk.{Files, HasOneCandidate, State, recovered_view}
 use Rattle.boot_machine.specs.Images.{IsImage, IsFirm}
 use Rattle.boot_machine.specs.Moments.{EachSince}
-use Rattle.boot_machine.specs.Reading.{OnlyReads, Stays}
+use Rattle.boot_machine.specs.Reading.{IsIdleMoment, OnlyReads}
 use Rattle.boot_machine.specs.Sent.{Sent, Adds, PrintsPart, latest, recovered_now, recovered_views}
 use Rattle.command_plans.specs.Deeds.{Breaks, Deed, Stopped}
-use Rattle.command_plans.specs.Performs.{IsDone, end_of}
+use Rattle.command_plans.specs.Performs.{DoesDeed, end_of}
 use Rattle.command_plans.specs.declared.outcome.Outcome.{Outcome}
 use Rattle.command_plans.specs.declared.outcome.Stop.{Stop}
 use Rattle.command_plans.specs.declared.outcome.Stop.TheVariants as stops
-use Rattle.boot_run.specs.History.{BreaksBehind, Runs, states, said, any_refused}
+use Rattle.boot_run.specs.History.{BreaksBehind, Runs, states, printed_by, any_refused}
 use Rattle.boot_run.specs.Lines.{Prints}
 use Rattle.boot_run.specs.Step.{PrintsUnread}
 use Rattle.boot_run.specs.declared.line.Line.{Line}
@@ -42,7 +42,7 @@ pub record OnlyPrints {M : Type 0} (clock : M → ℕ) (since : M → ℕ → Fi
 pub record PerformsBehind {M : Type 0} (clock : M → ℕ) (since : M → ℕ → Files → Sent → Type 0) (state : M → State) (old new : M) (deed : Deed)
     (result : Result Outcome Stop) : Type 0 where
   pub firm : IsFirm (state new)
-  pub ok : IfOk result (IsDone deed (state old) (state new))
+  pub ok : IfOk result (DoesDeed deed (state old) (state new))
   pub err : IfErr result (λ stop. Adds (state old).printed (state new).printed
       (λ part. BreaksBehind deed (recovered_views (state old)) (recovered_views (state new)) part (end_of stop)))
   pub moments : EachSince clock since old new (λ image sent. Adds (state old).printed sent
@@ -52,7 +52,7 @@ pub record PerformsBehind {M : Type 0} (clock : M → ℕ) (since : M → ℕ �
 -- began with the files as they were.
 abbrev pub SyncsBefore : {M : Type 0} → (M → ℕ) → (M → ℕ → Files → Sent → Type 0) → (M → State) → M → M → Deed → Type 0
 SyncsBefore clock since state old new deed =
-    FromSync clock since state old new (Stays (state old)) (λ image sent. Adds (state old).printed sent
+    FromSync clock since state old new (IsIdleMoment (state old)) (λ image sent. Adds (state old).printed sent
     (λ part. Breaks deed (latest (recovered_views (state old)) ∷ []) (recovered_view image ∷ []) part Stopped))
 
 -- the same of the first command of a run, by its answer: it may be given up with nothing done
@@ -70,7 +70,7 @@ pub record IsUnsynced (s : State) (lines : List Line) (image : Files) (printed :
 -- From here these lines were all done, all their replies were printed, and some was a refusal or none.
 pub record AllDone (s now : State) (lines : List Line) (refused : Bool) : Type 0 where
   pub state : recovered_views now ≡ states (recovered_views s) lines
-  pub printed : now.printed ≡ s.printed ++ said (recovered_views s) lines
+  pub printed : now.printed ≡ s.printed ++ printed_by (recovered_views s) lines
   pub answer : refused ≡ any_refused (recovered_views s) lines
 
 -- Over these lines, from old to new, at every moment.

@@ -4,7 +4,7 @@ ghost use Rattle.tool_words.specs.Meaning.{meaning};
 ghost use Rattle.tool_words.specs.Shown.{texts};
 ghost use Rattle.boot_run.specs.Lines.{script_limit};
 ghost use Rattle.boot_commands.specs.Plain.{is_plain, is_script};
-ghost use Rattle.boot_run.specs.Asked.{command_in, in_script, is_newline, is_passed_over, line_at, lines_in, script_lines};
+ghost use Rattle.boot_run.specs.Asked.{command_in, in_script, is_passed_over, is_script_newline, line_at, lines_in, script_lines};
 
 use crate::input::SCRIPT_LIMIT;
 use crate::line::Line;
@@ -75,7 +75,7 @@ fn is_passed_over(piece: &[u8]) -> bool
 }
 
 fn is_newline(byte: u8) -> bool
-    ensures { result ≡ is_newline byte }
+    ensures { result ≡ is_script_newline byte }
 {
     byte == b'\n'
 }

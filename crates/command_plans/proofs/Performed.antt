@@ -14,7 +14,7 @@ use Rattle.boot_machine.proofs.Seeing.{latest-recovered_views, one_view, recover
 use Rattle.install_steps.specs.Steps.{Keeps, Sees, IsDone as IsInstalled}
 use Rattle.command_plans.specs.Deeds.{Deed, Stopped, Stays, Breaks}
 use Rattle.boot_machine.specs.Reading.{OnlyReads}
-use Rattle.command_plans.specs.Performs.{Performs, IsDone, end_by, end_of, stop_of}
+use Rattle.command_plans.specs.Performs.{Performs, DoesDeed, end_by, end_of, stop_of}
 use Rattle.command_plans.specs.declared.outcome.Outcome.{Outcome}
 use Rattle.command_plans.specs.declared.outcome.Stop.{Stop}
 use Rattle.command_plans.specs.declared.outcome.Stop.TheVariants as stops
@@ -153,7 +153,7 @@ module _ {D : Type 0} (clock : D → ℕ) (since : D → ℕ → Files → Sent 
       → OnlyReads clock since state old mid → Performs clock since state end_of mid new deed result → Performs clock since state end_of old new deed result
   after_reads mid new result sees reads performs = record {
     firm = performs.firm;
-    ok = subst (λ (s : State). IfOk result (IsDone deed s (state new))) reads.same performs.ok;
+    ok = subst (λ (s : State). IfOk result (DoesDeed deed s (state new))) reads.same performs.ok;
     err = subst (λ (s : State). IfErr result (λ stop. Adds s.printed (state new).printed (λ part. Breaks deed (recovered_views s) (recovered_views (state new)) part (end_of stop)))) reads.same performs.err;
     moments = joined clock since state (Within (state old)) old mid new (read_moments mid sees reads.moments) (subst (λ (s : State). EachSince clock since mid new (Within s)) reads.same performs.moments);
   }

@@ -10,7 +10,7 @@ use Rattle.command_reads.specs.declared.refusing.Declined.{Declined}
 use Rattle.command_reads.specs.declared.refusing.Declined.TheVariants as declines
 use Rattle.command_reads.specs.declared.saying.Unsaid.{Unsaid}
 use Rattle.command_reads.specs.declared.saying.Unsaid.TheVariants as unsaid
-use Rattle.command_plans.specs.Answers.{Answer, answered, refusal, said}
+use Rattle.command_plans.specs.Answers.{Answer, answer_of_read, answered, refusal}
 use Rattle.command_plans.specs.Plans.{Plans, PlansAs}
 use Rattle.command_plans.specs.Refusing.{DeclinesWords, PlansDeclined, PlansUnsaid, RefusesWords}
 use Rattle.command_plans.specs.declared.outcome.Stop.{Stop}
@@ -31,7 +31,7 @@ refuses why = Err why
 
 -- of a command that only says something
 pub said_words : {W X : Type 0} (read : Result W Refusal) (shown : X → List ℕ) (text : Result X Unsaid) (result : Result Plan Stop)
-    → IfOk result (λ plan. (s : State) (meant : Result (List ℕ) Refusal) → Says shown text meant → Plans s plan (said (seen s) meant))
+    → IfOk result (λ plan. (s : State) (meant : Result (List ℕ) Refusal) → Says shown text meant → Plans s plan (answer_of_read (seen s) meant))
     → DeclinesWords read text → RefusesWords read result
 said_words read shown text (Err stop) plans declines = λ why is. tt
 said_words read shown (Ok bytes) (Ok plan) plans declines = λ why is. absurd (declines why is)

@@ -32,9 +32,9 @@ abbrev pub done : Files → List ℕ → Answer
 done after text = record { outcome = Done; after = after; text = text }
 
 -- what a command says that changes nothing: its text, or the refusal
-abbrev pub said : Files → Result (List ℕ) Refusal → Answer
-said view (Ok text) = done view text
-said view (Err why) = refusal view why
+abbrev pub answer_of_read : Files → Result (List ℕ) Refusal → Answer
+answer_of_read view (Ok text) = done view text
+answer_of_read view (Err why) = refusal view why
 
 -- what a command comes to that may be refused
 abbrev pub answered : Files → Result Answer Refusal → Answer

@@ -35,13 +35,13 @@ abbrev pub end_by : MachineFault → End
 end_by fault = end_of (stop_of fault)
 
 -- the deed was done and its reply printed
-abbrev pub IsDone : Deed → State → State → Outcome → Type 0
-IsDone deed s now outcome = (outcome ≡ deed.outcome) × (recovered_views now ≡ left_by deed (recovered_views s)) × (now.printed ≡ s.printed ++ deed.sent)
+abbrev pub DoesDeed : Deed → State → State → Outcome → Type 0
+DoesDeed deed s now outcome = (outcome ≡ deed.outcome) × (recovered_views now ≡ left_by deed (recovered_views s)) × (now.printed ≡ s.printed ++ deed.sent)
 
 -- One deed on a firm machine, from old to new: what stands after each answer, and at every moment.
 pub record Performs {M E : Type 0} (clock : M → ℕ) (since : M → ℕ → Files → Sent → Type 0) (state : M → State) (ends : E → End) (old new : M) (deed : Deed) (result : Result Outcome E) : Type 0 where
   pub firm : IsFirm (state new)
-  pub ok : IfOk result (IsDone deed (state old) (state new))
+  pub ok : IfOk result (DoesDeed deed (state old) (state new))
   pub err : IfErr result (λ fault. Adds (state old).printed (state new).printed (λ part. Breaks deed (recovered_views (state old)) (recovered_views (state new)) part (ends fault)))
   pub moments : EachSince clock since old new (λ image sent. Adds (state old).printed sent (λ part. Breaks deed (recovered_views (state old)) (recovered_view image ∷ []) part Stopped))
 

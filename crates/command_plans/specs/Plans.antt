@@ -22,8 +22,8 @@ use Rattle.command_plans.specs.declared.plan.Change.TheVariants.{Nothing, Remove
 use Rattle.command_plans.specs.declared.plan.Plan.{Plan}
 
 -- the view with the finished image by a plan of these sources at a path
-abbrev pub written : ImagePlan → Sources → Path → Files → Files
-written plan sources path view = insert view path (planned_image plan sources view)
+abbrev pub view_with_image : ImagePlan → Sources → Path → Files → Files
+view_with_image plan sources path view = insert view path (planned_image plan sources view)
 
 -- the view with the bytes of the file at one path at another too
 abbrev pub duplicated : Path → Path → Files → Files
@@ -34,7 +34,7 @@ abbrev pub effect : Files → Change → Files
 effect view Nothing = view
 effect view (Remove path gone) = remove view path
 effect view (Leftovers temps) = view
-effect view (Write image sources target) = written image sources target.path view
+effect view (Write image sources target) = view_with_image image sources target.path view
 effect view (Put target bytes) = insert view target.path bytes
 effect view (Copy from target gone) = duplicated from target.path view
 effect view (Move from to intent gone exists) = move_in from to view

@@ -12,7 +12,7 @@ ghost use Rattle.image_writer.specs.Sourced.{IsSourced};
 ghost use Rattle.install_steps.specs.Steps.{CountsStep, IsDone, Keeps, NoNewTemp, RestsUnless, StepsTo};
 ghost use Rattle.command_plans.specs.Deeds.{made};
 ghost use Rattle.command_plans.specs.Performs.{CountsFault, LeavesNoTempBy, LeavesRestedBy, Performs, Syncs, end_by};
-ghost use Rattle.command_plans.specs.Plans.{CanMake, Drops, DropsBy, IsMakeable, duplicated, effect, planned, written};
+ghost use Rattle.command_plans.specs.Plans.{CanMake, Drops, DropsBy, IsMakeable, duplicated, effect, planned, view_with_image};
 
 use crate::outcome::{MachineFault, Outcome};
 use crate::plan::{Change, Plan, RefusalLine};
@@ -37,9 +37,10 @@ fn write<M: Machine>(
     requires rested { IsTrue M.tells → IsRested (M.state machine.old) }
     requires sourced { IsTrue M.tells → IsSourced image.now sources.now (seen (M.state machine.old)) }
     ensures done { OnOk result (IsTrue M.tells → IsFirm (M.state machine.old)
-        → IsDone (M.state machine.new) (written image.now sources.now target.now.path (seen (M.state machine.old)))) }
+        → IsDone (M.state machine.new)
+        (view_with_image image.now sources.now target.now.path (seen (M.state machine.old)))) }
     ensures step { IsTrue M.tells → IsFirm (M.state machine.old) → StepsTo M.clock M.since M.state
-        (written image.now sources.now target.now.path (seen (M.state machine.old))) machine.old machine.new }
+        (view_with_image image.now sources.now target.now.path (seen (M.state machine.old))) machine.old machine.new }
     ensures keeps { IsTrue M.tells → Keeps (M.state machine.old) (M.state machine.new) }
     ensures rests { OnOk result (IsTrue M.tells → IsRested (M.state machine.new)) }
     ensures temps { OnOk result (IsTrue M.tells → NoNewTemp (M.state machine.old) (M.state machine.new)) }

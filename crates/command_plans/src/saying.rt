@@ -5,7 +5,7 @@ ghost use Rattle.boot_machine.specs.Counts.{Counts};
 ghost use Rattle.boot_machine.specs.Disk.{State};
 ghost use Rattle.boot_machine.specs.Sent.{seen};
 ghost use Rattle.command_reads.specs.Saying.{CountsUnsaid, Says, unsaid_counts};
-ghost use Rattle.command_plans.specs.Answers.{Answer, answered, said};
+ghost use Rattle.command_plans.specs.Answers.{Answer, answer_of_read, answered};
 ghost use Rattle.command_plans.specs.Performs.{CountsStop};
 ghost use Rattle.command_plans.specs.Plans.{IsIdleIfRefused, IsMakeable, Plans, PlansAs};
 ghost use Rattle.command_plans.specs.Refusing.{PlansUnsaid};
@@ -34,7 +34,7 @@ pub fn plan_unsaid(alloc: Global, unsaid: Unsaid) -> Result<Plan, Stop>
 /// The plan of a command that changes nothing: its text, or the refusal.
 pub fn said(alloc: Global, text: Result<Vec<u8>, Unsaid>) -> Result<Plan, Stop>
     ensures plans { IfOk result (λ plan. (s : State) (meant : Result (List ℕ) Refusal)
-        → Says (λ text. text.items) text meant → Plans s plan (said (seen s) meant)) }
+        → Says (λ text. text.items) text meant → Plans s plan (answer_of_read (seen s) meant)) }
     ensures makeable { IfOk result (λ plan. IsMakeable plan.change) }
     ensures idle { IfOk result (λ plan. plan.change ≡ Change.Nothing) }
     ensures counts { (old new : Counts) → CountsUnsaid text old new → CountsStop result old new }

@@ -7,7 +7,7 @@ use Rattle.boot_base.specs.declared.refusal.Refusal.{Refusal}
 use Rattle.boot_base.specs.declared.refusal.Refusal.TheVariants as refusals
 use Rattle.boot_machine.specs.Disk.{Files}
 use Rattle.pe_reader.specs.Grammar.{Headers, pe_of}
-use Rattle.pe_reader.specs.Reasons.{text_of}
+use Rattle.pe_reader.specs.Reasons.{pe_reason_text}
 use Rattle.pe_reader.specs.declared.fault.FailedCheck.{FailedCheck}
 use Rattle.command_reads.specs.Refusing.{◌>>=◌, printed_path}
 
@@ -22,7 +22,7 @@ bytes_at view path = readable path (get view path)
 -- what was read as a PE32+ file, or the first check that fails
 abbrev pub headers_or : Result Headers FailedCheck → Result Headers Refusal
 headers_or (Ok headers) = Ok headers
-headers_or (Err check) = Err (refusals.NotPe (text_of check.reason) check.offset)
+headers_or (Err check) = Err (refusals.NotPe (pe_reason_text check.reason) check.offset)
 
 -- the bytes of an image, with what they read as
 abbrev pub image_at : Files → Path → Result (List ℕ × Headers) Refusal

@@ -7,7 +7,7 @@ ghost use Rattle.boot_machine.specs.Rows.{contents};
 ghost use Rattle.boot_machine.specs.Sent.{seen};
 ghost use Rattle.pe_reader.specs.Grammar.{Headers, pe_of};
 ghost use Rattle.pe_reader.specs.Reads.{CountsHead, FailsFrom, GivesFrom, ReadFrom, head_counts, headers_of};
-ghost use Rattle.pe_reader.specs.Reasons.{text_of};
+ghost use Rattle.pe_reader.specs.Reasons.{pe_reason_text};
 ghost use Rattle.pe_reader.specs.declared.fault.FailedCheck.{FailedCheck};
 ghost use Rattle.command_reads.specs.Refusing.{printed_path};
 ghost use Rattle.boot_base.specs.Limits.{file_limit};
@@ -54,7 +54,7 @@ pub fn readable<M: Machine>(alloc: Global, path: &BootPath, machine: &mut M) -> 
 
 /// The refusal of a file that is no PE32+ file: what the first failing check is about, and its place in bytes.
 pub fn not_pe(alloc: Global, reason: PeReason, offset: u64) -> Result<Refusal, AllocError>
-    ensures { IfOk result (λ why. why ≡ Refusal.NotPe (text_of reason) offset) }
+    ensures { IfOk result (λ why. why ≡ Refusal.NotPe (pe_reason_text reason) offset) }
 {
     let reason = PeText::of(alloc, reason.text())?;
     Ok(Refusal::NotPe { reason, offset })

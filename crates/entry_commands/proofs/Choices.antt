@@ -2,7 +2,7 @@
 use Rattle.std.proofs.Common.{◌≡◌, inl, inr, Bool, true, false, List, [], ◌∷◌, Option, Some, None, refl, sym, ◌∙◌}
 use Rattle.std.specs.Prelude.{find}
 use Rattle.std.proofs.lemmas.Bool.{cases_Bool, cond-false, cond-true}
-use Rattle.boot_counter.specs.Bless.{Name, GoodName, CountedName, BadName, choice_from, choice_of, is_there, sources_of, target_of}
+use Rattle.boot_counter.specs.Bless.{Name, GoodName, CountedName, BadName, choice_from, choice_of, is_there, bless_sources, target_of}
 use Rattle.boot_counter.specs.declared.bless.BlessVerb.{BlessVerb}
 use Rattle.boot_counter.specs.declared.bless.Choice.TheVariants.{Nothing}
 use Rattle.boot_counter.specs.declared.bless.Present.{Present}
@@ -42,10 +42,10 @@ found_there test (first ∷ later) name is = elim (cases_Bool (test first)) [
 chosen : (verb : BlessVerb) (present : Present) (source : Name) → choice_of verb present ≡ choice_from (Some source)
     → (is_there present source ≡ true) × (is_there present (target_of verb) ≡ false)
 chosen verb present source is = elim (cases_Bool (is_there present (target_of verb))) [
-  | inl there ↦ absurd (some_choice source (sym (cond-true (is_there present (target_of verb)) Nothing (choice_from (find (is_there present) (sources_of verb))) there) ∙ is))
+  | inl there ↦ absurd (some_choice source (sym (cond-true (is_there present (target_of verb)) Nothing (choice_from (find (is_there present) (bless_sources verb))) there) ∙ is))
   | inr gone ↦ (
-    found_there (is_there present) (sources_of verb) source
-        (one_source (find (is_there present) (sources_of verb)) source (sym (cond-false (is_there present (target_of verb)) Nothing (choice_from (find (is_there present) (sources_of verb))) gone) ∙ is)),
+    found_there (is_there present) (bless_sources verb) source
+        (one_source (find (is_there present) (bless_sources verb)) source (sym (cond-false (is_there present (target_of verb)) Nothing (choice_from (find (is_there present) (bless_sources verb))) gone) ∙ is)),
     gone,
   )
 ]

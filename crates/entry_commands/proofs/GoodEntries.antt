@@ -32,7 +32,7 @@ use Rattle.entry_commands.specs.Blessing.{bless_answer, bless_entry, bless_meant
 use Rattle.entry_commands.specs.Booting.{boot_answer, boot_meant, booted_entry, booted_text, first_of, renamed_entry}
 use Rattle.entry_commands.specs.Folders.{folders_of}
 use Rattle.entry_commands.specs.GoodEntries.{HasGoodEntry, SparesGoodName}
-use Rattle.entry_commands.specs.Installing.{image_of, install_answer, install_meant, installation_of}
+use Rattle.entry_commands.specs.Installing.{install_answer, install_meant, installation_of, installed_image}
 use Rattle.entry_commands.specs.Listing.{menu_at}
 use Rattle.entry_commands.specs.Unlinking.{removal, unlink_answer}
 use Rattle.entry_commands.specs.declared.bless.EntryPaths.{EntryPaths}
@@ -139,7 +139,7 @@ module _ (folders : Folders) (path : Path) (view : Files) (e : HasGoodEntry fold
   kept_install file name tries esp =
       after_answered (HasGoodEntry folders path) view (install_meant view file name tries esp) e (λ answer is.
       let words = done_by (installation_of file name tries esp) _ answer is in
-      let image = done_by (image_of view words.0) _ answer words.2 in
+      let image = done_by (installed_image view words.0) _ answer words.2 in
       let valid = image_is view words.0 image.0 image.1 in
       subst (λ (a : Answer). HasGoodEntry folders path a.after) (ok_is _ answer image.2)
       (elim (cases_same path words.0.target) [

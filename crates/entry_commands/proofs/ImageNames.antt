@@ -14,7 +14,7 @@ use Rattle.boot_counter.specs.Counter.{suffix_text}
 use Rattle.boot_counter.specs.Splits.{has_suffix}
 use Rattle.boot_counter.proofs.Splitting.{suffix_there}
 use Rattle.command_reads.specs.Refusing.{◌>>=◌, path_in, path_or, path_under}
-use Rattle.entry_commands.specs.Installing.{IsImageName, image_name, image_path, install_name, is_install_name, is_name_byte, is_name_text}
+use Rattle.entry_commands.specs.Installing.{IsImageName, image_name, image_path, install_name, is_entry_name_byte, is_install_name, is_name_text}
 use Rattle.entry_commands.proofs.Siblings.{decimal_lacks, file_name_under, file_name_whole, kept_from_long, none-append, one_more}
 
 -- ---- the name
@@ -101,19 +101,19 @@ target_suffix word file target image is =
     ap (has_suffix Efi) (last_in_images esp.0 file target image.kept image.no_slash (found _ _ target esp.1)) ∙ image.suffix
 
 -- no byte of a name is a slash
-name_byte : (byte : ℕ) → is_name_byte byte ≡ true → is_slash byte ≡ false
+name_byte : (byte : ℕ) → is_entry_name_byte byte ≡ true → is_slash byte ≡ false
 name_byte byte is = elim (cases_Bool (is_slash byte)) [
   | inl slash ↦ absurd (not_name byte (eqb-true byte 47 slash) is)
   | inr other ↦ other
 ]
   where
-    not_name : (byte : ℕ) → byte ≡ 47 → is_name_byte byte ≡ true → ⊥
-    not_name byte at is = cc (sym (ap is_name_byte at) ∙ is)
+    not_name : (byte : ℕ) → byte ≡ 47 → is_entry_name_byte byte ≡ true → ⊥
+    not_name byte at is = cc (sym (ap is_entry_name_byte at) ∙ is)
 
-pub name_slash : (name : List ℕ) → list_all is_name_byte name ≡ true → list_any is_slash name ≡ false
+pub name_slash : (name : List ℕ) → list_all is_entry_name_byte name ≡ true → list_any is_slash name ≡ false
 name_slash [] all = refl
 name_slash (byte ∷ name) all =
-    let parts = and_parts (is_name_byte byte) (list_all is_name_byte name) all in
+    let parts = and_parts (is_entry_name_byte byte) (list_all is_entry_name_byte name) all in
     rw (name_byte byte parts.0) (name_slash name parts.1)
 
 all_of : (name : List ℕ) (fits : Bool) (taken : List ℕ) → (if fits then Ok name else Err (refusals.BadName name)) ≡ Ok taken → fits ≡ true
@@ -125,4 +125,4 @@ pub taken_slash : (name taken : List ℕ) → install_name name ≡ Ok taken →
 taken_slash name taken is =
     let fits = and_parts (is_name_text name) _ (all_of name (is_install_name name) taken is) in
     let text = and_parts _ _ fits.0 in
-    name_slash name (and_parts _ (list_all is_name_byte name) text.0).1
+    name_slash name (and_parts _ (list_all is_entry_name_byte name) text.0).1

@@ -21,7 +21,7 @@ use Rattle.boot_machine.specs.Disk.{Files}
 use Rattle.command_reads.specs.Files.{bytes_at, if_given, readable}
 use Rattle.command_reads.specs.Refusing.{path_in, printed_path}
 use Rattle.menu_order.specs.declared.item.MenuItem.{MenuItem}
-use Rattle.entry_commands.specs.Installing.{entry_or, image_name, image_name_in, image_of, image_path, install_name, installation_of, is_install_name, tries_in, tries_or}
+use Rattle.entry_commands.specs.Installing.{entry_or, image_name, image_name_in, image_path, install_name, installation_of, installed_image, is_install_name, tries_in, tries_or}
 use Rattle.entry_commands.specs.declared.install.Installation.{Installation}
 use Rattle.entry_commands.proofs.ImageNames.{image_file, taken_slash, target_suffix}
 use Rattle.entry_commands.proofs.Steps.{done_by, err_ok, none_some, ok_is}
@@ -119,7 +119,7 @@ entry_from : (path : Path) (bytes : List ℕ) (item : MenuItem) → length bytes
 entry_from path bytes item small is = rw (le-leb (length bytes) 268435456 small, is) refl
 
 -- the bytes that are installed are an entry where they come to stand
-pub image_is : (view : Files) (words : Installation) (bytes : List ℕ) → image_of view words ≡ Ok bytes
+pub image_is : (view : Files) (words : Installation) (bytes : List ℕ) → installed_image view words ≡ Ok bytes
     → (item : MenuItem) × (entry_of Efi words.target bytes ≡ Some item)
 image_is view words bytes is =
     let read = done_by (bytes_at view words.from) _ bytes is in

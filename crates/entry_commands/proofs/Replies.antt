@@ -16,12 +16,12 @@ use Rattle.boot_folder.specs.Entries.{folder_of}
 use Rattle.boot_folder.specs.Listing.{behind_newline, boot_lines, counter_lines, file_lines, item_text, key_lines, title_lines}
 use Rattle.boot_machine.specs.Disk.{Files, has}
 use Rattle.boot_machine.specs.Rows.{move_in}
-use Rattle.command_plans.specs.Answers.{Answer, answered, done, said}
+use Rattle.command_plans.specs.Answers.{Answer, answer_of_read, answered, done}
 use Rattle.command_reads.specs.Refusing.{◌>>=◌, path_under, printed_path}
 use Rattle.entry_commands.specs.Blessing.{bless_answer, bless_entry, bless_meant, blessed_by, blessed_text, present_at, reported_paths, status_by, status_said, verb_text}
 use Rattle.entry_commands.specs.Booting.{boot_answer, boot_entry, boot_meant, booted_entry, booted_text, first_of, renamed_entry}
 use Rattle.entry_commands.specs.Folders.{folders_of}
-use Rattle.entry_commands.specs.Installing.{image_of, install_answer, install_meant, installation_of}
+use Rattle.entry_commands.specs.Installing.{install_answer, install_meant, installation_of, installed_image}
 use Rattle.entry_commands.specs.Listing.{list_said, menu_at, menu_said}
 use Rattle.entry_commands.specs.declared.bless.EntryPaths.{EntryPaths}
 use Rattle.menu_order.specs.declared.item.MenuItem.{MenuItem}
@@ -40,7 +40,7 @@ pub text_next : {X : Type 0} (first : Result X Refusal) (next : X → Result (Li
 text_next (Ok x) next some = some x
 text_next (Err why) next some = tt
 
-pub some_said : (view : Files) (found : Result (List ℕ) Refusal) → HasText found → 0 < length (said view found).text
+pub some_said : (view : Files) (found : Result (List ℕ) Refusal) → HasText found → 0 < length (answer_of_read view found).text
 some_said view (Ok text) some = some
 some_said view (Err why) some = some_line why
 
@@ -126,7 +126,7 @@ some_marked view words.Indeterminate word esp = some_blessing view verbs.Indeter
 some_marked view words.Status word esp =
     some_said view (status_said view word esp) (text_next (reported_paths word esp) _ (λ paths. some_status paths (present_at view paths)))
 
-pub some_list : (view : Files) (esp : List ℕ) → 0 < length (said view (list_said view esp)).text
+pub some_list : (view : Files) (esp : List ℕ) → 0 < length (answer_of_read view (list_said view esp)).text
 some_list view esp =
     some_said view (list_said view esp) (text_next (folders_of esp) _ (λ folders. text_next (menu_at view folders) menu_said some_menu))
 
@@ -137,4 +137,4 @@ some_boot view esp =
 
 pub some_install : (view : Files) (file name : List ℕ) (tries : Option (List ℕ)) (esp : List ℕ) → 0 < length (install_answer view file name tries esp).text
 some_install view file name tries esp =
-    some_answer view (install_meant view file name tries esp) (answers_next (installation_of file name tries esp) _ (λ words. answers_next (image_of view words) _ (λ bytes. omega arith)))
+    some_answer view (install_meant view file name tries esp) (answers_next (installation_of file name tries esp) _ (λ words. answers_next (installed_image view words) _ (λ bytes. omega arith)))

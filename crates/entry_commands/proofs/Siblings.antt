@@ -22,7 +22,7 @@ use Rattle.boot_base.proofs.Normal.{normal-no_nul, normal-short}
 use Rattle.boot_counter.specs.declared.counted.Counted.{Counted}
 use Rattle.boot_counter.specs.declared.counted.Suffix.{Suffix}
 use Rattle.boot_counter.specs.declared.counted.Suffix.TheVariants.{Conf, Efi}
-use Rattle.boot_counter.specs.Counter.{IsCounted, IsDone, IsNumber, IsUncounted, done_text_of, suffix_text, written_name}
+use Rattle.boot_counter.specs.Counter.{IsCounted, IsDoneText, IsNumber, IsUncounted, done_text_of, suffix_text, written_name}
 use Rattle.boot_counter.specs.Renames.{bad_name_of, good_name_of}
 use Rattle.boot_counter.specs.Splits.{has_suffix, split_of, stem_of}
 use Rattle.boot_counter.proofs.Readings.{number_lacks}
@@ -531,7 +531,7 @@ decimal_shorter text n is =
     let most = number_bound text n is in
     length-decimal-le (length text) n (omega (arith, is.numeral.0)) fits (omega arith)
 
-done_shorter : (text : List ℕ) (done : ℕ) → IsDone text done → length (done_text_of done) ≤ length text
+done_shorter : (text : List ℕ) (done : ℕ) → IsDoneText text done → length (done_text_of done) ≤ length text
 done_shorter text done (inl none) =
     let written : length (done_text_of done) ≡ 0 = ap (λ n. length (done_text_of n)) none.1 in
     omega arith

@@ -2,7 +2,7 @@
 use Rattle.std.proofs.Common.{◌≡◌, ℕ, Bool, true, false, List, Some, None, Result, Ok, Err, refl}
 use Rattle.boot_base.specs.declared.refusal.Refusal.{Refusal}
 use Rattle.boot_machine.specs.Disk.{Files}
-use Rattle.command_plans.specs.Answers.{Answer, answered, said}
+use Rattle.command_plans.specs.Answers.{Answer, answer_of_read, answered}
 use Rattle.command_reads.specs.Refusing.{◌>>=◌}
 
 -- what a step that is done went through
@@ -30,6 +30,6 @@ after_answered P view (Ok answer) stays each = each answer refl
 after_answered P view (Err why) stays each = stays
 
 pub after_said : (P : Files → Type 0) (view : Files) (text : Result (List ℕ) Refusal) → P view
-    → P (said view text).after
+    → P (answer_of_read view text).after
 after_said P view (Ok text) stays = stays
 after_said P view (Err why) stays = stays

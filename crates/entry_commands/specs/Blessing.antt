@@ -13,7 +13,7 @@ use Rattle.boot_counter.specs.declared.bless.Choice.TheVariants as choices
 use Rattle.boot_counter.specs.declared.bless.Present.{Present}
 use Rattle.boot_machine.specs.Disk.{Files, has}
 use Rattle.boot_machine.specs.Rows.{move_in}
-use Rattle.command_plans.specs.Answers.{Answer, answered, done, said}
+use Rattle.command_plans.specs.Answers.{Answer, answer_of_read, answered, done}
 use Rattle.command_reads.specs.Refusing.{◌>>=◌, path_in, path_under, printed_path}
 use Rattle.entry_commands.specs.declared.bless.EntryPaths.{EntryPaths}
 use Rattle.tool_words.specs.declared.command.BlessWord.{BlessWord}
@@ -100,4 +100,4 @@ abbrev pub bless_answer : Files → BlessWord → List ℕ → List ℕ → Answ
 bless_answer view words.Good word esp = answered view (bless_meant view verbs.Good word esp)
 bless_answer view words.Bad word esp = answered view (bless_meant view verbs.Bad word esp)
 bless_answer view words.Indeterminate word esp = answered view (bless_meant view verbs.Indeterminate word esp)
-bless_answer view words.Status word esp = said view (status_said view word esp)
+bless_answer view words.Status word esp = answer_of_read view (status_said view word esp)

@@ -9,7 +9,7 @@ use Rattle.boot_base.specs.declared.refusal.Refusal.TheVariants as refusals
 use Rattle.boot_counter.specs.Counter.{suffix_text, written_name}
 use Rattle.boot_counter.specs.Splits.{has_suffix, number_in, split_of}
 use Rattle.boot_counter.specs.declared.counted.Suffix.TheVariants.{Efi}
-use Rattle.boot_folder.specs.Missing.{text_of as missing_text}
+use Rattle.boot_folder.specs.Missing.{missing_text}
 use Rattle.boot_folder.specs.Records.{Unfit, NotPe, NotUki, uki_of}
 use Rattle.boot_machine.specs.Disk.{Files}
 use Rattle.command_plans.specs.Answers.{Answer, answered, done}
@@ -19,16 +19,16 @@ use Rattle.command_reads.specs.Saying.{UnsaidFor}
 use Rattle.command_reads.specs.declared.saying.Unsaid.{Unsaid}
 use Rattle.entry_commands.specs.declared.install.Installation.{Installation}
 use Rattle.menu_order.specs.declared.item.MenuItem.{MenuItem}
-use Rattle.pe_reader.specs.Reasons.{text_of}
+use Rattle.pe_reader.specs.Reasons.{pe_reason_text}
 
 -- a byte of a name: a letter or digit of ASCII, or one of . _ ~ ^ + -
-abbrev pub is_name_byte : ℕ → Bool
-is_name_byte byte = is_ascii_alphanumeric byte || list_any (λ other. other == byte) (codes "._~^+-")
+abbrev pub is_entry_name_byte : ℕ → Bool
+is_entry_name_byte byte = is_ascii_alphanumeric byte || list_any (λ other. other == byte) (codes "._~^+-")
 
 -- 1 to 128 such bytes, and no dot first
 abbrev pub is_name_text : List ℕ → Bool
 is_name_text name =
-    not (length name == 0) && nat_le (length name) 128 && list_all is_name_byte name && not (starts_with nat_eq name (codes "."))
+    not (length name == 0) && nat_le (length name) 128 && list_all is_entry_name_byte name && not (starts_with nat_eq name (codes "."))
 
 -- a name that an image may be installed under: with its suffix it has no boot counter
 abbrev pub is_install_name : List ℕ → Bool
@@ -74,7 +74,7 @@ installation_of file name tries esp =
 -- the entry that the menu would show, or why there is none
 abbrev pub entry_or : Result MenuItem Unfit → Result MenuItem Refusal
 entry_or (Ok item) = Ok item
-entry_or (Err (NotPe check)) = Err (refusals.NotPe (text_of check.reason) check.offset)
+entry_or (Err (NotPe check)) = Err (refusals.NotPe (pe_reason_text check.reason) check.offset)
 entry_or (Err (NotUki missing)) = Err (refusals.NotUki (missing_text missing))
 
 -- the file is shown, or this is why it isn't
@@ -82,8 +82,9 @@ abbrev pub ShowsEntry : Result (Unit {0}) Unsaid → Result MenuItem Refusal →
 ShowsEntry result entry = MatchResult result (λ _. (item : MenuItem) × (entry ≡ Ok item)) (λ unsaid. UnsaidFor unsaid entry)
 
 -- the bytes to be installed, of a file that is an entry of the menu where it comes to stand
-abbrev pub image_of : Files → Installation → Result (List ℕ) Refusal
-image_of view words = bytes_at view words.from >>= λ bytes. entry_or (uki_of words.target bytes) >>= λ item. Ok bytes
+abbrev pub installed_image : Files → Installation → Result (List ℕ) Refusal
+installed_image view words =
+    bytes_at view words.from >>= λ bytes. entry_or (uki_of words.target bytes) >>= λ item. Ok bytes
 
 abbrev pub installed_text : Path → List ℕ
 installed_text target = codes "installed " ++ (printed_path target ++ codes "\n")
@@ -93,7 +94,9 @@ installed view words bytes = done (insert view words.target bytes) (installed_te
 
 abbrev pub install_meant : Files → List ℕ → List ℕ → Option (List ℕ) → List ℕ → Result Answer Refusal
 install_meant view file name tries esp =
-    installation_of file name tries esp >>= λ words. image_of view words >>= λ bytes. Ok (installed view words bytes)
+    installation_of file name tries esp >>= λ words.
+    installed_image view words >>= λ bytes.
+    Ok (installed view words bytes)
 
 abbrev pub install_answer : Files → List ℕ → List ℕ → Option (List ℕ) → List ℕ → Answer
 install_answer view file name tries esp = answered view (install_meant view file name tries esp)

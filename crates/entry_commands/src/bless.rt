@@ -8,7 +8,7 @@ ghost use Rattle.boot_machine.specs.Counts.{Counts, CountsDisk};
 ghost use Rattle.boot_machine.specs.Disk.{State, has};
 ghost use Rattle.boot_machine.specs.Reading.{OnlyReads, TakesAtMost};
 ghost use Rattle.boot_machine.specs.Sent.{seen};
-ghost use Rattle.command_plans.specs.Answers.{said};
+ghost use Rattle.command_plans.specs.Answers.{answer_of_read};
 ghost use Rattle.command_plans.specs.Performs.{CountsStop};
 ghost use Rattle.command_plans.specs.Plans.{IsIdleIfRefused, IsMakeable, Plans, PlansAs};
 ghost use Rattle.command_plans.specs.Refusing.{DeclinesWords, RefusesWords};

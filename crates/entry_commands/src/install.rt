@@ -6,7 +6,7 @@ ghost use Rattle.boot_base.specs.Paths.{IsFree, file_name_of};
 ghost use Rattle.boot_counter.specs.Splits.{has_suffix};
 ghost use Rattle.boot_counter.specs.declared.counted.Suffix.TheVariants.{Efi};
 ghost use Rattle.boot_folder.specs.Items.{FailsAs, item_counts};
-ghost use Rattle.boot_folder.specs.Missing.{text_of as missing_text};
+ghost use Rattle.boot_folder.specs.Missing.{missing_text};
 ghost use Rattle.boot_folder.specs.Records.{Unfit, uki_of};
 ghost use Rattle.boot_machine.specs.Counts.{Counts};
 ghost use Rattle.boot_machine.specs.Disk.{State, has};
@@ -19,7 +19,7 @@ ghost use Rattle.command_plans.specs.Refusing.{DeclinesWords, RefusesWords};
 ghost use Rattle.command_reads.specs.Files.{if_given};
 ghost use Rattle.command_reads.specs.Refusing.{Means};
 ghost use Rattle.command_reads.specs.Saying.{CountsUnsaid, Says, UnsaidFor, unsaid_counts};
-ghost use Rattle.entry_commands.specs.Installing.{IsImageName, ShowsEntry, entry_or, image_name, image_name_in, image_of, image_path, install_answer, install_meant, install_name, installation_of, installed, installed_text, is_install_name, is_name_byte, is_name_text, tries_in};
+ghost use Rattle.entry_commands.specs.Installing.{IsImageName, ShowsEntry, entry_or, image_name, image_name_in, image_path, install_answer, install_meant, install_name, installation_of, installed, installed_image, installed_text, is_entry_name_byte, is_install_name, is_name_text, tries_in};
 ghost use Rattle.entry_commands.specs.Moving.{IsCopy};
 ghost use Rattle.menu_order.specs.declared.item.MenuItem.{MenuItem};
 
@@ -45,7 +45,7 @@ struct Installation {
 }
 
 fn has_name_bytes(name: &str) -> bool
-    ensures { result ≡ list_all is_name_byte name.now }
+    ensures { result ≡ list_all is_entry_name_byte name.now }
 {
     name.bytes().all(|byte| byte.is_ascii_alphanumeric() || b"._~^+-".contains(&byte))
 }
@@ -207,7 +207,7 @@ fn check_image<M: Machine>(
 ) -> Result<(), Unsaid>
     requires image { has_suffix Efi (file_name_of words.now.target) ≡ true }
     ensures says { IsTrue M.tells → Says (λ _. contents (seen (M.state machine.old)) words.now.from) result
-        (image_of (seen (M.state machine.old)) words.now) }
+        (installed_image (seen (M.state machine.old)) words.now) }
     ensures can { OnOk result (IsTrue M.tells → CanCopy (M.state machine.old) words.now.from) }
     ensures reads { IsTrue M.tells → OnlyReads M.clock M.since M.state machine.old machine.new }
     ensures counts { CountsUnsaid result (M.counts machine.old) (M.counts machine.new) }

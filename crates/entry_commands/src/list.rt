@@ -3,7 +3,7 @@ ghost use Rattle.std.specs.Prelude.{◌≡◌, IfOk, IsTrue};
 ghost use Rattle.boot_machine.specs.Counts.{Counts};
 ghost use Rattle.boot_machine.specs.Reading.{OnlyReads, TakesAtMost};
 ghost use Rattle.boot_machine.specs.Sent.{seen};
-ghost use Rattle.command_plans.specs.Answers.{said};
+ghost use Rattle.command_plans.specs.Answers.{answer_of_read};
 ghost use Rattle.command_plans.specs.Performs.{CountsStop};
 ghost use Rattle.command_plans.specs.Plans.{IsMakeable, Plans};
 ghost use Rattle.command_plans.specs.Refusing.{DeclinesWords, RefusesWords};
@@ -51,7 +51,7 @@ fn listed<M: Machine>(alloc: Global, esp: &str, machine: &mut M) -> Result<Vec<u
 /// (UAPI Boot Loader Specification). Only headers and texts are read.
 pub fn plan_list<M: Machine>(alloc: Global, esp: &str, machine: &mut M) -> Result<Plan, Stop>
     ensures plans { IfOk result (λ plan. IsTrue M.tells → Plans (M.state machine.old) plan
-        (said (seen (M.state machine.old)) (list_said (seen (M.state machine.old)) esp.now))) }
+        (answer_of_read (seen (M.state machine.old)) (list_said (seen (M.state machine.old)) esp.now))) }
     ensures makeable { IfOk result (λ plan. IsMakeable plan.change) }
     ensures idle { IfOk result (λ plan. plan.change ≡ Nothing) }
     ensures reads { IsTrue M.tells → OnlyReads M.clock M.since M.state machine.old machine.new }

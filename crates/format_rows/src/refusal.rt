@@ -2,7 +2,7 @@
 ghost use Rattle.std.specs.Prelude.{◌≡◌, ◌≤◌, ◌^◌, length, sum_by, option_map, IfOk};
 ghost use Rattle.pe_reader.specs.Reads.{headers_of};
 ghost use Rattle.pe_builder.specs.Replaced.{MayReplace};
-ghost use Rattle.pe_builder.specs.Planned.{given};
+ghost use Rattle.pe_builder.specs.Planned.{sbat_if_in_place};
 
 use crate::case::Case;
 use crate::fault::RowFault;
@@ -73,7 +73,7 @@ fn wide_sizes(alloc: Global, rest: &str) -> Result<Vec<WideSize>, RowFault>
 /// The length of a new `.sbat`, if there is one and the stub has one.
 pub(crate) fn in_place(stub: &Pe, sbat: &[u8]) -> Option<u32>
     ensures may { MayReplace (headers_of stub.now) result }
-    ensures length { option_map length (given result sbat.now) ≡ result }
+    ensures length { option_map length (sbat_if_in_place result sbat.now) ≡ result }
 {
     if sbat.is_empty() || stub.find(b".sbat").is_none() {
         return None;

@@ -14,7 +14,7 @@ use Rattle.stub_replay.proofs.Taking.{length-bytes_of}
 use Rattle.pe_reader.specs.Grammar.{Headers, pe_of}
 use Rattle.uki_parts.specs.declared.name.SectionName.{SectionName}
 use Rattle.uki_parts.specs.declared.part.Part.{Part}
-use Rattle.uki_parts.specs.Names.{named}
+use Rattle.uki_parts.specs.Names.{padded_name}
 use Rattle.uki_parts.specs.declared.piece.Piece.{Piece}
 use Rattle.uki_parts.specs.declared.piece.Piece.TheVariants as pieces
 use Rattle.uki_parts.specs.Pieces.{Reading, HasSizes, bytes_of, piece_bytes, piece_length, total_length}
@@ -22,7 +22,7 @@ use Rattle.pe_builder.specs.declared.fault.PlanFault.{PlanFault}
 use Rattle.pe_builder.specs.declared.fault.PlanFault.TheVariants as faults
 use Rattle.pe_builder.specs.declared.size.WideSize.{WideSize}
 use Rattle.pe_builder.specs.Image.{finished}
-use Rattle.pe_builder.specs.Planned.{Makes, Plans, given}
+use Rattle.pe_builder.specs.Planned.{Makes, PlansImage, sbat_if_in_place}
 use Rattle.pe_builder.specs.Refusals.{first_refusal}
 use Rattle.pe_builder.specs.Replaced.{sbat_name}
 use Rattle.pe_builder.specs.Sizes.{any_size, part_flags}
@@ -81,8 +81,8 @@ filled_read files (part ∷ parts) pieced =
     ]
 
 sourced_for : (plan : Plan) (sources : Sources) (view : Files) (h : Headers) (in_place : Option ℕ) → pe_of (contents view (stub_path sources)) ≡ Ok h
-    → All (IsPieced (contents view)) (part_list sources) → option_map length (given in_place (new_sbat sources)) ≡ in_place
-    → Plans plan h (length (contents view (stub_path sources))) (map any_size (part_list sources)) in_place → IsSourced plan sources view
+    → All (IsPieced (contents view)) (part_list sources) → option_map length (sbat_if_in_place in_place (new_sbat sources)) ≡ in_place
+    → PlansImage plan h (length (contents view (stub_path sources))) (map any_size (part_list sources)) in_place → IsSourced plan sources view
 sourced_for plan sources view h in_place reads pieced len plans = record {
   plan_is = record {
     headers = h;
@@ -101,25 +101,25 @@ built output image = Ok (record { output = output; image = image })
 
 -- of parts that are read, the first refusal goes by the sizes that they say
 refusal_read : (output : Path) (h : Headers) (files : Reading) (stub : List ℕ) (parts : List Part) (in_place : Option ℕ) (sbat : List ℕ) (refused : Option PlanFault)
-    → All (IsPieced files) parts → option_map length (given in_place sbat) ≡ in_place → first_refusal h (length stub) (map any_size parts) in_place ≡ refused
-    → image_of_parts output h stub (map (part_as files) parts) (given in_place sbat)
-    ≡ image_or output h stub (map (part_as files) parts) (given in_place sbat) (option_and_then (builder_refusal output) refused)
+    → All (IsPieced files) parts → option_map length (sbat_if_in_place in_place sbat) ≡ in_place → first_refusal h (length stub) (map any_size parts) in_place ≡ refused
+    → image_of_parts output h stub (map (part_as files) parts) (sbat_if_in_place in_place sbat)
+    ≡ image_or output h stub (map (part_as files) parts) (sbat_if_in_place in_place sbat) (option_and_then (builder_refusal output) refused)
 refusal_read output h files stub parts in_place sbat refused pieced len is =
     let read = map (part_as files) parts in
-    let or : Option PlanFault → Result Built Refusal = λ o. image_or output h stub read (given in_place sbat) (option_and_then (builder_refusal output) o) in
-    ap (λ (l : List WideSize). or (first_refusal h (length stub) l (option_map length (given in_place sbat)))) (sizes_read files parts pieced)
+    let or : Option PlanFault → Result Built Refusal = λ o. image_or output h stub read (sbat_if_in_place in_place sbat) (option_and_then (builder_refusal output) o) in
+    ap (λ (l : List WideSize). or (first_refusal h (length stub) l (option_map length (sbat_if_in_place in_place sbat)))) (sizes_read files parts pieced)
     ∙ ap (λ (o : Option ℕ). or (first_refusal h (length stub) (map any_size parts) o)) len
     ∙ ap or is
 
 image_for : (output : Path) (plan : Plan) (sources : Sources) (view : Files) (h : Headers) (in_place : Option ℕ) → pe_of (contents view (stub_path sources)) ≡ Ok h
-    → All (IsPieced (contents view)) (part_list sources) → option_map length (given in_place (new_sbat sources)) ≡ in_place
-    → Plans plan h (length (contents view (stub_path sources))) (map any_size (part_list sources)) in_place
-    → image_of_parts output h (contents view (stub_path sources)) (map (part_as (contents view)) (part_list sources)) (given in_place (new_sbat sources)) ≡ built output (planned_image plan sources view)
+    → All (IsPieced (contents view)) (part_list sources) → option_map length (sbat_if_in_place in_place (new_sbat sources)) ≡ in_place
+    → PlansImage plan h (length (contents view (stub_path sources))) (map any_size (part_list sources)) in_place
+    → image_of_parts output h (contents view (stub_path sources)) (map (part_as (contents view)) (part_list sources)) (sbat_if_in_place in_place (new_sbat sources)) ≡ built output (planned_image plan sources view)
 image_for output plan sources view h in_place reads pieced len plans =
     let files = contents view in
     let stub = files (stub_path sources) in
     let parts = part_list sources in
-    let sbat = given in_place (new_sbat sources) in
+    let sbat = sbat_if_in_place in_place (new_sbat sources) in
     refusal_read output h files stub parts in_place (new_sbat sources) None pieced len plans.buildable.not_refused
     ∙ ap (λ (l : List WideSize). built output (finished h l (map (λ p. p.1) (map (part_as files) parts)) sbat stub)) (sizes_read files parts pieced)
     ∙ ap (λ (l : List (List ℕ)). built output (finished h (map any_size parts) l sbat stub)) (contents_read files parts)
@@ -128,21 +128,21 @@ image_for output plan sources view h in_place reads pieced len plans =
 -- the image of parts and a `.sbat` in place, where it is said
 abbrev pub parts_meant : Files → Headers → Path → List Part → Option ℕ → List ℕ → Path → Result Built Refusal
 parts_meant view h stub parts in_place sbat output =
-    image_of_parts output h (contents view stub) (map (part_as (contents view)) parts) (given in_place sbat)
+    image_of_parts output h (contents view stub) (map (part_as (contents view)) parts) (sbat_if_in_place in_place sbat)
 
 -- these files and parts are read
 pub record Read (view : Files) (h : Headers) (n : ℕ) (stub : Path) (parts : List Part) (in_place : Option ℕ) (sbat : List ℕ) : Type 0 where
   pub length_is : length (contents view stub) ≡ n
   pub reads : pe_of (contents view stub) ≡ Ok h
   pub pieced : All (IsPieced (contents view)) parts
-  pub sbat_length : option_map length (given in_place sbat) ≡ in_place
+  pub sbat_length : option_map length (sbat_if_in_place in_place sbat) ≡ in_place
 
 images_plan : (view : Files) (h : Headers) (n : ℕ) (in_place : Option ℕ) (image : ImagePlan) → Read view h n (stub_path image.sources) (part_list image.sources) in_place (new_sbat image.sources)
-    → Plans image.plan h n (map any_size (part_list image.sources)) in_place
+    → PlansImage image.plan h n (map any_size (part_list image.sources)) in_place
     → Images view (parts_meant view h (stub_path image.sources) (part_list image.sources) in_place (new_sbat image.sources)) (Ok image)
 images_plan view h n in_place image read plans =
     let sources = image.sources in
-    let here = subst (λ (k : ℕ). Plans image.plan h k (map any_size (part_list sources)) in_place) (sym read.length_is) plans in (
+    let here = subst (λ (k : ℕ). PlansImage image.plan h k (map any_size (part_list sources)) in_place) (sym read.length_is) plans in (
       sourced_for image.plan sources view h in_place read.reads read.pieced read.sbat_length here,
       λ output. image_for output image.plan sources view h in_place read.reads read.pieced read.sbat_length here,
     )
@@ -150,7 +150,7 @@ images_plan view h n in_place image read plans =
 images_made : (view : Files) (h : Headers) (n : ℕ) (stub : Path) (parts : List Part) (in_place : Option ℕ) (sbat : List ℕ) (image : ImagePlan) → Read view h n stub parts in_place sbat
     → IsPlanOf image h n stub parts in_place sbat → Images view (parts_meant view h stub parts in_place sbat) (Ok image)
 images_made view h n stub parts in_place sbat image read is =
-    let F : Path → List Part → List ℕ → Type 0 = λ p l s. Read view h n p l in_place s → Plans image.plan h n (map any_size l) in_place → Images view (parts_meant view h p l in_place s) (Ok image) in
+    let F : Path → List Part → List ℕ → Type 0 = λ p l s. Read view h n p l in_place s → PlansImage image.plan h n (map any_size l) in_place → Images view (parts_meant view h p l in_place s) (Ok image) in
     let all : F stub parts sbat =
     subst (λ (p : Path). F p parts sbat) is.stub_is
     (subst (λ (l : List Part). F (stub_path image.sources) l sbat) is.parts_are
@@ -163,7 +163,7 @@ images_refused : (view : Files) (h : Headers) (n : ℕ) (stub : Path) (parts : L
 images_refused view h n stub parts in_place sbat fault read is output why told =
     let here = subst (λ (k : ℕ). first_refusal h k (map any_size parts) in_place ≡ Some fault) (sym read.length_is) is in
     refusal_read output h (contents view) (contents view stub) parts in_place sbat (Some fault) read.pieced read.sbat_length here
-    ∙ ap (λ (o : Option Refusal). image_or output h (contents view stub) (map (part_as (contents view)) parts) (given in_place sbat) o) told
+    ∙ ap (λ (o : Option Refusal). image_or output h (contents view stub) (map (part_as (contents view)) parts) (sbat_if_in_place in_place sbat) o) told
 
 -- so a refusal is the one that is meant
 pub refused_as : (view : Files) (meant : Path → Result Built Refusal) (fault : PlanFault) (output : Path) (why : Refusal) → builder_refusal output fault ≡ Some why → Images view meant (Err fault)
@@ -191,8 +191,8 @@ pub is_some : (empty : Bool) (n : ℕ) → empty ≡ (n == 0) → empty ≡ fals
 is_some empty n is fails = grind (arith, nat_tests)
 
 -- the parts, the kernel behind them
-listed_read : (files : Reading) (parts : List Part) (linux : Part) → linux.name ≡ named (codes ".linux") → All (IsPieced files) (parts ++ linux ∷ [])
-    → filter has_bytes (map (part_as files) parts ++ (named (codes ".linux"), bytes_of files linux.pieces.items) ∷ []) ≡ map (part_as files) (filter is_filled (parts ++ linux ∷ []))
+listed_read : (files : Reading) (parts : List Part) (linux : Part) → linux.name ≡ padded_name (codes ".linux") → All (IsPieced files) (parts ++ linux ∷ [])
+    → filter has_bytes (map (part_as files) parts ++ (padded_name (codes ".linux"), bytes_of files linux.pieces.items) ∷ []) ≡ map (part_as files) (filter is_filled (parts ++ linux ∷ []))
 listed_read files parts linux name pieced =
     ap (λ (n : SectionName). filter has_bytes (map (part_as files) parts ++ (n, bytes_of files linux.pieces.items) ∷ [])) (sym name)
     ∙ ap (filter has_bytes) (sym (map-append (part_as files) parts (linux ∷ [])))
@@ -202,7 +202,7 @@ all_pieced : (view : Files) (h : Headers) (n : ℕ) (stub : Path) (parts : List 
 all_pieced view h n stub parts linux read = All-push (IsPieced (contents view)) parts linux read.pieced read.linux_pieced
 
 filled_are_read : (view : Files) (h : Headers) (n : ℕ) (stub : Path) (parts all list : List Part) (linux : Part) (in_place : Option ℕ) (sbat : List ℕ) → AreRead view h n stub parts linux
-    → All (IsPieced (contents view)) all → list ≡ filter is_filled all → option_map length (given in_place sbat) ≡ in_place → Read view h n stub list in_place sbat
+    → All (IsPieced (contents view)) all → list ≡ filter is_filled all → option_map length (sbat_if_in_place in_place sbat) ≡ in_place → Read view h n stub list in_place sbat
 filled_are_read view h n stub parts all list linux in_place sbat read pieced is len = record {
   length_is = read.length_is;
   reads = read.reads;
@@ -212,7 +212,7 @@ filled_are_read view h n stub parts all list linux in_place sbat read pieced is 
 
 meant_without : (view : Files) (h : Headers) (stub : Path) (parts : List Part) (linux : Part) (sbat : List ℕ) (output : Path) → length sbat ≡ 0
     → image_meant view h stub parts linux sbat output
-    ≡ image_of_parts output h (contents view stub) (filter has_bytes (map (part_as (contents view)) parts ++ (named (codes ".linux"), bytes_of (contents view) linux.pieces.items) ∷ [])) None
+    ≡ image_of_parts output h (contents view stub) (filter has_bytes (map (part_as (contents view)) parts ++ (padded_name (codes ".linux"), bytes_of (contents view) linux.pieces.items) ∷ [])) None
 meant_without view h stub parts linux [] output none = refl
 meant_without view h stub parts linux (byte ∷ text) output none = absurd (omega arith)
 
@@ -230,7 +230,7 @@ images_without view h n stub parts list linux sbat result are is none planned re
 
 meant_in_place : (view : Files) (h : Headers) (stub : Path) (parts : List Part) (linux : Part) (sbat : List ℕ) (output : Path) → 0 < length sbat → has_sbat h ≡ true
     → image_meant view h stub parts linux sbat output
-    ≡ image_of_parts output h (contents view stub) (filter has_bytes (map (part_as (contents view)) parts ++ (named (codes ".linux"), bytes_of (contents view) linux.pieces.items) ∷ [])) (Some sbat)
+    ≡ image_of_parts output h (contents view stub) (filter has_bytes (map (part_as (contents view)) parts ++ (padded_name (codes ".linux"), bytes_of (contents view) linux.pieces.items) ∷ [])) (Some sbat)
 meant_in_place view h stub parts linux [] output some has = absurd (omega arith)
 meant_in_place view h stub parts linux (byte ∷ text) output some has = rw has refl
 
@@ -252,23 +252,23 @@ text_pieced files part text is = record {
   total = ap total_length is.pieces_are ∙ sum_by-cons piece_length (pieces.Bytes text) [] ∙ omega (arith, is.length_is);
 }
 
-text_read : (files : Reading) (part : Part) (text : List ℕ) → IsSbatPart part text → part_as files part ≡ (named sbat_name, text)
+text_read : (files : Reading) (part : Part) (text : List ℕ) → IsSbatPart part text → part_as files part ≡ (padded_name sbat_name, text)
 text_read files part text is =
     ap (λ (n : SectionName). (n, bytes_of files part.pieces.items)) is.name
-    ∙ ap (λ (l : List Piece). (named sbat_name, bytes_of files l)) is.pieces_are
-    ∙ ap (λ (l : List ℕ). (named sbat_name, l)) (append-nil text)
+    ∙ ap (λ (l : List Piece). (padded_name sbat_name, bytes_of files l)) is.pieces_are
+    ∙ ap (λ (l : List ℕ). (padded_name sbat_name, l)) (append-nil text)
 
 meant_as_part : (view : Files) (h : Headers) (stub : Path) (parts : List Part) (linux : Part) (sbat : List ℕ) (output : Path) → 0 < length sbat → has_sbat h ≡ false
     → image_meant view h stub parts linux sbat output
-    ≡ image_of_parts output h (contents view stub) (filter has_bytes (map (part_as (contents view)) parts ++ (named sbat_name, sbat) ∷ (named (codes ".linux"), bytes_of (contents view) linux.pieces.items) ∷ [])) None
+    ≡ image_of_parts output h (contents view stub) (filter has_bytes (map (part_as (contents view)) parts ++ (padded_name sbat_name, sbat) ∷ (padded_name (codes ".linux"), bytes_of (contents view) linux.pieces.items) ∷ [])) None
 meant_as_part view h stub parts linux [] output some has = absurd (omega arith)
 meant_as_part view h stub parts linux (byte ∷ text) output some has = rw has refl
 
 text_listed : (files : Reading) (parts : List Part) (linux part : Part) (text : List ℕ) → IsSbatPart part text
-    → map (part_as files) parts ++ (named sbat_name, text) ∷ (named (codes ".linux"), bytes_of files linux.pieces.items) ∷ []
-    ≡ map (part_as files) (parts ++ part ∷ []) ++ (named (codes ".linux"), bytes_of files linux.pieces.items) ∷ []
+    → map (part_as files) parts ++ (padded_name sbat_name, text) ∷ (padded_name (codes ".linux"), bytes_of files linux.pieces.items) ∷ []
+    ≡ map (part_as files) (parts ++ part ∷ []) ++ (padded_name (codes ".linux"), bytes_of files linux.pieces.items) ∷ []
 text_listed files parts linux part text is =
-    let kernel : SectionName × List ℕ = (named (codes ".linux"), bytes_of files linux.pieces.items) in
+    let kernel : SectionName × List ℕ = (padded_name (codes ".linux"), bytes_of files linux.pieces.items) in
     ap (λ (p : SectionName × List ℕ). map (part_as files) parts ++ p ∷ kernel ∷ []) (sym (text_read files part text is))
     ∙ sym (append_assoc (map (part_as files) parts) (part_as files part ∷ []) (kernel ∷ []))
     ∙ ap (λ (l : List (SectionName × List ℕ)). l ++ kernel ∷ []) (sym (map-append (part_as files) parts (part ∷ [])))

@@ -6,7 +6,7 @@ use Rattle.boot_base.specs.Paths.{Path}
 use Rattle.boot_base.specs.declared.refusal.Refusal.{Refusal}
 use Rattle.boot_machine.specs.Disk.{Files}
 use Rattle.pe_reader.specs.Grammar.{Headers}
-use Rattle.uki_parts.specs.Names.{named}
+use Rattle.uki_parts.specs.Names.{padded_name}
 use Rattle.uki_parts.specs.declared.name.SectionName.{SectionName}
 use Rattle.pe_builder.specs.Refusals.{first_refusal}
 use Rattle.pe_builder.specs.Replaced.{sbat_name}
@@ -51,10 +51,10 @@ module _ (output : Path) (headers : Headers) (stub : List ℕ) where
 
   sbat_output : (parts : List (SectionName × List ℕ)) (kernel text : List ℕ)
       → AtOutput (with_sbat_text output headers stub parts kernel text)
-  sbat_output parts kernel [] = parts_output (filter has_bytes (parts ++ (named (codes ".linux"), kernel) ∷ [])) None
+  sbat_output parts kernel [] = parts_output (filter has_bytes (parts ++ (padded_name (codes ".linux"), kernel) ∷ [])) None
   sbat_output parts kernel (byte ∷ text) =
-      let with_kernel = filter has_bytes (parts ++ (named (codes ".linux"), kernel) ∷ []) in
-      let more = (named sbat_name, byte ∷ text) ∷ (named (codes ".linux"), kernel) ∷ [] in
+      let with_kernel = filter has_bytes (parts ++ (padded_name (codes ".linux"), kernel) ∷ []) in
+      let more = (padded_name sbat_name, byte ∷ text) ∷ (padded_name (codes ".linux"), kernel) ∷ [] in
       let with_both = filter has_bytes (parts ++ more) in
       either (has_sbat headers)
       (image_of_parts output headers stub with_kernel (Some (byte ∷ text)))

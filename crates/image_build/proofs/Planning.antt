@@ -22,7 +22,7 @@ use Rattle.image_writer.specs.Sourced.{IsPieced, IsSourced, new_sbat, part_list,
 use Rattle.image_writer.specs.declared.sources.Sources.{Sources}
 use Rattle.image_writer.proofs.PlannedImages.{planned_image-is}
 use Rattle.pe_builder.specs.declared.plan.Plan.{Plan}
-use Rattle.pe_builder.specs.Planned.{Plans as Plans_of, given, planned_length}
+use Rattle.pe_builder.specs.Planned.{PlansImage, planned_length, sbat_if_in_place}
 use Rattle.pe_builder.specs.Refusals.{IsBuildable}
 use Rattle.pe_builder.proofs.ByPlace.{by_place}
 use Rattle.pe_reader.specs.Grammar.{Headers, pe_of}
@@ -128,7 +128,7 @@ pub length-planned_image : (plan : Plan) (sources : Sources) (view : Files) → 
 length-planned_image plan sources view is =
     let for = is.plan_is in
     let stub = contents view (stub_path sources) in
-    let sbat = given for.in_place (new_sbat sources) in
+    let sbat = sbat_if_in_place for.in_place (new_sbat sources) in
     let finished_is = planned_image-is plan sources view for.headers for.sizes for.in_place for.reads for.plans for.sbat_length in
     let buildable = subst (IsBuildable for.headers (length stub) for.sizes) (sym for.sbat_length) for.plans.buildable in
     let placed = by_place for.headers for.sizes (parts_bytes (contents view) (part_list sources)) sbat stub (record { reads = for.reads; buildable = buildable; lengths = for.lengths }) in
@@ -149,12 +149,12 @@ pub image_meant_by : (view : Files) (meant : Path → Result Built Refusal) (ima
 image_meant_by view meant image output images = images.1 output
 
 -- a plan is its own, whatever it was made of
-pub own_plan : (image : ImagePlan) (h : Headers) (n : ℕ) (stub : Path) (parts : List Part) (in_place : Option ℕ) (sbat : List ℕ) → IsPlanOf image h n stub parts in_place sbat → option_map length (given in_place sbat) ≡ in_place → IsOwnPlan image h n stub
+pub own_plan : (image : ImagePlan) (h : Headers) (n : ℕ) (stub : Path) (parts : List Part) (in_place : Option ℕ) (sbat : List ℕ) → IsPlanOf image h n stub parts in_place sbat → option_map length (sbat_if_in_place in_place sbat) ≡ in_place → IsOwnPlan image h n stub
 own_plan image h n stub parts in_place sbat is long = record {
   in_place = in_place;
-  plans = subst (λ (l : List Part). Plans_of image.plan h n (map any_size l) in_place) (sym is.parts_are) is.plans;
+  plans = subst (λ (l : List Part). PlansImage image.plan h n (map any_size l) in_place) (sym is.parts_are) is.plans;
   stub_is = is.stub_is;
-  sbat_length = ap (λ (l : List ℕ). option_map length (given in_place l)) is.sbat_is ∙ long;
+  sbat_length = ap (λ (l : List ℕ). option_map length (sbat_if_in_place in_place l)) is.sbat_is ∙ long;
 }
 
 -- and of what it was made on a view
@@ -166,7 +166,7 @@ planned_on view built image sizes reads own sourced =
       reads = ap pe_of at ∙ reads;
       own = record {
         in_place = own.in_place;
-        plans = subst (λ (n : ℕ). Plans_of image.plan (headers_of built.head) n (map any_size (part_list image.sources)) own.in_place) (sym (ap length at ∙ sizes.stub)) own.plans;
+        plans = subst (λ (n : ℕ). PlansImage image.plan (headers_of built.head) n (map any_size (part_list image.sources)) own.in_place) (sym (ap length at ∙ sizes.stub)) own.plans;
         stub_is = refl;
         sbat_length = own.sbat_length;
       };

@@ -25,7 +25,7 @@ use Rattle.image_writer.proofs.PlannedImages.{planned_image-is}
 use Rattle.stub_replay.specs.declared.measurable.Content.TheVariants as content
 use Rattle.pe_builder.specs.Image.{finished}
 use Rattle.pe_builder.specs.Laws.{HasFinished}
-use Rattle.pe_builder.specs.Planned.{given, sbat_place}
+use Rattle.pe_builder.specs.Planned.{sbat_if_in_place, sbat_place}
 use Rattle.pe_builder.specs.Refusals.{IsBuildable}
 use Rattle.pe_builder.specs.Replaced.{sbat_name}
 use Rattle.pe_builder.specs.declared.plan.SbatPlace.{SbatPlace}
@@ -34,7 +34,7 @@ use Rattle.pe_reader.specs.Loaded.{is_named, loaded, range_of, section_at_index}
 use Rattle.pe_reader.specs.Reads.{headers_of}
 use Rattle.pe_reader.specs.declared.section.LoadedRange.{LoadedRange}
 use Rattle.pe_reader.proofs.Finding.{loaded-none}
-use Rattle.stub_replay.specs.Laws.{kept_of, or_kept, part_named}
+use Rattle.stub_replay.specs.Laws.{find_content, kept_of, or_kept}
 use Rattle.stub_replay.specs.Measured.{measured_by, measured_length, measured_list, measured_names, section_items, stub_pcr}
 use Rattle.stub_replay.proofs.Predicting.{image_shows, same_items}
 use Rattle.stub_replay.proofs.Ranges.{found_range}
@@ -66,11 +66,11 @@ no_place h place (Some size) is none = absurd (false≢true (sym none ∙ ap is_
     false≢true : false ≡ true → ⊥
     false≢true e = cc
 
-kept_without : (in_place : Option ℕ) (sbat stub name : List ℕ) → in_place ≡ None → loaded stub name ≡ kept_of (given in_place sbat) stub name
+kept_without : (in_place : Option ℕ) (sbat stub name : List ℕ) → in_place ≡ None → loaded stub name ≡ kept_of (sbat_if_in_place in_place sbat) stub name
 kept_without None sbat stub name is = refl
 kept_without (Some size) sbat stub name is = cc
 
-kept_beside : (in_place : Option ℕ) (sbat stub name : List ℕ) → bytes_eq sbat_name name ≡ false → loaded stub name ≡ kept_of (given in_place sbat) stub name
+kept_beside : (in_place : Option ℕ) (sbat stub name : List ℕ) → bytes_eq sbat_name name ≡ false → loaded stub name ≡ kept_of (sbat_if_in_place in_place sbat) stub name
 kept_beside None sbat stub name other = refl
 kept_beside (Some size) sbat stub name other = sym (ap (λ (b : Bool). cond b sbat (loaded stub name)) other)
 
@@ -85,13 +85,13 @@ kept_not_named view plan on name other = kept_beside on.own.in_place (new_sbat p
 abbrev has_name : List ℕ → Part → Bool
 has_name name part = bytes_eq (name_bytes part.name) name
 
-part_found : (files : Reading) (name : List ℕ) (parts : List Part) → part_named name (map any_size parts) (parts_bytes files parts) ≡ option_map (λ part. bytes_of files part.pieces.items) (find (has_name name) parts)
-unfolding part_named
+part_found : (files : Reading) (name : List ℕ) (parts : List Part) → find_content name (map any_size parts) (parts_bytes files parts) ≡ option_map (λ part. bytes_of files part.pieces.items) (find (has_name name) parts)
+unfolding find_content
 part_found files name [] = refl
 part_found files name (part ∷ parts) = by_test (has_name name part) (part_found files name parts)
   where
-    by_test : (is : Bool) → part_named name (map any_size parts) (parts_bytes files parts) ≡ option_map (λ part. bytes_of files part.pieces.items) (find (has_name name) parts)
-        → cond is (Some (bytes_of files part.pieces.items)) (part_named name (map any_size parts) (parts_bytes files parts)) ≡ option_map (λ part. bytes_of files part.pieces.items) (cond is (Some part) (find (has_name name) parts))
+    by_test : (is : Bool) → find_content name (map any_size parts) (parts_bytes files parts) ≡ option_map (λ part. bytes_of files part.pieces.items) (find (has_name name) parts)
+        → cond is (Some (bytes_of files part.pieces.items)) (find_content name (map any_size parts) (parts_bytes files parts)) ≡ option_map (λ part. bytes_of files part.pieces.items) (cond is (Some part) (find (has_name name) parts))
     by_test true rest = refl
     by_test false rest = rest
 
@@ -134,7 +134,7 @@ section_more files bytes i parts more name part is before holds at =
 
 -- and all of them are what a stub measures of the image
 has_finished : (view : Files) (plan : PlannedBuild) (on : IsPlannedOn view plan)
-    → HasFinished (headers_of plan.head) (map any_size (part_list plan.image.sources)) (parts_bytes (contents view) (part_list plan.image.sources)) (given on.own.in_place (new_sbat plan.image.sources)) (stub_bytes view plan)
+    → HasFinished (headers_of plan.head) (map any_size (part_list plan.image.sources)) (parts_bytes (contents view) (part_list plan.image.sources)) (sbat_if_in_place on.own.in_place (new_sbat plan.image.sources)) (stub_bytes view plan)
 has_finished view plan on = record {
   reads = on.reads;
   buildable = subst (IsBuildable (headers_of plan.head) (length (stub_bytes view plan)) (map any_size (part_list plan.image.sources))) (sym on.own.sbat_length) on.own.plans.buildable;
@@ -148,7 +148,7 @@ image_items view plan on =
     let h = headers_of plan.head in
     let sizes = map any_size (part_list plan.image.sources) in
     let bytes = parts_bytes (contents view) (part_list plan.image.sources) in
-    let sbat = given on.own.in_place (new_sbat plan.image.sources) in
+    let sbat = sbat_if_in_place on.own.in_place (new_sbat plan.image.sources) in
     let stub = stub_bytes view plan in
     let shows = image_shows h sizes bytes sbat stub (has_finished view plan on) in
     let image_is = planned_image-is plan.image.plan plan.image.sources view h sizes on.own.in_place on.reads on.own.plans on.own.sbat_length in
@@ -163,7 +163,7 @@ image_long view plan on =
     let h = headers_of plan.head in
     let sizes = map any_size (part_list plan.image.sources) in
     let bytes = parts_bytes (contents view) (part_list plan.image.sources) in
-    let sbat = given on.own.in_place (new_sbat plan.image.sources) in
+    let sbat = sbat_if_in_place on.own.in_place (new_sbat plan.image.sources) in
     let stub = stub_bytes view plan in
     let shows = image_shows h sizes bytes sbat stub (has_finished view plan on) in
     let image_is = planned_image-is plan.image.plan plan.image.sources view h sizes on.own.in_place on.reads on.own.plans on.own.sbat_length in

@@ -7,7 +7,7 @@ use Rattle.command_reads.specs.declared.refusing.Declined.{Declined}
 use Rattle.command_reads.specs.declared.refusing.Declined.TheVariants.{Memory, Refused}
 use Rattle.tool_words.specs.declared.command.Given.{Given}
 use Rattle.tool_words.specs.declared.command.Given.TheVariants.{File}
-use Rattle.uki_parts.specs.Names.{named}
+use Rattle.uki_parts.specs.Names.{padded_name}
 use Rattle.uki_parts.specs.declared.kind.PartKind.{PartKind}
 use Rattle.uki_parts.specs.declared.name.SectionName.{SectionName}
 use Rattle.image_build.specs.declared.source.PartSources.{PartSources}
@@ -38,17 +38,17 @@ with_one_declined (Refused refusal) part made why = ap (λ r. ((r >>= λ l. Ok (
 pub with_absent : (kind : PartKind) (name : List ℕ) (given : Option Given) (made : Found) → given ≡ None → with_parts made (wanted kind name (given_once given)) ≡ Ok made
 with_absent kind name given made is = ap (λ (g : Option Given). with_parts made (wanted kind name (given_once g))) is ∙ with_none made
 
-pub with_given : (kind : PartKind) (name : List ℕ) (given : Option Given) (one : Given) (source : Source) (made more : Found) → given ≡ Some one → source_of one ≡ Ok source → more ≡ made ++ named_part kind (named name) (source ∷ []) ∷ []
+pub with_given : (kind : PartKind) (name : List ℕ) (given : Option Given) (one : Given) (source : Source) (made more : Found) → given ≡ Some one → source_of one ≡ Ok source → more ≡ made ++ named_part kind (padded_name name) (source ∷ []) ∷ []
     → with_parts made (wanted kind name (given_once given)) ≡ Ok more
 with_given kind name given one source made more is found all =
     ap (λ (g : Option Given). with_parts made (wanted kind name (given_once g))) is
-    ∙ with_one (record { kind = kind; name = named name; sources = one ∷ [] }) (source ∷ []) made more (each_one source_of one source found) all
+    ∙ with_one (record { kind = kind; name = padded_name name; sources = one ∷ [] }) (source ∷ []) made more (each_one source_of one source found) all
 
 pub with_given_declined : (declined : Declined) (kind : PartKind) (name : List ℕ) (given : Option Given) (one : Given) (made : Found) → given ≡ Some one → DeclinedFor declined (source_of one)
     → DeclinedFor declined (with_parts made (wanted kind name (given_once given)))
 with_given_declined declined kind name given one made is why =
     subst (λ (g : Option Given). DeclinedFor declined (with_parts made (wanted kind name (given_once g)))) (sym is)
-    (with_one_declined declined (record { kind = kind; name = named name; sources = one ∷ [] }) made (each_one_declined source_of one declined why))
+    (with_one_declined declined (record { kind = kind; name = padded_name name; sources = one ∷ [] }) made (each_one_declined source_of one declined why))
 
 -- a part of files, which may be none
 pub with_no_files : (kind : PartKind) (name : List ℕ) (words : List (List ℕ)) (made : Found) → length words ≡ 0 → with_parts made (wanted kind name (map File words)) ≡ Ok made
@@ -56,16 +56,16 @@ with_no_files kind name [] made none = with_none made
 with_no_files kind name (word ∷ words) made none = absurd (omega (arith, none))
 
 pub with_files : (kind : PartKind) (name : List ℕ) (words : List (List ℕ)) (sources : List Source) (made more : Found) → 0 < length words → each (λ word. source_of (File word)) words ≡ Ok sources
-    → more ≡ made ++ named_part kind (named name) sources ∷ [] → with_parts made (wanted kind name (map File words)) ≡ Ok more
+    → more ≡ made ++ named_part kind (padded_name name) sources ∷ [] → with_parts made (wanted kind name (map File words)) ≡ Ok more
 with_files kind name [] sources made more some found all = absurd (omega (arith, some))
 with_files kind name (word ∷ words) sources made more some found all =
-    with_one (record { kind = kind; name = named name; sources = map File (word ∷ words) }) sources made more (each_map source_of File (word ∷ words) ∙ found) all
+    with_one (record { kind = kind; name = padded_name name; sources = map File (word ∷ words) }) sources made more (each_map source_of File (word ∷ words) ∙ found) all
 
 pub with_files_declined : (declined : Declined) (kind : PartKind) (name : List ℕ) (words : List (List ℕ)) (made : Found) → 0 < length words → DeclinedFor declined (each (λ word. source_of (File word)) words)
     → DeclinedFor declined (with_parts made (wanted kind name (map File words)))
 with_files_declined declined kind name [] made some why = absurd (omega (arith, some))
 with_files_declined declined kind name (word ∷ words) made some why =
-    with_one_declined declined (record { kind = kind; name = named name; sources = map File (word ∷ words) }) made
+    with_one_declined declined (record { kind = kind; name = padded_name name; sources = map File (word ∷ words) }) made
     (subst (DeclinedFor declined) (sym (each_map source_of File (word ∷ words))) why)
 
 -- a part that is put behind the others

@@ -12,7 +12,7 @@ use Rattle.pe_reader.specs.Grammar.{Headers, pe_of}
 use Rattle.pe_reader.specs.Loaded.{loaded}
 use Rattle.uki_parts.specs.Cmdlines.{cleaned}
 use Rattle.uki_parts.specs.Initrds.{joined_bytes}
-use Rattle.uki_parts.specs.Names.{name_bytes, named, read_name}
+use Rattle.uki_parts.specs.Names.{name_bytes, padded_name, read_name}
 use Rattle.uki_parts.specs.Sbat.{merged_sbat}
 use Rattle.uki_parts.specs.declared.kind.PartKind.{PartKind}
 use Rattle.uki_parts.specs.declared.kind.PartKind.TheVariants as kinds
@@ -27,7 +27,7 @@ use Rattle.pe_builder.specs.Sizes.{part_flags}
 use Rattle.tool_words.specs.declared.command.BuildWords.{BuildWords}
 use Rattle.tool_words.specs.declared.command.Given.{Given}
 use Rattle.tool_words.specs.declared.command.Given.TheVariants.{Inline, File}
-use Rattle.tool_words.specs.Meaning.{given}
+use Rattle.tool_words.specs.Meaning.{inline_or_file}
 use Rattle.command_plans.specs.Answers.{Answer, done, refusal}
 use Rattle.command_reads.specs.Refusing.{◌>>=◌, path_in, printed_path}
 use Rattle.image_build.specs.declared.source.Source.{Source}
@@ -49,7 +49,7 @@ section_name text (Some name) = Ok name
 
 abbrev pub section_cut : List ℕ → Option ℕ → Result (SectionName × Given) Refusal
 section_cut value None = Err (refusals.BadSectionName value)
-section_cut value (Some colon) = section_name (take colon value) (read_name (take colon value)) >>= λ name. Ok (name, given (drop (colon + 1) value))
+section_cut value (Some colon) = section_name (take colon value) (read_name (take colon value)) >>= λ name. Ok (name, inline_or_file (drop (colon + 1) value))
 
 abbrev pub section_of : List ℕ → Result (SectionName × Given) Refusal
 section_of value = section_cut value (position (λ byte. byte == 58) value)
@@ -62,7 +62,7 @@ pub record Wanted : Type 0 where
 
 abbrev pub wanted : PartKind → List ℕ → List Given → List Wanted
 wanted kind name [] = []
-wanted kind name (source ∷ more) = record { kind = kind; name = named name; sources = source ∷ more } ∷ []
+wanted kind name (source ∷ more) = record { kind = kind; name = padded_name name; sources = source ∷ more } ∷ []
 
 abbrev pub given_once : Option Given → List Given
 given_once None = []
@@ -157,10 +157,10 @@ has_sbat headers = nat_lt (sbat_index headers) (length headers.sections)
 
 -- the image with an SBAT text that isn't empty: in the place of the stub's, or as a part before the kernel
 abbrev pub with_sbat_text : Path → Headers → List ℕ → List (SectionName × List ℕ) → List ℕ → List ℕ → Result Built Refusal
-with_sbat_text output headers stub parts kernel [] = image_of_parts output headers stub (filter has_bytes (parts ++ (named (codes ".linux"), kernel) ∷ [])) None
+with_sbat_text output headers stub parts kernel [] = image_of_parts output headers stub (filter has_bytes (parts ++ (padded_name (codes ".linux"), kernel) ∷ [])) None
 with_sbat_text output headers stub parts kernel (byte ∷ text) =
-    if has_sbat headers then image_of_parts output headers stub (filter has_bytes (parts ++ (named (codes ".linux"), kernel) ∷ [])) (Some (byte ∷ text))
-    else image_of_parts output headers stub (filter has_bytes (parts ++ (named sbat_name, byte ∷ text) ∷ (named (codes ".linux"), kernel) ∷ [])) None
+    if has_sbat headers then image_of_parts output headers stub (filter has_bytes (parts ++ (padded_name (codes ".linux"), kernel) ∷ [])) (Some (byte ∷ text))
+    else image_of_parts output headers stub (filter has_bytes (parts ++ (padded_name sbat_name, byte ∷ text) ∷ (padded_name (codes ".linux"), kernel) ∷ [])) None
 
 -- what the words of a build name: the files, the texts, and where the image is to stand
 pub record Named : Type 0 where

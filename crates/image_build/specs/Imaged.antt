@@ -9,13 +9,13 @@ use Rattle.pe_reader.specs.Grammar.{Headers, pe_of}
 use Rattle.uki_parts.specs.declared.kind.PartKind.TheVariants as kinds
 use Rattle.uki_parts.specs.declared.part.Part.{Part}
 use Rattle.uki_parts.specs.declared.piece.Piece.TheVariants as pieces
-use Rattle.uki_parts.specs.Names.{named}
+use Rattle.uki_parts.specs.Names.{padded_name}
 use Rattle.uki_parts.specs.Kinds.{append_place}
 use Rattle.uki_parts.specs.Parts.{part_place}
 use Rattle.uki_parts.specs.Pieces.{HasSizes, Reading, bytes_of, total_length}
 use Rattle.pe_builder.specs.declared.fault.PlanFault.{PlanFault}
 use Rattle.pe_builder.specs.declared.fault.PlanFault.TheVariants as faults
-use Rattle.pe_builder.specs.Planned.{Plans, given}
+use Rattle.pe_builder.specs.Planned.{PlansImage, sbat_if_in_place}
 use Rattle.pe_builder.specs.Refusals.{first_refusal}
 use Rattle.pe_builder.specs.Replaced.{sbat_name}
 use Rattle.pe_builder.specs.Sizes.{any_size}
@@ -31,7 +31,7 @@ is_filled part = not (part.length == 0)
 -- the part that holds an SBAT text
 pub record IsSbatPart (part : Part) (text : List ℕ) : Type 0 where
   pub kind : part.kind ≡ kinds.Sbat
-  pub name : part.name ≡ named sbat_name
+  pub name : part.name ≡ padded_name sbat_name
   pub pieces_are : part.pieces.items ≡ pieces.Bytes text ∷ []
   pub length_is : part.length ≡ length text
 
@@ -41,7 +41,7 @@ pub record AreOrdered (parts : List Part) (linux : Part) : Type 0 where
   pub order : IsNonDecreasingBy part_place parts
   pub early : All (λ part. part_place part ≤ append_place kinds.Extra) parts
   pub kind : linux.kind ≡ kinds.Linux
-  pub name : linux.name ≡ named (codes ".linux")
+  pub name : linux.name ≡ padded_name (codes ".linux")
   pub small : linux.length ≤ 268435456
 
 -- The numbers of an image hold so many parts that add a section, so many bytes, and an SBAT text of that length.
@@ -79,7 +79,7 @@ Images view meant (Err fault) = (output : Path) (why : Refusal) → builder_refu
 
 -- the plan of an image of these parts, and its sources
 pub record IsPlanOf (image : ImagePlan) (headers : Headers) (stub_length : ℕ) (stub : Path) (parts : List Part) (in_place : Option ℕ) (sbat : List ℕ) : Type 0 where
-  pub plans : Plans image.plan headers stub_length (map any_size parts) in_place
+  pub plans : PlansImage image.plan headers stub_length (map any_size parts) in_place
   pub stub_is : stub_path image.sources ≡ stub
   pub parts_are : part_list image.sources ≡ parts
   pub sbat_is : new_sbat image.sources ≡ sbat
@@ -93,6 +93,6 @@ PlansParts headers stub_length stub parts in_place sbat (Err fault) = first_refu
 -- the plan is that of its own sources, with this stub
 pub record IsOwnPlan (image : ImagePlan) (headers : Headers) (stub_length : ℕ) (stub : Path) : Type 0 where
   pub in_place : Option ℕ
-  pub plans : Plans image.plan headers stub_length (map any_size (part_list image.sources)) in_place
+  pub plans : PlansImage image.plan headers stub_length (map any_size (part_list image.sources)) in_place
   pub stub_is : stub_path image.sources ≡ stub
-  pub sbat_length : option_map length (given in_place (new_sbat image.sources)) ≡ in_place
+  pub sbat_length : option_map length (sbat_if_in_place in_place (new_sbat image.sources)) ≡ in_place

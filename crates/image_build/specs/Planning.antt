@@ -6,7 +6,7 @@ use Rattle.boot_machine.specs.Rows.{contents}
 use Rattle.image_writer.specs.Sourced.{IsSourced, new_sbat, part_list, parts_bytes, planned_image, stub_path}
 use Rattle.stub_replay.specs.Parts.{IsWhole, content_or}
 use Rattle.stub_replay.specs.declared.measurable.Content.{Content}
-use Rattle.pe_builder.specs.Planned.{given}
+use Rattle.pe_builder.specs.Planned.{sbat_if_in_place}
 use Rattle.pe_reader.specs.Grammar.{pe_of}
 use Rattle.pe_reader.specs.Reads.{ReadFrom, headers_of}
 use Rattle.stub_replay.specs.Laws.{given_parts, kept_of}
@@ -52,13 +52,14 @@ pub record IsPlannedOn (view : Files) (plan : PlannedBuild) : Type 0 where
 
 -- what a section keeps that no part has the name of
 abbrev pub kept_bytes : Files → PlannedBuild → Option ℕ → List ℕ → List ℕ
-kept_bytes view plan in_place name = kept_of (given in_place (new_sbat plan.image.sources)) (stub_bytes view plan) name
+kept_bytes view plan in_place name =
+    kept_of (sbat_if_in_place in_place (new_sbat plan.image.sources)) (stub_bytes view plan) name
 
 -- what the section of a name is going to hold
 abbrev pub section_bytes : Files → PlannedBuild → Option ℕ → List ℕ → List ℕ
 section_bytes view plan in_place name =
     given_parts (map any_size (part_list plan.image.sources)) (parts_bytes (contents view) (part_list plan.image.sources))
-    (given in_place (new_sbat plan.image.sources)) (stub_bytes view plan) name
+    (sbat_if_in_place in_place (new_sbat plan.image.sources)) (stub_bytes view plan) name
 
 -- the content has these bytes, and is whole in these files
 pub record IsContent (files : Reading) (content : Option Content) (bytes : List ℕ) : Type 0 where

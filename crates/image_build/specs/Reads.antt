@@ -5,7 +5,7 @@ use Rattle.pe_reader.specs.Loaded.{loaded}
 use Rattle.pe_builder.specs.Replaced.{sbat_name}
 use Rattle.std.specs.List.{AllZip}
 use Rattle.pe_reader.specs.Reads.{ReadFrom, headers_of}
-use Rattle.uki_parts.specs.Names.{named}
+use Rattle.uki_parts.specs.Names.{padded_name}
 use Rattle.uki_parts.specs.Pieces.{HasSizes, Reading, bytes_of, total_length}
 use Rattle.uki_parts.specs.declared.kind.PartKind.TheVariants as kinds
 use Rattle.uki_parts.specs.declared.name.SectionName.{SectionName}
@@ -71,7 +71,7 @@ pub record FilesHaveSizes (files : Reading) (found : BuildFiles) : Type 0 where
 -- a part is a kernel of at most as many bytes as are read
 pub record IsKernel (part : Part) : Type 0 where
   pub kind : part.kind ≡ kinds.Linux
-  pub name : part.name ≡ named (codes ".linux")
+  pub name : part.name ≡ padded_name (codes ".linux")
   pub small : part.length ≤ file_limit
   pub length_is : part.length ≡ total_length part.pieces.items
 

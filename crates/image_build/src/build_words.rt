@@ -5,7 +5,7 @@ ghost use Rattle.boot_base.specs.Paths.{IsFree};
 ghost use Rattle.command_reads.specs.Refusing.{Means};
 ghost use Rattle.tool_words.specs.declared.command.Given.TheVariants.{Inline, File};
 ghost use Rattle.uki_parts.specs.declared.kind.PartKind.TheVariants as kinds;
-ghost use Rattle.uki_parts.specs.Names.{fixed_name, named, read_name};
+ghost use Rattle.uki_parts.specs.Names.{fixed_name, padded_name, read_name};
 ghost use Rattle.image_build.specs.Building.{clean, extra, given_once, named_as, named_of, named_part, part_named, section_name, section_of, source_of, sources_of, wanted, wanted_parts, with_parts};
 ghost use Rattle.command_reads.specs.Files.{each, if_given};
 
@@ -107,8 +107,8 @@ fn push_fixed(
     parts: &mut Vec<PartSources>,
 ) -> Result<(), AllocError>
     requires { IsTrue (is_some (fixed_name kind)) }
-    ensures { OnOk result ((name : List ℕ) → fixed_name kind ≡ Some (named name)
-        → map part_named parts.new.items ≡ map part_named parts.old.items ++ named_part kind (named name) sources.items ∷ []) }
+    ensures { OnOk result ((name : List ℕ) → fixed_name kind ≡ Some (padded_name name)
+        → map part_named parts.new.items ≡ map part_named parts.old.items ++ named_part kind (padded_name name) sources.items ∷ []) }
 {
     let name = SectionName::of(kind).unwrap();
     push(
@@ -129,8 +129,8 @@ fn push_one(
     parts: &mut Vec<PartSources>,
 ) -> Result<(), AllocError>
     requires { IsTrue (is_some (fixed_name kind)) }
-    ensures { OnOk result ((name : List ℕ) → fixed_name kind ≡ Some (named name)
-        → map part_named parts.new.items ≡ map part_named parts.old.items ++ named_part kind (named name) (source ∷ []) ∷ []) }
+    ensures { OnOk result ((name : List ℕ) → fixed_name kind ≡ Some (padded_name name)
+        → map part_named parts.new.items ≡ map part_named parts.old.items ++ named_part kind (padded_name name) (source ∷ []) ∷ []) }
 {
     let sources = one_source(alloc, source)?;
     push_fixed(kind, sources, parts)
@@ -144,7 +144,8 @@ fn append_given(
     parts: &mut Vec<PartSources>,
 ) -> Result<(), Declined>
     requires { IsTrue (is_some (fixed_name kind)) }
-    ensures { (name : List ℕ) → fixed_name kind ≡ Some (named name) → Means (λ _. map part_named parts.new.items) result
+    ensures { (name : List ℕ) → fixed_name kind ≡ Some (padded_name name)
+        → Means (λ _. map part_named parts.new.items) result
         (with_parts (map part_named parts.old.items) (wanted kind name (given_once given.now))) }
 {
     match given {
@@ -184,7 +185,8 @@ fn append_file(
     parts: &mut Vec<PartSources>,
 ) -> Result<(), Declined>
     requires { IsTrue (is_some (fixed_name kind)) }
-    ensures { (name : List ℕ) → fixed_name kind ≡ Some (named name) → Means (λ _. map part_named parts.new.items) result
+    ensures { (name : List ℕ) → fixed_name kind ≡ Some (padded_name name)
+        → Means (λ _. map part_named parts.new.items) result
         (with_parts (map part_named parts.old.items) (wanted kind name (given_once (option_map File word.now)))) }
 {
     match word {

@@ -9,7 +9,7 @@ ghost use Rattle.pcr_fold.specs.Banks.{folded};
 ghost use Rattle.pcr_fold.specs.Values.{pcr_bank, shown};
 ghost use Rattle.stub_replay.specs.Ordered.{present};
 ghost use Rattle.stub_replay.specs.Parts.{HaveSizes, IsPlaced, items_of, named_bytes};
-ghost use Rattle.command_plans.specs.Answers.{said};
+ghost use Rattle.command_plans.specs.Answers.{answer_of_read};
 ghost use Rattle.command_plans.specs.Performs.{CountsStop};
 ghost use Rattle.command_plans.specs.Plans.{IsMakeable, Plans};
 ghost use Rattle.command_plans.specs.Refusing.{DeclinesWords, RefusesWords};
@@ -200,7 +200,7 @@ pub fn plan_calculate<M: Machine>(
     machine: &mut M,
 ) -> Result<Plan, Stop>
     ensures plans { IfOk result (λ plan. IsTrue M.tells → Plans (M.state machine.old) plan
-        (said (seen (M.state machine.old)) (calculate_said (seen (M.state machine.old)) words.now))) }
+        (answer_of_read (seen (M.state machine.old)) (calculate_said (seen (M.state machine.old)) words.now))) }
     ensures makeable { IfOk result (λ plan. IsMakeable plan.change) }
     ensures idle { IfOk result (λ plan. plan.change ≡ Nothing) }
     ensures reads { IsTrue M.tells → OnlyReads M.clock M.since M.state machine.old machine.new }

@@ -8,7 +8,7 @@ ghost use Rattle.pcr_fold.specs.Values.{pcr_bank, shown};
 ghost use Rattle.pe_reader.specs.Grammar.{pe_of};
 ghost use Rattle.pe_reader.specs.Reads.{headers_of};
 ghost use Rattle.stub_replay.specs.Measured.{measured_length, measured_list};
-ghost use Rattle.command_plans.specs.Answers.{said};
+ghost use Rattle.command_plans.specs.Answers.{answer_of_read};
 ghost use Rattle.command_plans.specs.Performs.{CountsStop};
 ghost use Rattle.command_plans.specs.Plans.{IsMakeable, Plans};
 ghost use Rattle.command_plans.specs.Refusing.{DeclinesWords, RefusesWords};
@@ -110,7 +110,8 @@ pub fn plan_image<M: Machine>(
     machine: &mut M,
 ) -> Result<Plan, Stop>
     ensures plans { IfOk result (λ plan. IsTrue M.tells → Plans (M.state machine.old) plan
-        (said (seen (M.state machine.old)) (image_said (seen (M.state machine.old)) file.now banks.now phases.now))) }
+        (answer_of_read (seen (M.state machine.old))
+        (image_said (seen (M.state machine.old)) file.now banks.now phases.now))) }
     ensures makeable { IfOk result (λ plan. IsMakeable plan.change) }
     ensures idle { IfOk result (λ plan. plan.change ≡ Nothing) }
     ensures reads { IsTrue M.tells → OnlyReads M.clock M.since M.state machine.old machine.new }

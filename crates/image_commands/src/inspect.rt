@@ -5,11 +5,11 @@ ghost use Rattle.std.specs.List.{flat_map};
 ghost use Rattle.boot_machine.specs.Reading.{OnlyReads, TakesAtMost};
 ghost use Rattle.boot_machine.specs.Rows.{contents};
 ghost use Rattle.boot_machine.specs.Sent.{seen};
-ghost use Rattle.pcr_fold.specs.Values.{bytes_of};
+ghost use Rattle.pcr_fold.specs.Values.{bytes_of_digest};
 ghost use Rattle.pe_reader.specs.Grammar.{pe_of};
 ghost use Rattle.pe_reader.specs.Loaded.{range_of};
 ghost use Rattle.pe_reader.specs.Reads.{headers_of};
-ghost use Rattle.command_plans.specs.Answers.{said};
+ghost use Rattle.command_plans.specs.Answers.{answer_of_read};
 ghost use Rattle.command_plans.specs.Performs.{CountsStop};
 ghost use Rattle.command_plans.specs.Plans.{IsMakeable, Plans};
 ghost use Rattle.command_plans.specs.Refusing.{DeclinesWords, RefusesWords};
@@ -32,7 +32,7 @@ use stub_replay::range_digest;
 
 // What is printed behind a section's name.
 fn measures(alloc: Global, size: u64, digest: &Digest) -> Result<Vec<u8>, AllocError>
-    ensures { IfOk result (λ lines. lines.items ≡ measures size (bytes_of digest.now)) }
+    ensures { IfOk result (λ lines. lines.items ≡ measures size (bytes_of_digest digest.now)) }
 {
     let digest = hex::encode(alloc, digest.bytes())?;
     let lines = format!(in alloc; ":\n  size: {size} bytes\n  sha256: {digest}\n")?;
@@ -141,7 +141,7 @@ fn inspected<M: Machine>(alloc: Global, file: &str, machine: &mut M) -> Result<V
 /// the SHA-256 digest of its loaded bytes. The headers are read, and each section's raw data once.
 pub fn plan_inspect<M: Machine>(alloc: Global, file: &str, machine: &mut M) -> Result<Plan, Stop>
     ensures plans { IfOk result (λ plan. IsTrue M.tells → Plans (M.state machine.old) plan
-        (said (seen (M.state machine.old)) (inspect_said (seen (M.state machine.old)) file.now))) }
+        (answer_of_read (seen (M.state machine.old)) (inspect_said (seen (M.state machine.old)) file.now))) }
     ensures makeable { IfOk result (λ plan. IsMakeable plan.change) }
     ensures idle { IfOk result (λ plan. plan.change ≡ Nothing) }
     ensures reads { IsTrue M.tells → OnlyReads M.clock M.since M.state machine.old machine.new }

@@ -19,7 +19,7 @@ use Rattle.pe_builder.specs.Puts.{put}
 use Rattle.pe_builder.specs.Layout.{head_with, new_sections, end_after}
 use Rattle.pe_builder.specs.Replaced.{sbat_index, with_sbat_size}
 use Rattle.pe_builder.specs.Image.{section_header, with_fields, finished}
-use Rattle.pe_builder.specs.Planned.{Plans, IsPlanFor, IsFinished, replaced_by, sbat_place, given}
+use Rattle.pe_builder.specs.Planned.{PlansImage, IsPlanFor, IsFinished, replaced_by, sbat_place, sbat_if_in_place}
 use Rattle.pe_builder.proofs.Appending.{length-headers, length-sections_for}
 use Rattle.pe_builder.proofs.Fits.{HasImage, FitsSbat}
 use Rattle.pe_builder.proofs.Grown.{small_of}
@@ -29,7 +29,7 @@ use Rattle.pe_builder.proofs.PlannedIs.{fitting, image_by-is}
 use Rattle.pe_builder.proofs.Replacing.{raw_inside}
 use Rattle.pe_builder.proofs.Totals.{buildable_image, buildable_sbat}
 use Rattle.boot_machine.specs.Reading.{between}
-use Rattle.image_writer.specs.Chunks.{chunks_bytes, number_chunks, table_end, table_chunks, section_chunks, rest_chunks, headers_bytes, stub_bytes, behind_stub}
+use Rattle.image_writer.specs.Chunks.{chunks_bytes, number_chunks, table_end, table_chunks, section_chunks, rest_chunks, headers_bytes, new_stub_bytes, behind_stub}
 use Rattle.image_writer.specs.Sourced.{parts_bytes, IsPieced}
 use Rattle.image_writer.proofs.Padded.{behind-is}
 use Rattle.image_writer.proofs.Rising.{Patch, puts, Rising, drop-puts, length-puts, put-swap}
@@ -192,7 +192,7 @@ some_is : (a b : ℕ) → (let o : Option ℕ = Some a in o) ≡ Some b → a �
 some_is a b e = cc
 
 -- where the `.sbat` of a stub that is read stands
-stands : (h : Headers) (stub sbat : List ℕ) (behind : ℕ) (in_place : Option ℕ) → Shape stub h → FitsSbat h in_place → option_map length (given in_place sbat) ≡ in_place
+stands : (h : Headers) (stub sbat : List ℕ) (behind : ℕ) (in_place : Option ℕ) → Shape stub h → FitsSbat h in_place → option_map length (sbat_if_in_place in_place sbat) ≡ in_place
     → h.head.pe_place + 136 ≤ h.head.table_place → behind ≤ h.head.header_size → SbatStands h.head behind (length stub) sbat (sbat_place h in_place)
 stands h stub sbat behind None shape fits len fields room = tt
 stands h stub sbat behind (Some size) shape fits len fields room =
@@ -205,7 +205,7 @@ stands h stub sbat behind (Some size) shape fits len fields room =
     (omega arith, omega arith, omega (arith, room, range.0), range.1, some_is _ _ len, fits.1)
 
 ordered : (h : Headers) (stub sbat : List ℕ) (sizes : List WideSize) (in_place : Option ℕ) → Shape stub h → FitsSbat h in_place
-    → HasImage (with_sbat_size h in_place) (length stub) sizes → option_map length (given in_place sbat) ≡ in_place
+    → HasImage (with_sbat_size h in_place) (length stub) sizes → option_map length (sbat_if_in_place in_place sbat) ≡ in_place
     → (let new = new_sections (with_sbat_size h in_place) (length stub) sizes in
     Ordered h.head (head_with (with_sbat_size h in_place) new) new (sbat_place h in_place) (length stub) sbat)
 ordered h stub sbat sizes in_place shape fits has len =
@@ -227,7 +227,7 @@ ordered h stub sbat sizes in_place shape fits has len =
 
 -- the chunks of a plan's image
 planned : (plan : Plan) (stub sbat : List ℕ) (contents : List (List ℕ)) → IsPlanFor plan stub contents sbat
-    → Assembled (stub_bytes plan stub sbat) (with_fields plan.before plan.after (flat_map section_header plan.sections.items) (replaced_by plan.sbat sbat stub)) stub
+    → Assembled (new_stub_bytes plan stub sbat) (with_fields plan.before plan.after (flat_map section_header plan.sections.items) (replaced_by plan.sbat sbat stub)) stub
 planned plan stub sbat contents is =
     let h = is.headers in
     let p = is.plans in
@@ -246,7 +246,7 @@ planned plan stub sbat contents is =
 
 -- The bytes that are appended are the finished image.
 pub finished_bytes : (plan : Plan) (stub sbat : List ℕ) (files : Reading) (parts : List Part) → IsPlanFor plan stub (parts_bytes files parts) sbat → All (IsPieced files) parts
-    → IsFinished plan stub (parts_bytes files parts) sbat (stub_bytes plan stub sbat ++ behind_stub files (planned_before plan).file_alignment (planned_stub_length plan) parts)
+    → IsFinished plan stub (parts_bytes files parts) sbat (new_stub_bytes plan stub sbat ++ behind_stub files (planned_before plan).file_alignment (planned_stub_length plan) parts)
 finished_bytes plan stub sbat files parts is pieced = λ h sizes in_place reads plans len.
     let contents = parts_bytes files parts in
     let unit = plan.before.file_alignment in
@@ -268,7 +268,7 @@ one_image plan stub sbat contents a b is first second =
     first is.headers is.sizes is.in_place is.reads is.plans is.sbat_length ∙ sym (second is.headers is.sizes is.in_place is.reads is.plans is.sbat_length)
 
 pub is_finished : (plan : Plan) (stub sbat : List ℕ) (contents : List (List ℕ)) (h : Headers) (sizes : List WideSize) (in_place : Option ℕ)
-    → pe_of stub ≡ Ok h → Plans plan h (length stub) sizes in_place → option_map length (given in_place sbat) ≡ in_place
-    → IsFinished plan stub contents sbat (finished h sizes contents (given in_place sbat) stub)
+    → pe_of stub ≡ Ok h → PlansImage plan h (length stub) sizes in_place → option_map length (sbat_if_in_place in_place sbat) ≡ in_place
+    → IsFinished plan stub contents sbat (finished h sizes contents (sbat_if_in_place in_place sbat) stub)
 is_finished plan stub sbat contents h sizes in_place reads plans len = λ h' sizes' in_place' reads' plans' len'.
     sym (image_by-is plan h sizes contents in_place sbat stub reads plans len) ∙ image_by-is plan h' sizes' contents in_place' sbat stub reads' plans' len'

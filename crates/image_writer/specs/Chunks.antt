@@ -71,8 +71,8 @@ abbrev pub headers_bytes : List ℕ → List ℕ → List Section → List ℕ
 headers_bytes stub sbat sections = flat_map (λ s. chunks_bytes stub sbat (section_chunks s)) sections
 
 -- what stands in the place of the stub
-abbrev pub stub_bytes : Plan → List ℕ → List ℕ → List ℕ
-stub_bytes plan stub sbat =
+abbrev pub new_stub_bytes : Plan → List ℕ → List ℕ → List ℕ
+new_stub_bytes plan stub sbat =
     chunks_bytes stub sbat (number_chunks (planned_before plan) (planned_after plan))
     ++ chunks_bytes stub sbat (table_chunks (planned_before plan) (planned_sbat plan))
     ++ headers_bytes stub sbat (planned_sections plan)

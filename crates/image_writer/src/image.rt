@@ -5,7 +5,7 @@ ghost use Rattle.boot_machine.specs.Counts.{CountsDisk};
 ghost use Rattle.boot_machine.specs.Disk.{has, view};
 ghost use Rattle.boot_machine.specs.Rows.{contents};
 ghost use Rattle.install_steps.specs.Appends.{AppendsOnly, Grown};
-ghost use Rattle.image_writer.specs.Chunks.{chunk_bytes, chunks_bytes, headers_bytes, stub_bytes};
+ghost use Rattle.image_writer.specs.Chunks.{chunk_bytes, chunks_bytes, headers_bytes, new_stub_bytes};
 ghost use Rattle.image_writer.specs.Sourced.{IsSourced, IsPlannedImage, stub_path, new_sbat};
 
 use crate::append::write_zeros;
@@ -69,7 +69,7 @@ fn write_stub<M: Machine>(
     ensures length { length buffer.new ≡ length buffer.old }
     ensures appends { IsTrue M.tells → AppendsOnly M.clock M.since M.state temp.now machine.old machine.new }
     ensures grows { OnOk result (IsTrue M.tells → Grown temp.now
-        (stub_bytes plan.now (contents (M.state machine.old).files (stub_path sources.now)) (new_sbat sources.now))
+        (new_stub_bytes plan.now (contents (M.state machine.old).files (stub_path sources.now)) (new_sbat sources.now))
         (M.state machine.old) (M.state machine.new)) }
     ensures counts { CountsDisk result (M.counts machine.old) (M.counts machine.new) }
 {

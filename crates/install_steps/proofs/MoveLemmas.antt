@@ -3,7 +3,7 @@ use Rattle.std.proofs.Common.{◌≡◌, ◌≢◌, inl, inr, ℕ, true, false, 
 use Rattle.std.specs.Prelude.{option_and_then}
 use Rattle.std.specs.FinMap as map
 use Rattle.boot_base.specs.Paths.{Path, intent, is_temp, read_intent}
-use Rattle.boot_machine.specs.Disk.{Files, IsWhole, has, intended, recovered_view}
+use Rattle.boot_machine.specs.Disk.{Files, HasNoHalfRename, has, intended, recovered_view}
 use Rattle.boot_machine.specs.Rows.{contents, move_in}
 use Rattle.boot_machine.specs.Maps.{cases_same, get-none, get-insert_here, get-insert_apart, get-remove_here, get-remove_apart}
 use Rattle.boot_machine.proofs.Recovering.{AreNames, IsCalm, names_of, turn, recovered_view_from, recovered_view-drop_intent, recovered_view-move_in, whole-first, whole-second, get-move_in_apart}
@@ -40,7 +40,7 @@ module _ (m n : Files) (a b : Path) (calm : IsCalm m) (intends : Intends a b m n
   unfolding move_in
   gone = ap is_some (get-insert_apart (map.remove n a) b (contents n a) a names.apart ∙ get-remove_here n a)
 
-  whole : IsWhole (move_in a b n)
+  whole : HasNoHalfRename (move_in a b n)
   whole = whole-first (move_in a b n) a b still gone
 
   moved_alike : (q : Path) → is_temp q ≡ false → map.get (map.remove (move_in a b n) intent) q ≡ map.get (move_in a b m) q

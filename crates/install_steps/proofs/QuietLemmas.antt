@@ -5,7 +5,7 @@ use Rattle.boot_base.specs.Paths.{Path}
 use Rattle.boot_machine.specs.Disk.{Files, State}
 use Rattle.boot_machine.specs.Images.{IsImage}
 use Rattle.boot_machine.specs.Moments.{Elapses, EachSince}
-use Rattle.boot_machine.specs.Reading.{Stays, OnlyReads}
+use Rattle.boot_machine.specs.Reading.{IsIdleMoment, OnlyReads}
 use Rattle.boot_machine.specs.Rows.{CreateRow, AppendRow, SyncFileRow, RenameRow, UnlinkRow, SyncNamesRow}
 use Rattle.boot_machine.specs.declared.machine.Printed.{Printed}
 use Rattle.boot_machine.proofs.Elapsing.{joined, weaken, one_call, at_once}
@@ -74,7 +74,7 @@ module _ {D : Type 0} (clock : D → ℕ) (since : D → ℕ → Files → List 
   pub quiet_reads : (old mid new : D) → Quiet old mid → OnlyReads clock since state mid new → Quiet old new
   quiet_reads old mid new so_far reads = record {
     moments = joined clock since state (λ m o. o ≡ (state old).printed) old mid new so_far.moments
-        (weaken clock since state (Stays (state mid)) (λ m o. o ≡ (state old).printed) mid new (λ m o stays. stays.1 ∙ so_far.printed) reads.moments);
+        (weaken clock since state (IsIdleMoment (state mid)) (λ m o. o ≡ (state old).printed) mid new (λ m o stays. stays.1 ∙ so_far.printed) reads.moments);
     printed = ap (λ (s : State). s.printed) reads.same ∙ so_far.printed;
   }
 
@@ -91,9 +91,9 @@ module _ {D : Type 0} (clock : D → ℕ) (since : D → ℕ → Files → List 
   quiet_first old new part keeps = record { moments = part; printed = keeps.printed }
 
   -- the names were synced, and no more
-  pub quiet_stays : (old new : D) → EachSince clock since old new (Stays (state old)) → Keeps (state old) (state new) → Quiet old new
+  pub quiet_stays : (old new : D) → EachSince clock since old new (IsIdleMoment (state old)) → Keeps (state old) (state new) → Quiet old new
   quiet_stays old new stays keeps = record {
-    moments = weaken clock since state (Stays (state old)) (λ m o. o ≡ (state old).printed) old new (λ m o was. was.1) stays;
+    moments = weaken clock since state (IsIdleMoment (state old)) (λ m o. o ≡ (state old).printed) old new (λ m o was. was.1) stays;
     printed = keeps.printed;
   }
 

@@ -11,7 +11,7 @@ use Rattle.boot_machine.specs.Disk.{Files, Paths, State, has, same, view}
 use Rattle.boot_machine.specs.Images.{IsImage}
 use Rattle.boot_machine.specs.Maps.{same_self, same-true, cases_same, same_files, contains-insert, path_antisym}
 use Rattle.boot_machine.specs.Moments.{IsMoment, Elapses}
-use Rattle.boot_machine.specs.Reading.{Stays, OnlyReads}
+use Rattle.boot_machine.specs.Reading.{IsIdleMoment, OnlyReads}
 use Rattle.boot_machine.specs.Rows.{contents, append_to, appended, AppendRow}
 use Rattle.boot_machine.specs.declared.machine.Printed.{Printed}
 use Rattle.boot_machine.proofs.Elapsing.{weaken, joined, at_once, one_call}
@@ -133,10 +133,10 @@ image_back p s t m (inl is) image = subst (λ (v : State). IsImage (softened p v
 image_back p s t m (inr more) image = unappend p more.0 s m (subst (λ (v : State). IsImage (softened p v) m) more.1 image)
 
 -- what stays at a later moment stood at an earlier one
-stays_back : (p : Path) (s t : State) (m : Files) (o : List Printed) → HasAppended p s t → Stays (softened p t) m o → Stays (softened p s) m o
+stays_back : (p : Path) (s t : State) (m : Files) (o : List Printed) → HasAppended p s t → IsIdleMoment (softened p t) m o → IsIdleMoment (softened p s) m o
 stays_back p s t m o left stays = (image_back p s t m left stays.0, stays.1 ∙ appended-printed p s t left)
 
-moment_stays : (p : Path) (s t : State) (m : Files) (o : List Printed) → HasAppended p s t → IsMoment s t m o → Stays (softened p s) m o
+moment_stays : (p : Path) (s t : State) (m : Files) (o : List Printed) → HasAppended p s t → IsMoment s t m o → IsIdleMoment (softened p s) m o
 moment_stays p s t m o left moment = (
   ⊎_elim (soften p s m) (λ now. image_back p s t m left (soften p t m now)) moment.image,
   not_printed s.printed o t.printed (appended-printed p s t left) moment.printed,
@@ -144,27 +144,27 @@ moment_stays p s t m o left moment = (
 
 module _ {D : Type 0} (clock : D → ℕ) (since : D → ℕ → Files → List Printed → Type 0) (state : D → State) (p : Path) where
   -- no call is made
-  pub appends_none : (old : D) → ((m : Files) (o : List Printed) → since old (clock old) m o → Stays (state old) m o) → AppendsOnly clock since state p old old
+  pub appends_none : (old : D) → ((m : Files) (o : List Printed) → since old (clock old) m o → IsIdleMoment (state old) m o) → AppendsOnly clock since state p old old
   appends_none old only_now = record {
     left = inl refl;
-    moments = at_once clock since state (Stays (softened p (state old))) old (λ m o left. let now = only_now m o left in (soften p (state old) m now.0, now.1));
+    moments = at_once clock since state (IsIdleMoment (softened p (state old))) old (λ m o left. let now = only_now m o left in (soften p (state old) m now.0, now.1));
   }
 
   -- reads are made
   pub appends_reads : (old new : D) → OnlyReads clock since state old new → AppendsOnly clock since state p old new
   appends_reads old new reads = record {
     left = inl reads.same;
-    moments = weaken clock since state (Stays (state old)) (Stays (softened p (state old))) old new (λ m o stays. (soften p (state old) m stays.0, stays.1)) reads.moments;
+    moments = weaken clock since state (IsIdleMoment (state old)) (IsIdleMoment (softened p (state old))) old new (λ m o stays. (soften p (state old) m stays.0, stays.1)) reads.moments;
   }
 
   -- one append, whatever its answer
-  pub appends_once : {E : Type 0} (old new : D) (bytes : List ℕ) (r : Result Unit E) → ((m : Files) (o : List Printed) → since old (clock old) m o → Stays (state old) m o)
+  pub appends_once : {E : Type 0} (old new : D) (bytes : List ℕ) (r : Result Unit E) → ((m : Files) (o : List Printed) → since old (clock old) m o → IsIdleMoment (state old) m o)
       → Elapses clock since state old new → AppendRow (state old) (state new) p bytes r → AppendsOnly clock since state p old new
   appends_once old new bytes r only_now time row =
       let left : HasAppended p (state old) (state new) = by_append (λ (t : State). HasAppended p (state old) t) (state old) (state new) p bytes r (inl refl) (λ b. inr (b, refl)) row in
       record {
         left = left;
-        moments = one_call clock since state (Stays (softened p (state old))) old new (λ m o now. let is = only_now m o now in (soften p (state old) m is.0, is.1)) time
+        moments = one_call clock since state (IsIdleMoment (softened p (state old))) old new (λ m o now. let is = only_now m o now in (soften p (state old) m is.0, is.1)) time
             (λ m o moment. moment_stays p (state old) (state new) m o left moment);
       }
 
@@ -172,8 +172,8 @@ module _ {D : Type 0} (clock : D → ℕ) (since : D → ℕ → Files → List 
   pub appends_on : (old mid new : D) → AppendsOnly clock since state p old mid → AppendsOnly clock since state p mid new → AppendsOnly clock since state p old new
   appends_on old mid new first second = record {
     left = has_appended_on p (state old) (state mid) (state new) first.left second.left;
-    moments = joined clock since state (Stays (softened p (state old))) old mid new first.moments
-        (weaken clock since state (Stays (softened p (state mid))) (Stays (softened p (state old))) mid new (λ m o stays. stays_back p (state old) (state mid) m o first.left stays) second.moments);
+    moments = joined clock since state (IsIdleMoment (softened p (state old))) old mid new first.moments
+        (weaken clock since state (IsIdleMoment (softened p (state mid))) (IsIdleMoment (softened p (state old))) mid new (λ m o stays. stays_back p (state old) (state mid) m o first.left stays) second.moments);
   }
 
   -- the path is there still

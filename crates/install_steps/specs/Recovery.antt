@@ -3,7 +3,7 @@ use Rattle.std.specs.Prelude.{◌≡◌, ◌⊎◌, ℕ, List}
 use Rattle.boot_machine.specs.Disk.{Files, State, HasOneCandidate, recovered_view}
 use Rattle.boot_machine.specs.Images.{IsImage, IsFirm, IsSettled}
 use Rattle.boot_machine.specs.Moments.{EachSince}
-use Rattle.boot_machine.specs.Reading.{OnlyReads, Stays}
+use Rattle.boot_machine.specs.Reading.{IsIdleMoment, OnlyReads}
 use Rattle.boot_machine.specs.declared.machine.Printed.{Printed}
 
 -- boot sees the same, and nothing more is printed
@@ -18,7 +18,7 @@ StaysOrSame old m o = (IsImage old m ⊎ (recovered_view m ≡ recovered_view ol
 -- boot sees the same at each moment.
 pub record SameFrom {D : Type 0} (clock : D → ℕ) (since : D → ℕ → Files → List Printed → Type 0) (state : D → State) (old new : D) : Type 0 where
   pub synced : D
-  pub until : EachSince clock since old synced (Stays (state old))
+  pub until : EachSince clock since old synced (IsIdleMoment (state old))
   pub one : HasOneCandidate (state synced)
   pub files : (state synced).files ≡ (state old).files
   pub from : EachSince clock since synced new (SeesSame (state old))

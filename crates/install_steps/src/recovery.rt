@@ -2,7 +2,7 @@
 ghost use Rattle.std.specs.Prelude.{◌≡◌, ◌⊎◌, true, false, length, IsTrue, IfOk, OnOk, Some};
 ghost use Rattle.std.specs.Option.{option_map};
 ghost use Rattle.boot_base.specs.Paths.{intent as intent_path};
-ghost use Rattle.boot_machine.specs.Disk.{HasOneCandidate, IsRested, IsWhole, has, intended, recovered_view};
+ghost use Rattle.boot_machine.specs.Disk.{HasNoHalfRename, HasOneCandidate, IsRested, has, intended, recovered_view};
 ghost use Rattle.boot_machine.specs.Images.{IsFirm, IsSettled};
 ghost use Rattle.boot_machine.specs.Moments.{EachSince};
 ghost use Rattle.boot_machine.specs.Reading.{OnlyReads};
@@ -58,7 +58,7 @@ fn drop_left<M: Machine>(machine: &mut M, names: &Names) -> Result<(), DiskFault
     requires one { IsTrue M.tells → HasOneCandidate (M.state machine.old) }
     ensures step { IsTrue M.tells → IsFirm (M.state machine.old) → StepsTo M.clock M.since M.state
         (recovered_view (M.state machine.old).files) machine.old machine.new }
-    ensures whole { OnOk result (IsTrue M.tells → IsWhole (M.state machine.new).files) }
+    ensures whole { OnOk result (IsTrue M.tells → HasNoHalfRename (M.state machine.new).files) }
     ensures there { OnOk result (IsTrue M.tells → has (M.state machine.new).files intent_path ≡ true) }
     ensures one { OnOk result (IsTrue M.tells → HasOneCandidate (M.state machine.new)) }
     ensures keeps { IsTrue M.tells → Keeps (M.state machine.old) (M.state machine.new) }
@@ -78,7 +78,7 @@ fn drop_left<M: Machine>(machine: &mut M, names: &Names) -> Result<(), DiskFault
 // Takes away an intent that is there, once its rename isn't half done.
 fn drop_intent<M: Machine>(machine: &mut M, intent: &Target) -> Result<(), DiskFault>
     requires at_intent { intent.now.path ≡ intent_path }
-    requires whole { IsTrue M.tells → IsWhole (M.state machine.old).files }
+    requires whole { IsTrue M.tells → HasNoHalfRename (M.state machine.old).files }
     requires there { IsTrue M.tells → has (M.state machine.old).files intent_path ≡ true }
     requires one { IsTrue M.tells → HasOneCandidate (M.state machine.old) }
     ensures step { IsTrue M.tells → IsFirm (M.state machine.old) → StepsTo M.clock M.since M.state

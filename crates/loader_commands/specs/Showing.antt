@@ -4,7 +4,7 @@ use Rattle.boot_base.specs.declared.refusal.Refusal.{Refusal}
 use Rattle.boot_base.specs.declared.refusal.Refusal.TheVariants as refusals
 use Rattle.boot_counter.specs.Counter.{suffix_text}
 use Rattle.boot_machine.specs.Disk.{Files}
-use Rattle.command_plans.specs.Answers.{Answer, said}
+use Rattle.command_plans.specs.Answers.{Answer, answer_of_read}
 use Rattle.command_reads.specs.Refusing.{◌>>=◌, printed_path}
 use Rattle.loader_commands.specs.Places.{conf_bytes, loader_menu, loader_paths}
 use Rattle.loader_conf.specs.Choice.{default_place}
@@ -46,4 +46,4 @@ show_said view word =
     loader_menu view paths.folders >>= menu_shown bytes
 
 abbrev pub show_answer : Files → List ℕ → Answer
-show_answer view word = said view (show_said view word)
+show_answer view word = answer_of_read view (show_said view word)

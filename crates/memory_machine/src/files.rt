@@ -5,7 +5,7 @@ ghost use Rattle.std.specs.Prelude.{map as all};
 ghost use Rattle.std.specs.FinMap as map;
 ghost use Rattle.boot_base.specs.Paths.{under, is_file_name};
 ghost use Rattle.boot_machine.specs.Disk.{has, view};
-ghost use Rattle.memory_machine.specs.Entries.{files_of, entries_of, pair_of, left_pair, counts_once};
+ghost use Rattle.memory_machine.specs.Entries.{files_of, pairs_of, pair_of, left_pair, counts_once};
 ghost use Rattle.memory_machine.specs.declared.files.Entry.{Entry};
 ghost use Rattle.memory_machine.specs.Events.{files_after};
 ghost use Rattle.memory_machine.specs.Given.{given_files};
@@ -39,9 +39,9 @@ impl Model for FileList {
 
     ghost coded = { map.code (coded_list coded_ℕ) (coded_list coded_ℕ) };
 
-    ghost use Rattle.memory_machine.specs.Entries.{entries_of};
+    ghost use Rattle.memory_machine.specs.Entries.{pairs_of};
 
-    ghost view = { λ l. map.from_entries (entries_of l.entries.items) };
+    ghost view = { λ l. map.from_entries (pairs_of l.entries.items) };
 }
 
 // The place of the first entry of that path.
@@ -182,7 +182,7 @@ fn all_left(
     soft: &[Text],
     fill: &[u8],
 ) -> Result<Vec<Entry>, AllocError>
-    ensures { IfOk result (λ left. entries_of left.items ≡ all (left_pair (is_listed soft.now) fill.now) entries.now) }
+    ensures { IfOk result (λ left. pairs_of left.items ≡ all (left_pair (is_listed soft.now) fill.now) entries.now) }
 {
     let mut left = Vec::new(alloc);
     for entry in entries {
@@ -201,7 +201,7 @@ fn entry_of(alloc: Global, path: &str, bytes: &[u8]) -> Result<Entry, AllocError
 }
 
 fn copy_all(alloc: Global, entries: &[Entry]) -> Result<Vec<Entry>, AllocError>
-    ensures { IfOk result (λ copies. entries_of copies.items ≡ entries_of entries.now) }
+    ensures { IfOk result (λ copies. pairs_of copies.items ≡ pairs_of entries.now) }
 {
     let mut copies = Vec::new(alloc);
     for entry in entries {

@@ -3,7 +3,7 @@ use Rattle.std.proofs.Common.{◌≡◌, ℕ, Bool, true, false, not, eqb, List,
 use Rattle.std.specs.List.{flat_map, list_all}
 use Rattle.std.proofs.lemmas.Bool.{and_from, and_parts, eqb-true, not_from_false, not-true}
 use Rattle.std.proofs.lemmas.Option.{cond_some, none-some, same_Some}
-use Rattle.os_release.specs.OsLines.{Piece, plain, escaped, kept, behind, double_reading, is_escapable, is_piece, IsBetweenQuotes, meant, written}
+use Rattle.os_release.specs.OsLines.{Piece, plain, escaped, kept, behind, double_reading, is_escapable, is_piece, IsBetweenQuotes, piece_value, piece_text}
 
 pub behind-behind : (a b : List ℕ) (o : Option (List ℕ)) → behind a (behind b o) ≡ behind (a ++ b) o
 behind-behind a b None = refl
@@ -21,20 +21,20 @@ double_reading-escaped b text e = ap (λ (test : Bool). cond test (behind (b ∷
 double_reading-kept : (b : ℕ) (text : List ℕ) → is_escapable b ≡ false → double_reading (92 ∷ b ∷ text) ≡ behind (92 ∷ b ∷ []) (double_reading text)
 double_reading-kept b text e = ap (λ (test : Bool). cond test (behind (b ∷ []) (double_reading text)) (behind (92 ∷ b ∷ []) (double_reading text))) e
 
-read_pieces : (pieces : List Piece) → list_all is_piece pieces ≡ true → double_reading (flat_map written pieces ++ 34 ∷ []) ≡ Some (flat_map meant pieces)
+read_pieces : (pieces : List Piece) → list_all is_piece pieces ≡ true → double_reading (flat_map piece_text pieces ++ 34 ∷ []) ≡ Some (flat_map piece_value pieces)
 read_pieces [] are = refl
 read_pieces (plain b ∷ pieces) are =
     let parts = and_parts (is_piece (plain b)) (list_all is_piece pieces) are in
     let byte = and_parts (not (eqb b 34)) (not (eqb b 92)) parts.0 in
-    double_reading-plain b (flat_map written pieces ++ 34 ∷ []) (not-true (eqb b 34) byte.0) (not-true (eqb b 92) byte.1)
+    double_reading-plain b (flat_map piece_text pieces ++ 34 ∷ []) (not-true (eqb b 34) byte.0) (not-true (eqb b 92) byte.1)
     ∙ ap (behind (b ∷ [])) (read_pieces pieces parts.1)
 read_pieces (escaped b ∷ pieces) are =
     let parts = and_parts (is_piece (escaped b)) (list_all is_piece pieces) are in
-    double_reading-escaped b (flat_map written pieces ++ 34 ∷ []) parts.0
+    double_reading-escaped b (flat_map piece_text pieces ++ 34 ∷ []) parts.0
     ∙ ap (behind (b ∷ [])) (read_pieces pieces parts.1)
 read_pieces (kept b ∷ pieces) are =
     let parts = and_parts (is_piece (kept b)) (list_all is_piece pieces) are in
-    double_reading-kept b (flat_map written pieces ++ 34 ∷ []) (not-true (is_escapable b) parts.0)
+    double_reading-kept b (flat_map piece_text pieces ++ 34 ∷ []) (not-true (is_escapable b) parts.0)
     ∙ ap (behind (92 ∷ b ∷ [])) (read_pieces pieces parts.1)
 
 pub double_complete : (between value : List ℕ) → IsBetweenQuotes between value → double_reading (between ++ 34 ∷ []) ≡ Some value
@@ -47,20 +47,20 @@ double_complete between value is =
 pub record IsClosed (text value : List ℕ) : Type 0 where
   pub pieces : List Piece
   pub are_pieces : list_all is_piece pieces ≡ true
-  pub text_is : text ≡ flat_map written pieces ++ 34 ∷ []
-  pub value_is : value ≡ flat_map meant pieces
+  pub text_is : text ≡ flat_map piece_text pieces ++ 34 ∷ []
+  pub value_is : value ≡ flat_map piece_value pieces
 
 behind_some : (front : List ℕ) (o : Option (List ℕ)) (value : List ℕ) → behind front o ≡ Some value → (rest : List ℕ) × (o ≡ Some rest) × (front ++ rest ≡ value)
 behind_some front None value e = absurd (none-some value e)
 behind_some front (Some rest) value e = (rest, refl, same_Some (front ++ rest) value e)
 
 -- one more piece in front
-more : (piece : Piece) (text rest value : List ℕ) → is_piece piece ≡ true → IsClosed text rest → meant piece ++ rest ≡ value → IsClosed (written piece ++ text) value
+more : (piece : Piece) (text rest value : List ℕ) → is_piece piece ≡ true → IsClosed text rest → piece_value piece ++ rest ≡ value → IsClosed (piece_text piece ++ text) value
 more piece text rest value is closed value_is = record {
   pieces = piece ∷ closed.pieces;
   are_pieces = and_from (is_piece piece) (list_all is_piece closed.pieces) is closed.are_pieces;
-  text_is = ap (λ (text : List ℕ). written piece ++ text) closed.text_is ∙ sym (append_assoc (written piece) (flat_map written closed.pieces) (34 ∷ []));
-  value_is = sym value_is ∙ ap (λ (rest : List ℕ). meant piece ++ rest) closed.value_is;
+  text_is = ap (λ (text : List ℕ). piece_text piece ++ text) closed.text_is ∙ sym (append_assoc (piece_text piece) (flat_map piece_text closed.pieces) (34 ∷ []));
+  value_is = sym value_is ∙ ap (λ (rest : List ℕ). piece_value piece ++ rest) closed.value_is;
 }
 
 -- a byte in front, where what is behind it is read as pieces

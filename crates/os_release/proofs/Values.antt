@@ -7,7 +7,7 @@ use Rattle.std.proofs.lemmas.Bool.{and_parts, cond-false, cond-true, eqb-true, e
 use Rattle.std.proofs.lemmas.Option.{cond_some, none-some, same_Some}
 use Rattle.text_lines.proofs.Fronts.{list_all-front, prefix_len-front}
 use Rattle.os_release.proofs.Doubles.{double_complete, double_sound}
-use Rattle.os_release.specs.OsLines.{IsWritten, bare, double, double_reading, is_bare, is_not_single, nothing, single, single_reading, value_reading, written}
+use Rattle.os_release.specs.OsLines.{IsWritten, bare, double, double_reading, is_bare, is_not_single, nothing, piece_text, single, single_reading, value_reading}
 
 -- ---- single quotes
 
@@ -48,7 +48,7 @@ by_first first rest value read = by_single (eqb first 39) refl read
     by_double : (t : Bool) → eqb first 34 ≡ t → cond t (double_reading rest) (cond (list_all is_bare (first ∷ rest)) (Some (first ∷ rest)) None) ≡ Some value → IsWritten (first ∷ rest) value
     by_double true quote read =
         let closed = double_sound rest value read in
-        double (flat_map written closed.pieces)
+        double (flat_map piece_text closed.pieces)
         (ap (λ (byte : ℕ). byte ∷ rest) (eqb-true first 34 quote) ∙ ap (λ (rest : List ℕ). 34 ∷ rest) closed.text_is)
         (record { pieces = closed.pieces; are_pieces = closed.are_pieces; text_is = refl; value_is = closed.value_is })
     by_double false quote read = by_bare (list_all is_bare (first ∷ rest)) refl read

@@ -48,23 +48,23 @@ is_piece (escaped byte) = is_escapable byte
 is_piece (kept byte) = not (is_escapable byte)
 
 -- how a piece is written
-abbrev pub written : Piece → List ℕ
-written (plain byte) = byte ∷ []
-written (escaped byte) = 92 ∷ byte ∷ []
-written (kept byte) = 92 ∷ byte ∷ []
+abbrev pub piece_text : Piece → List ℕ
+piece_text (plain byte) = byte ∷ []
+piece_text (escaped byte) = 92 ∷ byte ∷ []
+piece_text (kept byte) = 92 ∷ byte ∷ []
 
 -- what a piece stands for
-abbrev pub meant : Piece → List ℕ
-meant (plain byte) = byte ∷ []
-meant (escaped byte) = byte ∷ []
-meant (kept byte) = 92 ∷ byte ∷ []
+abbrev pub piece_value : Piece → List ℕ
+piece_value (plain byte) = byte ∷ []
+piece_value (escaped byte) = byte ∷ []
+piece_value (kept byte) = 92 ∷ byte ∷ []
 
 -- what is written between double quotes stands for the value
 pub record IsBetweenQuotes (text value : List ℕ) : Type 0 where
   pub pieces : List Piece
   pub are_pieces : list_all is_piece pieces ≡ true
-  pub text_is : text ≡ flat_map written pieces
-  pub value_is : value ≡ flat_map meant pieces
+  pub text_is : text ≡ flat_map piece_text pieces
+  pub value_is : value ≡ flat_map piece_value pieces
 
 -- the text behind the `=` stands for the value
 pub data IsWritten (text value : List ℕ) : Type 0 where

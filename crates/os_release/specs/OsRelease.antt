@@ -15,13 +15,13 @@ abbrev pub os_pairs : List ℕ → List Pair
 os_pairs text = filter_map os_reading (os_lines text)
 
 -- a value that isn't empty
-abbrev pub filled : Option (List ℕ) → Option (List ℕ)
-filled None = None
-filled (Some value) = if length value == 0 then None else Some value
+abbrev pub nonempty_value : Option (List ℕ) → Option (List ℕ)
+nonempty_value None = None
+nonempty_value (Some value) = if length value == 0 then None else Some value
 
 -- the last value of a key, if it isn't empty
 abbrev pub filled_value : List ℕ → List Pair → Option (List ℕ)
-filled_value key pairs = filled (last_value key pairs)
+filled_value key pairs = nonempty_value (last_value key pairs)
 
 -- the title: the first of four keys that has a value
 abbrev pub title_of : List Pair → Option (List ℕ)

@@ -26,8 +26,8 @@ abbrev pub bank_of : Digest → Bank
 bank_of digest = array_bank digest.bytes
 
 -- the bytes of a digest
-abbrev pub bytes_of : Digest → List ℕ
-bytes_of digest = array_bytes digest.bytes
+abbrev pub bytes_of_digest : Digest → List ℕ
+bytes_of_digest digest = array_bytes digest.bytes
 
 -- the bank of a register
 abbrev pub pcr_bank : Pcr → Bank
@@ -35,7 +35,7 @@ pcr_bank pcr = bank_of pcr.value
 
 -- the bytes of a register
 abbrev pub pcr_bytes : Pcr → List ℕ
-pcr_bytes pcr = bytes_of pcr.value
+pcr_bytes pcr = bytes_of_digest pcr.value
 
 -- a register as others see it: its bank and its bytes
 abbrev pub shown : Pcr → Bank × List ℕ

@@ -2,7 +2,7 @@
 ghost use Rattle.std.specs.Prelude.{◌≡◌, ◌++◌, [], List, ℕ};
 ghost use Rattle.pcr_fold.specs.declared.bank.Bank.{Bank};
 ghost use Rattle.pcr_fold.specs.Banks.{digest_of};
-ghost use Rattle.pcr_fold.specs.Values.{bank_of, bytes_of};
+ghost use Rattle.pcr_fold.specs.Values.{bank_of, bytes_of_digest};
 ghost use Rattle.pcr_fold.specs.Hashes.{HoldsData};
 
 use crate::bank::Bank;
@@ -58,7 +58,7 @@ impl DataHash {
     #[tactic(auto, unfolding(crate::specs::Banks::digest_of, crate::specs::Hashes::HoldsData))]
     pub fn finish(self) -> Digest
         ensures bank { (bank : Bank) (taken : List ℕ) → HoldsData self bank taken → bank_of result ≡ bank }
-        ensures bytes { (bank : Bank) (taken : List ℕ) → HoldsData self bank taken → bytes_of result ≡ digest_of bank taken }
+        ensures bytes { (bank : Bank) (taken : List ℕ) → HoldsData self bank taken → bytes_of_digest result ≡ digest_of bank taken }
     {
         let bytes = match self.hasher {
             Hasher::Sha1(hasher) => DigestBytes::Sha1(hasher.finalize()),

@@ -1,7 +1,7 @@
 //! Digests of a bank.
 ghost use Rattle.std.specs.Prelude.{◌≡◌, ◌↔◌, length, IsSome, IfSome};
 ghost use Rattle.pcr_fold.specs.Banks.{digest_length, digest_of, zero_of};
-ghost use Rattle.pcr_fold.specs.Values.{bank_of, bytes_of};
+ghost use Rattle.pcr_fold.specs.Values.{bank_of, bytes_of_digest};
 
 use crate::bank::Bank;
 use crate::data_hash::DataHash;
@@ -26,7 +26,7 @@ impl Digest {
     pub fn read(bank: Bank, bytes: &[u8]) -> Option<Digest>
         ensures found { IsSome result ↔ (length bytes.now ≡ digest_length bank) }
         ensures bank { IfSome result (λ digest. bank_of digest ≡ bank) }
-        ensures bytes { IfSome result (λ digest. bytes_of digest ≡ bytes.now) }
+        ensures bytes { IfSome result (λ digest. bytes_of_digest digest ≡ bytes.now) }
     {
         let bytes = match bank {
             Bank::Sha1 => DigestBytes::Sha1(bytes.try_into().ok()?),
@@ -40,7 +40,7 @@ impl Digest {
     /// The digest of the bytes: the bank's function of FIPS 180-4.
     pub fn of(bank: Bank, bytes: &[u8]) -> Digest
         ensures bank { bank_of result ≡ bank }
-        ensures bytes { bytes_of result ≡ digest_of bank bytes.now }
+        ensures bytes { bytes_of_digest result ≡ digest_of bank bytes.now }
     {
         let mut hash = DataHash::new(bank);
         hash.update(bytes);
@@ -49,7 +49,7 @@ impl Digest {
 
     /// The digest's bytes, as many as the length of its bank.
     pub fn bytes(&self) -> &[u8]
-        ensures value { result.now ≡ bytes_of self.now }
+        ensures value { result.now ≡ bytes_of_digest self.now }
         ensures length { length result.now ≡ digest_length (bank_of self.now) }
     {
         match &self.bytes {
@@ -63,7 +63,7 @@ impl Digest {
     /// Zeros of the bank's length.
     pub(crate) fn zeros(bank: Bank) -> Digest
         ensures bank { bank_of result ≡ bank }
-        ensures bytes { bytes_of result ≡ zero_of bank }
+        ensures bytes { bytes_of_digest result ≡ zero_of bank }
     {
         let bytes = match bank {
             Bank::Sha1 => DigestBytes::Sha1([0; 20]),

@@ -1,7 +1,7 @@
 //! Values of a register.
 ghost use Rattle.std.specs.Prelude.{◌≡◌, length};
 ghost use Rattle.pcr_fold.specs.Banks.{digest_length, extended, extended_by_digest, zero_of};
-ghost use Rattle.pcr_fold.specs.Values.{bank_of, bytes_of, pcr_bank, pcr_bytes};
+ghost use Rattle.pcr_fold.specs.Values.{bank_of, bytes_of_digest, pcr_bank, pcr_bytes};
 
 use crate::bank::Bank;
 use crate::data_hash::DataHash;
@@ -44,7 +44,8 @@ impl Pcr {
     pub fn extend_digest(self, digest: &Digest) -> Pcr
         requires { bank_of digest.now ≡ pcr_bank self }
         ensures bank { pcr_bank result ≡ pcr_bank self }
-        ensures bytes { pcr_bytes result ≡ extended_by_digest (pcr_bank self) (pcr_bytes self) (bytes_of digest.now) }
+        ensures bytes { pcr_bytes result
+            ≡ extended_by_digest (pcr_bank self) (pcr_bytes self) (bytes_of_digest digest.now) }
     {
         let mut hash = DataHash::new(self.bank());
         hash.update(self.bytes());

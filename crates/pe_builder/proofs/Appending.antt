@@ -12,7 +12,7 @@ use Rattle.pe_reader.specs.Grammar.{checked, is_in_file, is_apart, section_at, s
 use Rattle.pe_builder.specs.declared.size.WideSize.{WideSize}
 use Rattle.pe_builder.specs.Puts.{padded}
 use Rattle.pe_builder.proofs.Rounding.{length-padded}
-use Rattle.pe_builder.specs.Layout.{end_of, end_after, section_for, sections_for, raw_end, length_after, FitsPart}
+use Rattle.pe_builder.specs.Layout.{virtual_end, end_after, section_for, sections_for, raw_end, length_after, FitsPart}
 use Rattle.pe_builder.specs.Image.{section_header, with_raw}
 use Rattle.pe_builder.proofs.HeaderBytes.{FitsHeader, section_at-header, length-section_header}
 
@@ -51,17 +51,17 @@ le-length_after h r (p ∷ ps) =
 pub length-sections_for : (h : Head) (r a : ℕ) (parts : List WideSize) → length (sections_for h r a parts) ≡ length parts
 unfolding sections_for
 length-sections_for h r a [] = refl
-length-sections_for h r a (p ∷ ps) = ap suc (length-sections_for h (raw_end (section_for h r a p)) (end_of (section_for h r a p)) ps)
+length-sections_for h r a (p ∷ ps) = ap suc (length-sections_for h (raw_end (section_for h r a p)) (virtual_end (section_for h r a p)) ps)
 
 pub le-end_after : (a : ℕ) (sections : List Section) → a ≤ end_after a sections
 unfolding end_after
 le-end_after a [] = omega arith
-le-end_after a (s ∷ ss) = omega (arith, le-end_after (max a (end_of s)) ss)
+le-end_after a (s ∷ ss) = omega (arith, le-end_after (max a (virtual_end s)) ss)
 
 pub end_after-append : (a : ℕ) (xs ys : List Section) → end_after a (xs ++ ys) ≡ end_after (end_after a xs) ys
 unfolding end_after
 end_after-append a [] ys = refl
-end_after-append a (x ∷ xs) ys = end_after-append (max a (end_of x)) xs ys
+end_after-append a (x ∷ xs) ys = end_after-append (max a (virtual_end x)) xs ys
 
 -- a test that follows from another
 list_all_more : (p q : Section → Bool) → ((x : Section) → p x ≡ true → q x ≡ true) → (xs : List Section) → list_all p xs ≡ true → list_all q xs ≡ true
@@ -99,7 +99,7 @@ unfolding length_after sections_for end_after
 first_fits h r a p ps m s =
     let f = s.fits.0 in
     let l = le-length_after h (next_multiple_of r h.file_alignment + next_multiple_of p.length h.file_alignment) ps in
-    let e = le-end_after (max a (end_of (section_for h r a p))) (sections_for h (raw_end (section_for h r a p)) (end_of (section_for h r a p)) ps) in
+    let e = le-end_after (max a (virtual_end (section_for h r a p))) (sections_for h (raw_end (section_for h r a p)) (virtual_end (section_for h r a p)) ps) in
     let file = s.file in
     let small = s.small in
     let memory = s.memory in
@@ -114,16 +114,16 @@ first_fits h r a p ps m s =
 
 -- the sizes of the other parts
 others_small : (h : Head) (r a : ℕ) (p : WideSize) (ps : List WideSize) (m : ℕ) → Small h r a (p ∷ ps) m
-    → Small h (raw_end (section_for h r a p)) (end_of (section_for h r a p)) ps m
+    → Small h (raw_end (section_for h r a p)) (virtual_end (section_for h r a p)) ps m
 unfolding length_after sections_for end_after
 others_small h r a p ps m s =
-    let top : max a (end_of (section_for h r a p)) ≡ end_of (section_for h r a p) = omega arith in
+    let top : max a (virtual_end (section_for h r a p)) ≡ virtual_end (section_for h r a p) = omega arith in
     record {
       fits = s.fits.1;
       file = s.file;
       small = s.small;
       memory = (
-          let P : ℕ → Type 0 = λ k. end_after k (sections_for h (raw_end (section_for h r a p)) (end_of (section_for h r a p)) ps) < 4294967296 in
+          let P : ℕ → Type 0 = λ k. end_after k (sections_for h (raw_end (section_for h r a p)) (virtual_end (section_for h r a p)) ps) < 4294967296 in
           subst P top s.memory);
     }
 
@@ -136,11 +136,11 @@ unfolding sections_of sections_for
 sections_of-new h m header_size r a [] place earlier small hs ok = ap (λ (l : List Section). Ok l) (sym (append-nil earlier))
 sections_of-new h m header_size r a (p ∷ ps) place earlier small hs ok =
     let s = section_for h r a p in
-    let rest = sections_for h (raw_end s) (end_of s) ps in
+    let rest = sections_for h (raw_end s) (virtual_end s) ps in
     let fits = first_fits h r a p ps m small in
     let others = others_small h r a p ps m small in
     let l = le-length_after h (raw_end s) ps in
-    let e = le-end_after (end_of s) rest in
+    let e = le-end_after (virtual_end s) rest in
     let file = others.file in
     let memory = others.memory in
     let tiny = small.small in
@@ -153,7 +153,7 @@ sections_of-new h m header_size r a (p ∷ ps) place earlier small hs ok =
     let all : list_all (is_in_file (raw_end s) header_size) (earlier ++ s ∷ []) ≡ true =
     list_all-append (is_in_file (raw_end s) header_size) earlier (s ∷ [])
     ∙ and_from _ _ (list_all_more (is_in_file r header_size) (is_in_file (raw_end s) header_size) (in_file-more r (raw_end s) header_size (omega arith)) earlier ok) (and_from _ _ here refl) in
-    let next = sections_of-new h m header_size (raw_end s) (end_of s) ps (place + 40) (earlier ++ s ∷ []) others (omega arith) all in
+    let next = sections_of-new h m header_size (raw_end s) (virtual_end s) ps (place + 40) (earlier ++ s ∷ []) others (omega arith) all in
     rw (reads, passes, behind) (next ∙ ap (λ (l : List Section). Ok l) (append_assoc earlier (s ∷ []) rest))
 
 -- each header has 40 bytes
@@ -164,5 +164,5 @@ length-headers h m r a [] small = refl
 length-headers h m r a (p ∷ ps) small =
     let s = section_for h r a p in
     let fits = first_fits h r a p ps m small in
-    let next = length-headers h m (raw_end s) (end_of s) ps (others_small h r a p ps m small) in
+    let next = length-headers h m (raw_end s) (virtual_end s) ps (others_small h r a p ps m small) in
     length-append (section_header s) _ ∙ rw (length-section_header s fits.name, next) (omega arith)

@@ -13,7 +13,7 @@ use Rattle.pe_reader.proofs.Shape.{Shape, stages-shape, pe_of-stages}
 use Rattle.pe_builder.proofs.Fits.{FitsSbat, HasImage}
 use Rattle.pe_builder.specs.declared.size.WideSize.{WideSize}
 use Rattle.pe_builder.specs.Puts.{put, padded}
-use Rattle.pe_builder.specs.Layout.{end_of, raw_end, end_after, section_for, sections_for, length_after, new_sections, head_with}
+use Rattle.pe_builder.specs.Layout.{virtual_end, raw_end, end_after, section_for, sections_for, length_after, new_sections, head_with}
 use Rattle.pe_builder.specs.Replaced.{sbat_index, with_sbat_size, with_content, with_sbat}
 use Rattle.pe_builder.specs.Refusals.{sbat_room}
 use Rattle.pe_builder.specs.Image.{section_header, with_headers, with_raw, finished}
@@ -106,7 +106,7 @@ raw_before h n a k (p ∷ ps) [] below = refl
 raw_before h n a k (p ∷ ps) (c ∷ cs) below =
     let s = section_for h n a p in
     let r : Range = record { place = s.raw_place; bytes = c } in
-    rw (covers_before r k (omega arith)) (raw_before h (raw_end s) (end_of s) k ps cs (omega arith))
+    rw (covers_before r k (omega arith)) (raw_before h (raw_end s) (virtual_end s) k ps cs (omega arith))
 
 -- behind bytes the byte at a place is that of the part whose raw data stand there
 raw_byte : (h : Head) (sizes : List WideSize) (contents : List (List ℕ)) (bytes : List ℕ) (n a k : ℕ)
@@ -134,7 +134,7 @@ raw_byte h (p ∷ ps) (c ∷ cs) bytes n a k len e from =
     λ at. get_or-append_right front (padded unit c) s.raw_place k 0 lf at ∙ get_or-padded unit c (k - s.raw_place) in
     elim (cases_lt k (raw_end s)) [
       | inl below ↦
-          let none = raw_before h (raw_end s) (end_of s) k ps cs below in
+          let none = raw_before h (raw_end s) (virtual_end s) k ps cs below in
           elim (cases_lt k s.raw_place) [
             | inl gap ↦ rw (covers_before r k gap) (left below ∙ get_or_append_left front (padded unit c) 0 k (omega arith) ∙ get_or-padded unit bytes k ∙ get_or_past bytes k 0 (omega arith) ∙ sym none)
             | inr at ↦ elim (cases_lt k (s.raw_place + length c)) [
@@ -143,7 +143,7 @@ raw_byte h (p ∷ ps) (c ∷ cs) bytes n a k len e from =
             ]
           ]
       | inr past ↦
-          rw (covers_behind r k (omega arith)) (raw_byte h ps cs whole (raw_end s) (end_of s) k lw e2 past)
+          rw (covers_behind r k (omega arith)) (raw_byte h ps cs whole (raw_end s) (virtual_end s) k lw e2 past)
     ]
 
 within : {k n : ℕ} → k < n → (a b : ℕ) → a ≡ (if nat_lt k n then a else b)

@@ -6,7 +6,7 @@ use Rattle.pe_reader.specs.Grammar.{Headers, pe_of}
 use Rattle.pe_reader.proofs.Shape.{stages-shape, pe_of-stages}
 use Rattle.pe_builder.proofs.Fits.{FitsSection, HasImage}
 use Rattle.pe_builder.specs.declared.size.WideSize.{WideSize}
-use Rattle.pe_builder.specs.Layout.{end_of, end_after, new_sections}
+use Rattle.pe_builder.specs.Layout.{virtual_end, end_after, new_sections}
 use Rattle.pe_builder.specs.Replaced.{sbat_index, resized, with_sbat_size, with_content}
 use Rattle.pe_builder.specs.Image.{finished, finished_headers}
 use Rattle.pe_builder.specs.Laws.{HasFinished}
@@ -23,11 +23,11 @@ has_finished h sizes contents sbat stub f =
     buildable_image h (length stub) sizes (option_map length sbat) f.buildable
 
 -- a section ends before the end of all
-end_before : (a : ℕ) (sections : List Section) (i : ℕ) (s : Section) → i < length sections → end_of s ≤ end_after a (set sections i s)
+end_before : (a : ℕ) (sections : List Section) (i : ℕ) (s : Section) → i < length sections → virtual_end s ≤ end_after a (set sections i s)
 unfolding end_after
 end_before a [] i s h = absurd (omega arith)
-end_before a (x ∷ xs) zero s h = omega (arith, le-end_after (max a (end_of s)) xs)
-end_before a (x ∷ xs) (suc i) s h = end_before (max a (end_of x)) xs i s (omega arith)
+end_before a (x ∷ xs) zero s h = omega (arith, le-end_after (max a (virtual_end s)) xs)
+end_before a (x ∷ xs) (suc i) s h = end_before (max a (virtual_end x)) xs i s (omega arith)
 
 small_stub : (h : Headers) (n : ℕ) (sizes : List WideSize) → HasImage h n sizes → n ≤ 268435456
 small_stub h n sizes has = omega (arith, le-length_after h.head n sizes, has.file_length)

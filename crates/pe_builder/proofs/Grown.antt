@@ -16,7 +16,7 @@ use Rattle.pe_builder.specs.declared.size.WideSize.{WideSize}
 use Rattle.pe_builder.specs.Puts.{put}
 use Rattle.pe_builder.proofs.Putting.{length-put, u32_at-put, u16_at-put, u32_at-put_behind}
 use Rattle.pe_builder.specs.Layout.{end_after, length_after, new_sections, head_with, headers_with}
-use Rattle.pe_builder.specs.Image.{section_header, with_headers, image_of}
+use Rattle.pe_builder.specs.Image.{section_header, with_headers, image_with_parts}
 use Rattle.pe_builder.proofs.Rewriting.{part-put, part-put_end, u32_field, u16_field, u32_field_behind}
 use Rattle.pe_builder.proofs.Appending.{Small, with_raw-tail, length-with_raw, le-length_after, length-sections_for, end_after-append, sections_of-new, length-headers}
 
@@ -274,7 +274,7 @@ length-with_headers stub h parts shape has = (lengths _ _ _ _ _ _ _ _ _ _ (rewri
 -- The image of a stub and parts reads as PE, with the stub's sections and the new ones.
 pub pe_of-image : (stub : List ℕ) (h : Headers) (parts : List WideSize) (contents : List (List ℕ))
     → pe_of stub ≡ Ok h → HasImage h (length stub) parts → map length contents ≡ map (λ p. p.length) parts
-    → pe_of (image_of h parts contents stub) ≡ Ok (headers_with h (new_sections h (length stub) parts))
+    → pe_of (image_with_parts h parts contents stub) ≡ Ok (headers_with h (new_sections h (length stub) parts))
 pe_of-image stub h parts contents e has sizes =
     let s = pe_of-stages stub h e in
     let shape = stages-shape stub h s in

@@ -17,8 +17,8 @@ use Rattle.pe_builder.proofs.Fits.{HasImage}
 use Rattle.pe_builder.specs.declared.size.WideSize.{WideSize}
 use Rattle.pe_builder.specs.Puts.{padded}
 use Rattle.pe_builder.proofs.Rounding.{length-padded, padded-is}
-use Rattle.pe_builder.specs.Layout.{end_of, end_after, section_for, sections_for, raw_end, new_sections}
-use Rattle.pe_builder.specs.Image.{with_headers, with_raw, image_of, content_named, loaded_or_part}
+use Rattle.pe_builder.specs.Layout.{virtual_end, end_after, section_for, sections_for, raw_end, new_sections}
+use Rattle.pe_builder.specs.Image.{with_headers, with_raw, image_with_parts, content_named, loaded_or_part}
 use Rattle.pe_builder.proofs.Appending.{with_raw-tail}
 use Rattle.pe_builder.proofs.Grown.{pe_of-image, length-with_headers, part-with_headers}
 
@@ -94,9 +94,9 @@ loaded_of-new h name (p ∷ ps) (c ∷ cs) bytes r a l e =
     length-append (padded unit bytes) (padded unit c) ∙ rw (length-padded unit bytes, length-padded unit c, e1, l) refl in
     let here : loaded_by (next ++ t.0) s ≡ c =
     ap (λ (k : ℕ). loaded_by (next ++ t.0) (section_for h k a p)) (sym l) ∙ loaded_by-new h bytes c t.0 a p e1 in
-    choose (bytes_eq (name_bytes p.name) name) (loaded_of (with_raw unit next cs)) (Some s) (find (is_named name) (sections_for h (raw_end s) (end_of s) ps)) c (content_named name ps cs)
+    choose (bytes_eq (name_bytes p.name) name) (loaded_of (with_raw unit next cs)) (Some s) (find (is_named name) (sections_for h (raw_end s) (virtual_end s) ps)) c (content_named name ps cs)
     (λ named. ap (λ (x : List ℕ). loaded_by x s) t.1 ∙ here)
-    (λ unnamed. loaded_of-new h name ps cs next (raw_end s) (end_of s) len e2)
+    (λ unnamed. loaded_of-new h name ps cs next (raw_end s) (virtual_end s) len e2)
 
 -- the first of the stub's sections, or of the new ones
 split : (stub image : List ℕ) (name content : List ℕ) (n header_size : ℕ) (new : List Section)
@@ -117,13 +117,13 @@ split stub image name content n header_size new kept added (s ∷ sections) ok =
 -- What an image has loaded of a name: the stub's section of that name, or else the part.
 pub loaded-image : (stub : List ℕ) (h : Headers) (parts : List WideSize) (contents : List (List ℕ)) (name : List ℕ)
     → pe_of stub ≡ Ok h → HasImage h (length stub) parts → map length contents ≡ map (λ p. p.length) parts
-    → loaded (image_of h parts contents stub) name ≡ loaded_or_part stub (find (is_named name) h.sections) (content_named name parts contents)
+    → loaded (image_with_parts h parts contents stub) name ≡ loaded_or_part stub (find (is_named name) h.sections) (content_named name parts contents)
 loaded-image stub h parts contents name e has sizes =
     let shape = stages-shape stub h (pe_of-stages stub h e) in
     let new = new_sections h (length stub) parts in
     let w = with_headers h new stub in
     let t = with_raw-tail h.head.file_alignment w contents in
-    let image = image_of h parts contents stub in
+    let image = image_with_parts h parts contents stub in
     let lw = length-with_headers stub h parts shape has in
     ap (loaded_in image name) (pe_of-image stub h parts contents e has sizes)
     ∙ split stub image name (content_named name parts contents) (length stub) h.head.header_size new

@@ -4,7 +4,7 @@ use Rattle.std.proofs.lemmas.List.{drop_more, drop_all, append-nil}
 use Rattle.pe_reader.specs.declared.head.Head.{Head}
 use Rattle.pe_reader.specs.declared.section.Section.{Section}
 use Rattle.pe_builder.specs.declared.size.WideSize.{WideSize}
-use Rattle.pe_builder.specs.Layout.{section_for, sections_for, raw_end, end_of, length_after, address_after}
+use Rattle.pe_builder.specs.Layout.{section_for, sections_for, raw_end, virtual_end, length_after, address_after}
 use Rattle.pe_builder.proofs.Appending.{le-length_after}
 use Rattle.pe_builder.proofs.Totals.{le-address_after}
 
@@ -17,21 +17,21 @@ pub record Placed (h : Head) (r0 a0 : ℕ) (all : List WideSize) (done : List Se
 -- what the next section needs
 pub record Room (h : Head) (r a : ℕ) (p : WideSize) : Type 0 where
   pub file : raw_end (section_for h r a p) < 2 ^ 32
-  pub memory : end_of (section_for h r a p) < 2 ^ 32
+  pub memory : virtual_end (section_for h r a p) < 2 ^ 32
 
 room_cons : (h : Head) (r0 a0 : ℕ) (all : List WideSize) (done : List Section) (r a : ℕ) (p : WideSize) (ps : List WideSize)
     → Placed h r0 a0 all done r a (p ∷ ps) → Room h r a p
 unfolding length_after address_after
 room_cons h r0 a0 all done r a p ps placed =
     let l = le-length_after h (raw_end (section_for h r a p)) ps in
-    let e = le-address_after h (end_of (section_for h r a p)) ps in
+    let e = le-address_after h (virtual_end (section_for h r a p)) ps in
     let f = placed.file in
     let m = placed.memory in
     record { file = omega arith; memory = omega arith }
 
 next_cons : (h : Head) (r0 a0 : ℕ) (all : List WideSize) (done : List Section) (r a : ℕ) (p : WideSize) (ps : List WideSize)
     → Placed h r0 a0 all done r a (p ∷ ps)
-    → Placed h r0 a0 all (done ++ section_for h r a p ∷ []) (raw_end (section_for h r a p)) (end_of (section_for h r a p)) ps
+    → Placed h r0 a0 all (done ++ section_for h r a p ∷ []) (raw_end (section_for h r a p)) (virtual_end (section_for h r a p)) ps
 unfolding length_after address_after sections_for
 next_cons h r0 a0 all done r a p ps placed = record {
   sections = append_assoc done (section_for h r a p ∷ []) _ ∙ placed.sections;
@@ -47,7 +47,7 @@ room_at h r0 a0 all done r a i d lt placed =
 
 pub next_at : (h : Head) (r0 a0 : ℕ) (all : List WideSize) (done : List Section) (r a i : ℕ) (d : WideSize) → i < length all
     → Placed h r0 a0 all done r a (drop i all)
-    → Placed h r0 a0 all (done ++ section_for h r a (get_or all i d) ∷ []) (raw_end (section_for h r a (get_or all i d))) (end_of (section_for h r a (get_or all i d))) (drop (i + 1) all)
+    → Placed h r0 a0 all (done ++ section_for h r a (get_or all i d) ∷ []) (raw_end (section_for h r a (get_or all i d))) (virtual_end (section_for h r a (get_or all i d))) (drop (i + 1) all)
 next_at h r0 a0 all done r a i d lt placed =
     let P : List WideSize → Type 0 = λ l. Placed h r0 a0 all done r a l in
     next_cons h r0 a0 all done r a (get_or all i d) (drop (i + 1) all) (subst P (drop_more all i d lt) placed)

@@ -20,9 +20,9 @@ use Rattle.pe_builder.specs.Puts.{put}
 use Rattle.pe_builder.specs.Layout.{end_after, sections_for, head_with, new_sections, length_after, FitsPart}
 use Rattle.pe_builder.specs.Replaced.{sbat_index, with_sbat_size, with_content, MayReplace}
 use Rattle.pe_builder.specs.Refusals.{IsBuildable, first_refusal, sbat_room}
-use Rattle.pe_builder.specs.Image.{section_header, with_fields, with_headers, with_raw, image_of, finished}
+use Rattle.pe_builder.specs.Image.{section_header, with_fields, with_headers, with_raw, image_with_parts, finished}
 use Rattle.pe_builder.specs.Laws.{HasFinished}
-use Rattle.pe_builder.specs.Planned.{Plans, Fitting, FitsPlace, IsPlanFor, image_by, replaced_by, given, head_after, sbat_place}
+use Rattle.pe_builder.specs.Planned.{PlansImage, Fitting, FitsPlace, IsPlanFor, image_by, replaced_by, sbat_if_in_place, head_after, sbat_place}
 use Rattle.pe_builder.proofs.Appending.{end_after-append, length-sections_for}
 use Rattle.pe_builder.proofs.Putting.{length-put}
 use Rattle.pe_builder.proofs.Replacing.{raw_inside}
@@ -53,7 +53,7 @@ pub plans : (plan : Plan) (h : Headers) (n start : ℕ) (parts : List WideSize) 
     → start ≡ end_after h.head.header_size (with_sbat_size h sbat).sections
     → plan.stub_length ≡ n → plan.before ≡ h.head → plan.sections.items ≡ sections_for h.head n start parts → plan.after ≡ head_after h.head start parts
     → plan.sbat ≡ sbat_place h sbat → plan.image_length ≡ length_after h.head n parts
-    → AllByRecursion FitsPart parts → MayReplace h sbat → first_refusal h n parts sbat ≡ None → Plans plan h n parts sbat
+    → AllByRecursion FitsPart parts → MayReplace h sbat → first_refusal h n parts sbat ≡ None → PlansImage plan h n parts sbat
 plans plan h n start parts sbat at stub before sections after place total fit may none = record {
   stub_length_is = stub;
   before = before;
@@ -68,7 +68,7 @@ plans plan h n start parts sbat at stub before sections after place total fit ma
 image_by_of : (plan : Plan) (h : Headers) (sizes : List WideSize) (contents : List (List ℕ)) (sbat stub changed : List ℕ) (n : ℕ)
     → plan.before ≡ h.head → plan.after ≡ head_with h (new_sections h n sizes) → plan.sections.items ≡ new_sections h n sizes
     → replaced_by plan.sbat sbat stub ≡ changed → n ≡ length changed
-    → image_by plan contents sbat stub ≡ image_of h sizes contents changed
+    → image_by plan contents sbat stub ≡ image_with_parts h sizes contents changed
 unfolding with_headers
 image_by_of plan h sizes contents sbat stub changed n before after sections replaced len =
     ap (λ (b : Head). with_raw b.file_alignment (with_fields b plan.after (flat_map section_header plan.sections.items) (replaced_by plan.sbat sbat stub)) contents) before
@@ -114,15 +114,15 @@ length-with_content h sbat stub s =
 
 -- what a plan makes is the finished image
 pub image_by-is : (plan : Plan) (h : Headers) (sizes : List WideSize) (contents : List (List ℕ)) (in_place : Option ℕ) (sbat stub : List ℕ)
-    → pe_of stub ≡ Ok h → Plans plan h (length stub) sizes in_place → option_map length (given in_place sbat) ≡ in_place
-    → image_by plan contents sbat stub ≡ finished h sizes contents (given in_place sbat) stub
+    → pe_of stub ≡ Ok h → PlansImage plan h (length stub) sizes in_place → option_map length (sbat_if_in_place in_place sbat) ≡ in_place
+    → image_by plan contents sbat stub ≡ finished h sizes contents (sbat_if_in_place in_place sbat) stub
 unfolding with_content
 image_by-is plan h sizes contents None sbat stub e p g =
     let R : Option SbatPlace → Type 0 = λ o. replaced_by o sbat stub ≡ stub in
     image_by_of plan h sizes contents sbat stub stub (length stub) p.before p.after p.sections (subst R (sym p.sbat_is) refl) refl
 image_by-is plan h sizes contents (Some size) sbat stub e p g =
     let same : length sbat ≡ size = some_is _ _ g in
-    let S : ℕ → Type 0 = λ k. Plans plan h (length stub) sizes (Some k) in
+    let S : ℕ → Type 0 = λ k. PlansImage plan h (length stub) sizes (Some k) in
     let q = subst S (sym same) p in
     let changed = with_content h (sbat_index h) sbat stub in
     let R : Option SbatPlace → Type 0 = λ o. replaced_by o sbat stub ≡ changed in
@@ -131,7 +131,7 @@ image_by-is plan h sizes contents (Some size) sbat stub e p g =
     (subst R (sym q.sbat_is) refl) (sym (length-with_content h sbat stub st))
 
 -- what a plan writes fits the stub
-fits_place : (h : Headers) (stub sbat : List ℕ) (in_place : Option ℕ) → Shape stub h → FitsSbat h in_place → option_map length (given in_place sbat) ≡ in_place
+fits_place : (h : Headers) (stub sbat : List ℕ) (in_place : Option ℕ) → Shape stub h → FitsSbat h in_place → option_map length (sbat_if_in_place in_place sbat) ≡ in_place
     → FitsPlace (sbat_place h in_place) (length stub) (length sbat)
 fits_place h stub sbat None shape fits g = tt
 fits_place h stub sbat (Some size) shape fits g =
@@ -163,8 +163,8 @@ fitting plan stub sbat contents is =
 
 -- what a plan was made for has a finished image
 pub has_finished_by : (plan : Plan) (h : Headers) (sizes : List WideSize) (contents : List (List ℕ)) (in_place : Option ℕ) (sbat stub : List ℕ)
-    → pe_of stub ≡ Ok h → Plans plan h (length stub) sizes in_place → map length contents ≡ map (λ p. p.length) sizes
-    → option_map length (given in_place sbat) ≡ in_place → HasFinished h sizes contents (given in_place sbat) stub
+    → pe_of stub ≡ Ok h → PlansImage plan h (length stub) sizes in_place → map length contents ≡ map (λ p. p.length) sizes
+    → option_map length (sbat_if_in_place in_place sbat) ≡ in_place → HasFinished h sizes contents (sbat_if_in_place in_place sbat) stub
 has_finished_by plan h sizes contents in_place sbat stub e p l g =
     let B : Option ℕ → Type 0 = λ o. IsBuildable h (length stub) sizes o in
     record { reads = e; buildable = subst B (sym g) p.buildable; lengths = l }

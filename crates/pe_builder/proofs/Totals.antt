@@ -15,7 +15,7 @@ use Rattle.pe_reader.proofs.Shape.{stages-shape, pe_of-stages}
 use Rattle.pe_reader.specs.declared.head.Head.{Head}
 use Rattle.pe_reader.specs.declared.section.Section.{Section}
 use Rattle.pe_builder.specs.declared.size.WideSize.{WideSize}
-use Rattle.pe_builder.specs.Layout.{end_of, end_after, section_for, sections_for, raw_end, length_after, address_after, new_sections, FitsPart}
+use Rattle.pe_builder.specs.Layout.{virtual_end, end_after, section_for, sections_for, raw_end, length_after, address_after, new_sections, FitsPart}
 use Rattle.pe_builder.proofs.Appending.{end_after-append}
 use Rattle.pe_builder.specs.Refusals.{IsBuildable, refuse, or_else, first_taken, first_refusal, sbat_room, sbat_refusal, image_size, initialized_size, size_refusal}
 use Rattle.pe_builder.specs.Replaced.{with_sbat_size, MayReplace}
@@ -26,8 +26,8 @@ unfolding end_after sections_for address_after
 end_after-sections_for h r a [] = refl
 end_after-sections_for h r a (p ∷ ps) =
     let s = section_for h r a p in
-    let top : max a (end_of s) ≡ end_of s = omega arith in
-    ap (λ (k : ℕ). end_after k (sections_for h (raw_end s) (end_of s) ps)) top ∙ end_after-sections_for h (raw_end s) (end_of s) ps
+    let top : max a (virtual_end s) ≡ virtual_end s = omega arith in
+    ap (λ (k : ℕ). end_after k (sections_for h (raw_end s) (virtual_end s) ps)) top ∙ end_after-sections_for h (raw_end s) (virtual_end s) ps
 
 pub le-address_after : (h : Head) (a : ℕ) (parts : List WideSize) → a ≤ address_after h a parts
 unfolding address_after
@@ -40,8 +40,8 @@ unfolding sections_for
 sum-sections_for h r a [] = refl
 sum-sections_for h r a (p ∷ ps) =
     let s = section_for h r a p in
-    sum_by-cons (λ (x : Section). x.virtual_size) s (sections_for h (raw_end s) (end_of s) ps)
-    ∙ ap (λ (k : ℕ). p.length + k) (sum-sections_for h (raw_end s) (end_of s) ps)
+    sum_by-cons (λ (x : Section). x.virtual_size) s (sections_for h (raw_end s) (virtual_end s) ps)
+    ∙ ap (λ (k : ℕ). p.length + k) (sum-sections_for h (raw_end s) (virtual_end s) ps)
     ∙ sym (sum_by-cons (λ (x : WideSize). x.length) p ps)
 
 not_signed : (b : Bool) (rest : Option PlanFault) → refuse b SignedStub rest ≡ None → rest ≡ None
@@ -155,10 +155,10 @@ table_inside pe n r =
 
 -- the end of sections one of which has another size
 pub end_after-set : (a : ℕ) (xs : List Section) (i : ℕ) (s : Section) → i < length xs
-    → end_after a (set xs i s) ≡ end_after (max (end_after a (take i xs)) (end_of s)) (drop (i + 1) xs)
+    → end_after a (set xs i s) ≡ end_after (max (end_after a (take i xs)) (virtual_end s)) (drop (i + 1) xs)
 unfolding end_after
 end_after-set a [] i s h = absurd (omega arith)
 end_after-set a (x ∷ xs) zero s h = refl
 end_after-set a (x ∷ xs) (suc i) s h =
     let next : suc i + 1 ≡ suc (i + 1) = omega arith in
-    rw next (end_after-set (max a (end_of x)) xs i s (omega arith))
+    rw next (end_after-set (max a (virtual_end x)) xs i s (omega arith))

@@ -42,14 +42,14 @@ unfoldable pub with_raw : ℕ → List ℕ → List (List ℕ) → List ℕ
 with_raw unit bytes contents = fold (add_raw unit) bytes contents
 
 -- the image of a stub and parts
-abbrev pub image_of : Headers → List WideSize → List (List ℕ) → List ℕ → List ℕ
-image_of h parts contents stub =
+abbrev pub image_with_parts : Headers → List WideSize → List (List ℕ) → List ℕ → List ℕ
+image_with_parts h parts contents stub =
     with_raw h.head.file_alignment (with_headers h (new_sections h (length stub) parts) stub) contents
 
 -- the finished image of a stub, parts, and a new `.sbat` where the stub's is replaced in place
 abbrev pub finished : Headers → List WideSize → List (List ℕ) → Option (List ℕ) → List ℕ → List ℕ
 finished h parts contents sbat stub =
-    image_of (with_sbat_size h (option_map length sbat)) parts contents (with_sbat h sbat stub)
+    image_with_parts (with_sbat_size h (option_map length sbat)) parts contents (with_sbat h sbat stub)
 
 -- its headers
 abbrev pub finished_headers : Headers → ℕ → List WideSize → Option ℕ → Headers

@@ -9,12 +9,12 @@ use Rattle.uki_parts.specs.Names.{padded_bytes}
 use Rattle.pe_builder.specs.declared.size.WideSize.{WideSize}
 
 -- where a section ends in memory
-abbrev pub end_of : Section → ℕ
-end_of s = s.virtual_address + s.virtual_size
+abbrev pub virtual_end : Section → ℕ
+virtual_end s = s.virtual_address + s.virtual_size
 
 -- the greatest of an address and the ends of sections
 unfoldable pub end_after : ℕ → List Section → ℕ
-end_after address sections = fold (λ a s. max a (end_of s)) address sections
+end_after address sections = fold (λ a s. max a (virtual_end s)) address sections
 
 -- A part becomes a section: VirtualAddress is an address rounded up to SectionAlignment, PointerToRawData the file's
 -- length rounded up to FileAlignment, SizeOfRawData the part's length rounded up to FileAlignment.
@@ -37,7 +37,7 @@ unfoldable pub sections_for : Head → ℕ → ℕ → List WideSize → List Se
 sections_for h file_length address [] = []
 sections_for h file_length address (p ∷ parts) =
     section_for h file_length address p
-    ∷ sections_for h (raw_end (section_for h file_length address p)) (end_of (section_for h file_length address p)) parts
+    ∷ sections_for h (raw_end (section_for h file_length address p)) (virtual_end (section_for h file_length address p)) parts
 
 -- the file's length, and the address, behind one part more
 abbrev pub file_behind : Head → ℕ → WideSize → ℕ

@@ -29,7 +29,7 @@ sbat_place h (Some size) = Some (record {
 
 -- The plan of an image of a stub of that length with these headers, of parts of these sizes, and of a new `.sbat` of
 -- that length where the stub's is replaced in place.
-pub record Plans (plan : Plan) (h : Headers) (stub_length : ℕ) (sizes : List WideSize) (sbat : Option ℕ) : Type 0 where
+pub record PlansImage (plan : Plan) (h : Headers) (stub_length : ℕ) (sizes : List WideSize) (sbat : Option ℕ) : Type 0 where
   pub stub_length_is : plan.stub_length ≡ stub_length
   pub before : plan.before ≡ h.head
   pub sections : plan.sections.items ≡ new_sections (with_sbat_size h sbat) stub_length sizes
@@ -57,8 +57,8 @@ Makes P (Err Memory) refused = Unit {0}
 Makes P (Err f) refused = refused ≡ Some f
 
 -- a new `.sbat`, where a length of it is given
-abbrev pub given : Option ℕ → List ℕ → Option (List ℕ)
-given in_place sbat = option_map (λ _. sbat) in_place
+abbrev pub sbat_if_in_place : Option ℕ → List ℕ → Option (List ℕ)
+sbat_if_in_place in_place sbat = option_map (λ _. sbat) in_place
 
 -- The plan was made for a stub with these bytes, parts of these lengths, and a new `.sbat` of this length if it
 -- replaces one.
@@ -67,16 +67,17 @@ pub record IsPlanFor (plan : Plan) (stub : List ℕ) (contents : List (List ℕ)
   pub sizes : List WideSize
   pub in_place : Option ℕ
   pub reads : pe_of stub ≡ Ok headers
-  pub plans : Plans plan headers (length stub) sizes in_place
+  pub plans : PlansImage plan headers (length stub) sizes in_place
   pub lengths : map length contents ≡ map (λ p. p.length) sizes
-  pub sbat_length : option_map length (given in_place sbat) ≡ in_place
+  pub sbat_length : option_map length (sbat_if_in_place in_place sbat) ≡ in_place
 
 -- The bytes are the finished image of whatever the plan was made for.
 abbrev pub IsFinished : Plan → List ℕ → List (List ℕ) → List ℕ → List ℕ → Type 0
 IsFinished plan stub contents sbat image =
     (h : Headers) (sizes : List WideSize) (in_place : Option ℕ) →
-    pe_of stub ≡ Ok h → Plans plan h (length stub) sizes in_place → option_map length (given in_place sbat) ≡ in_place →
-    image ≡ finished h sizes contents (given in_place sbat) stub
+    pe_of stub ≡ Ok h → PlansImage plan h (length stub) sizes in_place →
+    option_map length (sbat_if_in_place in_place sbat) ≡ in_place →
+    image ≡ finished h sizes contents (sbat_if_in_place in_place sbat) stub
 
 -- What follows is said of the private steps that make the bytes.
 

@@ -1,7 +1,7 @@
 //! The new sections of an image.
 
 ghost use Rattle.std.specs.Prelude.{◌≡◌, ◌+◌, ◌*◌, ◌<◌, ◌≤◌, ◌^◌, [], ◌∷◌, ◌++◌, length, IfOk};
-ghost use Rattle.pe_builder.specs.Layout.{section_for, sections_for, raw_end, end_of, length_after, address_after};
+ghost use Rattle.pe_builder.specs.Layout.{section_for, sections_for, raw_end, virtual_end, length_after, address_after};
 
 use crate::extent::up;
 use crate::size::WideSize;
@@ -13,10 +13,10 @@ fn section_for(head: &Head, file_length: u32, address: u32, part: &WideSize) -> 
     requires file_unit { 0 < head.now.file_alignment }
     requires memory_unit { 0 < head.now.section_alignment }
     requires file { raw_end (section_for head.now file_length address part.now) < 2 ^ 32 }
-    requires memory { end_of (section_for head.now file_length address part.now) < 2 ^ 32 }
+    requires memory { virtual_end (section_for head.now file_length address part.now) < 2 ^ 32 }
     ensures exact { result ≡ section_for head.now file_length address part.now }
     ensures file { raw_end result < 2 ^ 32 }
-    ensures memory { end_of result < 2 ^ 32 }
+    ensures memory { virtual_end result < 2 ^ 32 }
 {
     Section {
         name: part.name.padded(),

@@ -8,7 +8,7 @@ ghost use Rattle.pe_reader.specs.Loaded.{section_at_index};
 ghost use Rattle.pe_builder.specs.Layout.{end_after, address_after, FitsPart};
 ghost use Rattle.pe_builder.specs.Replaced.{sbat_index, with_sbat_size, MayReplace};
 ghost use Rattle.pe_builder.specs.Refusals.{wide, first_refusal, size_refusal};
-ghost use Rattle.pe_builder.specs.Planned.{Plans, Makes, head_after, planned_length, sbat_place};
+ghost use Rattle.pe_builder.specs.Planned.{PlansImage, Makes, head_after, planned_length, sbat_place};
 ghost use Rattle.pe_builder.specs.Known.{planned_stub_length, planned_before, planned_after, planned_sections, planned_sbat};
 
 use crate::extent::{address_after, length_after, sbat_index, stub_end, total, up};
@@ -69,7 +69,8 @@ impl Plan {
         requires read { ReadFrom stub.now stub_length }
         requires few { length sizes.now ≤ 16777216 }
         requires sbat { MayReplace (headers_of stub.now) sbat_in_place }
-        ensures { Makes (λ plan. Plans plan (headers_of stub.now) stub_length (map wide sizes.now) sbat_in_place) result
+        ensures { Makes
+            (λ plan. PlansImage plan (headers_of stub.now) stub_length (map wide sizes.now) sbat_in_place) result
             (first_refusal (headers_of stub.now) stub_length (map wide sizes.now) sbat_in_place) }
     {
         let sizes = wide_sizes(alloc, sizes)?;
@@ -93,7 +94,7 @@ impl Plan {
         requires total { sum_by (λ p. p.length) sizes.now ≤ 2 ^ 62 }
         requires fit { AllByRecursion FitsPart sizes.now }
         requires sbat { MayReplace (headers_of stub.now) sbat_in_place }
-        ensures { Makes (λ plan. Plans plan (headers_of stub.now) stub_length sizes.now sbat_in_place) result
+        ensures { Makes (λ plan. PlansImage plan (headers_of stub.now) stub_length sizes.now sbat_in_place) result
             (first_refusal (headers_of stub.now) stub_length sizes.now sbat_in_place) }
     {
         if let Some(fault) = find_refusal(alloc, stub, stub_length, sizes, sbat_in_place)? {
@@ -160,7 +161,7 @@ fn planned(
     requires sbat { MayReplace (headers_of stub.now) sbat_in_place }
     requires fit { AllByRecursion FitsPart sizes.now }
     requires none { first_refusal (headers_of stub.now) stub_length sizes.now sbat_in_place ≡ None }
-    ensures { IfOk result (λ plan. Plans plan (headers_of stub.now) stub_length sizes.now sbat_in_place) }
+    ensures { IfOk result (λ plan. PlansImage plan (headers_of stub.now) stub_length sizes.now sbat_in_place) }
 {
     let head = stub.head();
     let start = stub_end(stub, sbat_in_place) as u32;

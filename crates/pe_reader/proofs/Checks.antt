@@ -6,16 +6,16 @@ use Rattle.pe_reader.specs.declared.fault.FailedCheck.{FailedCheck}
 use Rattle.pe_reader.specs.declared.head.Head.{Head}
 use Rattle.pe_reader.specs.declared.head.Coff.{Coff}
 use Rattle.pe_reader.specs.Fields.{u16_at, u32_at}
-use Rattle.pe_reader.specs.Grammar.{demand, ◌>>=◌, pe_place_of, coff_of, optional_of}
+use Rattle.pe_reader.specs.Grammar.{check_before, ◌>>=◌, pe_place_of, coff_of, optional_of}
 
 -- a check that was passed
 pub demand_ok : {A : Type 0} (b : Bool) (r : PeReason) (o : ℕ) (rest : Result A FailedCheck) (x : A)
-    → demand b r o rest ≡ Ok x → (b ≡ true) × (rest ≡ Ok x)
+    → check_before b r o rest ≡ Ok x → (b ≡ true) × (rest ≡ Ok x)
 demand_ok true r o rest x e = (refl, e)
 demand_ok false r o rest x e = cc
 
 pub demand_pass : {A : Type 0} (b : Bool) (r : PeReason) (o : ℕ) (rest : Result A FailedCheck)
-    → b ≡ true → demand b r o rest ≡ rest
+    → b ≡ true → check_before b r o rest ≡ rest
 demand_pass b r o rest e = rw e refl
 
 pub bind_ok : {A B : Type 0} (r : Result A FailedCheck) (f : A → Result B FailedCheck) (y : B)

@@ -24,8 +24,8 @@ optional_size bytes = u16_at bytes (signature_place bytes + 20)
 abbrev pub table_place : List ℕ → ℕ
 table_place bytes = optional_place bytes + optional_size bytes
 
-abbrev pub table_end : List ℕ → ℕ
-table_end bytes = table_place bytes + 40 * section_count bytes
+abbrev pub section_table_end : List ℕ → ℕ
+section_table_end bytes = table_place bytes + 40 * section_count bytes
 
 -- fields of the optional header
 abbrev pub section_alignment : List ℕ → ℕ
@@ -78,8 +78,8 @@ pub record IsPe (bytes : List ℕ) : Type 0 where
   pub memory_aligned : IsTrue (is_power_of_two (section_alignment bytes)) × (section_alignment bytes ≤ 65536)
   pub file_aligned : IsTrue (is_power_of_two (file_alignment bytes)) × (file_alignment bytes ≤ section_alignment bytes)
   pub directories_inside : 112 + 8 * directory_count bytes ≤ optional_size bytes
-  pub table_inside : table_end bytes ≤ length bytes
-  pub headers_inside : (table_end bytes ≤ header_size bytes) × (header_size bytes ≤ length bytes)
+  pub table_inside : section_table_end bytes ≤ length bytes
+  pub headers_inside : (section_table_end bytes ≤ header_size bytes) × (header_size bytes ≤ length bytes)
   pub sizes_bounded : (i : ℕ) → i < section_count bytes → (section_in bytes i).virtual_size ≤ 268435456
   pub addresses_bounded : (i : ℕ) → i < section_count bytes → (section_in bytes i).virtual_address + (section_in bytes i).virtual_size ≤ 4294967296
   pub raw_data_inside : (i : ℕ) → i < section_count bytes → IsInside (header_size bytes) (length bytes) (section_in bytes i)

@@ -12,25 +12,25 @@ use Rattle.pe_reader.specs.declared.section.Section.{Section}
 use Rattle.pe_reader.specs.Fields.{u16_at, u32_at, part}
 
 -- what has to hold before the rest is looked at
-abbrev pub demand : {A : Type 0} → Bool → PeReason → ℕ → Result A FailedCheck → Result A FailedCheck
-demand holds reason offset rest = if holds then rest else Err (record { reason = reason; offset = offset })
+abbrev pub check_before : {A : Type 0} → Bool → PeReason → ℕ → Result A FailedCheck → Result A FailedCheck
+check_before holds reason offset rest = if holds then rest else Err (record { reason = reason; offset = offset })
 
 -- The file's size and its first 64 bytes give the place of the PE header.
 unfoldable pub pe_place_of : ℕ → List ℕ → Result ℕ FailedCheck
 pe_place_of size front =
-    demand (nat_le 64 size) ShortFile size (
-    demand (u16_at front 0 == 0x5A4D) NoMz 0 (
-    demand (nat_le 64 (u32_at front 60)) PePlace 60 (
+    check_before (nat_le 64 size) ShortFile size (
+    check_before (u16_at front 0 == 0x5A4D) NoMz 0 (
+    check_before (nat_le 64 (u32_at front 60)) PePlace 60 (
     Ok (u32_at front 60))))
 
 -- The 24 bytes at that place are the signature and the COFF header.
 unfoldable pub coff_of : ℕ → ℕ → List ℕ → Result Coff FailedCheck
 coff_of size place header =
-    demand (nat_le (place + 24) size) ShortHeaders size (
-    demand (u32_at header 0 == 0x4550) NoSignature place (
-    demand (nat_le (u16_at header 6) 96) TooManySections (place + 6) (
-    demand (nat_le 112 (u16_at header 20)) ShortOptional (place + 20) (
-    demand (nat_le (place + 24 + u16_at header 20) size) ShortHeaders size (
+    check_before (nat_le (place + 24) size) ShortHeaders size (
+    check_before (u32_at header 0 == 0x4550) NoSignature place (
+    check_before (nat_le (u16_at header 6) 96) TooManySections (place + 6) (
+    check_before (nat_le 112 (u16_at header 20)) ShortOptional (place + 20) (
+    check_before (nat_le (place + 24 + u16_at header 20) size) ShortHeaders size (
     Ok (record { section_count = u16_at header 6; optional_size = u16_at header 20 }))))))
 
 -- whether a number may be an alignment: a power of two, up to a greatest one
@@ -49,12 +49,12 @@ optional_of size place coff optional =
     let table_end = table + 40 * coff.section_count in
     let directories = u32_at optional 108 in
     let header_size = u32_at optional 60 in
-    demand (u16_at optional 0 == 0x20B) (other_kind (u16_at optional 0)) start (
-    demand (is_alignment 65536 (u32_at optional 32)) SectionAlignment (start + 32) (
-    demand (is_alignment (u32_at optional 32) (u32_at optional 36)) FileAlignment (start + 36) (
-    demand (nat_le (112 + 8 * directories) coff.optional_size) Directories (start + 108) (
-    demand (nat_le table_end size) ShortHeaders size (
-    demand (nat_le table_end header_size && nat_le header_size size) HeaderSize (start + 60) (
+    check_before (u16_at optional 0 == 0x20B) (other_kind (u16_at optional 0)) start (
+    check_before (is_alignment 65536 (u32_at optional 32)) SectionAlignment (start + 32) (
+    check_before (is_alignment (u32_at optional 32) (u32_at optional 36)) FileAlignment (start + 36) (
+    check_before (nat_le (112 + 8 * directories) coff.optional_size) Directories (start + 108) (
+    check_before (nat_le table_end size) ShortHeaders size (
+    check_before (nat_le table_end header_size && nat_le header_size size) HeaderSize (start + 60) (
     Ok (record {
       pe_place = place;
       section_count = coff.section_count;
@@ -91,10 +91,10 @@ section_at header = record {
 -- A section whose header stands at a place lies within the file, apart from the earlier ones.
 unfoldable pub checked : ℕ → ℕ → List Section → ℕ → Section → Result Section FailedCheck
 checked size header_size earlier place s =
-    demand (nat_le s.virtual_size 268435456) VirtualSize (place + 8) (
-    demand (nat_le (s.virtual_address + s.virtual_size) 4294967296) Address (place + 12) (
-    demand (is_in_file size header_size s) RawData (place + 20) (
-    demand (list_all (is_apart s) earlier) Overlap (place + 20) (
+    check_before (nat_le s.virtual_size 268435456) VirtualSize (place + 8) (
+    check_before (nat_le (s.virtual_address + s.virtual_size) 4294967296) Address (place + 12) (
+    check_before (is_in_file size header_size s) RawData (place + 20) (
+    check_before (list_all (is_apart s) earlier) Overlap (place + 20) (
     Ok s))))
 
 infixl 10 ◌>>=◌

@@ -16,9 +16,9 @@ Fails Memory read = Unit {0}
 Fails (NotPe reason offset) read = read ≡ Err (record { reason = reason; offset = offset })
 
 -- what was returned, seen by view, is what reading gives, unless memory ran out
-abbrev pub Gives : {X Y : Type 0} → (X → Y) → Result X PeFault → Result Y FailedCheck → Type 0
-Gives view (Ok x) read = read ≡ Ok (view x)
-Gives view (Err e) read = Fails e read
+abbrev pub ReturnsRead : {X Y : Type 0} → (X → Y) → Result X PeFault → Result Y FailedCheck → Type 0
+ReturnsRead view (Ok x) read = read ≡ Ok (view x)
+ReturnsRead view (Err e) read = Fails e read
 
 -- the same fault, of a machine's file
 abbrev pub head_fault : PeFault → HeadFault

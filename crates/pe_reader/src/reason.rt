@@ -43,11 +43,11 @@ pub enum PeReason {
 
 impl PeReason {
     ghost use Rattle.std.specs.Prelude.{◌≡◌};
-    ghost use Rattle.pe_reader.specs.Reasons.{text_of};
+    ghost use Rattle.pe_reader.specs.Reasons.{pe_reason_text};
 
     /// The reason in words, as it is printed.
     pub fn text(self) -> &'static str
-        ensures { result.now ≡ text_of self }
+        ensures { result.now ≡ pe_reason_text self }
     {
         match self {
             PeReason::ShortFile => "short file",
@@ -73,9 +73,9 @@ impl PeReason {
 
 impl fmt::Display for PeReason {
     ghost use Rattle.std.specs.Prelude.{Some};
-    ghost use Rattle.pe_reader.specs.Reasons.{text_of};
+    ghost use Rattle.pe_reader.specs.Reasons.{pe_reason_text};
 
-    ghost output = { λ reason. Some (text_of reason) };
+    ghost output = { λ reason. Some (pe_reason_text reason) };
 
     fn fmt<W: fmt::Write>(&self, f: &mut fmt::Formatter<W>) -> fmt::Result {
         f.write_str(self.text())

@@ -17,7 +17,7 @@ use Rattle.pe_builder.specs.Replaced.{sbat_name, sbat_index, MayReplace}
 use Rattle.pe_builder.specs.Refusals.{refuse, or_else, part_is_named, is_taken, first_taken, first_refusal}
 use Rattle.pe_builder.specs.Image.{content_named, loaded_or_part}
 use Rattle.pe_builder.specs.Laws.{HasFinished, finished_loaded}
-use Rattle.stub_replay.specs.Laws.{part_named, or_kept, given_parts}
+use Rattle.stub_replay.specs.Laws.{find_content, or_kept, given_parts}
 
 not_signed : (b : Bool) (rest : Option PlanFault) → refuse b SignedStub rest ≡ None → rest ≡ None
 not_signed true rest e = cc
@@ -38,8 +38,8 @@ taken_steps false fault rest e = (refl, e)
 
 -- no part has the name of a section
 no_part_named : (sections : List Section) (earlier parts : List WideSize) (contents : List (List ℕ)) (name : List ℕ)
-    → first_taken sections earlier parts ≡ None → list_any (is_named name) sections ≡ true → part_named name parts contents ≡ None
-unfolding first_taken part_named
+    → first_taken sections earlier parts ≡ None → list_any (is_named name) sections ≡ true → find_content name parts contents ≡ None
+unfolding first_taken find_content
 no_part_named sections earlier [] contents name free there = refl
 no_part_named sections earlier (p ∷ parts) [] name free there = refl
 no_part_named sections earlier (p ∷ parts) (content ∷ contents) name free there =
@@ -54,8 +54,8 @@ no_part_named sections earlier (p ∷ parts) (content ∷ contents) name free th
     ]
 
 -- the content of a name is that of the part, if there is one
-content_is : (name : List ℕ) (parts : List WideSize) (contents : List (List ℕ)) → content_named name parts contents ≡ or_kept (part_named name parts contents) []
-unfolding content_named part_named
+content_is : (name : List ℕ) (parts : List WideSize) (contents : List (List ℕ)) → content_named name parts contents ≡ or_kept (find_content name parts contents) []
+unfolding content_named find_content
 content_is name [] contents = refl
 content_is name (p ∷ parts) [] = refl
 content_is name (p ∷ parts) (content ∷ contents) = elim (cases_Bool (bytes_eq (name_bytes p.name) name)) [
@@ -94,11 +94,11 @@ stub_loads stub name h o reads at = ap (loaded_in stub name) reads ∙ ap (loade
 
 -- the stub's section of a name, or else the part
 stub_or_part : (h : Headers) (sizes : List WideSize) (contents : List (List ℕ)) (stub name : List ℕ) → pe_of stub ≡ Ok h → first_taken h.sections [] sizes ≡ None
-    → loaded_or_part stub (find (is_named name) h.sections) (content_named name sizes contents) ≡ or_kept (part_named name sizes contents) (loaded stub name)
+    → loaded_or_part stub (find (is_named name) h.sections) (content_named name sizes contents) ≡ or_kept (find_content name sizes contents) (loaded stub name)
 unfolding loaded_or_part
 stub_or_part h sizes contents stub name reads free = elim (option_ends (find (is_named name) h.sections)) [
   | inl none ↦
-      rw none (content_is name sizes contents ∙ ap (or_kept (part_named name sizes contents)) (sym (stub_loads stub name h None reads none)))
+      rw none (content_is name sizes contents ∙ ap (or_kept (find_content name sizes contents)) (sym (stub_loads stub name h None reads none)))
   | inr found ↦
       let alone = no_part_named h.sections [] sizes contents name free (found_any (is_named name) h.sections found.0 found.1) in
       rw (found.1, alone) (sym (stub_loads stub name h (Some found.0) reads found.1))
@@ -106,7 +106,7 @@ stub_or_part h sizes contents stub name reads free = elim (option_ends (find (is
 
 -- no part has the name of a `.sbat` that is replaced
 sbat_alone : (h : Headers) (sizes : List WideSize) (contents : List (List ℕ)) (size : ℕ) → MayReplace h (Some size) → first_taken h.sections [] sizes ≡ None
-    → part_named sbat_name sizes contents ≡ None
+    → find_content sbat_name sizes contents ≡ None
 sbat_alone h sizes contents size may free = elim (option_ends (find (is_named sbat_name) h.sections)) [
   | inl none ↦ absurd (replaced_there h size may none)
   | inr found ↦ no_part_named h.sections [] sizes contents sbat_name free (found_any (is_named sbat_name) h.sections found.0 found.1)
@@ -122,7 +122,7 @@ given_loaded h sizes contents (Some sbat) stub has name =
     elim (cases_Bool (bytes_eq sbat_name name)) [
       | inl same ↦
           let e : sbat_name ≡ name = (bytes_eq-Decides sbat_name name).0 same in
-          let alone : part_named name sizes contents ≡ None = subst (λ (n : List ℕ). part_named n sizes contents ≡ None) e (sbat_alone h sizes contents (length sbat) has.buildable.may_replace free) in
+          let alone : find_content name sizes contents ≡ None = subst (λ (n : List ℕ). find_content n sizes contents ≡ None) e (sbat_alone h sizes contents (length sbat) has.buildable.may_replace free) in
           rw (same, alone) refl
       | inr other ↦ rw other (stub_or_part h sizes contents stub name has.reads free)
     ]

@@ -12,11 +12,11 @@ use Rattle.pe_builder.specs.Laws.{HasFinished}
 use Rattle.stub_replay.specs.Measured.{Shows, predicted_pcr, stub_pcr}
 
 -- the content of the first part of a name, if a part has the name
-unfoldable pub part_named : List ℕ → List WideSize → List (List ℕ) → Option (List ℕ)
-part_named name [] contents = None
-part_named name (p ∷ parts) [] = None
-part_named name (p ∷ parts) (content ∷ contents) =
-    if bytes_eq (name_bytes p.name) name then Some content else part_named name parts contents
+unfoldable pub find_content : List ℕ → List WideSize → List (List ℕ) → Option (List ℕ)
+find_content name [] contents = None
+find_content name (p ∷ parts) [] = None
+find_content name (p ∷ parts) (content ∷ contents) =
+    if bytes_eq (name_bytes p.name) name then Some content else find_content name parts contents
 
 -- of a name that no part has: a new `.sbat` where it is given, and else what the stub has loaded
 abbrev pub kept_of : Option (List ℕ) → List ℕ → List ℕ → List ℕ
@@ -30,7 +30,7 @@ or_kept None kept = kept
 -- The bytes of each name in an image that is built of these: the part of that name, the new `.sbat`, or else what the
 -- stub has.
 abbrev pub given_parts : List WideSize → List (List ℕ) → Option (List ℕ) → List ℕ → List ℕ → List ℕ
-given_parts sizes contents sbat stub name = or_kept (part_named name sizes contents) (kept_of sbat stub name)
+given_parts sizes contents sbat stub name = or_kept (find_content name sizes contents) (kept_of sbat stub name)
 
 -- Where an image shows parts, what is predicted from them is the stub's value.
 abbrev pub PredictionIsReplay : Type 0

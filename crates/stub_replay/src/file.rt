@@ -7,7 +7,7 @@ ghost use Rattle.pe_reader.specs.Grammar.{pe_of};
 ghost use Rattle.pe_reader.specs.Loaded.{loaded, bytes_in};
 ghost use Rattle.pe_reader.specs.Reads.{headers_of};
 ghost use Rattle.pcr_fold.specs.Banks.{digest_of, fold_of, folded};
-ghost use Rattle.pcr_fold.specs.Values.{bank_of, bytes_of, pcr_bank, pcr_bytes, shown};
+ghost use Rattle.pcr_fold.specs.Values.{bank_of, bytes_of_digest, pcr_bank, pcr_bytes, shown};
 ghost use Rattle.stub_replay.specs.Faults.{CountsPredict};
 ghost use Rattle.stub_replay.specs.Measured.{section_items, measured_list, measured_length};
 ghost use Rattle.stub_replay.specs.Taking.{AreBetween, ExtendsWhere};
@@ -160,7 +160,7 @@ pub fn range_digest<M: Machine>(
     ensures length { length buffer.new ≡ length buffer.old }
     ensures bank { IfOk result (λ digest. bank_of digest ≡ bank) }
     ensures value { IfOk result (λ digest. IsTrue M.tells → range.length ≤ length (drop range.place (contents (M.state machine.old).files path.now))
-        → bytes_of digest ≡ digest_of bank (bytes_in (contents (M.state machine.old).files path.now) range)) }
+        → bytes_of_digest digest ≡ digest_of bank (bytes_in (contents (M.state machine.old).files path.now) range)) }
     ensures reads { IsTrue M.tells → OnlyReads M.clock M.since M.state machine.old machine.new }
     ensures counts { CountsDisk result (M.counts machine.old) (M.counts machine.new) }
     ensures taken { IsTrue M.tells → TakesAtMost range.length (M.taken machine.old) (M.taken machine.new) }

@@ -5,26 +5,26 @@ use Rattle.tool_words.specs.declared.fault.UsageReason.{UsageReason}
 use Rattle.tool_words.specs.declared.fault.WordsFault.{WordsFault}
 use Rattle.tool_words.specs.declared.fault.WordsFault.TheVariants.{Memory, Usage}
 use Rattle.word_grammar.specs.Grammar.{Word, OptionRule}
-use Rattle.tool_words.specs.Items.{Item, Value, Operand, Ends, Plain, Whole, Open, items, onto, valued, said, last_items, more_items, ◌>>=◌}
+use Rattle.tool_words.specs.Items.{Item, Value, Operand, Ends, Plain, Whole, Open, items, onto, valued, word_meaning, last_items, more_items, ◌>>=◌}
 use Rattle.tool_words.specs.Answers.{FaultIs}
 use Rattle.tool_words.specs.Steps.{opened}
 
-pub items-ends : (command : CommandName) (word : Word) (after : List Word) → said command word ≡ Ok Ends → items command (word ∷ after) ≡ Ok (map Operand after)
+pub items-ends : (command : CommandName) (word : Word) (after : List Word) → word_meaning command word ≡ Ok Ends → items command (word ∷ after) ≡ Ok (map Operand after)
 unfolding items
 items-ends command word [] e = ap (λ r. r >>= last_items word) e
 items-ends command word (next ∷ words) e = ap (λ r. r >>= λ s. more_items word next words s (items command (next ∷ words)) (items command words)) e
 
-pub items-plain : (command : CommandName) (word : Word) (after : List Word) → said command word ≡ Ok Plain → items command (word ∷ after) ≡ onto (Operand word) (items command after)
+pub items-plain : (command : CommandName) (word : Word) (after : List Word) → word_meaning command word ≡ Ok Plain → items command (word ∷ after) ≡ onto (Operand word) (items command after)
 unfolding items
 items-plain command word [] e = ap (λ r. r >>= last_items word) e
 items-plain command word (next ∷ words) e = ap (λ r. r >>= λ s. more_items word next words s (items command (next ∷ words)) (items command words)) e
 
-pub items-whole : (command : CommandName) (word : Word) (text : Word) (value : Word) (after : List Word) → said command word ≡ Ok (Whole text value) → items command (word ∷ after) ≡ onto (Value text value) (items command after)
+pub items-whole : (command : CommandName) (word : Word) (text : Word) (value : Word) (after : List Word) → word_meaning command word ≡ Ok (Whole text value) → items command (word ∷ after) ≡ onto (Value text value) (items command after)
 unfolding items
 items-whole command word text value [] e = ap (λ r. r >>= last_items word) e
 items-whole command word text value (next ∷ words) e = ap (λ r. r >>= λ s. more_items word next words s (items command (next ∷ words)) (items command words)) e
 
-pub items-said_err : (command : CommandName) (word : Word) (after : List Word) (fault : WordsFault) → FaultIs fault (said command word) → FaultIs fault (items command (word ∷ after))
+pub items-said_err : (command : CommandName) (word : Word) (after : List Word) (fault : WordsFault) → FaultIs fault (word_meaning command word) → FaultIs fault (items command (word ∷ after))
 unfolding items
 items-said_err command word after Memory e = tt
 items-said_err command word [] (Usage reason) e = ap (λ r. r >>= last_items word) e
@@ -34,16 +34,16 @@ opened-bind : (command : CommandName) (option : OptionRule) (words : List Word) 
 opened-bind command option words (Ok value) = refl
 opened-bind command option words (Err reason) = refl
 
-pub items-open : (command : CommandName) (word : Word) (option : OptionRule) (after : List Word) → said command word ≡ Ok (Open option) → items command (word ∷ after) ≡ (opened option word after >>= λ o. onto o.0 (items command o.1))
+pub items-open : (command : CommandName) (word : Word) (option : OptionRule) (after : List Word) → word_meaning command word ≡ Ok (Open option) → items command (word ∷ after) ≡ (opened option word after >>= λ o. onto o.0 (items command o.1))
 unfolding items
 items-open command word option [] e = ap (λ r. r >>= last_items word) e
 items-open command word option (next ∷ words) e =
     ap (λ r. r >>= λ s. more_items word next words s (items command (next ∷ words)) (items command words)) e
     ∙ opened-bind command option words (valued option next)
 
-pub items-opened : (command : CommandName) (word : Word) (option : OptionRule) (after : List Word) (item : Item) (rest : List Word) → said command word ≡ Ok (Open option) → opened option word after ≡ Ok (item, rest) → items command (word ∷ after) ≡ onto item (items command rest)
+pub items-opened : (command : CommandName) (word : Word) (option : OptionRule) (after : List Word) (item : Item) (rest : List Word) → word_meaning command word ≡ Ok (Open option) → opened option word after ≡ Ok (item, rest) → items command (word ∷ after) ≡ onto item (items command rest)
 items-opened command word option after item rest e o = items-open command word option after e ∙ ap (λ r. r >>= λ o. onto o.0 (items command o.1)) o
 
-pub items-opened_err : (command : CommandName) (word : Word) (option : OptionRule) (after : List Word) (fault : WordsFault) → said command word ≡ Ok (Open option) → FaultIs fault (opened option word after) → FaultIs fault (items command (word ∷ after))
+pub items-opened_err : (command : CommandName) (word : Word) (option : OptionRule) (after : List Word) (fault : WordsFault) → word_meaning command word ≡ Ok (Open option) → FaultIs fault (opened option word after) → FaultIs fault (items command (word ∷ after))
 items-opened_err command word option after Memory e o = tt
 items-opened_err command word option after (Usage reason) e o = items-open command word option after e ∙ ap (λ r. r >>= λ o. onto o.0 (items command o.1)) o

@@ -76,8 +76,8 @@ option_said command word =
     then (option_of command (before_first is_equals_sign word) >>= λ option. with_value option (after_first is_equals_sign word))
     else (option_of command word >>= λ option. Ok (without_value option))
 
-abbrev pub said : CommandName → Word → Result Said UsageReason
-said command word =
+abbrev pub word_meaning : CommandName → Word → Result Said UsageReason
+word_meaning command word =
     if bytes_eq word (codes "--") then Ok Ends
     else (if starts_with nat_eq word (codes "--") then option_said command word
     else (if starts_with nat_eq word (codes "-") && nat_lt 1 (length word) then Err (UnknownOption word)
@@ -103,14 +103,14 @@ more_items word next words (Open option) later latest = valued option next >>= �
 -- the items of the words from the left, or the first word's reason that has one
 unfoldable pub items : CommandName → List Word → Result (List Item) UsageReason
 items command [] = Ok []
-items command (word ∷ []) = said command word >>= λ s. last_items word s
+items command (word ∷ []) = word_meaning command word >>= λ s. last_items word s
 items command (word ∷ next ∷ words) =
-    said command word >>= λ s. more_items word next words s (items command (next ∷ words)) (items command words)
+    word_meaning command word >>= λ s. more_items word next words s (items command (next ∷ words)) (items command words)
 
 -- the value that the item gives the option that is written so
-abbrev pub value_in : Word → Item → Option Word
-value_in option (Value text value) = if bytes_eq text option then Some value else None
-value_in option (Operand word) = None
+abbrev pub item_value : Word → Item → Option Word
+item_value option (Value text value) = if bytes_eq text option then Some value else None
+item_value option (Operand word) = None
 
 -- the operand that the item is
 abbrev pub operand_in : Item → Option Word
@@ -119,11 +119,11 @@ operand_in (Operand word) = Some word
 
 -- all values of an option, in order
 abbrev pub all_values : Word → List Item → List Word
-all_values option items = filter_map (value_in option) items
+all_values option items = filter_map (item_value option) items
 
 -- the value of an option that isn't repeatable: the last one
-abbrev pub last_value : Word → List Item → Option Word
-last_value option items = last_or None (all_values option items)
+abbrev pub last_option_value : Word → List Item → Option Word
+last_option_value option items = last_or None (all_values option items)
 
 abbrev pub operands : List Item → List Word
 operands items = filter_map operand_in items

@@ -14,8 +14,8 @@ use Rattle.tool_words.specs.declared.command.Given.TheVariants.{Inline, File}
 use Rattle.tool_words.specs.declared.command.BlessWord.TheVariants as bless
 use Rattle.tool_words.specs.declared.fault.UsageReason.{UsageReason}
 use Rattle.tool_words.specs.declared.fault.UsageReason.TheVariants as reason
-use Rattle.word_grammar.specs.Grammar.{Word, OptionRule, row, commands, is_named, is_verbed, is_text_of}
-use Rattle.tool_words.specs.Items.{Item, items, all_values, last_value, operands, ◌>>=◌}
+use Rattle.word_grammar.specs.Grammar.{Word, OptionRule, row, commands, is_name_of, is_verbed, is_text_of}
+use Rattle.tool_words.specs.Items.{Item, items, all_values, last_option_value, operands, ◌>>=◌}
 
 -- words over their limits: 16,777,216 words, 1,048,576 bytes of one
 abbrev pub is_long : Word → Bool
@@ -39,7 +39,7 @@ found_name (Some c) word words = if is_some (row c).verb then with_verb word wor
 
 abbrev pub command_of : List Word → Result (CommandName × List Word) UsageReason
 command_of [] = Err reason.NoCommand
-command_of (word ∷ words) = found_name (find (is_named word) commands) word words
+command_of (word ∷ words) = found_name (find (is_name_of word) commands) word words
 
 -- as many operands as the command takes
 abbrev pub counted : ℕ → ℕ → Result (Unit {0}) UsageReason
@@ -64,7 +64,7 @@ pub record Gathered : Type 0 where
 
 abbrev pub gathered : CommandName → List Item → Gathered
 gathered c items = record {
-  last = λ option. last_value option items;
+  last = λ option. last_option_value option items;
   all = λ option. if repeats c option then all_values option items else [];
   operand = λ n. slice_index_or (operands items) n [];
 }
@@ -87,9 +87,9 @@ abbrev pub all_required : CommandName → (Word → Option Word) → Result (Uni
 all_required c last = nothing_missing (find (is_missing last) (row c).options)
 
 -- a text, or after a leading `@` the path of the file that holds it
-abbrev pub given : Word → Given
-given [] = Inline []
-given (first ∷ bytes) = if first == 64 then File bytes else Inline (first ∷ bytes)
+abbrev pub inline_or_file : Word → Given
+inline_or_file [] = Inline []
+inline_or_file (first ∷ bytes) = if first == 64 then File bytes else Inline (first ∷ bytes)
 
 -- a required value, which is there
 abbrev pub required : Option Word → Word
@@ -104,9 +104,9 @@ build_words g = record {
   stub = required (g.last (codes "--stub"));
   linux = required (g.last (codes "--linux"));
   output = required (g.last (codes "--output"));
-  osrel = option_map given (g.last (codes "--os-release"));
-  cmdline = option_map given (g.last (codes "--cmdline"));
-  sbat = option_map given (g.last (codes "--sbat"));
+  osrel = option_map inline_or_file (g.last (codes "--os-release"));
+  cmdline = option_map inline_or_file (g.last (codes "--cmdline"));
+  sbat = option_map inline_or_file (g.last (codes "--sbat"));
   dtb = g.last (codes "--devicetree");
   uname = g.last (codes "--uname");
   splash = g.last (codes "--splash");
@@ -134,40 +134,40 @@ calculate_words g = record {
 }
 
 -- the command with all its fields
-abbrev pub filled : CommandName → Gathered → Command
-filled name.Build g = command.Build (build_words g)
-filled name.Inspect g = command.Inspect (g.operand 0)
-filled name.Calculate g = command.Calculate (calculate_words g)
-filled name.Image g = command.Image (g.operand 0) (g.all (codes "--bank")) (g.all (codes "--phase"))
-filled name.ListEntries g = command.List (esp g.last)
-filled name.Unlink g = command.Unlink (g.operand 0) (esp g.last)
-filled name.Identify g = command.Identify (g.operand 0)
-filled name.Tidy g = command.Tidy (esp g.last)
-filled name.Install g = command.Install (g.operand 0) (g.operand 1) (g.last (codes "--tries")) (esp g.last)
-filled name.Boot g = command.Boot (esp g.last)
-filled name.BlessGood g = command.Bless bless.Good (g.operand 0) (esp g.last)
-filled name.BlessBad g = command.Bless bless.Bad (g.operand 0) (esp g.last)
-filled name.BlessIndeterminate g = command.Bless bless.Indeterminate (g.operand 0) (esp g.last)
-filled name.BlessStatus g = command.Bless bless.Status (g.operand 0) (esp g.last)
-filled name.LoaderShow g = command.LoaderShow (esp g.last)
-filled name.LoaderDefault g = command.LoaderDefault (g.operand 0) (esp g.last)
-filled name.LoaderTimeout g = command.LoaderTimeout (g.operand 0) (esp g.last)
-filled name.Script g = command.Script
-filled name.Demo g = command.Demo (g.operand 0) (g.operand 1)
+abbrev pub command_from : CommandName → Gathered → Command
+command_from name.Build g = command.Build (build_words g)
+command_from name.Inspect g = command.Inspect (g.operand 0)
+command_from name.Calculate g = command.Calculate (calculate_words g)
+command_from name.Image g = command.Image (g.operand 0) (g.all (codes "--bank")) (g.all (codes "--phase"))
+command_from name.ListEntries g = command.List (esp g.last)
+command_from name.Unlink g = command.Unlink (g.operand 0) (esp g.last)
+command_from name.Identify g = command.Identify (g.operand 0)
+command_from name.Tidy g = command.Tidy (esp g.last)
+command_from name.Install g = command.Install (g.operand 0) (g.operand 1) (g.last (codes "--tries")) (esp g.last)
+command_from name.Boot g = command.Boot (esp g.last)
+command_from name.BlessGood g = command.Bless bless.Good (g.operand 0) (esp g.last)
+command_from name.BlessBad g = command.Bless bless.Bad (g.operand 0) (esp g.last)
+command_from name.BlessIndeterminate g = command.Bless bless.Indeterminate (g.operand 0) (esp g.last)
+command_from name.BlessStatus g = command.Bless bless.Status (g.operand 0) (esp g.last)
+command_from name.LoaderShow g = command.LoaderShow (esp g.last)
+command_from name.LoaderDefault g = command.LoaderDefault (g.operand 0) (esp g.last)
+command_from name.LoaderTimeout g = command.LoaderTimeout (g.operand 0) (esp g.last)
+command_from name.Script g = command.Script
+command_from name.Demo g = command.Demo (g.operand 0) (g.operand 1)
 
 -- the command of the items, where they are as many and as required
 abbrev pub command_with : CommandName → List Item → Result Command UsageReason
 command_with c items =
     counted (row c).operands (length (operands items)) >>= λ _.
     all_required c (gathered c items).last >>= λ _.
-    Ok (filled c (gathered c items))
+    Ok (command_from c (gathered c items))
 
 -- the command of the words after it
-abbrev pub meant : CommandName → List Word → Result Command UsageReason
-meant c words = items c words >>= λ items. command_with c items
+abbrev pub command_by_name : CommandName → List Word → Result Command UsageReason
+command_by_name c words = items c words >>= λ items. command_with c items
 
 abbrev pub read_words : List Word → Result Command UsageReason
-read_words words = command_of words >>= λ chosen. meant chosen.0 chosen.1
+read_words words = command_of words >>= λ chosen. command_by_name chosen.0 chosen.1
 
 -- the command that the words name, or the first reason why they name none
 abbrev pub meaning : List Word → Result Command UsageReason

@@ -3,16 +3,16 @@ use Rattle.std.specs.Prelude.{ℕ, List, ◌++◌, codes}
 use Rattle.tool_words.specs.declared.fault.UsageReason.{UsageReason}
 use Rattle.tool_words.specs.declared.fault.UsageReason.TheVariants.{TooLong, NoCommand, UnknownCommand, NoVerb, UnknownVerb, UnknownOption, NeedsValue, TakesNoValue, UnknownBank, TooFew, TooMany, Required}
 
-unfoldable pub text_of : UsageReason → List ℕ
-text_of TooLong = codes "too long"
-text_of NoCommand = codes "no command"
-text_of (UnknownCommand word) = codes "unknown command " ++ word
-text_of NoVerb = codes "no verb"
-text_of (UnknownVerb word) = codes "unknown verb " ++ word
-text_of (UnknownOption word) = codes "unknown option " ++ word
-text_of (NeedsValue word) = word ++ codes " needs a value"
-text_of (TakesNoValue word) = word ++ codes " takes no value"
-text_of (UnknownBank word) = codes "unknown bank " ++ word
-text_of TooFew = codes "too few operands"
-text_of TooMany = codes "too many operands"
-text_of (Required word) = word ++ codes " is required"
+unfoldable pub usage_reason_text : UsageReason → List ℕ
+usage_reason_text TooLong = codes "too long"
+usage_reason_text NoCommand = codes "no command"
+usage_reason_text (UnknownCommand word) = codes "unknown command " ++ word
+usage_reason_text NoVerb = codes "no verb"
+usage_reason_text (UnknownVerb word) = codes "unknown verb " ++ word
+usage_reason_text (UnknownOption word) = codes "unknown option " ++ word
+usage_reason_text (NeedsValue word) = word ++ codes " needs a value"
+usage_reason_text (TakesNoValue word) = word ++ codes " takes no value"
+usage_reason_text (UnknownBank word) = codes "unknown bank " ++ word
+usage_reason_text TooFew = codes "too few operands"
+usage_reason_text TooMany = codes "too many operands"
+usage_reason_text (Required word) = word ++ codes " is required"

@@ -1,8 +1,8 @@
 //! The fields of a command, each copied once from the words.
 ghost use Rattle.std.specs.Prelude.{◌≡◌, [], List, IfOk, is_some, unwrap_or, option_map, codes, slice_index_or};
 ghost use Rattle.std.specs.Option.{option_copied};
-ghost use Rattle.tool_words.specs.Items.{all_values, last_value, operands};
-ghost use Rattle.tool_words.specs.Meaning.{given as given_text, required, gathered, filled, esp as esp_meant};
+ghost use Rattle.tool_words.specs.Items.{all_values, last_option_value, operands};
+ghost use Rattle.tool_words.specs.Meaning.{inline_or_file, required, gathered, command_from, esp as esp_meant};
 ghost use Rattle.tool_words.specs.Shown.{items_shown};
 ghost use Rattle.word_grammar.specs.declared.grammar.CommandName.TheVariants.{Build, Calculate, Image, Install, Unlink, LoaderDefault, LoaderTimeout, Demo};
 ghost use Rattle.word_grammar.specs.Grammar.{Word};
@@ -16,7 +16,7 @@ use word_grammar::CommandName;
 
 /// The text itself, or after a leading `@` the path of its file.
 pub fn given(alloc: Global, value: &str) -> Result<Given, AllocError>
-    ensures { IfOk result (λ made. made ≡ given_text value.now) }
+    ensures { IfOk result (λ made. made ≡ inline_or_file value.now) }
 {
     match value.strip_prefix('@') {
         Some(path) => Ok(Given::File(Text::of(alloc, path)?)),
@@ -34,28 +34,28 @@ fn value_or(
     option: &str,
     absent: &str,
 ) -> Result<Text, AllocError>
-    ensures { IfOk result (λ text. text ≡ unwrap_or (last_value option.now (items_shown items.now)) absent.now) }
+    ensures { IfOk result (λ text. text ≡ unwrap_or (last_option_value option.now (items_shown items.now)) absent.now) }
 {
     Text::of(alloc, last_value(items, option).unwrap_or(absent))
 }
 
 // The value of a required option, which has been looked for.
 fn required(alloc: Global, items: &[Item<'_>], option: &str) -> Result<Text, AllocError>
-    ensures { IfOk result (λ text. text ≡ required (last_value option.now (items_shown items.now))) }
+    ensures { IfOk result (λ text. text ≡ required (last_option_value option.now (items_shown items.now))) }
 {
     value_or(alloc, items, option, "")
 }
 
 // The folder of the boot files, which is `efi` where no other is given.
 fn esp(alloc: Global, items: &[Item<'_>]) -> Result<Text, AllocError>
-    ensures { IfOk result (λ text. text ≡ esp_meant (λ option. last_value option (items_shown items.now))) }
+    ensures { IfOk result (λ text. text ≡ esp_meant (λ option. last_option_value option (items_shown items.now))) }
 {
     value_or(alloc, items, "--esp-path", "efi")
 }
 
 // The last value of the option.
 fn optional(alloc: Global, items: &[Item<'_>], option: &str) -> Result<Option<Text>, AllocError>
-    ensures { IfOk result (λ text. text ≡ last_value option.now (items_shown items.now)) }
+    ensures { IfOk result (λ text. text ≡ last_option_value option.now (items_shown items.now)) }
 {
     Ok(match last_value(items, option) {
         Some(value) => Some(Text::of(alloc, value)?),
@@ -69,7 +69,8 @@ fn optional_given(
     items: &[Item<'_>],
     option: &str,
 ) -> Result<Option<Given>, AllocError>
-    ensures { IfOk result (λ made. made ≡ option_map given_text (last_value option.now (items_shown items.now))) }
+    ensures { IfOk result (λ made.
+        made ≡ option_map inline_or_file (last_option_value option.now (items_shown items.now))) }
 {
     Ok(match last_value(items, option) {
         Some(value) => Some(given(alloc, value)?),
@@ -79,7 +80,7 @@ fn optional_given(
 
 // Whether the option is given.
 fn is_given(items: &[Item<'_>], option: &str) -> bool
-    ensures { result ≡ is_some (last_value option.now (items_shown items.now)) }
+    ensures { result ≡ is_some (last_option_value option.now (items_shown items.now)) }
 {
     last_value(items, option).is_some()
 }
@@ -127,7 +128,7 @@ struct FileParts {
 }
 
 fn build_paths(alloc: Global, items: &[Item<'_>]) -> Result<BuildPaths, AllocError>
-    ensures { let last = (λ (option : Word). last_value option (items_shown items.now)) in
+    ensures { let last = (λ (option : Word). last_option_value option (items_shown items.now)) in
         IfOk result (λ made. made ≡ record {
           stub = required (last (codes "--stub"));
           linux = required (last (codes "--linux"));
@@ -142,7 +143,8 @@ fn build_paths(alloc: Global, items: &[Item<'_>]) -> Result<BuildPaths, AllocErr
 }
 
 fn text_parts(alloc: Global, items: &[Item<'_>]) -> Result<TextParts, AllocError>
-    ensures { let text = (λ (option : Word). option_map given_text (last_value option (items_shown items.now))) in
+    ensures { let text = (λ (option : Word).
+        option_map inline_or_file (last_option_value option (items_shown items.now))) in
         IfOk result (λ made. made ≡ record {
           osrel = text (codes "--os-release");
           cmdline = text (codes "--cmdline");
@@ -163,7 +165,7 @@ fn plain_parts(
     dtb: &str,
     ucode: &str,
 ) -> Result<PlainParts, AllocError>
-    ensures { let last = (λ (option : Word). last_value option (items_shown items.now)) in
+    ensures { let last = (λ (option : Word). last_option_value option (items_shown items.now)) in
         IfOk result (λ made. made ≡ record {
           dtb = last dtb.now;
           uname = last (codes "--uname");
@@ -182,7 +184,7 @@ fn plain_parts(
 }
 
 fn file_parts(alloc: Global, items: &[Item<'_>]) -> Result<FileParts, AllocError>
-    ensures { let last = (λ (option : Word). last_value option (items_shown items.now)) in
+    ensures { let last = (λ (option : Word). last_option_value option (items_shown items.now)) in
         IfOk result (λ made. made ≡ record {
           osrel = last (codes "--osrel");
           cmdline = last (codes "--cmdline");
@@ -328,7 +330,7 @@ fn two_lists(
 
 // `ukify build`.
 fn build(alloc: Global, items: &[Item<'_>]) -> Result<Command, AllocError>
-    ensures { IfOk result (λ made. made ≡ filled Build (gathered Build (items_shown items.now))) }
+    ensures { IfOk result (λ made. made ≡ command_from Build (gathered Build (items_shown items.now))) }
 {
     let paths = build_paths(alloc, items)?;
     let texts = text_parts(alloc, items)?;
@@ -340,7 +342,7 @@ fn build(alloc: Global, items: &[Item<'_>]) -> Result<Command, AllocError>
 
 // `measure calculate`.
 fn calculate(alloc: Global, items: &[Item<'_>]) -> Result<Command, AllocError>
-    ensures { IfOk result (λ made. made ≡ filled Calculate (gathered Calculate (items_shown items.now))) }
+    ensures { IfOk result (λ made. made ≡ command_from Calculate (gathered Calculate (items_shown items.now))) }
 {
     let linux = required(alloc, items, "--linux")?;
     let files = file_parts(alloc, items)?;
@@ -351,7 +353,7 @@ fn calculate(alloc: Global, items: &[Item<'_>]) -> Result<Command, AllocError>
 
 // `measure image`.
 fn image(alloc: Global, items: &[Item<'_>]) -> Result<Command, AllocError>
-    ensures { IfOk result (λ made. made ≡ filled Image (gathered Image (items_shown items.now))) }
+    ensures { IfOk result (λ made. made ≡ command_from Image (gathered Image (items_shown items.now))) }
 {
     let file = operand(alloc, items, 0)?;
     let (banks, phases) = two_lists(alloc, items, "--bank", "--phase")?;
@@ -364,7 +366,7 @@ fn image(alloc: Global, items: &[Item<'_>]) -> Result<Command, AllocError>
 
 // `install`.
 fn install(alloc: Global, items: &[Item<'_>]) -> Result<Command, AllocError>
-    ensures { IfOk result (λ made. made ≡ filled Install (gathered Install (items_shown items.now))) }
+    ensures { IfOk result (λ made. made ≡ command_from Install (gathered Install (items_shown items.now))) }
 {
     Ok(Command::Install {
         file: operand(alloc, items, 0)?,
@@ -376,7 +378,7 @@ fn install(alloc: Global, items: &[Item<'_>]) -> Result<Command, AllocError>
 
 // `demo`.
 fn demo(alloc: Global, items: &[Item<'_>]) -> Result<Command, AllocError>
-    ensures { IfOk result (λ made. made ≡ filled Demo (gathered Demo (items_shown items.now))) }
+    ensures { IfOk result (λ made. made ≡ command_from Demo (gathered Demo (items_shown items.now))) }
 {
     Ok(Command::Demo {
         seed: operand(alloc, items, 0)?,
@@ -388,7 +390,7 @@ fn demo(alloc: Global, items: &[Item<'_>]) -> Result<Command, AllocError>
 fn operand_and_esp(alloc: Global, items: &[Item<'_>]) -> Result<(Text, Text), AllocError>
     ensures { IfOk {T = Word × Word} result (λ texts.
         (texts.0 ≡ slice_index_or (operands (items_shown items.now)) 0 [])
-        × (texts.1 ≡ esp_meant (λ option. last_value option (items_shown items.now)))) }
+        × (texts.1 ≡ esp_meant (λ option. last_option_value option (items_shown items.now)))) }
 {
     let text = operand(alloc, items, 0)?;
     let esp = esp(alloc, items)?;
@@ -399,7 +401,7 @@ fn operand_and_esp(alloc: Global, items: &[Item<'_>]) -> Result<(Text, Text), Al
 fn bless(alloc: Global, verb: BlessWord, items: &[Item<'_>]) -> Result<Command, AllocError>
     ensures { IfOk result (λ made. made ≡ Command.Bless verb
         (slice_index_or (operands (items_shown items.now)) 0 [])
-        (esp_meant (λ option. last_value option (items_shown items.now)))) }
+        (esp_meant (λ option. last_option_value option (items_shown items.now)))) }
 {
     let (path, esp) = operand_and_esp(alloc, items)?;
     Ok(Command::Bless { verb, path, esp })
@@ -407,7 +409,7 @@ fn bless(alloc: Global, verb: BlessWord, items: &[Item<'_>]) -> Result<Command, 
 
 // `bootctl unlink`.
 fn unlink(alloc: Global, items: &[Item<'_>]) -> Result<Command, AllocError>
-    ensures { IfOk result (λ made. made ≡ filled Unlink (gathered Unlink (items_shown items.now))) }
+    ensures { IfOk result (λ made. made ≡ command_from Unlink (gathered Unlink (items_shown items.now))) }
 {
     let (name, esp) = operand_and_esp(alloc, items)?;
     Ok(Command::Unlink { name, esp })
@@ -415,7 +417,7 @@ fn unlink(alloc: Global, items: &[Item<'_>]) -> Result<Command, AllocError>
 
 // `loader set-default`.
 fn loader_default(alloc: Global, items: &[Item<'_>]) -> Result<Command, AllocError>
-    ensures { IfOk result (λ made. made ≡ filled LoaderDefault (gathered LoaderDefault (items_shown items.now))) }
+    ensures { IfOk result (λ made. made ≡ command_from LoaderDefault (gathered LoaderDefault (items_shown items.now))) }
 {
     let (pattern, esp) = operand_and_esp(alloc, items)?;
     Ok(Command::LoaderDefault { pattern, esp })
@@ -423,7 +425,7 @@ fn loader_default(alloc: Global, items: &[Item<'_>]) -> Result<Command, AllocErr
 
 // `loader set-timeout`.
 fn loader_timeout(alloc: Global, items: &[Item<'_>]) -> Result<Command, AllocError>
-    ensures { IfOk result (λ made. made ≡ filled LoaderTimeout (gathered LoaderTimeout (items_shown items.now))) }
+    ensures { IfOk result (λ made. made ≡ command_from LoaderTimeout (gathered LoaderTimeout (items_shown items.now))) }
 {
     let (value, esp) = operand_and_esp(alloc, items)?;
     Ok(Command::LoaderTimeout { value, esp })
@@ -435,7 +437,7 @@ pub(crate) fn fill(
     command: CommandName,
     items: &[Item<'_>],
 ) -> Result<Command, AllocError>
-    ensures { IfOk result (λ made. made ≡ filled command (gathered command (items_shown items.now))) }
+    ensures { IfOk result (λ made. made ≡ command_from command (gathered command (items_shown items.now))) }
 {
     match command {
         CommandName::Build => build(alloc, items),

@@ -2,7 +2,7 @@
 ghost use Rattle.std.specs.Prelude.{◌≡◌, ◌≤◌, length, is_none, IfOk, IfSome};
 ghost use Rattle.pcr_fold.specs.Banks.{bank_named};
 ghost use Rattle.word_grammar.specs.Shown.{option_shown};
-ghost use Rattle.tool_words.specs.Items.{said, option_said, valued, option_of, without_value as value_missing, is_flag, are_banks};
+ghost use Rattle.tool_words.specs.Items.{word_meaning, option_said, valued, option_of, without_value as value_missing, is_flag, are_banks};
 ghost use Rattle.tool_words.specs.Answers.{Gives, IsReason};
 ghost use Rattle.tool_words.specs.Shown.{said_shown, next_shown, texts};
 ghost use Rattle.tool_words.specs.Steps.{opened, Steps};
@@ -107,7 +107,7 @@ pub(crate) fn read_word<'a>(
     command: CommandName,
     word: &'a str,
 ) -> Result<Said<'a>, WordsFault>
-    ensures { Gives said_shown result (said command word.now) }
+    ensures { Gives said_shown result (word_meaning command word.now) }
 {
     if word == "--" {
         return Ok(Said::Ends);

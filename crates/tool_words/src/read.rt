@@ -3,8 +3,8 @@ ghost use Rattle.std.specs.Prelude.{◌≡◌, find, length, option_map, MatchRe
 ghost use Rattle.std.specs.List.{list_any};
 ghost use Rattle.word_grammar.specs.Grammar.{row};
 ghost use Rattle.word_grammar.specs.Shown.{option_shown};
-ghost use Rattle.tool_words.specs.Items.{last_value, operands};
-ghost use Rattle.tool_words.specs.Meaning.{command_of, with_verb, are_too_long, is_long, is_missing, counted, all_required, gathered, meant, read_words, meaning};
+ghost use Rattle.tool_words.specs.Items.{last_option_value, operands};
+ghost use Rattle.tool_words.specs.Meaning.{command_of, with_verb, are_too_long, is_long, is_missing, counted, all_required, gathered, command_by_name, read_words, meaning};
 ghost use Rattle.tool_words.specs.Answers.{Gives, FaultIs};
 ghost use Rattle.tool_words.specs.Shown.{texts, items_shown, chosen_shown};
 
@@ -91,7 +91,7 @@ fn check_count(items: &[Item<'_>], wanted: usize) -> Result<(), UsageReason>
 }
 
 fn is_missing(items: &[Item<'_>], option: OptionRow) -> bool
-    ensures { result ≡ is_missing (λ text. last_value text (items_shown items.now)) (option_shown option) }
+    ensures { result ≡ is_missing (λ text. last_option_value text (items_shown items.now)) (option_shown option) }
 {
     matches!(option.takes, Takes::Required) && last_value(items, option.text).is_none()
 }
@@ -126,7 +126,7 @@ fn read_command(
     command: CommandName,
     words: &[String],
 ) -> Result<Command, WordsFault>
-    ensures { Gives (λ made. made) result (meant command (texts words.now)) }
+    ensures { Gives (λ made. made) result (command_by_name command (texts words.now)) }
 {
     let items = read_items(alloc, command, words)?;
     let items = items.as_slice();

@@ -7,12 +7,12 @@ use std::fmt;
 
 impl fmt::Display for UsageReason {
     ghost use Rattle.std.specs.Prelude.{Some};
-    ghost use Rattle.tool_words.specs.Reasons.{text_of};
+    ghost use Rattle.tool_words.specs.Reasons.{usage_reason_text};
 
-    ghost output = { λ reason. Some (text_of reason) };
+    ghost output = { λ reason. Some (usage_reason_text reason) };
 
     /// The text that stands after `usage: `.
-    #[tactic(auto, unfolding(crate::specs::Reasons::text_of))]
+    #[tactic(auto, unfolding(crate::specs::Reasons::usage_reason_text))]
     fn fmt<W: fmt::Write>(&self, f: &mut fmt::Formatter<W>) -> fmt::Result {
         match self {
             UsageReason::TooLong => write!(f, "too long"),
@@ -32,9 +32,9 @@ impl fmt::Display for UsageReason {
 }
 
 impl AppendText for UsageReason {
-    ghost use Rattle.tool_words.specs.Reasons.{text_of};
+    ghost use Rattle.tool_words.specs.Reasons.{usage_reason_text};
 
-    ghost text = { text_of };
+    ghost text = { usage_reason_text };
 
     /// The text that stands after `usage: `.
     fn append_to(&self, out: &mut Vec<u8>) -> Result<(), AllocError> {

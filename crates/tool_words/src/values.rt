@@ -2,7 +2,7 @@
 ghost use Rattle.std.specs.Prelude.{◌≡◌, [], ◌++◌, length, slice_index_or, IfOk, OnOk};
 ghost use Rattle.std.specs.List.{cons_option};
 ghost use Rattle.std.specs.Option.{option_copied};
-ghost use Rattle.tool_words.specs.Items.{value_in, operand_in, all_values, last_value, operands};
+ghost use Rattle.tool_words.specs.Items.{item_value, operand_in, all_values, last_option_value, operands};
 ghost use Rattle.tool_words.specs.Shown.{item_shown, items_shown};
 
 use crate::items::Item;
@@ -12,7 +12,7 @@ use std::alloc::{AllocError, Global};
 impl<'a> Item<'a> {
     // The value that the item gives the option.
     fn value_in(self, option: &str) -> Option<&'a str>
-        ensures { option_copied result ≡ value_in option.now (item_shown self.entry) }
+        ensures { option_copied result ≡ item_value option.now (item_shown self.entry) }
     {
         match self {
             Item::Value(text, value) if text == option => Some(value),
@@ -33,7 +33,7 @@ impl<'a> Item<'a> {
 
 /// The last value of the option. That of a flag is empty.
 pub(crate) fn last_value<'a>(items: &[Item<'a>], option: &str) -> Option<&'a str>
-    ensures { option_copied result ≡ last_value option.now (items_shown items.now) }
+    ensures { option_copied result ≡ last_option_value option.now (items_shown items.now) }
 {
     let mut last = None;
     for item in items {

@@ -6,32 +6,32 @@ use Rattle.std.proofs.lemmas.Grind.{common_steps, flat_map-append}
 use Rattle.std.proofs.lemmas.List.Sums.{fails_before_first}
 use Rattle.std.proofs.lemmas.List.Splits.{slice_split_first, slice_split_none}
 use Rattle.uki_parts.proofs.Cases.{lt_or_le}
-use Rattle.uki_parts.specs.Sbat.{is_newline, entries_of, sbat_entries, kept_lines, lines_text, merged_sbat, with_first_line, sbat_text}
+use Rattle.uki_parts.specs.Sbat.{is_sbat_newline, entries_among, sbat_entries, kept_lines, lines_text, merged_sbat, with_first_line, sbat_text}
 
 -- the entries by the first line and what is behind it
 abbrev pub entries_cut : List ℕ → List ℕ → List (List ℕ)
 entries_cut first rest = cond (starts_with nat_eq first (codes "sbat,")) (kept_lines rest) []
 
 abbrev first_newline : List ℕ → ℕ
-first_newline text = position_or_len is_newline text
+first_newline text = position_or_len is_sbat_newline text
 
-no_newline : (text : List ℕ) → length text ≤ first_newline text → slice_split is_newline text ≡ text ∷ []
-no_newline text none = slice_split_none is_newline text (λ k d lt. fails_before_first is_newline text k d (omega arith))
+no_newline : (text : List ℕ) → length text ≤ first_newline text → slice_split is_sbat_newline text ≡ text ∷ []
+no_newline text none = slice_split_none is_sbat_newline text (λ k d lt. fails_before_first is_sbat_newline text k d (omega arith))
 
 cut_none : (text : List ℕ) → length text ≤ first_newline text →
-    entries_of (slice_split is_newline text) ≡ entries_cut (before_first is_newline text) (after_first is_newline text)
+    entries_among (slice_split is_sbat_newline text) ≡ entries_cut (before_first is_sbat_newline text) (after_first is_sbat_newline text)
 cut_none text none =
-    let whole : before_first is_newline text ≡ text = grind (arith, common_steps) in
-    let empty : after_first is_newline text ≡ [] = grind (arith, common_steps) in
-    ap entries_of (no_newline text none)
+    let whole : before_first is_sbat_newline text ≡ text = grind (arith, common_steps) in
+    let empty : after_first is_sbat_newline text ≡ [] = grind (arith, common_steps) in
+    ap entries_among (no_newline text none)
     ∙ ap (λ rest. entries_cut text rest) (sym empty)
-    ∙ ap (λ first. entries_cut first (after_first is_newline text)) (sym whole)
+    ∙ ap (λ first. entries_cut first (after_first is_sbat_newline text)) (sym whole)
 
-pub entries_of-cut : (text : List ℕ) →
-    entries_of (slice_split is_newline text) ≡ entries_cut (before_first is_newline text) (after_first is_newline text)
-entries_of-cut text =
+pub entries_among-cut : (text : List ℕ) →
+    entries_among (slice_split is_sbat_newline text) ≡ entries_cut (before_first is_sbat_newline text) (after_first is_sbat_newline text)
+entries_among-cut text =
     elim (lt_or_le (first_newline text) (length text)) [
-      | inl below ↦ ap entries_of (slice_split_first is_newline text 0 below)
+      | inl below ↦ ap entries_among (slice_split_first is_sbat_newline text 0 below)
       | inr none ↦ cut_none text none
     ]
 
@@ -54,14 +54,14 @@ sbat_text-some (line ∷ more) h = refl
 
 -- the entries of a section by what was cut off it
 pub sbat_entries-cut : (section text first rest : List ℕ) (test : Bool) → text ≡ before_first (λ byte. byte == 0) section →
-    first ≡ before_first is_newline text → rest ≡ after_first is_newline text →
+    first ≡ before_first is_sbat_newline text → rest ≡ after_first is_sbat_newline text →
     test ≡ starts_with nat_eq first (codes "sbat,") → cond test (kept_lines rest) [] ≡ sbat_entries section
 sbat_entries-cut section text first rest test text_is first_is rest_is test_is =
     ap (λ b. cond b (kept_lines rest) []) test_is
     ∙ ap (λ r. entries_cut first r) rest_is
-    ∙ ap (λ f. entries_cut f (after_first is_newline text)) first_is
-    ∙ sym (entries_of-cut text)
-    ∙ ap (λ t. entries_of (slice_split is_newline t)) text_is
+    ∙ ap (λ f. entries_cut f (after_first is_sbat_newline text)) first_is
+    ∙ sym (entries_among-cut text)
+    ∙ ap (λ t. entries_among (slice_split is_sbat_newline t)) text_is
 
 -- all entries, in the order of their sections
 abbrev pub all_entries : List ℕ → List ℕ → List ℕ → List (List ℕ)

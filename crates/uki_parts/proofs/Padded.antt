@@ -11,7 +11,7 @@ use Rattle.std.proofs.lemmas.List.Sums.{sum_by-append, sum_by-cons}
 use Rattle.uki_parts.specs.declared.piece.Piece.{Piece}
 use Rattle.uki_parts.specs.declared.piece.Piece.TheVariants as pieces
 use Rattle.uki_parts.specs.Pieces.{Reading, HasSizes, piece_length, total_length, piece_bytes, bytes_of}
-use Rattle.uki_parts.specs.Initrds.{padding_of, padded_piece, joined_initrds, joined_length, padded_bytes, joined_bytes}
+use Rattle.uki_parts.specs.Initrds.{padding_of, padded_piece, joined_initrds, joined_length, padded_initrd, joined_bytes}
 
 pub joined_initrds-several : (files : List Piece) → 1 < length files → joined_initrds files ≡ flat_map padded_piece files
 joined_initrds-several [] h = refl
@@ -58,7 +58,7 @@ joined-bound (only ∷ []) = omega arith
 joined-bound (first ∷ second ∷ more) = flat_map-bound (first ∷ second ∷ more)
 
 -- bytes are filled up with what their length lacks
-filled_by : (bytes : List ℕ) (n : ℕ) → length bytes ≡ n → bytes ++ replicate (padding_of n) 0 ≡ padded_bytes bytes
+filled_by : (bytes : List ℕ) (n : ℕ) → length bytes ≡ n → bytes ++ replicate (padding_of n) 0 ≡ padded_initrd bytes
 filled_by bytes n size =
     let same : padding_of n ≡ next_multiple_of (length bytes) 4 - length bytes = grind arith in
     ap (λ k. bytes ++ replicate k 0) same
@@ -75,18 +75,18 @@ bytes_of-with_zeros files piece false some =
     ap (λ l. piece_bytes files piece ++ l) (append-nil (replicate (padding_of (piece_length piece)) 0))
 
 bytes_of-padded : (files : Reading) (piece : Piece) → length (piece_bytes files piece) ≡ piece_length piece →
-    bytes_of files (padded_piece piece) ≡ padded_bytes (piece_bytes files piece)
+    bytes_of files (padded_piece piece) ≡ padded_initrd (piece_bytes files piece)
 bytes_of-padded files piece size =
     bytes_of-with_zeros files piece (padding_of (piece_length piece) == 0) refl
     ∙ filled_by (piece_bytes files piece) (piece_length piece) size
 
 bytes_of-flat_map : (files : Reading) (initrds : List Piece) → HasSizes files initrds →
-    bytes_of files (flat_map padded_piece initrds) ≡ flat_map padded_bytes (map (piece_bytes files) initrds)
+    bytes_of files (flat_map padded_piece initrds) ≡ flat_map padded_initrd (map (piece_bytes files) initrds)
 bytes_of-flat_map files [] sizes = refl
 bytes_of-flat_map files (file ∷ initrds) sizes =
     flat_map-append (piece_bytes files) (padded_piece file) (flat_map padded_piece initrds)
     ∙ ap (λ l. l ++ bytes_of files (flat_map padded_piece initrds)) (bytes_of-padded files file (sizes 0 file (omega arith)))
-    ∙ ap (λ l. padded_bytes (piece_bytes files file) ++ l) (bytes_of-flat_map files initrds (All-tail (λ piece. length (piece_bytes files piece) ≡ piece_length piece) file initrds sizes))
+    ∙ ap (λ l. padded_initrd (piece_bytes files file) ++ l) (bytes_of-flat_map files initrds (All-tail (λ piece. length (piece_bytes files piece) ≡ piece_length piece) file initrds sizes))
 
 pub bytes_of-joined : (files : Reading) (initrds : List Piece) → HasSizes files initrds →
     bytes_of files (joined_initrds initrds) ≡ joined_bytes (map (piece_bytes files) initrds)

@@ -4,17 +4,17 @@ use Rattle.std.specs.List.{list_all, position_or_len}
 use Rattle.std.proofs.lemmas.List.{length-replicate}
 use Rattle.std.proofs.lemmas.Bool.Decides.{nat_tests}
 use Rattle.std.proofs.lemmas.Grind.{common_steps}
-use Rattle.uki_parts.specs.Names.{is_name_byte, is_section_name, named, name_bytes}
+use Rattle.uki_parts.specs.Names.{is_section_name_byte, is_section_name, padded_name, name_bytes}
 
-first_nul : (bytes : List ℕ) (n : ℕ) → list_all is_name_byte bytes ≡ true →
+first_nul : (bytes : List ℕ) (n : ℕ) → list_all is_section_name_byte bytes ≡ true →
     position_or_len (λ b. b == 0) (bytes ++ replicate n 0) ≡ length bytes
 first_nul [] zero h = refl
 first_nul [] (suc n) h = refl
 first_nul (x ∷ xs) n h = grind (arith, common_steps, first_nul xs n)
 
-name_bytes-named : (bytes : List ℕ) → length bytes ≤ 8 → list_all is_name_byte bytes ≡ true →
-    name_bytes (named bytes) ≡ bytes
-name_bytes-named bytes short h =
+name_bytes-padded_name : (bytes : List ℕ) → length bytes ≤ 8 → list_all is_section_name_byte bytes ≡ true →
+    name_bytes (padded_name bytes) ≡ bytes
+name_bytes-padded_name bytes short h =
     let first = first_nul bytes (8 - length bytes) h in
     let filled = length-replicate {A = ℕ} (8 - length bytes) 0 in
     grind (arith, common_steps, first, filled)
@@ -22,9 +22,9 @@ name_bytes-named bytes short h =
 within_eight : (text : List ℕ) → is_section_name text ≡ true → length text ≤ 8
 within_eight text h = grind (arith, common_steps, nat_tests)
 
-all_name_bytes : (text : List ℕ) → is_section_name text ≡ true → list_all is_name_byte text ≡ true
+all_name_bytes : (text : List ℕ) → is_section_name text ≡ true → list_all is_section_name_byte text ≡ true
 all_name_bytes text h = grind (arith, common_steps, nat_tests)
 
 -- what is read of a name is its text
-pub name_bytes-read : (text : List ℕ) → is_section_name text ≡ true → name_bytes (named text) ≡ text
-name_bytes-read text h = name_bytes-named text (within_eight text h) (all_name_bytes text h)
+pub name_bytes-read : (text : List ℕ) → is_section_name text ≡ true → name_bytes (padded_name text) ≡ text
+name_bytes-read text h = name_bytes-padded_name text (within_eight text h) (all_name_bytes text h)

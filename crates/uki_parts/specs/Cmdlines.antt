@@ -1,7 +1,7 @@
 -- Kernel command lines.
 use Rattle.std.specs.Prelude.{ℕ, ◌==◌, Bool, ◌||◌, List, filter}
 use Rattle.std.specs.List.{slice_split, join_with_byte}
-use Rattle.uki_parts.specs.Texts.{has_bytes}
+use Rattle.uki_parts.specs.Texts.{is_nonempty_text}
 
 -- a space, a tab, a newline, a carriage return, a vertical tab or a form feed
 abbrev pub is_whitespace : ℕ → Bool
@@ -9,7 +9,7 @@ is_whitespace byte = byte == 32 || byte == 9 || byte == 10 || byte == 13 || byte
 
 -- the words of a text, which whitespace parts
 abbrev pub words_of : List ℕ → List (List ℕ)
-words_of text = filter has_bytes (slice_split is_whitespace text)
+words_of text = filter is_nonempty_text (slice_split is_whitespace text)
 
 -- the words with a space between each two
 abbrev pub cleaned : List ℕ → List ℕ

@@ -29,11 +29,11 @@ joined_length (only ∷ []) = only
 joined_length (first ∷ second ∷ more) = sum_by (λ length. next_multiple_of length 4) (first ∷ second ∷ more)
 
 -- bytes filled up with zeros to a multiple of four
-abbrev pub padded_bytes : List ℕ → List ℕ
-padded_bytes bytes = bytes ++ replicate (next_multiple_of (length bytes) 4 - length bytes) 0
+abbrev pub padded_initrd : List ℕ → List ℕ
+padded_initrd bytes = bytes ++ replicate (next_multiple_of (length bytes) 4 - length bytes) 0
 
 -- the bytes of the joined initrds, by their bytes
 abbrev pub joined_bytes : List (List ℕ) → List ℕ
 joined_bytes [] = []
 joined_bytes (only ∷ []) = only
-joined_bytes (first ∷ second ∷ more) = flat_map padded_bytes (first ∷ second ∷ more)
+joined_bytes (first ∷ second ∷ more) = flat_map padded_initrd (first ∷ second ∷ more)

@@ -2,5 +2,5 @@
 use Rattle.std.specs.Prelude.{ℕ, ◌==◌, Bool, not, List, length}
 
 -- the text isn't empty
-abbrev pub has_bytes : List ℕ → Bool
-has_bytes text = not (length text == 0)
+abbrev pub is_nonempty_text : List ℕ → Bool
+is_nonempty_text text = not (length text == 0)

@@ -2,7 +2,7 @@
 
 ghost use Rattle.std.specs.Prelude.{◌≡◌, ◌==◌, ◌≤◌, length, IfSome, bytes_eq, codes};
 ghost use Rattle.std.specs.List.{list_all};
-ghost use Rattle.uki_parts.specs.Names.{is_name_byte, is_section_name, named, name_bytes, padded_bytes, read_name, fixed_name};
+ghost use Rattle.uki_parts.specs.Names.{is_section_name_byte, is_section_name, padded_name, name_bytes, padded_bytes, read_name, fixed_name};
 
 use crate::kind::PartKind;
 use boot_base::short_name;
@@ -53,7 +53,7 @@ impl SectionName {
     // The name with these bytes.
     fn named(bytes: &[u8]) -> SectionName
         requires { length bytes.now ≤ 8 }
-        ensures { result ≡ named bytes.now }
+        ensures { result ≡ padded_name bytes.now }
     {
         let mut padded = [0; 8];
         padded[..bytes.len()].copy_from_slice(bytes);
@@ -75,13 +75,13 @@ fn is_sbat(text: &[u8]) -> bool
 }
 
 fn has_name_bytes(text: &[u8]) -> bool
-    ensures { result ≡ list_all is_name_byte text.now }
+    ensures { result ≡ list_all is_section_name_byte text.now }
 {
     text.iter().all(|byte| is_name_byte(*byte))
 }
 
 fn is_name_byte(byte: u8) -> bool
-    ensures { result ≡ is_name_byte byte }
+    ensures { result ≡ is_section_name_byte byte }
 {
     (0x21..=0x7E).contains(&byte) && byte != b':'
 }

@@ -2,7 +2,7 @@
 
 ghost use Rattle.std.specs.Prelude.{◌≡◌, ◌==◌, ◌∷◌, [], ◌++◌, IfOk, OnOk};
 ghost use Rattle.std.specs.List.{before_first, after_first};
-ghost use Rattle.uki_parts.specs.Sbat.{merged_sbat, with_first_line, lines_text, sbat_entries, entries_of, kept_lines, is_newline};
+ghost use Rattle.uki_parts.specs.Sbat.{merged_sbat, with_first_line, lines_text, sbat_entries, entries_among, kept_lines, is_sbat_newline};
 
 use crate::text::{before, length_before};
 use std::alloc::{AllocError, Global};
@@ -58,8 +58,8 @@ fn append_entries(entries: &mut Vec<u8>, section: &[u8]) -> Result<(), AllocErro
 
 // The first line, and what stands behind its newline.
 fn cut_at_newline(text: &[u8]) -> (&[u8], &[u8])
-    ensures first { result.0.now ≡ before_first is_newline text.now }
-    ensures rest { result.1.now ≡ after_first is_newline text.now }
+    ensures first { result.0.now ≡ before_first is_sbat_newline text.now }
+    ensures rest { result.1.now ≡ after_first is_sbat_newline text.now }
 {
     let end = length_before(text, b'\n');
     let next = (end + 1).min(text.len());

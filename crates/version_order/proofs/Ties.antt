@@ -7,7 +7,7 @@ use Rattle.std.specs.Ordering.{nat_cmp, ordering_then}
 use Rattle.std.specs.declared.cmp.Ordering.{Ordering}
 use Rattle.std.specs.declared.cmp.Ordering.TheVariants.{Less, Equal, Greater}
 use Rattle.version_order.specs.Tokens.{Token, Tilde, End, Hyphen, Caret, Dot, Letters, Number, tokens_of}
-use Rattle.version_order.specs.Order.{rank_of, letters_of, number_of, token_cmp, to_end, tokens_cmp}
+use Rattle.version_order.specs.Order.{rank_of, letters_of, token_number, token_cmp, to_end, tokens_cmp}
 use Rattle.version_order.specs.Laws.{EqualTokens, FirstDifference, token_cmp_total, tokens_cmp_total}
 
 -- a token from its place, its letters and its number
@@ -16,7 +16,7 @@ token_from rank letters number =
     cond (rank == 0) Tilde (cond (rank == 1) End (cond (rank == 2) Hyphen (cond (rank == 3) Caret
     (cond (rank == 4) Dot (cond (rank == 5) (Letters letters) (Number number))))))
 
-token_from-parts : (x : Token) → token_from (rank_of x) (letters_of x) (number_of x) ≡ x
+token_from-parts : (x : Token) → token_from (rank_of x) (letters_of x) (token_number x) ≡ x
 token_from-parts Tilde = refl
 token_from-parts End = refl
 token_from-parts Hyphen = refl
@@ -51,10 +51,10 @@ token_cmp-Equal x y e =
     let rest = both_equal (slice_cmp nat_cmp (letters_of x) (letters_of y)) _ parts.1 in
     let rank = nat_cmp-Equal (rank_of x) (rank_of y) parts.0 in
     let letters = slice_cmp-Equal nat_cmp nat_cmp-Equal (letters_of x) (letters_of y) rest.0 in
-    let number = nat_cmp-Equal (number_of x) (number_of y) rest.1 in
+    let number = nat_cmp-Equal (token_number x) (token_number y) rest.1 in
     sym (token_from-parts x)
-    ∙ ap (λ r. token_from r (letters_of x) (number_of x)) rank
-    ∙ ap (λ l. token_from (rank_of y) l (number_of x)) letters
+    ∙ ap (λ r. token_from r (letters_of x) (token_number x)) rank
+    ∙ ap (λ l. token_from (rank_of y) l (token_number x)) letters
     ∙ ap (λ n. token_from (rank_of y) (letters_of y) n) number
     ∙ token_from-parts y
 

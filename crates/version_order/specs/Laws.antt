@@ -4,7 +4,7 @@ use Rattle.std.specs.Cmp.{IsTotalOrder}
 use Rattle.std.specs.declared.cmp.Ordering.TheVariants.{Equal}
 use Rattle.std.proofs.lemmas.Cmp.{nat_cmp_total, nat_list_cmp_total, on_total, then_total, lists_total}
 use Rattle.version_order.specs.Tokens.{Token, tokens_of}
-use Rattle.version_order.specs.Order.{rank_of, letters_of, number_of, token_cmp, to_end, tokens_cmp, version_cmp}
+use Rattle.version_order.specs.Order.{rank_of, letters_of, token_number, token_cmp, to_end, tokens_cmp, version_cmp}
 
 -- no two versions are equal in the order but those of which no token differs
 abbrev pub EqualTokens : Type 0
@@ -22,7 +22,7 @@ FirstDifference =
 pub token_cmp_total : IsTotalOrder token_cmp
 token_cmp_total =
     then_total (on_total rank_of nat_cmp_total)
-    (then_total (on_total letters_of nat_list_cmp_total) (on_total number_of nat_cmp_total))
+    (then_total (on_total letters_of nat_list_cmp_total) (on_total token_number nat_cmp_total))
 
 pub tokens_cmp_total : IsTotalOrder tokens_cmp
 tokens_cmp_total = on_total to_end (lists_total token_cmp_total)

@@ -35,6 +35,6 @@ abbrev pub significant : List ℕ → List ℕ
 significant digits = drop (prefix_len is_zero digits) digits
 
 -- the text begins with the lexeme, after bytes that only separate, and goes on with the rest; the end has no rest
-abbrev pub BeginsWith : List ℕ → Lexeme → List ℕ → Type 0
-BeginsWith text End rest = tokens_of text ≡ []
-BeginsWith text lexeme rest = (tokens_of text ≡ token_of lexeme ∷ tokens_of rest) × (length rest < length text)
+abbrev pub HasFirstLexeme : List ℕ → Lexeme → List ℕ → Type 0
+HasFirstLexeme text End rest = tokens_of text ≡ []
+HasFirstLexeme text lexeme rest = (tokens_of text ≡ token_of lexeme ∷ tokens_of rest) × (length rest < length text)

@@ -26,18 +26,18 @@ letters_of (Letters run) = run
 letters_of (Number n) = []
 
 -- the number of a run of digits
-abbrev pub number_of : Token → ℕ
-number_of Tilde = 0
-number_of End = 0
-number_of Hyphen = 0
-number_of Caret = 0
-number_of Dot = 0
-number_of (Letters run) = 0
-number_of (Number n) = n
+abbrev pub token_number : Token → ℕ
+token_number Tilde = 0
+token_number End = 0
+token_number Hyphen = 0
+token_number Caret = 0
+token_number Dot = 0
+token_number (Letters run) = 0
+token_number (Number n) = n
 
 -- tokens go by their kind, then two runs of letters by their bytes, two runs of digits by their numbers
 abbrev pub token_cmp : Token → Token → Ordering
-token_cmp = then_cmp (on rank_of nat_cmp) (then_cmp (on letters_of (slice_cmp nat_cmp)) (on number_of nat_cmp))
+token_cmp = then_cmp (on rank_of nat_cmp) (then_cmp (on letters_of (slice_cmp nat_cmp)) (on token_number nat_cmp))
 
 -- the tokens with the end as the last of them
 abbrev pub to_end : List Token → List Token

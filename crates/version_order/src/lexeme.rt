@@ -6,7 +6,7 @@ ghost use Rattle.std.specs.Ordering.{nat_cmp};
 ghost use Rattle.std.specs.Str.Parse.{AllDigits, digits_value};
 ghost use Rattle.version_order.specs.Order.{token_cmp, rank_of};
 ghost use Rattle.version_order.specs.Tokens.{tokens_of};
-ghost use Rattle.version_order.specs.Lexemes.{token_of, IsLexeme, is_of_token, is_zero, significant, BeginsWith};
+ghost use Rattle.version_order.specs.Lexemes.{token_of, IsLexeme, is_of_token, is_zero, significant, HasFirstLexeme};
 
 use std::cmp::Ordering;
 
@@ -31,7 +31,7 @@ pub enum Lexeme<'a> {
 
 /// The first lexeme of a version and the text behind it.
 pub fn first_lexeme(text: &[u8]) -> (Lexeme<'_>, &[u8])
-    ensures begins { BeginsWith text.now result.0 result.1.now }
+    ensures begins { HasFirstLexeme text.now result.0 result.1.now }
     ensures lexeme { IsLexeme result.0 }
 {
     let text = after_separators(text);

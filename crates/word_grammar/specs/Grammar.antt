@@ -125,8 +125,8 @@ commands =
     ∷ []
 
 -- the command is called so
-abbrev pub is_named : Word → CommandName → Bool
-is_named word c = bytes_eq (row c).name word
+abbrev pub is_name_of : Word → CommandName → Bool
+is_name_of word c = bytes_eq (row c).name word
 
 abbrev pub is_verb : Option Word → Word → Bool
 is_verb None word = false

@@ -1,11 +1,11 @@
 -- The tables are a grammar: what is found by words is what has them.
 use Rattle.std.specs.Prelude.{◌≡◌, map, Option, None, Some, is_some, find, MatchOption, IfSome}
 use Rattle.word_grammar.specs.declared.grammar.CommandName.{CommandName}
-use Rattle.word_grammar.specs.Grammar.{Word, row, commands, is_named, is_verbed, is_text_of}
+use Rattle.word_grammar.specs.Grammar.{Word, row, commands, is_name_of, is_verbed, is_text_of}
 
 -- the first command with these words
 abbrev pub with_words : Word → Option Word → Option CommandName
-with_words name None = find (is_named name) commands
+with_words name None = find (is_name_of name) commands
 with_words name (Some verb) = find (is_verbed name verb) commands
 
 -- each command is found by its own words, so no two have the same
@@ -18,4 +18,4 @@ TextsFindTheirOption = (c : CommandName) → map (λ option. find (is_text_of op
 
 -- a command has a verb where the first command of its name has one
 abbrev pub NamesHaveVerbsOrNone : Type 0
-NamesHaveVerbsOrNone = (c : CommandName) → IfSome (find (is_named (row c).name) commands) (λ first. is_some (row first).verb ≡ is_some (row c).verb)
+NamesHaveVerbsOrNone = (c : CommandName) → IfSome (find (is_name_of (row c).name) commands) (λ first. is_some (row first).verb ≡ is_some (row c).verb)

@@ -1,6 +1,6 @@
 //! The table of the commands and their options.
 ghost use Rattle.std.specs.Prelude.{◌≡◌, find, map, option_map};
-ghost use Rattle.word_grammar.specs.Grammar.{is_text_of, is_named, is_verbed, commands, row, verbed as verbed_row, alone as alone_row};
+ghost use Rattle.word_grammar.specs.Grammar.{is_text_of, is_name_of, is_verbed, commands, row, verbed as verbed_row, alone as alone_row};
 ghost use Rattle.word_grammar.specs.Shown.{row_shown, option_shown};
 
 /// A command, with its verb where it has one.
@@ -232,7 +232,7 @@ static COMMANDS: &[CommandName] = &[
 impl CommandName {
     /// The first command of the table that the word names.
     pub fn named(word: &str) -> Option<CommandName>
-        ensures { result ≡ find (is_named word.now) commands }
+        ensures { result ≡ find (is_name_of word.now) commands }
     {
         COMMANDS
             .iter()

@@ -6,7 +6,7 @@ use Rattle.std.proofs.lemmas.List.{map-append, length-map}
 use Rattle.std.proofs.lemmas.List.Sums.{count_by-le-length}
 use Rattle.std.proofs.lemmas.List.Splits.{length-slice_split}
 use Rattle.std.specs.List.{slice_split}
-use Rattle.boot_run.specs.Asked.{is_newline, is_passed_over, lines_from}
+use Rattle.boot_run.specs.Asked.{is_passed_over, is_script_newline, lines_from}
 use Rattle.boot_run.proofs.ScriptLines.{with_piece, without_piece}
 use Rattle.boot_run.proofs.script.script_lines.Goals as goal
 
@@ -38,9 +38,9 @@ loop-piece-preserved c bound =
 pub returns : goal.returns
 returns c =
     let yielded = c.loop-piece.yielded in
-    let pieces : map (λ (piece : Bor (List ℕ)). piece.now) yielded ≡ slice_split is_newline c.args.bytes.now =
+    let pieces : map (λ (piece : Bor (List ℕ)). piece.now) yielded ≡ slice_split is_script_newline c.args.bytes.now =
     (YieldsList-end
-    (YieldsList-from_slice_split _ is_newline c.args.bytes.now (search rules) (search rules) (search rules) (λ x b q k. search (rules, tests)))
+    (YieldsList-from_slice_split _ is_script_newline c.args.bytes.now (search rules) (search rules) (search rules) (λ x b q k. search (rules, tests)))
     yielded _ c.loop-piece.yielded_by _ c.next.new.self c.in-None.is c.next.ensures.steps).0 in
-    let few : length yielded < 2 ^ 64 = omega (arith, sym (length-map yielded (λ (piece : Bor (List ℕ)). piece.now)), ap length pieces, length-slice_split is_newline c.args.bytes.now, count_by-le-length is_newline c.args.bytes.now, c.requires) in
+    let few : length yielded < 2 ^ 64 = omega (arith, sym (length-map yielded (λ (piece : Bor (List ℕ)). piece.now)), ap length pieces, length-slice_split is_script_newline c.args.bytes.now, count_by-le-length is_script_newline c.args.bytes.now, c.requires) in
     (c.loop-piece.invariant few).1 ∙ ap (lines_from 1) pieces

@@ -2,7 +2,7 @@ use Rattle.std.proofs.Common.{◌≡◌, true, List, Err, map, string_bytes, ref
 use Rattle.tool_words.specs.Answers.{FaultIs}
 use Rattle.tool_words.specs.Meaning.{meaning}
 use Rattle.boot_machine.proofs.Seeing.{sees}
-use Rattle.boot_run.specs.Asked.{lines_for, lines_of}
+use Rattle.boot_run.specs.Asked.{lines_for, lines_to_run}
 use Rattle.boot_run.specs.RunBy.{CleanBehind, RunsBy, RunsLines}
 use Rattle.boot_machine.specs.Disk.{IsRested, State}
 use Rattle.boot_run.specs.Endings.{AllTidied, AtEnd, ended_by}
@@ -17,7 +17,7 @@ use Rattle.boot_run.proofs.top.run_to_end.Goals as goal
 pub returns-in-Ok-clause-runs : goal.returns-in-Ok-clause-runs
 returns-in-Ok-clause-runs g c told =
     let old = c.args.machine.now in
-    subst (λ meant. RunsBy g.M.Machine.clock g.M.Machine.since g.M.Machine.state (lines_of (g.M.Machine.state old).input meant) old c.run_command.new.machine c.of_lines.result) (sym c.in-Ok.ensures)
+    subst (λ meant. RunsBy g.M.Machine.clock g.M.Machine.since g.M.Machine.state (lines_to_run (g.M.Machine.state old).input meant) old c.run_command.new.machine c.of_lines.result) (sym c.in-Ok.ensures)
     (λ firm. subst (RunsLines g.M.Machine.clock g.M.Machine.since g.M.Machine.state old c.run_command.new.machine (lines_for (g.M.Machine.state old).input c.in-Ok.command)) (sym c.of_lines.ensures)
     (runs_lines g.M.Machine.clock g.M.Machine.since g.M.Machine.state old c.run_command.new.machine _ c.run_command.result (g.met.M.Machine.sound c.run_command.new.machine told) (c.run_command.ensures.synced told firm) (c.run_command.ensures.runs told firm)))
 

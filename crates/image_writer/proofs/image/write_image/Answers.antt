@@ -4,7 +4,7 @@ use Rattle.boot_machine.specs.Disk.{view}
 use Rattle.boot_machine.specs.Rows.{contents}
 use Rattle.pe_reader.specs.declared.head.Head.{Head}
 use Rattle.pe_builder.specs.Known.{planned_before, planned_stub_length}
-use Rattle.image_writer.specs.Chunks.{behind_stub, stub_bytes}
+use Rattle.image_writer.specs.Chunks.{behind_stub, new_stub_bytes}
 use Rattle.image_writer.specs.Sourced.{new_sbat, part_list, parts_bytes, stub_path}
 use Rattle.install_steps.specs.AppendLaws.{appends_on, appends-there, appends-source, contents-view, grown_as, grown_from_none, ok_then}
 use Rattle.image_writer.proofs.Assembled.{aligned, finished_bytes}
@@ -32,5 +32,5 @@ returns-clause-image g c = ok_then c.write_parts.result c.write_parts.ensures.gr
     ap (λ (head : Head). behind_stub files head.file_alignment c.stub_length-stub_length.result c.parts.result.now) c.stub_head.ensures
     ∙ ap (λ (n : ℕ). behind_stub files (planned_before plan).file_alignment n c.parts.result.now) c.stub_length-stub_length.ensures
     ∙ ap (behind_stub files (planned_before plan).file_alignment (planned_stub_length plan)) c.parts.ensures.items in
-    grown_from_none _ _ _ _ _ _ _ (c.requires.empty told) (grown_as _ _ _ _ _ (ap (λ (l : List ℕ). stub_bytes plan l (new_sbat sources)) (sym (contents-view m (stub_path sources) c.know.ensures))) (c.in_ok-write_stub.ensures.grows told)) back same
+    grown_from_none _ _ _ _ _ _ _ (c.requires.empty told) (grown_as _ _ _ _ _ (ap (λ (l : List ℕ). new_stub_bytes plan l (new_sbat sources)) (sym (contents-view m (stub_path sources) c.know.ensures))) (c.in_ok-write_stub.ensures.grows told)) back same
     ∙ finished_bytes plan stub (new_sbat sources) files (part_list sources) is.plan_is is.pieced h sizes in_place reads plans len)

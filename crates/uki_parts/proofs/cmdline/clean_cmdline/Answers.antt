@@ -3,14 +3,14 @@ use Rattle.std.proofs.lemmas.List.{map-append}
 use Rattle.std.proofs.lemmas.Iterator.Consumers.{YieldsList-end}
 use Rattle.std.proofs.lemmas.Iterator.Splits.{YieldsList-from_slice_split}
 use Rattle.uki_parts.specs.Cmdlines.{is_whitespace}
-use Rattle.uki_parts.specs.Texts.{has_bytes}
+use Rattle.uki_parts.specs.Texts.{is_nonempty_text}
 use Rattle.uki_parts.proofs.Joined.{joined, adding, joined-kept}
 use Rattle.uki_parts.proofs.cmdline.clean_cmdline.Goals as goal
 
 pub loop-word-preserved-in-Continue-1 : goal.loop-word-preserved-in-Continue-1
 loop-word-preserved-in-Continue-1 c =
     let word = c.in-Some.word.now in
-    let kept : has_bytes word ≡ true = grind (arith, c.is_empty.ensures, c.if-not-is_empty.true) in
+    let kept : is_nonempty_text word ≡ true = grind (arith, c.is_empty.ensures, c.if-not-is_empty.true) in
     c.in_ok-append_word.ensures
     ∙ ap (λ text. adding text word) c.loop-word.invariant
     ∙ sym (joined-kept (map (λ x. x.now) c.loop-word.yielded) word kept)
