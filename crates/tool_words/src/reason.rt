@@ -1,9 +1,34 @@
 //! The printed texts of the reasons.
+ghost use Rattle.std.specs.Prelude.{◌≡◌, ◌++◌};
+ghost use Rattle.tool_words.specs.Reasons.{usage_reason_text};
 
 use crate::fault::UsageReason;
 use boot_base::AppendText;
 use std::alloc::AllocError;
 use std::fmt;
+
+impl UsageReason {
+    // The words before the one that the reason is about, that one, and the words after it.
+    #[tactic(auto, unfolding(crate::specs::Reasons::usage_reason_text))]
+    fn pieces(&self) -> (&str, &str, &str)
+        ensures { result.0.now ++ (result.1.now ++ result.2.now) ≡ usage_reason_text self.now }
+    {
+        match self {
+            UsageReason::TooLong => ("too long", "", ""),
+            UsageReason::NoCommand => ("no command", "", ""),
+            UsageReason::UnknownCommand { word } => ("unknown command ", word.as_str(), ""),
+            UsageReason::NoVerb => ("no verb", "", ""),
+            UsageReason::UnknownVerb { word } => ("unknown verb ", word.as_str(), ""),
+            UsageReason::UnknownOption { word } => ("unknown option ", word.as_str(), ""),
+            UsageReason::NeedsValue { word } => ("", word.as_str(), " needs a value"),
+            UsageReason::TakesNoValue { word } => ("", word.as_str(), " takes no value"),
+            UsageReason::UnknownBank { word } => ("unknown bank ", word.as_str(), ""),
+            UsageReason::TooFew => ("too few operands", "", ""),
+            UsageReason::TooMany => ("too many operands", "", ""),
+            UsageReason::Required { word } => ("", word.as_str(), " is required"),
+        }
+    }
+}
 
 impl fmt::Display for UsageReason {
     ghost use Rattle.std.specs.Prelude.{Some};
@@ -12,22 +37,9 @@ impl fmt::Display for UsageReason {
     ghost output = { λ reason. Some (usage_reason_text reason) };
 
     /// The text that stands after `usage: `.
-    #[tactic(auto, unfolding(crate::specs::Reasons::usage_reason_text))]
     fn fmt<W: fmt::Write>(&self, f: &mut fmt::Formatter<W>) -> fmt::Result {
-        match self {
-            UsageReason::TooLong => write!(f, "too long"),
-            UsageReason::NoCommand => write!(f, "no command"),
-            UsageReason::UnknownCommand { word } => write!(f, "unknown command {word}"),
-            UsageReason::NoVerb => write!(f, "no verb"),
-            UsageReason::UnknownVerb { word } => write!(f, "unknown verb {word}"),
-            UsageReason::UnknownOption { word } => write!(f, "unknown option {word}"),
-            UsageReason::NeedsValue { word } => write!(f, "{word} needs a value"),
-            UsageReason::TakesNoValue { word } => write!(f, "{word} takes no value"),
-            UsageReason::UnknownBank { word } => write!(f, "unknown bank {word}"),
-            UsageReason::TooFew => write!(f, "too few operands"),
-            UsageReason::TooMany => write!(f, "too many operands"),
-            UsageReason::Required { word } => write!(f, "{word} is required"),
-        }
+        let (before, word, after) = self.pieces();
+        write!(f, "{before}{word}{after}")
     }
 }
 
