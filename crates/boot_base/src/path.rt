@@ -482,7 +482,9 @@ fn counts(component: &str) -> bool
 }
 
 fn add(text: &mut String, component: &str) -> Result<(), AllocError>
-    ensures { OnOk result (string_bytes text.new ≡ (if length (string_bytes text.old) == 0 then component.now else string_bytes text.old ++ (47 ∷ component.now))) }
+    ensures { OnOk result (string_bytes text.new
+        ≡ (if length (string_bytes text.old) == 0 then component.now
+        else string_bytes text.old ++ (47 ∷ component.now))) }
 {
     if !text.is_empty() {
         text.push('/')?;

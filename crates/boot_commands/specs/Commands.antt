@@ -1,5 +1,5 @@
--- What each command that is a step of a run comes to on a view, and what it does to a machine. `script` is none: it is the
--- lines of standard input.
+-- What each command that is a step of a run comes to on a view, and what it does to a machine. `script` is none: it is
+-- the lines of standard input.
 use Rattle.std.specs.Prelude.{◌≢◌, Option, Some, Result, MatchResult}
 use Rattle.boot_machine.specs.Disk.{Files, State}
 use Rattle.tool_words.specs.declared.command.Command.{Command}

@@ -18,7 +18,9 @@ abbrev pub headers : List ℕ
 headers = fold with_number [] HEADERS
 
 abbrev pub osrel_text : ℕ → List ℕ
-osrel_text digit = codes "ID=demo\nPRETTY_NAME=\"Demo " ++ (decimal digit ++ (codes "\"\nVERSION_ID=" ++ (decimal digit ++ codes "\n")))
+osrel_text digit =
+    codes "ID=demo\nPRETTY_NAME=\"Demo " ++ (decimal digit
+    ++ (codes "\"\nVERSION_ID=" ++ (decimal digit ++ codes "\n")))
 
 abbrev pub demo_image : ℕ → List ℕ
 demo_image digit = with_zeros (with_zeros (with_zeros headers 1024 ++ osrel_text digit) 1536 ++ codes "abc") 2048

@@ -28,7 +28,8 @@ is_long_number word = not (length word == 0) && nat_le (length word) 20 && list_
 -- the number that a word writes with 1 to 20 digits, up to a limit
 -- the number that such a word writes, below 2^64
 abbrev pub long_number : List ℕ → Option ℕ
-long_number word = if is_long_number word && nat_lt (digits_value 10 word) (2 ^ 64) then Some (digits_value 10 word) else None
+long_number word =
+    if is_long_number word && nat_lt (digits_value 10 word) (2 ^ 64) then Some (digits_value 10 word) else None
 
 -- the number, up to a limit
 abbrev pub number_or : ℕ → List ℕ → Option ℕ → Result ℕ Refusal
@@ -38,8 +39,8 @@ number_or limit word (Some number) = if nat_le number limit then Ok number else 
 abbrev pub number_up_to : ℕ → List ℕ → Result ℕ Refusal
 number_up_to limit word = number_or limit word (long_number word)
 
--- how far it has come: the generator's number, the path that is blessed, how many commands were done and refused, and the
--- boot files
+-- how far it has come: the generator's number, the path that is blessed, how many commands were done and refused, and
+-- the boot files
 pub record DemoState : Type 0 where
   pub number : ℕ
   pub entry : List ℕ
@@ -55,7 +56,8 @@ abbrev pub demo_name : ℕ → List ℕ
 demo_name digit = codes "demo-" ++ decimal digit
 
 abbrev pub drawn_install : ℕ → ℕ → Command
-drawn_install image name = command.Install (codes "u" ++ (decimal image ++ codes ".efi")) (demo_name name) (Some (codes "3")) demo_esp
+drawn_install image name =
+    command.Install (codes "u" ++ (decimal image ++ codes ".efi")) (demo_name name) (Some (codes "3")) demo_esp
 
 -- what a draw below 8 stands for, with draws below 4 for an image and a name
 abbrev pub drawn_command : ℕ → ℕ → ℕ → List ℕ → Command
@@ -99,7 +101,8 @@ third_number number = next_number (next_number (next_number number))
 -- the command that three draws stand for, from that number of the generator on
 abbrev pub next_command : ℕ → List ℕ → Command
 next_command number entry =
-    drawn_command (drawn (next_number number) 8) (drawn (next_number (next_number number)) 4) (drawn (third_number number) 4) entry
+    drawn_command (drawn (next_number number) 8) (drawn (next_number (next_number number)) 4)
+    (drawn (third_number number) 4) entry
 
 -- a turn: three draws, and the command that they stand for
 abbrev pub demo_turn : DemoState → DemoState
@@ -112,13 +115,21 @@ demo_turns (suc turns) state = demo_turn (demo_turns turns state)
 
 -- the files that it begins with
 abbrev pub demo_entries : List (Path × List ℕ)
-demo_entries = (codes "u0.efi", demo_image 0) ∷ (codes "u1.efi", demo_image 1) ∷ (codes "u2.efi", demo_image 2) ∷ (codes "u3.efi", demo_image 3) ∷ []
+demo_entries =
+    (codes "u0.efi", demo_image 0) ∷ (codes "u1.efi", demo_image 1) ∷ (codes "u2.efi", demo_image 2)
+    ∷ (codes "u3.efi", demo_image 3) ∷ []
 
 abbrev pub demo_files : Files
 demo_files = maps.from_entries demo_entries
 
 abbrev pub demo_start : ℕ → DemoState
-demo_start seed = record { number = seed; entry = codes "/EFI/Linux/none+1.efi"; done = 0; refused = 0; files = view demo_files }
+demo_start seed = record {
+  number = seed;
+  entry = codes "/EFI/Linux/none+1.efi";
+  done = 0;
+  refused = 0;
+  files = view demo_files;
+}
 
 -- what `bootctl list` prints on Out
 abbrev pub listed_on_out : Answer → List ℕ
@@ -138,8 +149,11 @@ end_lines files list = codes "files " ++ (decimal files ++ (codes "\nlist " ++ (
 
 -- the five lines
 abbrev pub demo_text : ℕ → ℕ → DemoState → List ℕ
-demo_text seed count state = run_line seed count ++ count_lines state.done state.refused ++ end_lines (maps.len state.files) (list_digest state.files)
+demo_text seed count state =
+    run_line seed count ++ count_lines state.done state.refused
+    ++ end_lines (maps.len state.files) (list_digest state.files)
 
 abbrev pub demo_said : List ℕ → List ℕ → Result (List ℕ) Refusal
 demo_said seed count =
-    number_up_to 18446744073709551615 seed >>= λ seed. number_up_to 10000 count >>= λ count. Ok (demo_text seed count (demo_turns count (demo_start seed)))
+    number_up_to 18446744073709551615 seed >>= λ seed. number_up_to 10000 count
+    >>= λ count. Ok (demo_text seed count (demo_turns count (demo_start seed)))

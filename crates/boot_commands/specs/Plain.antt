@@ -1,5 +1,5 @@
--- What each command but `script` and `demo` comes to on a view: the first refusal that holds, in the order of its row, or
--- what it does.
+-- What each command but `script` and `demo` comes to on a view: the first refusal that holds, in the order of its row,
+-- or what it does.
 use Rattle.std.specs.Prelude.{Bool, true, false, not, ◌||◌, Option, Some, None}
 use Rattle.boot_base.specs.declared.refusal.Refusal.TheVariants as refusals
 use Rattle.boot_machine.specs.Disk.{Files}

@@ -113,7 +113,8 @@ fn start(alloc: Global, seed: u64) -> Result<Demo, AllocError>
 fn listing(alloc: Global, machine: &mut MemMachine) -> Result<Reply, AllocError>
     requires ready { IsReady (mem_state machine.old) }
     ensures { IfOk result (λ reply.
-        reply_answer reply (seen (mem_state machine.new)) ≡ plain_reply (seen (mem_state machine.old)) (ListCommand demo_esp)) }
+        reply_answer reply (seen (mem_state machine.new))
+        ≡ plain_reply (seen (mem_state machine.old)) (ListCommand demo_esp)) }
 {
     let esp = Text::of(alloc, ESP)?;
     reply_of(alloc, &Command::List { esp }, machine)
@@ -196,8 +197,8 @@ fn demo_said(alloc: Global, seed: &str, count: &str) -> Result<Vec<u8>, Unsaid>
     Ok(demonstrate(alloc, seed, count)?)
 }
 
-/// The plan of a demonstration, which reads and changes nothing of the machine that is told of it: its five lines, or the
-/// refusal of a word.
+/// The plan of a demonstration, which reads and changes nothing of the machine that is told of it: its five lines, or
+/// the refusal of a word.
 pub fn plan_demo(alloc: Global, seed: &str, count: &str) -> Result<Plan, Stop>
     ensures plans { IfOk result (λ plan. (s : State)
         → Plans s plan (answer_of_read (seen s) (demo_said seed.now count.now))) }

@@ -4,8 +4,8 @@ ghost use Rattle.boot_commands.specs.DemoImages.{demo_image, osrel_text, with_nu
 
 use std::alloc::{AllocError, Global};
 
-/// The headers of a PE32+ image for x86-64 (PE/COFF) of three sections, but for their zeros: places in the file, in bytes,
-/// and the numbers of four bytes there.
+/// The headers of a PE32+ image for x86-64 (PE/COFF) of three sections, but for their zeros: places in the file, in
+/// bytes, and the numbers of four bytes there.
 const HEADERS: [(usize, u32); 34] = [
     // the signature of the DOS header, the place of the PE signature, and that signature
     (0, 0x5A4D),

@@ -161,7 +161,8 @@ impl Demo {
         requires done { self.old.done < 2 ^ 63 }
         requires refused { self.old.refused < 2 ^ 63 }
         ensures { OnOk result ((before after : Files) → demo_state self.new after
-            ≡ after_command (demo_state self.old before) self.old.draws.number command.now (reply_answer reply.now after)) }
+            ≡ after_command (demo_state self.old before) self.old.draws.number command.now
+            (reply_answer reply.now after)) }
     {
         match reply.outcome {
             Outcome::Refused { .. } => self.refused += 1,

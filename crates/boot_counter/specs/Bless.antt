@@ -39,4 +39,5 @@ choice_from None = NoSource
 
 -- nothing where the target is there, else the first source that is
 abbrev pub choice_of : BlessVerb → Present → Choice
-choice_of verb present = if is_there present (target_of verb) then Nothing else choice_from (find (is_there present) (bless_sources verb))
+choice_of verb present =
+    if is_there present (target_of verb) then Nothing else choice_from (find (is_there present) (bless_sources verb))

@@ -1,4 +1,5 @@
--- Boot counters in file names (UAPI Boot Loader Specification, "Boot counting"; that a number has at most nine digits is this project's choice).
+-- Boot counters in file names (UAPI Boot Loader Specification, "Boot counting"; that a number has at most nine digits
+-- is this project's choice).
 use Rattle.std.specs.Prelude.{◌≡◌, ◌⊎◌, ℕ, Bool, not, nat_le, ◌&&◌, ◌==◌, ◌+◌, ◌-◌, ◌<◌, ◌≤◌, min, List, [], ◌∷◌, ◌++◌, length, take, codes, if◌then◌else◌}
 use Rattle.std.specs.Char.{is_ascii_digit}
 use Rattle.std.specs.Fmt.{decimal}

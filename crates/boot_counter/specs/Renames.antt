@@ -1,5 +1,5 @@
--- The names that an entry's file gets when it is booted or blessed (UAPI Boot Loader Specification, "Boot counting"), as
--- plain functions.
+-- The names that an entry's file gets when it is booted or blessed (UAPI Boot Loader Specification, "Boot counting"),
+-- as plain functions.
 use Rattle.std.specs.Prelude.{ℕ, ◌==◌, List, ◌++◌, take, Option, Some, None, option_and_then, if◌then◌else◌}
 use Rattle.std.specs.Option.{option_map}
 use Rattle.boot_counter.specs.declared.counted.Counted.{Counted}
@@ -25,4 +25,5 @@ bad_name_of name = option_map (λ counted. recounted name (record counted { left
 -- the name after one more boot, where it has a counter with a boot left
 abbrev pub booted_name_of : List ℕ → Option (List ℕ)
 booted_name_of name =
-    option_and_then (λ counted. if counted.left == 0 then None else Some (recounted name (after_boot counted))) (split_of name)
+    option_and_then (λ counted. if counted.left == 0 then None else Some (recounted name (after_boot counted)))
+    (split_of name)

@@ -136,8 +136,8 @@ impl Counted {
         Ok(Some(bad))
     }
 
-    /// The name after one more boot, with the counter that `booted` gives; None exactly where the name has no counter or
-    /// no boot is left. Want of memory is its one fault.
+    /// The name after one more boot, with the counter that `booted` gives; None exactly where the name has no counter
+    /// or no boot is left. Want of memory is its one fault.
     pub fn booted_name(alloc: Global, name: &str) -> Result<Option<String>, AllocError>
         ensures { IfOk result (λ found. option_map string_bytes found ≡ booted_name_of name.now) }
     {

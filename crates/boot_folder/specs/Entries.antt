@@ -31,8 +31,8 @@ abbrev pub entry_of : Suffix → Path → List ℕ → Option MenuItem
 entry_of Conf path bytes = type1_entry path bytes
 entry_of Efi path bytes = type2_entry path bytes
 
--- An item is an entry of the files: that of a valid file, which stands directly in the folder of its type, under a name with
--- the suffix of that type, and whose path is that of a boot file.
+-- An item is an entry of the files: that of a valid file, which stands directly in the folder of its type, under a name
+-- with the suffix of that type, and whose path is that of a boot file.
 pub record IsEntry (files : Files) (folders : Folders) (item : MenuItem) : Type 0 where
   pub suffix : Suffix
   pub name : List ℕ

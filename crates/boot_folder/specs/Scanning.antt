@@ -23,7 +23,8 @@ use Rattle.boot_folder.specs.declared.folders.Folders.{Folders}
 
 -- a name of a file directly in a folder that has the suffix
 abbrev pub IsEntryName : Files → Path → Suffix → List ℕ → Type 0
-IsEntryName files folder suffix name = (is_file_name name ≡ true) × (has_suffix suffix name ≡ true) × (has files (under folder name) ≡ true)
+IsEntryName files folder suffix name =
+    (is_file_name name ≡ true) × (has_suffix suffix name ≡ true) × (has files (under folder name) ≡ true)
 
 -- these are the names of the files of a type in a folder, each once
 pub record AreEntryNames (files : Files) (folder : Path) (suffix : Suffix) (names : List (List ℕ)) : Type 0 where
@@ -47,7 +48,8 @@ read_limit Efi = 134999
 -- the most bytes that are read of the files of both types
 abbrev pub scan_limit : Files → Option Folders → ℕ
 scan_limit files None = 0
-scan_limit files (Some folders) = read_limit Conf * type_count files folders Conf + read_limit Efi * type_count files folders Efi
+scan_limit files (Some folders) =
+    read_limit Conf * type_count files folders Conf + read_limit Efi * type_count files folders Efi
 
 -- a fault of the disk has its cause, and every other answer leaves the counts
 abbrev pub read_counts : ReadFault → Counts → Counts → Type 0

@@ -17,7 +17,7 @@ use std::alloc::Global;
 const ENTRY_LIMIT: u64 = 4096;
 
 /// The names of the entry files of both types.
-#[derive(Debug, Drop)]
+#[derive(Drop)]
 pub(crate) struct EntryNames {
     /// Those of type 1.
     pub(crate) texts: Vec<FileName>,

@@ -1,4 +1,5 @@
-//! The laws over histories: whatever a machine went through, runs, stops in the middle of them, disk faults and restarts.
+//! The laws over histories: whatever a machine went through, runs, stops in the middle of them, disk faults and
+//! restarts.
 #![tactic(auto)]
 
 ghost use Rattle.boot_history.specs.GoodEntries.{GoodEntryLaw, ListedLaw};
@@ -14,24 +15,25 @@ mod tests;
 pub use each::run_each;
 pub use stop::run_and_stop;
 
-/// The law of histories. A history begins where boot sees one view whatever a stop leaves, as on a settled machine, and is
-/// a list of runs, each of which may be stopped. Each view at its end is due to a number of whole commands of each run, in
-/// order: those that the run acknowledged or one more, and at most all of its commands. What each run printed is a first
-/// part of the replies from the view that the earlier numbers give, or of its usage line.
+/// The law of histories. A history begins where boot sees one view whatever a stop leaves, as on a settled machine, and
+/// is a list of runs, each of which may be stopped. Each view at its end is due to a number of whole commands of each
+/// run, in order: those that the run acknowledged or one more, and at most all of its commands. What each run printed
+/// is a first part of the replies from the view that the earlier numbers give, or of its usage line.
 pub fn history_law()
     ensures starts { StartLaw }
     ensures numbers { HistoryLaw }
 {}
 
-/// What each run keeps stays: where each view at the start of some run meets a test, and each run from there on keeps it,
-/// each later view meets it.
+/// What each run keeps stays: where each view at the start of some run meets a test, and each run from there on keeps
+/// it, each later view meets it.
 pub fn kept_law()
     ensures { KeptLaw }
 {}
 
-/// A good entry stays: where a valid entry without a boot counter stands at a path in each view at the start of some run,
-/// and no command from that run on is told to build over it, to unlink it, or to bless it as bad or as indeterminate, one
-/// stands there in each later view. It is listed where the two folders hold at most 4,096 entry files.
+/// A good entry stays: where a valid entry without a boot counter stands at a path in each view at the start of some
+/// run, and no command from that run on is told to build over it, to unlink it, or to bless it as bad or as
+/// indeterminate, one stands there in each later view. It is listed where the two folders hold at most 4,096 entry
+/// files.
 pub fn good_entry_law()
     ensures stays { GoodEntryLaw }
     ensures listed { ListedLaw }

@@ -12,8 +12,8 @@ use machine_fuse::Fuse;
 use memory_machine::{CrashChoice, MemMachine};
 use std::alloc::{AllocError, Global};
 
-/// A run that is stopped after so many calls of the machine, and the machine that the chosen stop leaves. The run is a step
-/// of a history that ends in a stop, and the next one may begin.
+/// A run that is stopped after so many calls of the machine, and the machine that the chosen stop leaves. The run is a
+/// step of a history that ends in a stop, and the next one may begin.
 pub fn run_and_stop(
     alloc: Global,
     words: &Vec<String>,

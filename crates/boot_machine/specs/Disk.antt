@@ -54,8 +54,9 @@ pub record HasNoHalfRename (files : Files) : Type 0 where
 unfoldable pub is_recovered : Files → Path → Bool
 is_recovered files path = not (is_temp path) && not (same path intent) && not (is_left files path)
 
--- The recovered view: what `view` will be once a recovery has run. It has neither the intent nor the old name of a rename
--- that is half done. What a stop may leave counts by it. Where no intent is there, as whenever a command reads, it is `view`.
+-- The recovered view: what `view` will be once a recovery has run. It has neither the intent nor the old name of a
+-- rename that is half done. What a stop may leave counts by it. Where no intent is there, as whenever a command reads,
+-- it is `view`.
 unfoldable pub recovered_view : Files → Files
 recovered_view files = map.retain_keys files (is_recovered files)
 

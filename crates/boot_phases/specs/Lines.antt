@@ -18,7 +18,8 @@ value_line bank bytes = codes "11:" ++ (bank_name bank ++ (codes "=" ++ (encode_
 
 -- the lines of values by bank and path: for each path its heading, and below it a value for each bank
 abbrev pub value_lines : (Bank → List (List ℕ) → List ℕ) → List Bank → List (List (List ℕ)) → List ℕ
-value_lines value banks paths = flat_map (λ path. heading_of path ++ flat_map (λ bank. value_line bank (value bank path)) banks) paths
+value_lines value banks paths =
+    flat_map (λ path. heading_of path ++ flat_map (λ bank. value_line bank (value bank path)) banks) paths
 
 -- no two of the registers are of the same bank
 abbrev pub HasDistinctBanks : List Pcr → Type 0

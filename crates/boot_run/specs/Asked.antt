@@ -22,7 +22,8 @@ in_script (Ok c) = if is_plain c then Some c else None
 
 -- the command of a script's line: its bytes are UTF-8, its quotes are even in number, and its words are a command
 abbrev pub command_in : List ℕ → Option Command
-command_in piece = if is_utf8 piece && not (is_open (chars piece)) then in_script (meaning (line_words (chars piece))) else None
+command_in piece =
+    if is_utf8 piece && not (is_open (chars piece)) then in_script (meaning (line_words (chars piece))) else None
 
 abbrev pub line_at : ℕ → Option Command → Line
 line_at number None = Unread number
@@ -36,7 +37,8 @@ is_passed_over (first ∷ rest) = first == 35
 -- the lines among these pieces, which are numbered from the first one's number on
 abbrev pub lines_from : ℕ → List (List ℕ) → List Line
 lines_from number [] = []
-lines_from number (piece ∷ pieces) = (if is_passed_over piece then [] else line_at number (command_in piece) ∷ []) ++ lines_from (suc number) pieces
+lines_from number (piece ∷ pieces) =
+    (if is_passed_over piece then [] else line_at number (command_in piece) ∷ []) ++ lines_from (suc number) pieces
 
 abbrev pub is_script_newline : ℕ → Bool
 is_script_newline byte = byte == 10
@@ -57,7 +59,8 @@ abbrev pub lines_to_run : List ℕ → Result Command UsageReason → Result (Li
 lines_to_run input (Err reason) = Err reason
 lines_to_run input (Ok c) = Ok (lines_for input c)
 
--- What a run is to do: the lines of its words, asked at what boot sees at its start. No command's lines depend on that yet.
+-- What a run is to do: the lines of its words, asked at what boot sees at its start. No command's lines depend on that
+-- yet.
 abbrev pub asked : List Word → List ℕ → Files → Result (List Line) UsageReason
 asked words input view = lines_to_run input (meaning words)
 

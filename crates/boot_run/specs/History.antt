@@ -1,5 +1,5 @@
--- What a run over a list of lines may print, leave and answer. A state is the list of the views that a stop may leave, the last
--- that of the files.
+-- What a run over a list of lines may print, leave and answer. A state is the list of the views that a stop may leave,
+-- the last that of the files.
 use Rattle.std.specs.Prelude.{◌≡◌, ◌⊎◌, ℕ, ◌≤◌, Bool, false, ◌||◌, List, [], ◌∷◌, ◌++◌, length, take, drop}
 use Rattle.boot_machine.specs.Disk.{Files, IsIn}
 use Rattle.boot_machine.specs.Sent.{Sent, latest}
@@ -22,7 +22,8 @@ printed_by state (line ∷ lines) =
 -- some line is refused
 abbrev pub any_refused : List Files → List Line → Bool
 any_refused state [] = false
-any_refused state (line ∷ lines) = let deed = line_deed (latest state) line in is_refusal deed.outcome || any_refused (left_by deed state) lines
+any_refused state (line ∷ lines) =
+    let deed = line_deed (latest state) line in is_refusal deed.outcome || any_refused (left_by deed state) lines
 
 -- the views are all this one
 abbrev pub AllAre : Files → List Files → Type 0

@@ -18,7 +18,8 @@ use Rattle.boot_run.specs.declared.lines.Acknowledgements.{Acknowledgements}
 
 -- `ok K` or `refused K`, with a newline
 abbrev pub acknowledgement : Outcome → ℕ → List ℕ
-acknowledgement outcome number = (if is_refusal outcome then codes "refused " else codes "ok ") ++ (decimal number ++ codes "\n")
+acknowledgement outcome number =
+    (if is_refusal outcome then codes "refused " else codes "ok ") ++ (decimal number ++ codes "\n")
 
 -- the one of two texts that is printed behind this outcome
 abbrev pub acknowledgement_in : Acknowledgements → Outcome → List ℕ
@@ -27,7 +28,12 @@ acknowledgement_in texts (Refused number) = texts.refused
 
 -- the same, with its acknowledgement on Out behind it
 abbrev pub acknowledged : ℕ → Deed → Deed
-acknowledged number deed = record { settles = deed.settles; outcome = deed.outcome; after = deed.after; sent = deed.sent ++ tagged Out (acknowledgement deed.outcome number) }
+acknowledged number deed = record {
+  settles = deed.settles;
+  outcome = deed.outcome;
+  after = deed.after;
+  sent = deed.sent ++ tagged Out (acknowledgement deed.outcome number);
+}
 
 -- the refusal of what is no command: nothing is settled
 abbrev pub unread : ℕ → List ℕ → Files → Deed

@@ -18,7 +18,9 @@ use Rattle.boot_run.specs.declared.ended.Ended.TheVariants.{Done, Refused, Usage
 
 -- all replies are printed, and boot sees the view after all lines
 abbrev pub AllPrinted : State → State → List Line → Type 0
-AllPrinted old new lines = (new.printed ≡ old.printed ++ joined (replies (recovered_now old) lines)) × (recovered_now new ≡ view_after (recovered_now old) lines)
+AllPrinted old new lines =
+    (new.printed ≡ old.printed ++ joined (replies (recovered_now old) lines))
+    × (recovered_now new ≡ view_after (recovered_now old) lines)
 
 -- the folders that these lines tidied are clean, and behind a command no rename is left half done
 pub record LeavesClean (lines : List Line) (s : State) : Type 0 where
@@ -27,7 +29,9 @@ pub record LeavesClean (lines : List Line) (s : State) : Type 0 where
 
 -- it is so behind the lines that were acknowledged
 abbrev pub CleanBy : State → State → List Line → Type 0
-CleanBy old new lines = (k : ℕ) → Adds old.printed new.printed (λ sent. Acknowledges (replies (recovered_now old) lines) sent k) → LeavesClean (take k lines) new
+CleanBy old new lines =
+    (k : ℕ) → Adds old.printed new.printed (λ sent. Acknowledges (replies (recovered_now old) lines) sent k)
+    → LeavesClean (take k lines) new
 
 -- at every end but a disk fault
 abbrev pub CleanBehind : State → State → List Line → Ended → Type 0
@@ -38,32 +42,42 @@ CleanBehind old new lines Disk = Unit {0}
 CleanBehind old new lines Pipe = CleanBy old new lines
 CleanBehind old new lines Memory = CleanBy old new lines
 
--- Each moment of a run on a machine that is only firm: no names were synced by then, and a stop leaves what it would have left at
--- the start, or from their sync on the machine is as good as a settled one.
-abbrev pub LeavesFromSync : {M : Type 0} → (M → ℕ) → (M → ℕ → Files → Sent → Type 0) → (M → State) → M → M → List Line → Type 0
+-- Each moment of a run on a machine that is only firm: no names were synced by then, and a stop leaves what it would
+-- have left at the start, or from their sync on the machine is as good as a settled one.
+abbrev pub LeavesFromSync : {M : Type 0} → (M → ℕ) → (M → ℕ → Files → Sent → Type 0) → (M → State) → M → M → List Line
+    → Type 0
 LeavesFromSync clock since state old new lines =
     EachSince clock since old new (IsUnsynced (state old) lines)
     ⊎ FromSync clock since state old new (IsUnsynced (state old) lines)
-    (λ image printed. Adds (state old).printed printed (Leaves (recovered_now (state old)) lines (recovered_view image)))
+    (λ image printed. Adds (state old).printed printed
+    (Leaves (recovered_now (state old)) lines (recovered_view image)))
 
 -- A run over these lines on a firm machine: a step of the reference at its end, and at a stop at every moment.
-pub record RunsLines {M : Type 0} (clock : M → ℕ) (since : M → ℕ → Files → Sent → Type 0) (state : M → State) (old new : M) (lines : List Line) (ended : Ended) : Type 0 where
+pub record RunsLines {M : Type 0} (clock : M → ℕ) (since : M → ℕ → Files → Sent → Type 0) (state : M → State)
+    (old new : M) (lines : List Line) (ended : Ended) : Type 0 where
   pub firm : IsFirm (state new)
   -- a settled machine stays settled, but where the disk failed
   pub settled : UnlessDisk ended (IsSettled (state old) → IsSettled (state new))
   pub refusals : AnswersRefusals (some_refused (recovered_now (state old)) lines) ended
   pub finished : AtEnd ended (AllPrinted (state old) (state new) lines)
-  pub at_end : Adds (state old).printed (state new).printed (λ sent. Step (recovered_views (state old)) lines (recovered_views (state new)) sent (end_at ended))
-  pub at_each_moment : EachSince clock since old new (λ image printed. Adds (state old).printed printed (StopsIn (recovered_views (state old)) lines (recovered_view image)))
+  pub at_end : Adds (state old).printed (state new).printed
+      (λ sent. Step (recovered_views (state old)) lines (recovered_views (state new)) sent (end_at ended))
+  pub at_each_moment : EachSince clock since old new
+      (λ image printed. Adds (state old).printed printed
+      (StopsIn (recovered_views (state old)) lines (recovered_view image)))
   pub from_sync : LeavesFromSync clock since state old new lines
 
 -- A run with words that are no command: nothing changes but what is printed of the usage line.
-pub record RunsUsage {M : Type 0} (clock : M → ℕ) (since : M → ℕ → Files → Sent → Type 0) (state : M → State) (old new : M) (line : Sent) (ended : Ended) : Type 0 where
+pub record RunsUsage {M : Type 0} (clock : M → ℕ) (since : M → ℕ → Files → Sent → Type 0) (state : M → State)
+    (old new : M) (line : Sent) (ended : Ended) : Type 0 where
   pub unchanged : state new ≡ record (state old) { printed = (state new).printed }
   pub at_end : Adds (state old).printed (state new).printed (PrintsUsage ended line)
-  pub at_each_moment : EachSince clock since old new (λ image printed. IsImage (state old) image × Adds (state old).printed printed (λ part. IsPrefix part line))
+  pub at_each_moment : EachSince clock since old new
+      (λ image printed. IsImage (state old) image × Adds (state old).printed printed (λ part. IsPrefix part line))
 
 -- a run by what its words ask for
-abbrev pub RunsBy : {M : Type 0} → (M → ℕ) → (M → ℕ → Files → Sent → Type 0) → (M → State) → Result (List Line) UsageReason → M → M → Ended → Type 0
+abbrev pub RunsBy : {M : Type 0} → (M → ℕ) → (M → ℕ → Files → Sent → Type 0) → (M → State)
+    → Result (List Line) UsageReason → M → M → Ended → Type 0
 RunsBy clock since state (Ok lines) old new ended = IsFirm (state old) → RunsLines clock since state old new lines ended
-RunsBy clock since state (Err reason) old new ended = RunsUsage clock since state old new (tagged ErrChannel (usage_line reason)) ended
+RunsBy clock since state (Err reason) old new ended =
+    RunsUsage clock since state old new (tagged ErrChannel (usage_line reason)) ended

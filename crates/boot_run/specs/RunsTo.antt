@@ -25,7 +25,8 @@ abbrev pub WherePrinted : {T : Type 0} → Result T Stop → State → State →
 WherePrinted result old new P = MatchResult result (λ _. P) (λ stop. at_part stop old new P)
 
 -- At some time the names were all synced. Each moment up to it has one property, and each from it on the other.
-pub record FromSync {M : Type 0} (clock : M → ℕ) (since : M → ℕ → Files → Sent → Type 0) (state : M → State) (old new : M)
+pub record FromSync {M : Type 0} (clock : M → ℕ) (since : M → ℕ → Files → Sent → Type 0) (state : M → State)
+    (old new : M)
     (Before After : Files → Sent → Type 0) : Type 0 where
   pub synced : M
   pub one : HasOneCandidate (state synced)
@@ -33,13 +34,15 @@ pub record FromSync {M : Type 0} (clock : M → ℕ) (since : M → ℕ → File
   pub after : EachSince clock since synced new After
 
 -- What is printed of this is all that changes, and at each moment it was so.
-pub record OnlyPrints {M : Type 0} (clock : M → ℕ) (since : M → ℕ → Files → Sent → Type 0) (state : M → State) (old new : M) (text : Sent) : Type 0 where
+pub record OnlyPrints {M : Type 0} (clock : M → ℕ) (since : M → ℕ → Files → Sent → Type 0) (state : M → State)
+    (old new : M) (text : Sent) : Type 0 where
   pub same : Prints (state old) (state new)
   pub moments : EachSince clock since old new (PrintsPart (state old) text)
 
 -- One line on a firm machine, with a recovery before it or none: as a deed is performed, but that at a fault or want of
 -- memory the recovery may be all that was done.
-pub record PerformsBehind {M : Type 0} (clock : M → ℕ) (since : M → ℕ → Files → Sent → Type 0) (state : M → State) (old new : M) (deed : Deed)
+pub record PerformsBehind {M : Type 0} (clock : M → ℕ) (since : M → ℕ → Files → Sent → Type 0) (state : M → State)
+    (old new : M) (deed : Deed)
     (result : Result Outcome Stop) : Type 0 where
   pub firm : IsFirm (state new)
   pub ok : IfOk result (DoesDeed deed (state old) (state new))
@@ -56,7 +59,8 @@ SyncsBefore clock since state old new deed =
     (λ part. Breaks deed (latest (recovered_views (state old)) ∷ []) (recovered_view image ∷ []) part Stopped))
 
 -- the same of the first command of a run, by its answer: it may be given up with nothing done
-pub record SyncsFirst {M : Type 0} (clock : M → ℕ) (since : M → ℕ → Files → Sent → Type 0) (state : M → State) (old new : M) (deed : Deed)
+pub record SyncsFirst {M : Type 0} (clock : M → ℕ) (since : M → ℕ → Files → Sent → Type 0) (state : M → State)
+    (old new : M) (deed : Deed)
     (result : Result Outcome Stop) : Type 0 where
   pub ok : OnOk result (SyncsBefore clock since state old new deed)
   pub err : OnErr result (OnlyReads clock since state old new ⊎ SyncsBefore clock since state old new deed)
@@ -74,7 +78,8 @@ pub record AllDone (s now : State) (lines : List Line) (refused : Bool) : Type 0
   pub answer : refused ≡ any_refused (recovered_views s) lines
 
 -- Over these lines, from old to new, at every moment.
-pub record RunsTo {M : Type 0} (clock : M → ℕ) (since : M → ℕ → Files → Sent → Type 0) (state : M → State) (old new : M) (lines : List Line)
+pub record RunsTo {M : Type 0} (clock : M → ℕ) (since : M → ℕ → Files → Sent → Type 0) (state : M → State)
+    (old new : M) (lines : List Line)
     (result : Result Bool Stop) : Type 0 where
   pub firm : IsFirm (state new)
   pub ok : IfOk result (AllDone (state old) (state new) lines)
@@ -85,10 +90,13 @@ pub record RunsTo {M : Type 0} (clock : M → ℕ) (since : M → ℕ → Files 
 
 -- a stop of a run that began with the files as they were
 abbrev pub RunsAfresh : State → List Line → Files → Sent → Type 0
-RunsAfresh s lines image printed = Adds s.printed printed (λ sent. Runs (latest (recovered_views s) ∷ []) lines (recovered_view image ∷ []) sent Stopped)
+RunsAfresh s lines image printed =
+    Adds s.printed printed (λ sent. Runs (latest (recovered_views s) ∷ []) lines
+    (recovered_view image ∷ []) sent Stopped)
 
 -- no names were synced, or from their sync on the run is one that began with the files as they were
-abbrev pub IsSyncedBy : {M : Type 0} → (M → ℕ) → (M → ℕ → Files → Sent → Type 0) → (M → State) → M → M → List Line → Type 0
+abbrev pub IsSyncedBy : {M : Type 0} → (M → ℕ) → (M → ℕ → Files → Sent → Type 0) → (M → State) → M → M → List Line
+    → Type 0
 IsSyncedBy clock since state old new lines =
     EachSince clock since old new (IsUnsynced (state old) lines)
     ⊎ FromSync clock since state old new (IsUnsynced (state old) lines) (RunsAfresh (state old) lines)

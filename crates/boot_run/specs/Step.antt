@@ -51,16 +51,19 @@ KeepsViews old new DiskFails = Stays old new DiskFails
 KeepsViews old new PipeFails = Stays old new PipeFails
 
 -- Early: no more is printed than replies to leading lines that are no command, and the state is that of the start.
-pub record Early (old : List Files) (lines : List Line) (new : List Files) (sent : Sent) (end : End) (k : ℕ) : Type 0 where
+pub record Early (old : List Files) (lines : List Line) (new : List Files) (sent : Sent) (end : End)
+    (k : ℕ) : Type 0 where
   pub leading : ℕ
   pub unread : AllUnread (take leading lines)
   pub enough : k ≤ leading
   pub front : IsPrefix sent (joined (take leading (replies (latest old) lines)))
   pub kept : KeepsViews old new end
 
--- Late: each view is S(k) or S(k+1), and S(k) where k = n. After a status other than 3 they are equal, after 5 they are S(k).
+-- Late: each view is S(k) or S(k+1), and S(k) where k = n. After a status other than 3 they are equal, after 5 they are
+-- S(k).
 pub record Late (old : List Files) (lines : List Line) (new : List Files) (end : End) (k : ℕ) : Type 0 where
-  pub views : (v : Files) → IsIn v new → (v ≡ view_after (latest old) (take k lines)) ⊎ ((k < length lines) × (v ≡ view_after (latest old) (take (k + 1) lines)))
+  pub views : (v : Files) → IsIn v new → (v ≡ view_after (latest old) (take k lines))
+      ⊎ ((k < length lines) × (v ≡ view_after (latest old) (take (k + 1) lines)))
   pub equal : end ≢ DiskFails → (v w : Files) → IsIn v new → IsIn w new → v ≡ w
   pub no_memory : end ≡ NoMemory → (v : Files) → IsIn v new → v ≡ view_after (latest old) (take k lines)
 
@@ -87,7 +90,8 @@ StepBy old (Ok lines) new sent end = Step old lines new sent end
 StepBy old (Err reason) new sent end = UsageStep old (tagged ErrChannel (usage_line reason)) new sent end
 
 -- A run whose words ask for this leads from one state to the next, in which some view is left.
-pub record Leads (old : List Files) (asks : Result (List Line) UsageReason) (new : List Files) (sent : Sent) (end : End) : Type 0 where
+pub record Leads (old : List Files) (asks : Result (List Line) UsageReason) (new : List Files) (sent : Sent)
+    (end : End) : Type 0 where
   pub some : new ≢ []
   pub step : StepBy old asks new sent end
 
@@ -101,13 +105,14 @@ pub record HasBegun (all : List Sent) (sent : Sent) (i : ℕ) : Type 0 where
   pub some : length (joined (take i all)) < length sent
   pub no_more : length sent ≤ length (joined (take (i + 1) all))
 
--- Where a byte of a reply and none of the next one's is printed, boot sees the view after its line, or where the reply is whole and
--- another follows, maybe the view after the next.
+-- Where a byte of a reply and none of the next one's is printed, boot sees the view after its line, or where the reply
+-- is whole and another follows, maybe the view after the next.
 abbrev pub SeesBegun : Files → List Line → Files → Sent → Type 0
 SeesBegun first lines seen_after sent =
     (i : ℕ) → i < length lines → HasBegun (replies first lines) sent i
     → (seen_after ≡ view_after first (take (i + 1) lines))
-    ⊎ ((sent ≡ joined (take (i + 1) (replies first lines))) × (i + 1 < length lines) × (seen_after ≡ view_after first (take (i + 2) lines)))
+    ⊎ ((sent ≡ joined (take (i + 1) (replies first lines))) × (i + 1 < length lines)
+    × (seen_after ≡ view_after first (take (i + 2) lines)))
 
 -- all views of the state are one
 abbrev pub IsOneView : List Files → Type 0
@@ -118,14 +123,17 @@ pub record Leaves (first : Files) (lines : List Line) (seen_after : Files) (sent
   pub acked : ℕ
   pub is_acked : Acknowledges (replies first lines) sent acked
   pub front : IsPrefix sent (joined (replies first lines))
-  pub view : (seen_after ≡ view_after first (take acked lines)) ⊎ ((acked < length lines) × (seen_after ≡ view_after first (take (acked + 1) lines)))
+  pub view : (seen_after ≡ view_after first (take acked lines))
+      ⊎ ((acked < length lines) × (seen_after ≡ view_after first (take (acked + 1) lines)))
   pub begun : SeesBegun first lines seen_after sent
 
 -- A stop inside a run: a step of the reference, and where all views at the start are one, what the headline says.
 abbrev pub StopsIn : List Files → List Line → Files → Sent → Type 0
-StopsIn old lines seen_after sent = Step old lines (seen_after ∷ []) sent Stopped × (IsOneView old → Leaves (latest old) lines seen_after sent)
+StopsIn old lines seen_after sent =
+    Step old lines (seen_after ∷ []) sent Stopped × (IsOneView old → Leaves (latest old) lines seen_after sent)
 
 -- some line is refused
 abbrev pub some_refused : Files → List Line → Bool
 some_refused view [] = false
-some_refused view (line ∷ lines) = is_refusal (line_deed view line).outcome || some_refused (line_deed view line).after lines
+some_refused view (line ∷ lines) =
+    is_refusal (line_deed view line).outcome || some_refused (line_deed view line).after lines

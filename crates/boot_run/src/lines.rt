@@ -28,7 +28,7 @@ use std::alloc::{AllocError, Global};
 use tool_words::Command;
 
 /// The two lines that may stand behind a reply.
-#[derive(Debug, Drop)]
+#[derive(Drop)]
 struct Acknowledgements {
     ok: Bytes,
     refused: Bytes,

@@ -65,7 +65,8 @@ fn add_outcomes(
     Ok(true)
 }
 
-/// What a run of these words comes to of which one call fails, or what the next run comes to after it, each outcome once.
+/// What a run of these words comes to of which one call fails, or what the next run comes to after it, each outcome
+/// once.
 pub(crate) fn faults_text(
     alloc: Global,
     story: &mut Story,

@@ -20,12 +20,12 @@
 //! - `faults WORDS`: what that run comes to of which one call fails, before it has done anything or after it has done
 //!   all, each outcome once, in the order of the calls: what is acknowledged, the status, and what is left. The machine
 //!   stays as it is.
-//! - `files FOLDER`: the files directly in the folder, each with what it has: the sample with the same bytes, or a short
-//!   text, or the digest of its bytes.
+//! - `files FOLDER`: the files directly in the folder, each with what it has: the sample with the same bytes, or a
+//!   short text, or the digest of its bytes.
 //! - `text PATH`: the bytes of the file, told as those that a run prints, and how many they are.
 //! - `same ONE OTHER`: whether two files have the same bytes.
-//! - `left`: all files but temporary ones and samples in their own place: those in the folders of boot entries and beside
-//!   `loader.conf` by their names, others by their paths; how many there are besides; and the intent of a rename.
+//! - `left`: all files but temporary ones and samples in their own place: those in the folders of boot entries and
+//!   beside `loader.conf` by their names, others by their paths; how many there are besides; the intent of a rename.
 //! - `total`: how many files there are but temporary ones.
 //! - `stops WORDS`: what a stop of that run may leave, each outcome once, in the order of the calls before it. The
 //!   machine stays as it is.

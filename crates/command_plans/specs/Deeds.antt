@@ -16,7 +16,12 @@ pub record Deed : Type 0 where
 
 -- each command settles the machine, and prints its reply on the channel of its outcome
 abbrev pub made : Answer → Deed
-made answer = record { settles = true; outcome = answer.outcome; after = answer.after; sent = tagged (channel_of answer.outcome) answer.text }
+made answer = record {
+  settles = true;
+  outcome = answer.outcome;
+  after = answer.after;
+  sent = tagged (channel_of answer.outcome) answer.text;
+}
 
 -- how a run ends, or that it is stopped
 pub data End : Type 0 where
@@ -41,9 +46,11 @@ Stays old new Finished = ⊥
 -- The change was made, or may have been, and this is printed of the reply. No byte of the reply is printed before the
 -- change can't be undone, and memory is never wanting from the change on.
 abbrev pub Acts : Deed → List Files → List Files → Sent → End → Type 0
-Acts deed old new part Stopped = IsPrefix part deed.sent × ((view : Files) × (new ≡ view ∷ []) × IsIn view (left_by deed old))
+Acts deed old new part Stopped =
+    IsPrefix part deed.sent × ((view : Files) × (new ≡ view ∷ []) × IsIn view (left_by deed old))
 Acts deed old new part PipeFails = IsPrefix part deed.sent × (new ≡ left_by deed old)
-Acts deed old new part DiskFails = (part ≡ []) × ((view : Files) → IsIn view new → (view ≡ latest old) ⊎ (view ≡ deed.after))
+Acts deed old new part DiskFails =
+    (part ≡ []) × ((view : Files) → IsIn view new → (view ≡ latest old) ⊎ (view ≡ deed.after))
 Acts deed old new part NoMemory = ⊥
 Acts deed old new part Finished = ⊥
 

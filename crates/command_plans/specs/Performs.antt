@@ -36,24 +36,35 @@ end_by fault = end_of (stop_of fault)
 
 -- the deed was done and its reply printed
 abbrev pub DoesDeed : Deed → State → State → Outcome → Type 0
-DoesDeed deed s now outcome = (outcome ≡ deed.outcome) × (recovered_views now ≡ left_by deed (recovered_views s)) × (now.printed ≡ s.printed ++ deed.sent)
+DoesDeed deed s now outcome =
+    (outcome ≡ deed.outcome) × (recovered_views now ≡ left_by deed (recovered_views s))
+    × (now.printed ≡ s.printed ++ deed.sent)
 
 -- One deed on a firm machine, from old to new: what stands after each answer, and at every moment.
-pub record Performs {M E : Type 0} (clock : M → ℕ) (since : M → ℕ → Files → Sent → Type 0) (state : M → State) (ends : E → End) (old new : M) (deed : Deed) (result : Result Outcome E) : Type 0 where
+pub record Performs {M E : Type 0} (clock : M → ℕ) (since : M → ℕ → Files → Sent → Type 0) (state : M → State)
+    (ends : E → End) (old new : M) (deed : Deed) (result : Result Outcome E) : Type 0 where
   pub firm : IsFirm (state new)
   pub ok : IfOk result (DoesDeed deed (state old) (state new))
-  pub err : IfErr result (λ fault. Adds (state old).printed (state new).printed (λ part. Breaks deed (recovered_views (state old)) (recovered_views (state new)) part (ends fault)))
-  pub moments : EachSince clock since old new (λ image sent. Adds (state old).printed sent (λ part. Breaks deed (recovered_views (state old)) (recovered_view image ∷ []) part Stopped))
+  pub err : IfErr result (λ fault. Adds (state old).printed (state new).printed
+      (λ part. Breaks deed (recovered_views (state old)) (recovered_views (state new)) part (ends fault)))
+  pub moments : EachSince clock since old new
+      (λ image sent. Adds (state old).printed sent
+      (λ part. Breaks deed (recovered_views (state old)) (recovered_view image ∷ []) part Stopped))
 
 -- From some moment on, the images are those after a sync of the names as they were at the start.
 abbrev pub LateFrom : {M : Type 0} → (M → ℕ) → (M → ℕ → Files → Sent → Type 0) → (M → State) → M → M → Deed → Type 0
 LateFrom clock since state old new deed =
-    (t : ℕ) × (clock old ≤ t) × (t ≤ clock new) × ((image : Files) (sent : Sent) → since new t image sent → Adds (state old).printed sent (λ part. Breaks deed (latest (recovered_views (state old)) ∷ []) (recovered_view image ∷ []) part Stopped))
+    (t : ℕ) × (clock old ≤ t) × (t ≤ clock new)
+    × ((image : Files) (sent : Sent) → since new t image sent
+    → Adds (state old).printed sent (λ part. Breaks deed (latest (recovered_views (state old)) ∷ [])
+    (recovered_view image ∷ []) part Stopped))
 
 -- a deed that settles is late from some moment on, unless it was given up with nothing changed
-pub record Syncs {M E : Type 0} (clock : M → ℕ) (since : M → ℕ → Files → Sent → Type 0) (state : M → State) (old new : M) (deed : Deed) (result : Result Outcome E) : Type 0 where
+pub record Syncs {M E : Type 0} (clock : M → ℕ) (since : M → ℕ → Files → Sent → Type 0) (state : M → State)
+    (old new : M) (deed : Deed) (result : Result Outcome E) : Type 0 where
   pub ok : OnOk result (deed.settles ≡ true → LateFrom clock since state old new deed)
-  pub err : OnErr result ((recovered_views (state new) ≡ recovered_views (state old)) ⊎ LateFrom clock since state old new deed)
+  pub err : OnErr result ((recovered_views (state new) ≡ recovered_views (state old))
+      ⊎ LateFrom clock since state old new deed)
 
 -- the counts at each stop
 abbrev pub stop_counts : Stop → Counts → Counts → Type 0
@@ -80,7 +91,8 @@ LeavesNoTemp result old new = MatchResult result (λ _. NoNewTemp old new) (λ s
 
 -- the same of the machine's faults
 abbrev pub LeavesNoTempBy : {T : Type 0} → Result T MachineFault → State → State → Type 0
-LeavesNoTempBy result old new = MatchResult result (λ _. NoNewTemp old new) (λ fault. stop_temps (stop_of fault) old new)
+LeavesNoTempBy result old new =
+    MatchResult result (λ _. NoNewTemp old new) (λ fault. stop_temps (stop_of fault) old new)
 
 -- the machine is rested, but maybe after a fault of the disk
 abbrev pub stop_rests : Stop → State → Type 0

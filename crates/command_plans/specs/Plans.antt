@@ -39,8 +39,8 @@ effect view (Put target bytes) = insert view target.path bytes
 effect view (Copy from target gone) = duplicated from target.path view
 effect view (Move from to intent gone exists) = move_in from to view
 
--- The change can be made on any machine: it names the intent in no other way than a move does, and the temporary files to
--- be dropped differ.
+-- The change can be made on any machine: it names the intent in no other way than a move does, and the temporary files
+-- to be dropped differ.
 abbrev pub IsMakeable : Change → Type 0
 IsMakeable Nothing = Unit {0}
 IsMakeable (Remove path gone) = IsFree path
@@ -81,7 +81,8 @@ fault_drops faults.Disk change old new = Unit {0}
 fault_drops faults.Pipe change old new = Drops change old new
 
 abbrev pub DropsBy : {T : Type 0} → Result T MachineFault → Change → Files → Files → Type 0
-DropsBy result change old new = MatchResult result (λ _. Drops change old new) (λ fault. fault_drops fault change old new)
+DropsBy result change old new =
+    MatchResult result (λ _. Drops change old new) (λ fault. fault_drops fault change old new)
 
 -- a refused command changes nothing, and leaves temporary files where they are
 abbrev pub IsIdleIfRefused : Plan → Type 0

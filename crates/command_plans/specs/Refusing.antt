@@ -29,10 +29,11 @@ PlansUnsaid unsaid.Memory plan = ⊥
 PlansUnsaid unsaid.Disk plan = ⊥
 PlansUnsaid (unsaid.Refused why) plan = (s : State) → Plans s plan (refusal (seen s) why)
 
--- Where what was read of the words is a refusal, this refusal alone is said, whatever a machine tells, unless memory ran out
--- or the disk failed.
+-- Where what was read of the words is a refusal, this refusal alone is said, whatever a machine tells, unless memory
+-- ran out or the disk failed.
 abbrev pub DeclinesWords : {W X : Type 0} → Result W Refusal → Result X Unsaid → Type 0
-DeclinesWords read result = (why : Refusal) → read ≡ Err why → MatchResult result (λ _. ⊥) (λ unsaid. UnsaidFor unsaid read)
+DeclinesWords read result =
+    (why : Refusal) → read ≡ Err why → MatchResult result (λ _. ⊥) (λ unsaid. UnsaidFor unsaid read)
 
 -- the plan of such words is that of the refusal on every state
 abbrev pub RefusesWords : {W : Type 0} → Result W Refusal → Result Plan Stop → Type 0

@@ -97,8 +97,9 @@ enum Applied<'a> {
     Refused(&'a RefusalLine),
 }
 
-/// Makes a change on a settled machine. Where the file to be removed, copied or moved is gone, or one stands where it is to be
-/// moved, which no machine comes to that tells its files, it gives the refusal to print, and nothing is changed.
+/// Makes a change on a settled machine. Where the file to be removed, copied or moved is gone, or one stands where it
+/// is to be moved, which no machine comes to that tells its files, it gives the refusal to print, and nothing is
+/// changed.
 fn apply<'a, M: Machine>(change: &'a Change, machine: &mut M) -> Result<Applied<'a>, DiskFault>
     requires one { IsTrue M.tells → HasOneCandidate (M.state machine.old) }
     requires rested { IsTrue M.tells → IsRested (M.state machine.old) }
@@ -109,7 +110,8 @@ fn apply<'a, M: Machine>(change: &'a Change, machine: &mut M) -> Result<Applied<
     ensures made { IfOk result (λ applied. IsTrue M.tells → applied ≡ Applied.Done) }
     ensures step { IsTrue M.tells → IsFirm (M.state machine.old) → StepsTo M.clock M.since M.state
         (effect (seen (M.state machine.old)) change.now) machine.old machine.new }
-    ensures drops { OnOk result (IsTrue M.tells → Drops change.now (M.state machine.old).files (M.state machine.new).files) }
+    ensures drops { OnOk result (IsTrue M.tells
+        → Drops change.now (M.state machine.old).files (M.state machine.new).files) }
     ensures keeps { IsTrue M.tells → Keeps (M.state machine.old) (M.state machine.new) }
     ensures rests { OnOk result (IsTrue M.tells → IsRested (M.state machine.new)) }
     ensures temps { OnOk result (IsTrue M.tells → NoNewTemp (M.state machine.old) (M.state machine.new)) }
@@ -163,11 +165,14 @@ pub fn perform<M: Machine>(plan: &Plan, machine: &mut M) -> Result<Outcome, Mach
     requires rested { IsTrue M.tells → IsRested (M.state machine.old) }
     requires makeable { IsMakeable plan.now.change }
     requires there { IsTrue M.tells → CanMake (M.state machine.old) plan.now.change }
-    ensures performs { IsTrue M.tells → IsFirm (M.state machine.old) → Performs M.clock M.since M.state end_by machine.old machine.new
+    ensures performs { IsTrue M.tells → IsFirm (M.state machine.old)
+        → Performs M.clock M.since M.state end_by machine.old machine.new
         (made (planned (seen (M.state machine.old)) plan.now)) result }
-    ensures syncs { IsTrue M.tells → IsFirm (M.state machine.old) → Syncs M.clock M.since M.state machine.old machine.new
+    ensures syncs { IsTrue M.tells → IsFirm (M.state machine.old)
+        → Syncs M.clock M.since M.state machine.old machine.new
         (made (planned (seen (M.state machine.old)) plan.now)) result }
-    ensures drops { IsTrue M.tells → DropsBy result plan.now.change (M.state machine.old).files (M.state machine.new).files }
+    ensures drops { IsTrue M.tells → DropsBy result plan.now.change (M.state machine.old).files
+        (M.state machine.new).files }
     ensures input { IsTrue M.tells → (M.state machine.new).input ≡ (M.state machine.old).input }
     ensures rests { IsTrue M.tells → LeavesRestedBy result (M.state machine.new) }
     ensures temps { IsTrue M.tells → LeavesNoTempBy result (M.state machine.old) (M.state machine.new) }

@@ -36,8 +36,9 @@ pub enum Change {
         target: Target,
         bytes: Bytes,
     },
-    /// The bytes of the boot file at `from` come to stand at the target too, in place of a file that is there. `gone` is
-    /// the refusal that is printed instead where a machine has no file at `from` any more, though it has told of one.
+    /// The bytes of the boot file at `from` come to stand at the target too, in place of a file that is there. `gone`
+    /// is the refusal that is printed instead where a machine has no file at `from` any more, though it has told of
+    /// one.
     Copy {
         from: BootPath,
         target: Target,

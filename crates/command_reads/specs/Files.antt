@@ -14,7 +14,8 @@ use Rattle.command_reads.specs.Refusing.{◌>>=◌, printed_path}
 -- the bytes that stand at a path, or why they aren't read
 abbrev pub readable : Path → Option (List ℕ) → Result (List ℕ) Refusal
 readable path None = Err (refusals.NotFound (printed_path path))
-readable path (Some bytes) = if nat_lt file_limit (length bytes) then Err (refusals.TooLarge (printed_path path) (length bytes)) else Ok bytes
+readable path (Some bytes) =
+    if nat_lt file_limit (length bytes) then Err (refusals.TooLarge (printed_path path) (length bytes)) else Ok bytes
 
 abbrev pub bytes_at : Files → Path → Result (List ℕ) Refusal
 bytes_at view path = readable path (get view path)

@@ -34,7 +34,8 @@ fn too_large(alloc: Global, path: &BootPath, size: u64) -> Result<Refusal, Alloc
 pub fn readable<M: Machine>(alloc: Global, path: &BootPath, machine: &mut M) -> Result<u64, Unsaid>
     ensures file { IsTrue M.tells → Says (λ _. contents (M.state machine.old).files path.now) result
         (bytes_at (seen (M.state machine.old)) path.now) }
-    ensures size { IfOk result (λ size. IsTrue M.tells → length (contents (M.state machine.old).files path.now) ≡ size) }
+    ensures size { IfOk result (λ size. IsTrue M.tells
+        → length (contents (M.state machine.old).files path.now) ≡ size) }
     ensures there { OnOk result (IsTrue M.tells → has (M.state machine.old).files path.now ≡ true) }
     ensures small { OnOk result (IsTrue M.tells → length (contents (M.state machine.old).files path.now) ≤ file_limit) }
     ensures limit { IfOk result (λ size. size ≤ file_limit) }
@@ -77,7 +78,8 @@ fn headless(alloc: Global, fault: HeadFault) -> Unsaid
 
 /// The headers of the image at a path: of its bytes they alone are read, which are at most 69,463.
 pub fn image_head<M: Machine>(alloc: Global, path: &BootPath, machine: &mut M) -> Result<Pe, Unsaid>
-    ensures image { IsTrue M.tells → Says (λ head. (contents (M.state machine.old).files path.now, headers_of head)) result
+    ensures image { IsTrue M.tells
+        → Says (λ head. (contents (M.state machine.old).files path.now, headers_of head)) result
         (image_at (seen (M.state machine.old)) path.now) }
     ensures head { IfOk result (λ head. IsTrue M.tells
         → pe_of (contents (M.state machine.old).files path.now) ≡ Ok (headers_of head)) }
@@ -101,7 +103,8 @@ pub fn head_of_size<M: Machine>(
 ) -> Result<Pe, HeadFault>
     requires small { size ≤ 268435456 }
     requires size { IsTrue M.tells → size ≡ length (contents (seen (M.state machine.old)) path.now) }
-    ensures exact { IsTrue M.tells → GivesFrom headers_of result (pe_of (contents (seen (M.state machine.old)) path.now)) }
+    ensures exact { IsTrue M.tells → GivesFrom headers_of result
+        (pe_of (contents (seen (M.state machine.old)) path.now)) }
     ensures read { IfOk result (λ head. ReadFrom head size) }
     ensures reads { IsTrue M.tells → OnlyReads M.clock M.since M.state machine.old machine.new }
     ensures counts { CountsHead result (M.counts machine.old) (M.counts machine.new) }
@@ -120,7 +123,8 @@ pub fn sized_head<M: Machine>(
 ) -> Result<Pe, Unsaid>
     requires small { size ≤ 268435456 }
     requires size { IsTrue M.tells → size ≡ length (contents (seen (M.state machine.old)) path.now) }
-    ensures says { IsTrue M.tells → Says headers_of result (headers_or (pe_of (contents (seen (M.state machine.old)) path.now))) }
+    ensures says { IsTrue M.tells → Says headers_of result
+        (headers_or (pe_of (contents (seen (M.state machine.old)) path.now))) }
     ensures head { IfOk result (λ head. IsTrue M.tells
         → pe_of (contents (seen (M.state machine.old)) path.now) ≡ Ok (headers_of head)) }
     ensures read { IfOk result (λ head. ReadFrom head size) }
@@ -168,11 +172,13 @@ pub fn file_bytes<M: Machine>(
     path: &BootPath,
     machine: &mut M,
 ) -> Result<Vec<u8>, Unsaid>
-    ensures says { IsTrue M.tells → Says (λ bytes. bytes.items) result (bytes_at (seen (M.state machine.old)) path.now) }
+    ensures says { IsTrue M.tells → Says (λ bytes. bytes.items) result
+        (bytes_at (seen (M.state machine.old)) path.now) }
     ensures reads { IsTrue M.tells → OnlyReads M.clock M.since M.state machine.old machine.new }
     ensures counts { CountsUnsaid result (M.counts machine.old) (M.counts machine.new) }
     ensures taken { IsTrue M.tells
-        → TakesAtMost (length (contents (seen (M.state machine.old)) path.now)) (M.taken machine.old) (M.taken machine.new) }
+        → TakesAtMost (length (contents (seen (M.state machine.old)) path.now)) (M.taken machine.old)
+        (M.taken machine.new) }
 {
     let size = readable(alloc, path, machine)?;
     file_part(alloc, path, 0, size, machine)

@@ -56,7 +56,11 @@ path_at paths BadName = paths.bad
 
 -- which of the names are there
 abbrev pub present_at : Files → EntryPaths → Present
-present_at view paths = record { good = has view paths.good; counted = has view paths.counted; bad = has view paths.bad }
+present_at view paths = record {
+  good = has view paths.good;
+  counted = has view paths.counted;
+  bad = has view paths.bad;
+}
 
 abbrev pub verb_text : BlessVerb → List ℕ
 verb_text verbs.Good = codes "good"
@@ -73,14 +77,16 @@ blessed_from view verb target from = done (move_in from target view) (blessed_te
 
 -- what becomes of an entry by the choice of what is renamed
 abbrev pub blessed_by : Files → BlessVerb → EntryPaths → Path → Choice → Result Answer Refusal
-blessed_by view verb paths target choices.Nothing = Ok (done view (blessed_text verb target ++ codes ", nothing to do\n"))
+blessed_by view verb paths target choices.Nothing =
+    Ok (done view (blessed_text verb target ++ codes ", nothing to do\n"))
 blessed_by view verb paths target choices.FromGood = Ok (blessed_from view verb target paths.good)
 blessed_by view verb paths target choices.FromCounted = Ok (blessed_from view verb target paths.counted)
 blessed_by view verb paths target choices.FromBad = Ok (blessed_from view verb target paths.bad)
 blessed_by view verb paths target choices.NoSource = Err (refusals.NoSource (printed_path paths.counted))
 
 abbrev pub bless_entry : Files → BlessVerb → EntryPaths → Result Answer Refusal
-bless_entry view verb paths = blessed_by view verb paths (path_at paths (target_of verb)) (choice_of verb (present_at view paths))
+bless_entry view verb paths =
+    blessed_by view verb paths (path_at paths (target_of verb)) (choice_of verb (present_at view paths))
 
 abbrev pub bless_meant : Files → BlessVerb → List ℕ → List ℕ → Result Answer Refusal
 bless_meant view verb word esp = reported_paths word esp >>= bless_entry view verb

@@ -1,5 +1,5 @@
--- `boot`: a boot of the first entry of the menu is counted, as the loader counts it (UAPI Boot Loader Specification, "Boot
--- counting"). An entry without a counter, or with no boot left, keeps its name.
+-- `boot`: a boot of the first entry of the menu is counted, as the loader counts it (UAPI Boot Loader Specification,
+-- "Boot counting"). An entry without a counter, or with no boot left, keeps its name.
 use Rattle.std.specs.Prelude.{ℕ, List, [], ◌∷◌, ◌++◌, codes, Option, Some, None, Result, Ok, Err, if◌then◌else◌}
 use Rattle.boot_base.specs.Paths.{Path, file_name_of}
 use Rattle.boot_base.specs.declared.refusal.Refusal.{Refusal}
@@ -26,7 +26,8 @@ booted_text path = codes "booted " ++ (printed_path path ++ codes "\n")
 -- an entry gets another name, unless a file has that name
 abbrev pub renamed_entry : Files → Path → Path → Result Answer Refusal
 renamed_entry view from to =
-    if has view to then Err (refusals.TargetExists (printed_path to)) else Ok (done (move_in from to view) (booted_text to))
+    if has view to then Err (refusals.TargetExists (printed_path to))
+    else Ok (done (move_in from to view) (booted_text to))
 
 -- what becomes of the entry at a path in a folder, by its name after the boot
 abbrev pub booted_entry : Files → Path → Path → Option (List ℕ) → Result Answer Refusal
@@ -34,11 +35,13 @@ booted_entry view folder path None = Ok (done view (booted_text path))
 booted_entry view folder path (Some name) = path_under folder name >>= renamed_entry view path
 
 abbrev pub boot_entry : Files → Folders → MenuItem → Result Answer Refusal
-boot_entry view folders item = booted_entry view (folder_of folders item.suffix) item.path (booted_name_of (file_name_of item.path))
+boot_entry view folders item =
+    booted_entry view (folder_of folders item.suffix) item.path (booted_name_of (file_name_of item.path))
 
 -- a boot of an ESP by its word
 abbrev pub boot_meant : Files → List ℕ → Result Answer Refusal
-boot_meant view word = folders_of word >>= λ folders. menu_at view folders >>= λ menu. first_of menu >>= boot_entry view folders
+boot_meant view word =
+    folders_of word >>= λ folders. menu_at view folders >>= λ menu. first_of menu >>= boot_entry view folders
 
 abbrev pub boot_answer : Files → List ℕ → Answer
 boot_answer view word = answered view (boot_meant view word)

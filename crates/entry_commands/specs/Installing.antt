@@ -28,7 +28,8 @@ is_entry_name_byte byte = is_ascii_alphanumeric byte || list_any (λ other. othe
 -- 1 to 128 such bytes, and no dot first
 abbrev pub is_name_text : List ℕ → Bool
 is_name_text name =
-    not (length name == 0) && nat_le (length name) 128 && list_all is_entry_name_byte name && not (starts_with nat_eq name (codes "."))
+    not (length name == 0) && nat_le (length name) 128 && list_all is_entry_name_byte name
+    && not (starts_with nat_eq name (codes "."))
 
 -- a name that an image may be installed under: with its suffix it has no boot counter
 abbrev pub is_install_name : List ℕ → Bool
@@ -79,7 +80,8 @@ entry_or (Err (NotUki missing)) = Err (refusals.NotUki (missing_text missing))
 
 -- the file is shown, or this is why it isn't
 abbrev pub ShowsEntry : Result (Unit {0}) Unsaid → Result MenuItem Refusal → Type 0
-ShowsEntry result entry = MatchResult result (λ _. (item : MenuItem) × (entry ≡ Ok item)) (λ unsaid. UnsaidFor unsaid entry)
+ShowsEntry result entry =
+    MatchResult result (λ _. (item : MenuItem) × (entry ≡ Ok item)) (λ unsaid. UnsaidFor unsaid entry)
 
 -- the bytes to be installed, of a file that is an entry of the menu where it comes to stand
 abbrev pub installed_image : Files → Installation → Result (List ℕ) Refusal

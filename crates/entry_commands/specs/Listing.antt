@@ -17,7 +17,8 @@ use Rattle.entry_commands.specs.Folders.{folders_of}
 -- the menu of two folders, or that they have more than 4,096 entry files
 abbrev pub menu_at : Files → Folders → Result (List MenuItem) Refusal
 menu_at view folders =
-    if nat_lt 4096 (entry_count view folders) then Err (refusals.TooMany (entry_count view folders)) else Ok (boot_menu view folders)
+    if nat_lt 4096 (entry_count view folders) then Err (refusals.TooMany (entry_count view folders))
+    else Ok (boot_menu view folders)
 
 -- what is said of a menu: its text, or that it is empty
 abbrev pub menu_said : List MenuItem → Result (List ℕ) Refusal

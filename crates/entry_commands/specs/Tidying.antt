@@ -13,7 +13,8 @@ tidy_answer view folders = done view (codes "cleaned\n")
 
 -- no temporary file is directly in the folder
 abbrev pub IsClean : Files → Path → Type 0
-IsClean files folder = (name : List ℕ) → is_file_name name ≡ true → is_temp name ≡ true → has files (under folder name) ≡ false
+IsClean files folder =
+    (name : List ℕ) → is_file_name name ≡ true → is_temp name ≡ true → has files (under folder name) ≡ false
 
 -- nor in either of an ESP's folders
 abbrev pub AreClean : Files → Folders → Type 0
@@ -33,4 +34,6 @@ leftovers_among folder listed = map (under folder) (filter is_temp listed)
 
 -- every temporary file directly in the folder is among these
 abbrev pub HasLeftovers : Files → Path → List Path → Type 0
-HasLeftovers files folder temps = (name : List ℕ) → is_file_name name ≡ true → is_temp name ≡ true → has files (under folder name) ≡ true → Contains temps (under folder name)
+HasLeftovers files folder temps =
+    (name : List ℕ) → is_file_name name ≡ true → is_temp name ≡ true → has files (under folder name) ≡ true
+    → Contains temps (under folder name)

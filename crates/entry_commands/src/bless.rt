@@ -26,7 +26,7 @@ use std::alloc::{AllocError, Global};
 use tool_words::BlessWord;
 
 /// Where the names of an entry stand, all in one folder.
-#[derive(Debug, Drop)]
+#[derive(Drop)]
 struct EntryPaths {
     /// Without a counter.
     good: BootPath,
@@ -262,8 +262,8 @@ fn status<M: Machine>(
     status_text(alloc, &paths, present)
 }
 
-/// What the blessing of an entry is going to do, or what is going to be told of its mark. The entry is named by the path
-/// below an EFI system partition that was reported for it, whose file name has a counter.
+/// What the blessing of an entry is going to do, or what is going to be told of its mark. The entry is named by the
+/// path below an EFI system partition that was reported for it, whose file name has a counter.
 pub fn plan_bless<M: Machine>(
     alloc: Global,
     verb: BlessWord,

@@ -124,7 +124,8 @@ fn boot<M: Machine>(alloc: Global, esp: &str, machine: &mut M) -> Result<Plan, U
     ensures reads { IsTrue M.tells → OnlyReads M.clock M.since M.state machine.old machine.new }
     ensures counts { CountsUnsaid result (M.counts machine.old) (M.counts machine.new) }
     ensures taken { IsTrue M.tells
-        → TakesAtMost (menu_limit (M.state machine.old).files (folders_of esp.now)) (M.taken machine.old) (M.taken machine.new) }
+        → TakesAtMost (menu_limit (M.state machine.old).files (folders_of esp.now)) (M.taken machine.old)
+        (M.taken machine.new) }
     ensures words { DeclinesWords (folders_of esp.now) result }
 {
     let folders = folders_in(alloc, esp)?;
@@ -144,7 +145,8 @@ pub fn plan_boot<M: Machine>(alloc: Global, esp: &str, machine: &mut M) -> Resul
     ensures reads { IsTrue M.tells → OnlyReads M.clock M.since M.state machine.old machine.new }
     ensures counts { CountsStop result (M.counts machine.old) (M.counts machine.new) }
     ensures taken { IsTrue M.tells
-        → TakesAtMost (menu_limit (M.state machine.old).files (folders_of esp.now)) (M.taken machine.old) (M.taken machine.new) }
+        → TakesAtMost (menu_limit (M.state machine.old).files (folders_of esp.now)) (M.taken machine.old)
+        (M.taken machine.new) }
     ensures words { RefusesWords (folders_of esp.now) result }
 {
     let plan = boot(alloc, esp, machine);

@@ -36,7 +36,7 @@ use std::alloc::{AllocError, Global};
 const NAME_LIMIT: usize = 128;
 
 /// What the words of an installation name.
-#[derive(Debug, Drop)]
+#[derive(Drop)]
 struct Installation {
     /// The image.
     from: BootPath,
@@ -261,7 +261,8 @@ fn install<M: Machine>(
     machine: &mut M,
 ) -> Result<Plan, Unsaid>
     ensures plans { IsTrue M.tells → PlansAs (M.state machine.old) result
-        (install_meant (seen (M.state machine.old)) file.now name.now (option_map (λ text. text.now) tries.entry) esp.now) }
+        (install_meant (seen (M.state machine.old)) file.now name.now
+        (option_map (λ text. text.now) tries.entry) esp.now) }
     ensures makeable { IfOk result (λ plan. IsMakeable plan.change) }
     ensures idle { IfOk result IsIdleIfRefused }
     ensures reads { IsTrue M.tells → OnlyReads M.clock M.since M.state machine.old machine.new }
@@ -275,8 +276,9 @@ fn install<M: Machine>(
     Ok(plan_copy(alloc, words)?)
 }
 
-/// What the installation of an image is going to do: the file's bytes come to stand among the images, under the name and
-/// with the tries that are given. Of the file its headers and its os-release text are read; it is copied piece by piece.
+/// What the installation of an image is going to do: the file's bytes come to stand among the images, under the name
+/// and with the tries that are given. Of the file its headers and its os-release text are read; it is copied piece by
+/// piece.
 pub fn plan_install<M: Machine>(
     alloc: Global,
     file: &str,
@@ -286,7 +288,8 @@ pub fn plan_install<M: Machine>(
     machine: &mut M,
 ) -> Result<Plan, Stop>
     ensures plans { IfOk result (λ plan. IsTrue M.tells → Plans (M.state machine.old) plan
-        (install_answer (seen (M.state machine.old)) file.now name.now (option_map (λ text. text.now) tries.entry) esp.now)) }
+        (install_answer (seen (M.state machine.old)) file.now name.now
+        (option_map (λ text. text.now) tries.entry) esp.now)) }
     ensures makeable { IfOk result (λ plan. IsMakeable plan.change) }
     ensures idle { IfOk result IsIdleIfRefused }
     ensures reads { IsTrue M.tells → OnlyReads M.clock M.since M.state machine.old machine.new }

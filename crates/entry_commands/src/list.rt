@@ -39,7 +39,8 @@ fn listed<M: Machine>(alloc: Global, esp: &str, machine: &mut M) -> Result<Vec<u
     ensures reads { IsTrue M.tells → OnlyReads M.clock M.since M.state machine.old machine.new }
     ensures counts { CountsUnsaid result (M.counts machine.old) (M.counts machine.new) }
     ensures taken { IsTrue M.tells
-        → TakesAtMost (menu_limit (M.state machine.old).files (folders_of esp.now)) (M.taken machine.old) (M.taken machine.new) }
+        → TakesAtMost (menu_limit (M.state machine.old).files (folders_of esp.now)) (M.taken machine.old)
+        (M.taken machine.new) }
     ensures words { DeclinesWords (folders_of esp.now) result }
 {
     let folders = folders_in(alloc, esp)?;
@@ -57,7 +58,8 @@ pub fn plan_list<M: Machine>(alloc: Global, esp: &str, machine: &mut M) -> Resul
     ensures reads { IsTrue M.tells → OnlyReads M.clock M.since M.state machine.old machine.new }
     ensures counts { CountsStop result (M.counts machine.old) (M.counts machine.new) }
     ensures taken { IsTrue M.tells
-        → TakesAtMost (menu_limit (M.state machine.old).files (folders_of esp.now)) (M.taken machine.old) (M.taken machine.new) }
+        → TakesAtMost (menu_limit (M.state machine.old).files (folders_of esp.now)) (M.taken machine.old)
+        (M.taken machine.new) }
     ensures words { RefusesWords (folders_of esp.now) result }
 {
     let text = listed(alloc, esp, machine);

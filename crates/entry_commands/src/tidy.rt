@@ -42,8 +42,10 @@ fn leftovers_in<M: Machine>(
     folder: &BootPath,
     machine: &mut M,
 ) -> Result<Vec<TempPath>, Stop>
-    ensures there { IfOk result (λ temps. IsTrue M.tells → All (λ temp. has (M.state machine.old).files temp ≡ true) temps.items) }
-    ensures all { IfOk result (λ temps. IsTrue M.tells → HasLeftovers (M.state machine.old).files folder.now temps.items) }
+    ensures there { IfOk result (λ temps. IsTrue M.tells
+        → All (λ temp. has (M.state machine.old).files temp ≡ true) temps.items) }
+    ensures all { IfOk result (λ temps. IsTrue M.tells
+        → HasLeftovers (M.state machine.old).files folder.now temps.items) }
     ensures reads { IsTrue M.tells → OnlyReads M.clock M.since M.state machine.old machine.new }
     ensures counts { CountsStop result (M.counts machine.old) (M.counts machine.new) }
     ensures taken { IsTrue M.tells → TakesAtMost 0 (M.taken machine.old) (M.taken machine.new) }
@@ -70,9 +72,12 @@ fn leftovers<M: Machine>(
     machine: &mut M,
 ) -> Result<Vec<TempPath>, Stop>
     ensures distinct { IfOk result (λ temps. IsDistinct bytes_eq temps.items) }
-    ensures there { IfOk result (λ temps. IsTrue M.tells → All (λ temp. has (M.state machine.old).files temp ≡ true) temps.items) }
-    ensures entries { IfOk result (λ temps. IsTrue M.tells → HasLeftovers (M.state machine.old).files folders.now.entries temps.items) }
-    ensures images { IfOk result (λ temps. IsTrue M.tells → HasLeftovers (M.state machine.old).files folders.now.images temps.items) }
+    ensures there { IfOk result (λ temps. IsTrue M.tells
+        → All (λ temp. has (M.state machine.old).files temp ≡ true) temps.items) }
+    ensures entries { IfOk result (λ temps. IsTrue M.tells
+        → HasLeftovers (M.state machine.old).files folders.now.entries temps.items) }
+    ensures images { IfOk result (λ temps. IsTrue M.tells
+        → HasLeftovers (M.state machine.old).files folders.now.images temps.items) }
     ensures reads { IsTrue M.tells → OnlyReads M.clock M.since M.state machine.old machine.new }
     ensures counts { CountsStop result (M.counts machine.old) (M.counts machine.new) }
     ensures taken { IsTrue M.tells → TakesAtMost 0 (M.taken machine.old) (M.taken machine.new) }
@@ -84,7 +89,8 @@ fn leftovers<M: Machine>(
 }
 
 fn tidy_plan(alloc: Global, temps: Vec<TempPath>) -> Result<Plan, AllocError>
-    ensures { IfOk result (λ plan. (plan.change ≡ Change.Leftovers temps) × (plan.outcome ≡ Outcome.Done) × (plan.text ≡ codes "cleaned\n")) }
+    ensures { IfOk result (λ plan. (plan.change ≡ Change.Leftovers temps) × (plan.outcome ≡ Outcome.Done)
+        × (plan.text ≡ codes "cleaned\n")) }
 {
     let text = Bytes::of(alloc, b"cleaned\n")?;
     Ok(Plan {
@@ -116,7 +122,8 @@ pub fn plan_tidy<M: Machine>(alloc: Global, esp: &str, machine: &mut M) -> Resul
         (unless_refused (seen (M.state machine.old)) (folders_of esp.now) (tidy_answer (seen (M.state machine.old))))) }
     ensures makeable { IfOk result (λ plan. IsMakeable plan.change) }
     ensures idle { IfOk result IsIdleIfRefused }
-    ensures tidies { IfOk result (λ plan. IsTrue M.tells → (files : Files) → Drops plan.change (M.state machine.old).files files → IsTidied esp.now files) }
+    ensures tidies { IfOk result (λ plan. IsTrue M.tells → (files : Files)
+        → Drops plan.change (M.state machine.old).files files → IsTidied esp.now files) }
     ensures reads { IsTrue M.tells → OnlyReads M.clock M.since M.state machine.old machine.new }
     ensures counts { CountsStop result (M.counts machine.old) (M.counts machine.new) }
     ensures taken { IsTrue M.tells → TakesAtMost 0 (M.taken machine.old) (M.taken machine.new) }

@@ -136,7 +136,8 @@ pub fn plan_unlink<M: Machine>(
     machine: &mut M,
 ) -> Result<Plan, Stop>
     ensures plans { IfOk result (λ plan. IsTrue M.tells → Plans (M.state machine.old) plan
-        (unless_refused (seen (M.state machine.old)) (entry_path name.now esp.now) (unlink_answer (seen (M.state machine.old))))) }
+        (unless_refused (seen (M.state machine.old)) (entry_path name.now esp.now)
+        (unlink_answer (seen (M.state machine.old))))) }
     ensures makeable { IfOk result (λ plan. IsMakeable plan.change) }
     ensures idle { IfOk result IsIdleIfRefused }
     ensures reads { IsTrue M.tells → OnlyReads M.clock M.since M.state machine.old machine.new }

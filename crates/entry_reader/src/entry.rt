@@ -76,7 +76,8 @@ impl Type1 {
         ensures ok { IfOk result (λ entry. entry ≡ type1_of bytes.now) }
         ensures valid { IfOk result (λ _. (length bytes.now ≤ 65536) × (boots bytes.now ≡ true)) }
         ensures too_long { (result ≡ Err EntryFault.TooLong) ↔ (65536 < length bytes.now) }
-        ensures nothing_to_boot { (result ≡ Err EntryFault.NothingToBoot) ↔ ((length bytes.now ≤ 65536) × (boots bytes.now ≡ false)) }
+        ensures nothing_to_boot { (result ≡ Err EntryFault.NothingToBoot)
+            ↔ ((length bytes.now ≤ 65536) × (boots bytes.now ≡ false)) }
     {
         if bytes.len() > ENTRY_LIMIT {
             return Err(EntryFault::TooLong);

@@ -12,10 +12,13 @@ use text_lines::{TextLines, last_value, value_in};
 /// of the last line that has one, and the values of a key that may repeat are those of all lines, in order.
 pub fn lines_are_read_in_one_way()
     ensures reading { (line key value : List ℕ) → (entry_reading line ≡ Some (key, value)) ↔ EntryLine line key value }
-    ensures once { (line key value other_key other : List ℕ) → EntryLine line key value → EntryLine line other_key other → (key ≡ other_key) × (value ≡ other) }
-    ensures last { (text key value : List ℕ) → (entry_value key text ≡ Some value) ↔ IsLastValue EntryLine key (lines_of text) value }
+    ensures once { (line key value other_key other : List ℕ) → EntryLine line key value
+        → EntryLine line other_key other → (key ≡ other_key) × (value ≡ other) }
+    ensures last { (text key value : List ℕ) → (entry_value key text ≡ Some value)
+        ↔ IsLastValue EntryLine key (lines_of text) value }
     ensures none { (text key : List ℕ) → (entry_value key text ≡ None) ↔ LacksKey EntryLine key (lines_of text) }
-    ensures all { (text key : List ℕ) (values : List (List ℕ)) → (entry_values key text ≡ values) ↔ AreAllValues EntryLine key (lines_of text) values }
+    ensures all { (text key : List ℕ) (values : List (List ℕ)) → (entry_values key text ≡ values)
+        ↔ AreAllValues EntryLine key (lines_of text) values }
 {}
 
 /// A copy of the value of the key in the last line that has one.

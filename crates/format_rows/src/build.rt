@@ -40,7 +40,8 @@ fn sizes_of(
     contents: &[Vec<u8>],
 ) -> Result<Vec<PartSize>, RowFault>
     requires { length contents.now ≤ 16777216 }
-    ensures { IfOk result (λ sizes. map length (map (λ c. c.items) contents.now) ≡ map (λ p. p.length) (map wide sizes.items)) }
+    ensures { IfOk result (λ sizes. map length (map (λ c. c.items) contents.now)
+        ≡ map (λ p. p.length) (map wide sizes.items)) }
 {
     let mut sizes = Vec::new(alloc);
     for i in 0..contents.len() {

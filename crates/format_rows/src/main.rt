@@ -12,7 +12,7 @@
 //!   and where the loaded bytes of a section stand. `head`: as `read`, by reads of a machine, with the place and the
 //!   length of each.
 //! - `refusal NAME:LENGTH..`: why there is no image of it and such parts. `build NAME=BYTES..`: the image of it and
-//!   these parts, which is the file from then on. `sbat BYTES`: from then on both put these in the place of its `.sbat`.
+//!   these parts, which is the file from then on. `sbat BYTES`: from then on both have these as its `.sbat`.
 //! - `replay BANK`: the register after a stub has measured it. `replay_file`: that of SHA-256, by reads of a machine.
 //! - `fail N`: the call of that number fails on the next machine.
 //!

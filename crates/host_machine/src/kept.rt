@@ -74,8 +74,8 @@ pub(crate) fn require_replaceable<R: Files>(rt: &R, path: &str) -> io::Result<()
     }
 }
 
-// A temporary file that has the length and the time of change of the file that it was for may be that very file. After a
-// power cut FAT can keep both names of a rename over the same clusters, and then to cut or remove the one takes the
+// A temporary file that has the length and the time of change of the file that it was for may be that very file. After
+// a power cut FAT can keep both names of a rename over the same clusters, and then to cut or remove the one takes the
 // bytes of the other. Only a check of the file system tells them apart. FAT's times are whole seconds, and even ones.
 pub(crate) fn require_own_clusters<R: Files>(rt: &R, temp: &str) -> io::Result<()> {
     let Some(left) = if_there(fs::symlink_metadata(rt, temp))? else {

@@ -41,15 +41,17 @@ use Rattle.pcr_fold.specs.Banks.{all_banks}
 use Rattle.boot_phases.specs.Phases.{default_phase_paths}
 use Rattle.stub_replay.specs.Measured.{stub_pcr}
 
--- A value of `--section=`: a section's name, and behind the first colon a text, or `@` and the path of a file. Without a
--- colon, or where no section has that name, it is refused.
+-- A value of `--section=`: a section's name, and behind the first colon a text, or `@` and the path of a file. Without
+-- a colon, or where no section has that name, it is refused.
 abbrev pub section_name : List ℕ → Option SectionName → Result SectionName Refusal
 section_name text None = Err (refusals.BadSectionName text)
 section_name text (Some name) = Ok name
 
 abbrev pub section_cut : List ℕ → Option ℕ → Result (SectionName × Given) Refusal
 section_cut value None = Err (refusals.BadSectionName value)
-section_cut value (Some colon) = section_name (take colon value) (read_name (take colon value)) >>= λ name. Ok (name, inline_or_file (drop (colon + 1) value))
+section_cut value (Some colon) =
+    section_name (take colon value) (read_name (take colon value))
+    >>= λ name. Ok (name, inline_or_file (drop (colon + 1) value))
 
 abbrev pub section_of : List ℕ → Result (SectionName × Given) Refusal
 section_of value = section_cut value (position (λ byte. byte == 58) value)
@@ -142,25 +144,37 @@ abbrev pub size_of_part : SectionName × List ℕ → WideSize
 size_of_part part = record { name = part.0; length = length part.1; flags = part_flags part.0 }
 
 -- the refusal, or else the image of these parts and of a `.sbat` that takes the place of the stub's
-abbrev pub image_or : Path → Headers → List ℕ → List (SectionName × List ℕ) → Option (List ℕ) → Option Refusal → Result Built Refusal
+abbrev pub image_or : Path → Headers → List ℕ → List (SectionName × List ℕ) → Option (List ℕ) → Option Refusal
+    → Result Built Refusal
 image_or output headers stub parts sbat (Some why) = Err why
-image_or output headers stub parts sbat None = Ok (record { output = output; image = finished headers (map size_of_part parts) (map (λ part. part.1) parts) sbat stub })
+image_or output headers stub parts sbat None =
+    Ok (record {
+      output = output;
+      image = finished headers (map size_of_part parts)
+          (map (λ part. part.1) parts) sbat stub;
+    })
 
-abbrev pub image_of_parts : Path → Headers → List ℕ → List (SectionName × List ℕ) → Option (List ℕ) → Result Built Refusal
+abbrev pub image_of_parts : Path → Headers → List ℕ → List (SectionName × List ℕ) → Option (List ℕ)
+    → Result Built Refusal
 image_of_parts output headers stub parts sbat =
     image_or output headers stub parts sbat
-    (option_and_then (builder_refusal output) (first_refusal headers (length stub) (map size_of_part parts) (option_map length sbat)))
+    (option_and_then (builder_refusal output)
+    (first_refusal headers (length stub) (map size_of_part parts) (option_map length sbat)))
 
 -- whether the stub has a `.sbat`, whose place a new one takes
 abbrev pub has_sbat : Headers → Bool
 has_sbat headers = nat_lt (sbat_index headers) (length headers.sections)
 
 -- the image with an SBAT text that isn't empty: in the place of the stub's, or as a part before the kernel
-abbrev pub with_sbat_text : Path → Headers → List ℕ → List (SectionName × List ℕ) → List ℕ → List ℕ → Result Built Refusal
-with_sbat_text output headers stub parts kernel [] = image_of_parts output headers stub (filter has_bytes (parts ++ (padded_name (codes ".linux"), kernel) ∷ [])) None
+abbrev pub with_sbat_text : Path → Headers → List ℕ → List (SectionName × List ℕ) → List ℕ → List ℕ
+    → Result Built Refusal
+with_sbat_text output headers stub parts kernel [] =
+    image_of_parts output headers stub (filter has_bytes (parts ++ (padded_name (codes ".linux"), kernel) ∷ [])) None
 with_sbat_text output headers stub parts kernel (byte ∷ text) =
-    if has_sbat headers then image_of_parts output headers stub (filter has_bytes (parts ++ (padded_name (codes ".linux"), kernel) ∷ [])) (Some (byte ∷ text))
-    else image_of_parts output headers stub (filter has_bytes (parts ++ (padded_name sbat_name, byte ∷ text) ∷ (padded_name (codes ".linux"), kernel) ∷ [])) None
+    if has_sbat headers then image_of_parts output headers stub
+    (filter has_bytes (parts ++ (padded_name (codes ".linux"), kernel) ∷ [])) (Some (byte ∷ text))
+    else image_of_parts output headers stub (filter has_bytes
+    (parts ++ (padded_name sbat_name, byte ∷ text) ∷ (padded_name (codes ".linux"), kernel) ∷ [])) None
 
 -- what the words of a build name: the files, the texts, and where the image is to stand
 pub record Named : Type 0 where
@@ -219,7 +233,13 @@ pub record Material : Type 0 where
 abbrev pub material : Contents → Result Material Refusal
 material contents =
     headers_or (pe_of contents.stub) >>= λ headers.
-    Ok (record { headers = headers; stub = contents.stub; linux = contents.linux; parts = contents.parts; sbat = sbat_of contents })
+    Ok (record {
+      headers = headers;
+      stub = contents.stub;
+      linux = contents.linux;
+      parts = contents.parts;
+      sbat = sbat_of contents;
+    })
 
 abbrev pub material_of : Files → Named → Result Material Refusal
 material_of view named = contents_of view named >>= material
@@ -229,7 +249,13 @@ abbrev pub part_named : PartSources → NamedPart
 part_named part = named_part part.kind part.name part.sources.items
 
 abbrev pub named_as : BuildSources → Named
-named_as found = record { stub = found.stub; linux = found.linux; parts = map part_named found.parts.items; sbat = found.sbat; output = found.output }
+named_as found = record {
+  stub = found.stub;
+  linux = found.linux;
+  parts = map part_named found.parts.items;
+  sbat = found.sbat;
+  output = found.output;
+}
 
 -- these are what some words name
 abbrev pub AreNamed : BuildSources → Type 0

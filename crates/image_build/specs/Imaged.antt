@@ -57,7 +57,8 @@ pub record IsSized (files : Reading) (part : Part) : Type 0 where
 
 -- On a view the stub at a path has this length and reads with these headers, and the pieces of all parts have the sizes
 -- that they say.
-pub record AreFound (view : Files) (headers : Headers) (stub_length : ℕ) (stub : Path) (parts : List Part) (linux : Part) : Type 0 where
+pub record AreFound (view : Files) (headers : Headers) (stub_length : ℕ) (stub : Path) (parts : List Part)
+    (linux : Part) : Type 0 where
   pub length_is : length (contents view stub) ≡ stub_length
   pub reads : pe_of (contents view stub) ≡ Ok headers
   pub sized : All (IsSized (contents view)) parts
@@ -66,19 +67,23 @@ pub record AreFound (view : Files) (headers : Headers) (stub_length : ℕ) (stub
 -- what these parts and an SBAT text come to on a view
 abbrev pub image_meant : Files → Headers → Path → List Part → Part → List ℕ → Path → Result Built Refusal
 image_meant view headers stub parts linux sbat output =
-    with_sbat_text output headers (contents view stub) (map (part_as (contents view)) parts) (bytes_of (contents view) linux.pieces.items) sbat
+    with_sbat_text output headers (contents view stub) (map (part_as (contents view)) parts)
+    (bytes_of (contents view) linux.pieces.items) sbat
 
 -- The plan was made for its sources on a view, and the image by it is the one that is meant; or the refusal is meant.
 -- Without memory nothing is told.
 abbrev pub Images : Files → (Path → Result Built Refusal) → Result ImagePlan PlanFault → Type 0
 Images view meant (Ok image) =
     IsSourced image.plan image.sources view
-    × ((output : Path) → meant output ≡ Ok (record { output = output; image = planned_image image.plan image.sources view }))
+    × ((output : Path)
+    → meant output ≡ Ok (record { output = output; image = planned_image image.plan image.sources view }))
 Images view meant (Err faults.Memory) = Unit {0}
-Images view meant (Err fault) = (output : Path) (why : Refusal) → builder_refusal output fault ≡ Some why → meant output ≡ Err why
+Images view meant (Err fault) =
+    (output : Path) (why : Refusal) → builder_refusal output fault ≡ Some why → meant output ≡ Err why
 
 -- the plan of an image of these parts, and its sources
-pub record IsPlanOf (image : ImagePlan) (headers : Headers) (stub_length : ℕ) (stub : Path) (parts : List Part) (in_place : Option ℕ) (sbat : List ℕ) : Type 0 where
+pub record IsPlanOf (image : ImagePlan) (headers : Headers) (stub_length : ℕ) (stub : Path) (parts : List Part)
+    (in_place : Option ℕ) (sbat : List ℕ) : Type 0 where
   pub plans : PlansImage image.plan headers stub_length (map any_size parts) in_place
   pub stub_is : stub_path image.sources ≡ stub
   pub parts_are : part_list image.sources ≡ parts
@@ -86,9 +91,11 @@ pub record IsPlanOf (image : ImagePlan) (headers : Headers) (stub_length : ℕ) 
 
 -- such a plan was made, or the first refusal is this, unless memory ran out
 abbrev pub PlansParts : Headers → ℕ → Path → List Part → Option ℕ → List ℕ → Result ImagePlan PlanFault → Type 0
-PlansParts headers stub_length stub parts in_place sbat (Ok image) = IsPlanOf image headers stub_length stub parts in_place sbat
+PlansParts headers stub_length stub parts in_place sbat (Ok image) =
+    IsPlanOf image headers stub_length stub parts in_place sbat
 PlansParts headers stub_length stub parts in_place sbat (Err faults.Memory) = Unit {0}
-PlansParts headers stub_length stub parts in_place sbat (Err fault) = first_refusal headers stub_length (map any_size parts) in_place ≡ Some fault
+PlansParts headers stub_length stub parts in_place sbat (Err fault) =
+    first_refusal headers stub_length (map any_size parts) in_place ≡ Some fault
 
 -- the plan is that of its own sources, with this stub
 pub record IsOwnPlan (image : ImagePlan) (headers : Headers) (stub_length : ℕ) (stub : Path) : Type 0 where

@@ -11,6 +11,7 @@ use Rattle.image_build.specs.Building.{Built, build_answer, build_of, built_line
 
 -- A build that measures prints the values of the bytes that stand at its output afterwards.
 abbrev pub ValuesOfBuilds : Type 0
-ValuesOfBuilds = (view : Files) (words : BuildWords) (built : Built) → words.measure ≡ true → build_of view words ≡ Ok built →
+ValuesOfBuilds =
+    (view : Files) (words : BuildWords) (built : Built) → words.measure ≡ true → build_of view words ≡ Ok built →
     (build_answer view words).text ≡ built_line built.output (length built.image)
     ++ value_lines (stub_pcr (contents (build_answer view words).after built.output)) all_banks default_phase_paths

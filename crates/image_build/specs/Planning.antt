@@ -58,7 +58,8 @@ kept_bytes view plan in_place name =
 -- what the section of a name is going to hold
 abbrev pub section_bytes : Files → PlannedBuild → Option ℕ → List ℕ → List ℕ
 section_bytes view plan in_place name =
-    given_parts (map any_size (part_list plan.image.sources)) (parts_bytes (contents view) (part_list plan.image.sources))
+    given_parts (map any_size (part_list plan.image.sources))
+    (parts_bytes (contents view) (part_list plan.image.sources))
     (sbat_if_in_place in_place (new_sbat plan.image.sources)) (stub_bytes view plan) name
 
 -- the content has these bytes, and is whole in these files
@@ -66,8 +67,8 @@ pub record IsContent (files : Reading) (content : Option Content) (bytes : List 
   pub bytes_are : content_or files content ≡ bytes
   pub whole : IfSome content (IsWhole files)
 
--- How many bytes of files are read to measure an image, at most: what its measured sections have loaded, where it is asked
--- for.
+-- How many bytes of files are read to measure an image, at most: what its measured sections have loaded, where it is
+-- asked for.
 abbrev pub measuring_length : Bool → List ℕ → ℕ
 measuring_length measure image = if measure then measured_length image else 0
 
@@ -78,4 +79,5 @@ built_measuring measure (Ok built) = measuring_length measure built.image
 -- how many bytes of files are read to plan what the words name, at most
 abbrev pub planning_length : Files → Bool → Result Named Refusal → ℕ
 planning_length view measure (Err why) = 0
-planning_length view measure (Ok named) = reading_length (contents view) named + built_measuring measure (build_named view named)
+planning_length view measure (Ok named) =
+    reading_length (contents view) named + built_measuring measure (build_named view named)

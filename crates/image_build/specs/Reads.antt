@@ -53,7 +53,12 @@ PartHasSizes files part = HasSizes files part.pieces.items
 
 -- the files that a build reads, and the text of `--sbat`
 abbrev pub contents_as : Reading → BuildFiles → Contents
-contents_as files found = record { stub = files found.stub; linux = files found.linux; parts = map (part_as files) found.parts.items; sbat = found.sbat.items }
+contents_as files found = record {
+  stub = files found.stub;
+  linux = files found.linux;
+  parts = map (part_as files) found.parts.items;
+  sbat = found.sbat.items;
+}
 
 pub record FilesFrom (from : BuildSources) (found : BuildFiles) : Type 0 where
   pub stub : found.stub ≡ from.stub

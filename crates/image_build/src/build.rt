@@ -75,9 +75,11 @@ fn builder_refusal(
 // The plan of the image that is built of these, or the builder's first refusal.
 fn plan_parts(alloc: Global, built: BuildParts) -> Result<PlannedBuild, Unsaid>
     requires { IsPlannable built }
-    ensures says { (view : Files) → BuiltHasSizes (contents view) built → pe_of (contents view built.stub) ≡ Ok (headers_of built.head)
+    ensures says { (view : Files) → BuiltHasSizes (contents view) built
+        → pe_of (contents view built.stub) ≡ Ok (headers_of built.head)
         → Says (built_as view) result (image_of built.output (material_as (contents view) built)) }
-    ensures planned { IfOk result (λ plan. (view : Files) → BuiltHasSizes (contents view) built → pe_of (contents view built.stub) ≡ Ok (headers_of built.head)
+    ensures planned { IfOk result (λ plan. (view : Files) → BuiltHasSizes (contents view) built
+        → pe_of (contents view built.stub) ≡ Ok (headers_of built.head)
         → IsPlannedOn view plan) }
     ensures output { IfOk result (λ plan. plan.output ≡ built.output) }
     ensures counts { (counts : Counts) → CountsUnsaid result counts counts }
@@ -115,7 +117,8 @@ fn planned<M: Machine>(
     ensures free { IfOk result (λ plan. IsFree plan.output) }
     ensures reads { IsTrue M.tells → OnlyReads M.clock M.since M.state machine.old machine.new }
     ensures counts { CountsUnsaid result (M.counts machine.old) (M.counts machine.new) }
-    ensures taken { IsTrue M.tells → TakesAtMost (reading_length (contents (seen (M.state machine.old))) (named_as sources))
+    ensures taken { IsTrue M.tells → TakesAtMost
+        (reading_length (contents (seen (M.state machine.old))) (named_as sources))
         (M.taken machine.old) (M.taken machine.new) }
 {
     let built = read_build(alloc, sources, machine)?;
@@ -136,12 +139,14 @@ fn reply<M: Machine>(
     measure: bool,
     machine: &mut M,
 ) -> Result<Vec<u8>, Unsaid>
-    ensures says { IsTrue M.tells → IsPlannedOn (seen (M.state machine.old)) build.now → Says (λ text. text.items) result
+    ensures says { IsTrue M.tells → IsPlannedOn (seen (M.state machine.old)) build.now
+        → Says (λ text. text.items) result
         (Ok (built_text measure (built_as (seen (M.state machine.old)) build.now))) }
     ensures reads { IsTrue M.tells → OnlyReads M.clock M.since M.state machine.old machine.new }
     ensures counts { CountsUnsaid result (M.counts machine.old) (M.counts machine.new) }
     ensures taken { IsTrue M.tells → IsPlannedOn (seen (M.state machine.old)) build.now → TakesAtMost
-        (measuring_length measure (planned_image build.now.image.plan build.now.image.sources (seen (M.state machine.old))))
+        (measuring_length measure (planned_image build.now.image.plan build.now.image.sources
+        (seen (M.state machine.old))))
         (M.taken machine.old) (M.taken machine.new) }
 {
     let mut text = built_line(alloc, &build.output, build.image.plan.image_length())?;
@@ -156,8 +161,10 @@ fn reply<M: Machine>(
 // The plan that writes the image and says this.
 fn writing(alloc: Global, build: PlannedBuild, text: Vec<u8>) -> Result<Plan, AllocError>
     requires free { IsFree build.output }
-    ensures plans { IfOk result (λ plan. (s : State) (measure : Bool) → IsSourced build.image.plan build.image.sources (seen s)
-        → text.items ≡ built_text measure (built_as (seen s) build) → Plans s plan (built_answer (seen s) measure (Ok (built_as (seen s) build)))) }
+    ensures plans { IfOk result (λ plan. (s : State) (measure : Bool)
+        → IsSourced build.image.plan build.image.sources (seen s)
+        → text.items ≡ built_text measure (built_as (seen s) build)
+        → Plans s plan (built_answer (seen s) measure (Ok (built_as (seen s) build)))) }
     ensures makeable { IfOk result (λ plan. IsMakeable plan.change) }
     ensures idle { IfOk result IsIdleIfRefused }
 {
@@ -234,7 +241,8 @@ pub fn plan_build<M: Machine>(
 ) -> Result<Plan, Stop>
     ensures plans { IfOk result (λ plan. IsTrue M.tells → Plans (M.state machine.old) plan
         (build_answer (seen (M.state machine.old)) words.now)) }
-    ensures declined { (why : Refusal) → named_of words.now ≡ Err why → IfOk result (PlansDeclined (declines.Refused why)) }
+    ensures declined { (why : Refusal) → named_of words.now ≡ Err why
+        → IfOk result (PlansDeclined (declines.Refused why)) }
     ensures makeable { IfOk result (λ plan. IsMakeable plan.change) }
     ensures idle { IfOk result IsIdleIfRefused }
     ensures reads { IsTrue M.tells → OnlyReads M.clock M.since M.state machine.old machine.new }

@@ -168,8 +168,8 @@ fn counted_plan(
 /// # Errors
 ///
 /// The first refusal of the builder, as `plan_refusal` has it, exactly where there is one; `Memory` where there is no
-/// memory for the plan, or where there are more parts with bytes than 16,777,214, more bytes than 2^61, or an SBAT text of
-/// 4 GiB, which no command's words and files reach.
+/// memory for the plan, or where there are more parts with bytes than 16,777,214, more bytes than 2^61, or an SBAT text
+/// of 4 GiB, which no command's words and files reach.
 pub fn plan_image_of(
     alloc: Global,
     head: &Pe,

@@ -46,7 +46,7 @@ pub struct BuildParts {
 }
 
 // The files that a build reads, with their sizes, and the text of `--sbat`.
-#[derive(Debug, Drop)]
+#[derive(Drop)]
 struct BuildFiles {
     stub: BootPath,
     stub_length: u64,
@@ -83,9 +83,11 @@ fn source_pieces<M: Machine>(
     sources: Vec<Source>,
     machine: &mut M,
 ) -> Result<Vec<Piece>, Unsaid>
-    ensures says { IsTrue M.tells → Says (λ pieces. map (piece_bytes (contents (seen (M.state machine.old)))) pieces.items) result
+    ensures says { IsTrue M.tells
+        → Says (λ pieces. map (piece_bytes (contents (seen (M.state machine.old)))) pieces.items) result
         (each (source_bytes (seen (M.state machine.old))) sources.items) }
-    ensures sizes { IfOk result (λ pieces. IsTrue M.tells → HasSizes (contents (seen (M.state machine.old))) pieces.items) }
+    ensures sizes { IfOk result (λ pieces. IsTrue M.tells
+        → HasSizes (contents (seen (M.state machine.old))) pieces.items) }
     ensures limit { IfOk result (λ pieces. total_length pieces.items ≤ sum_by source_limit sources.items) }
     ensures count { IfOk result (λ pieces. length pieces.items ≡ length sources.items) }
     ensures reads { IsTrue M.tells → OnlyReads M.clock M.since M.state machine.old machine.new }
@@ -137,9 +139,11 @@ fn parts_of_sources<M: Machine>(
     sources: Vec<PartSources>,
     machine: &mut M,
 ) -> Result<Vec<Part>, Unsaid>
-    ensures says { IsTrue M.tells → Says (λ parts. map (part_as (contents (seen (M.state machine.old)))) parts.items) result
+    ensures says { IsTrue M.tells
+        → Says (λ parts. map (part_as (contents (seen (M.state machine.old)))) parts.items) result
         (each (part_bytes (seen (M.state machine.old))) (map part_named sources.items)) }
-    ensures sizes { IfOk result (λ parts. IsTrue M.tells → All (PartHasSizes (contents (seen (M.state machine.old)))) parts.items) }
+    ensures sizes { IfOk result (λ parts. IsTrue M.tells
+        → All (PartHasSizes (contents (seen (M.state machine.old)))) parts.items) }
     ensures from { IfOk result (λ parts. AllZip PartFrom sources.items parts.items) }
     ensures reads { IsTrue M.tells → OnlyReads M.clock M.since M.state machine.old machine.new }
     ensures counts { CountsUnsaid result (M.counts machine.old) (M.counts machine.new) }
@@ -162,8 +166,10 @@ fn range_bytes<M: Machine>(
 ) -> Result<Vec<u8>, Unsaid>
     requires place { range.place < 2 ^ 32 }
     requires size { range.length + range.zeros < 2 ^ 32 }
-    ensures says { IsTrue M.tells → range.length ≤ length (drop range.place (contents (seen (M.state machine.old)) path.now))
-        → Says (λ content. content.items) result (Ok (bytes_in (contents (seen (M.state machine.old)) path.now) range)) }
+    ensures says { IsTrue M.tells → range.length
+        ≤ length (drop range.place (contents (seen (M.state machine.old)) path.now))
+        → Says (λ content. content.items) result
+        (Ok (bytes_in (contents (seen (M.state machine.old)) path.now) range)) }
     ensures reads { IsTrue M.tells → OnlyReads M.clock M.since M.state machine.old machine.new }
     ensures counts { CountsUnsaid result (M.counts machine.old) (M.counts machine.new) }
     ensures taken { IsTrue M.tells → TakesAtMost range.length (M.taken machine.old) (M.taken machine.new) }
@@ -248,7 +254,8 @@ fn build_files<M: Machine>(
 ) -> Result<BuildFiles, Unsaid>
     ensures says { IsTrue M.tells → Says (contents_as (contents (seen (M.state machine.old)))) result
         (contents_of (seen (M.state machine.old)) (named_as sources)) }
-    ensures sizes { IfOk result (λ found. IsTrue M.tells → FilesHaveSizes (contents (seen (M.state machine.old))) found) }
+    ensures sizes { IfOk result (λ found. IsTrue M.tells
+        → FilesHaveSizes (contents (seen (M.state machine.old))) found) }
     ensures from { IfOk result (FilesFrom sources) }
     ensures reads { IsTrue M.tells → OnlyReads M.clock M.since M.state machine.old machine.new }
     ensures counts { CountsUnsaid result (M.counts machine.old) (M.counts machine.new) }
@@ -286,14 +293,17 @@ fn image_sbat<M: Machine>(
     machine: &mut M,
 ) -> Result<Vec<u8>, Unsaid>
     requires small { found.now.linux_length ≤ 268435456 }
-    requires size { IsTrue M.tells → found.now.linux_length ≡ length (contents (seen (M.state machine.old)) found.now.linux) }
-    requires head { IsTrue M.tells → pe_of (contents (seen (M.state machine.old)) found.now.stub) ≡ Ok (headers_of head.now) }
+    requires size { IsTrue M.tells → found.now.linux_length
+        ≡ length (contents (seen (M.state machine.old)) found.now.linux) }
+    requires head { IsTrue M.tells → pe_of (contents (seen (M.state machine.old)) found.now.stub)
+        ≡ Ok (headers_of head.now) }
     ensures says { IsTrue M.tells → Says (λ text. text.items) result
         (Ok (sbat_of (contents_as (contents (seen (M.state machine.old))) found.now))) }
     ensures reads { IsTrue M.tells → OnlyReads M.clock M.since M.state machine.old machine.new }
     ensures counts { CountsUnsaid result (M.counts machine.old) (M.counts machine.new) }
     ensures taken { IsTrue M.tells → TakesAtMost
-        (loaded_sbat_length (contents (seen (M.state machine.old))) found.now.stub + (69463 + loaded_sbat_length (contents (seen (M.state machine.old))) found.now.linux))
+        (loaded_sbat_length (contents (seen (M.state machine.old))) found.now.stub
+        + (69463 + loaded_sbat_length (contents (seen (M.state machine.old))) found.now.linux))
         (M.taken machine.old) (M.taken machine.new) }
 {
     let stub = loaded_sbat(alloc, &found.stub, head, machine)?;
@@ -333,7 +343,8 @@ pub fn read_build<M: Machine>(
 ) -> Result<BuildParts, Unsaid>
     ensures says { IsTrue M.tells → Says (material_as (contents (seen (M.state machine.old)))) result
         (material_of (seen (M.state machine.old)) (named_as sources)) }
-    ensures sizes { IfOk result (λ built. IsTrue M.tells → BuiltHasSizes (contents (seen (M.state machine.old))) built) }
+    ensures sizes { IfOk result (λ built. IsTrue M.tells
+        → BuiltHasSizes (contents (seen (M.state machine.old))) built) }
     ensures from { IfOk result (BuiltFrom sources) }
     ensures reads { IsTrue M.tells → OnlyReads M.clock M.since M.state machine.old machine.new }
     ensures counts { CountsUnsaid result (M.counts machine.old) (M.counts machine.new) }

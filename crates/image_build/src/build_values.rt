@@ -41,7 +41,8 @@ fn part_named<'a>(parts: &'a [Part], name: &[u8]) -> Option<&'a Part>
 
 // What the stub at a path has loaded of that name, by what it reads as.
 fn stub_content<'a>(head: &Pe, stub: &'a BootPath, name: &[u8]) -> Option<Content<'a>>
-    ensures holds { (files : Reading) → pe_of (files stub.now) ≡ Ok (headers_of head.now) → IsContent files result (loaded (files stub.now) name.now) }
+    ensures holds { (files : Reading) → pe_of (files stub.now) ≡ Ok (headers_of head.now)
+        → IsContent files result (loaded (files stub.now) name.now) }
     ensures placed { IfSome result IsPlaced }
 {
     let index = head.find(name)?;
@@ -51,7 +52,8 @@ fn stub_content<'a>(head: &Pe, stub: &'a BootPath, name: &[u8]) -> Option<Conten
 
 // What the section of that name holds where no part has the name: the new `.sbat`, or what the stub has.
 fn kept_content<'a>(plan: &'a PlannedBuild, name: &[u8]) -> Option<Content<'a>>
-    ensures holds { (view : Files) (on : IsPlannedOn view plan.now) → IsContent (contents view) result (kept_bytes view plan.now on.own.in_place name.now) }
+    ensures holds { (view : Files) (on : IsPlannedOn view plan.now)
+        → IsContent (contents view) result (kept_bytes view plan.now on.own.in_place name.now) }
     ensures placed { IfSome result IsPlaced }
 {
     let sources = &plan.image.sources;
@@ -63,7 +65,8 @@ fn kept_content<'a>(plan: &'a PlannedBuild, name: &[u8]) -> Option<Content<'a>>
 
 // What the section of that name is going to hold.
 fn section_content<'a>(plan: &'a PlannedBuild, name: &[u8]) -> Option<Content<'a>>
-    ensures holds { (view : Files) (on : IsPlannedOn view plan.now) → IsContent (contents view) result (section_bytes view plan.now on.own.in_place name.now) }
+    ensures holds { (view : Files) (on : IsPlannedOn view plan.now)
+        → IsContent (contents view) result (section_bytes view plan.now on.own.in_place name.now) }
     ensures placed { IfSome result IsPlaced }
 {
     match part_named(plan.image.sources.parts(), name) {
@@ -77,9 +80,11 @@ fn measured_parts<'a>(
     alloc: Global,
     plan: &'a PlannedBuild,
 ) -> Result<Vec<Measurable<'a>>, AllocError>
-    ensures items { IfOk result (λ parts. (view : Files) → IsPlannedOn view plan.now → items_of (map (named_bytes (contents view)) parts.items)
+    ensures items { IfOk result (λ parts. (view : Files) → IsPlannedOn view plan.now
+        → items_of (map (named_bytes (contents view)) parts.items)
         ≡ measured_list (planned_image plan.now.image.plan plan.now.image.sources view)) }
-    ensures whole { IfOk result (λ parts. (view : Files) → IsPlannedOn view plan.now → HaveSizes (contents view) parts.items) }
+    ensures whole { IfOk result (λ parts. (view : Files) → IsPlannedOn view plan.now
+        → HaveSizes (contents view) parts.items) }
     ensures placed { IfOk result (λ parts. All (λ part. IsPlaced part.content) parts.items) }
     ensures short { IfOk result (λ parts. (view : Files) → IsPlannedOn view plan.now
         → files_length parts.items ≤ measured_length (planned_image plan.now.image.plan plan.now.image.sources view)) }
@@ -99,8 +104,11 @@ fn registers<M: Machine>(
     machine: &mut M,
 ) -> Result<Vec<Pcr>, Unsaid>
     ensures banks { IfOk result (λ registers. map pcr_bank registers.items ≡ banks.now) }
-    ensures says { IsTrue M.tells → IsPlannedOn (seen (M.state machine.old)) plan.now → Says (λ registers. map shown registers.items) result
-        (Ok (map (folded (measured_list (planned_image plan.now.image.plan plan.now.image.sources (seen (M.state machine.old))))) banks.now)) }
+    ensures says { IsTrue M.tells → IsPlannedOn (seen (M.state machine.old)) plan.now
+        → Says (λ registers. map shown registers.items) result
+        (Ok (map (folded
+        (measured_list (planned_image plan.now.image.plan plan.now.image.sources (seen (M.state machine.old)))))
+        banks.now)) }
     ensures reads { IsTrue M.tells → OnlyReads M.clock M.since M.state machine.old machine.new }
     ensures counts { CountsUnsaid result (M.counts machine.old) (M.counts machine.new) }
     ensures taken { IsTrue M.tells → IsPlannedOn (seen (M.state machine.old)) plan.now → TakesAtMost
@@ -124,7 +132,9 @@ pub(crate) fn planned_values<M: Machine>(
     machine: &mut M,
 ) -> Result<Vec<u8>, Unsaid>
     ensures says { IsTrue M.tells → IsPlannedOn (seen (M.state machine.old)) plan.now → Says (λ text. text.items) result
-        (Ok (value_lines (stub_pcr (planned_image plan.now.image.plan plan.now.image.sources (seen (M.state machine.old)))) all_banks default_phase_paths)) }
+        (Ok (value_lines
+        (stub_pcr (planned_image plan.now.image.plan plan.now.image.sources (seen (M.state machine.old))))
+        all_banks default_phase_paths)) }
     ensures reads { IsTrue M.tells → OnlyReads M.clock M.since M.state machine.old machine.new }
     ensures counts { CountsUnsaid result (M.counts machine.old) (M.counts machine.new) }
     ensures taken { IsTrue M.tells → IsPlannedOn (seen (M.state machine.old)) plan.now → TakesAtMost

@@ -108,7 +108,8 @@ fn push_fixed(
 ) -> Result<(), AllocError>
     requires { IsTrue (is_some (fixed_name kind)) }
     ensures { OnOk result ((name : List ℕ) → fixed_name kind ≡ Some (padded_name name)
-        → map part_named parts.new.items ≡ map part_named parts.old.items ++ named_part kind (padded_name name) sources.items ∷ []) }
+        → map part_named parts.new.items ≡ map part_named parts.old.items
+        ++ named_part kind (padded_name name) sources.items ∷ []) }
 {
     let name = SectionName::of(kind).unwrap();
     push(
@@ -130,7 +131,8 @@ fn push_one(
 ) -> Result<(), AllocError>
     requires { IsTrue (is_some (fixed_name kind)) }
     ensures { OnOk result ((name : List ℕ) → fixed_name kind ≡ Some (padded_name name)
-        → map part_named parts.new.items ≡ map part_named parts.old.items ++ named_part kind (padded_name name) (source ∷ []) ∷ []) }
+        → map part_named parts.new.items ≡ map part_named parts.old.items
+        ++ named_part kind (padded_name name) (source ∷ []) ∷ []) }
 {
     let sources = one_source(alloc, source)?;
     push_fixed(kind, sources, parts)
@@ -165,7 +167,8 @@ fn append_cmdline(
     parts: &mut Vec<PartSources>,
 ) -> Result<(), Declined>
     ensures { Means (λ _. map part_named parts.new.items) result
-        (with_parts (map part_named parts.old.items) (wanted kinds.Cmdline (codes ".cmdline") (given_once (option_map clean given.now)))) }
+        (with_parts (map part_named parts.old.items)
+        (wanted kinds.Cmdline (codes ".cmdline") (given_once (option_map clean given.now)))) }
 {
     match given {
         None => Ok(()),
@@ -206,7 +209,8 @@ fn append_uname(
     parts: &mut Vec<PartSources>,
 ) -> Result<(), Declined>
     ensures { Means (λ _. map part_named parts.new.items) result
-        (with_parts (map part_named parts.old.items) (wanted kinds.Uname (codes ".uname") (given_once (option_map Inline text.now)))) }
+        (with_parts (map part_named parts.old.items)
+        (wanted kinds.Uname (codes ".uname") (given_once (option_map Inline text.now)))) }
 {
     match text {
         None => Ok(()),
@@ -287,7 +291,8 @@ fn parts_of(
     words: &BuildWords,
     sections: &[(SectionName, Given)],
 ) -> Result<Vec<PartSources>, Declined>
-    ensures { Means (λ parts. map part_named parts.items) result (each sources_of (wanted_parts words.now sections.now)) }
+    ensures { Means (λ parts. map part_named parts.items) result
+        (each sources_of (wanted_parts words.now sections.now)) }
 {
     let mut parts = Vec::new(alloc);
     append_given(alloc, PartKind::Osrel, &words.osrel, &mut parts)?;

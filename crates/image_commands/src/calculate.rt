@@ -157,7 +157,8 @@ fn registers<M: Machine>(
     ensures reads { IsTrue M.tells → OnlyReads M.clock M.since M.state machine.old machine.new }
     ensures counts { CountsUnsaid result (M.counts machine.old) (M.counts machine.new) }
     ensures taken { IsTrue M.tells → All (HasItsSize (contents (seen (M.state machine.old)))) files.now
-        → TakesAtMost (sum_by (λ part. length part.1) (map (named_file (contents (seen (M.state machine.old)))) files.now))
+        → TakesAtMost (sum_by (λ part. length part.1)
+        (map (named_file (contents (seen (M.state machine.old)))) files.now))
         (M.taken machine.old) (M.taken machine.new) }
 {
     let mut buffer = [0; PIECE_SIZE];

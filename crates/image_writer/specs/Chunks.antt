@@ -76,7 +76,9 @@ new_stub_bytes plan stub sbat =
     chunks_bytes stub sbat (number_chunks (planned_before plan) (planned_after plan))
     ++ chunks_bytes stub sbat (table_chunks (planned_before plan) (planned_sbat plan))
     ++ headers_bytes stub sbat (planned_sections plan)
-    ++ chunks_bytes stub sbat (rest_chunks ((planned_before plan).table_place + 40 * (planned_after plan).section_count) (planned_stub_length plan) (planned_sbat plan))
+    ++ chunks_bytes stub sbat
+    (rest_chunks ((planned_before plan).table_place + 40 * (planned_after plan).section_count)
+    (planned_stub_length plan) (planned_sbat plan))
 
 -- the bytes that a piece gives, as many as it says
 abbrev pub given_bytes : Reading → Piece → List ℕ

@@ -34,15 +34,18 @@ pub record IsPieced (files : Reading) (part : Part) : Type 0 where
 -- The plan was made for these sources: for the bytes that the stub and the parts have in these files, and for the new
 -- `.sbat`.
 pub record IsSourced (plan : Plan) (sources : Sources) (files : Files) : Type 0 where
-  pub plan_is : IsPlanFor plan (contents files (stub_path sources)) (parts_bytes (contents files) (part_list sources)) (new_sbat sources)
+  pub plan_is : IsPlanFor plan (contents files (stub_path sources)) (parts_bytes (contents files) (part_list sources))
+      (new_sbat sources)
   pub pieced : All (IsPieced (contents files)) (part_list sources)
 
 -- the bytes are the finished image by the plan of these sources in these files
 abbrev pub IsPlannedImage : Plan → Sources → Files → List ℕ → Type 0
 IsPlannedImage plan sources files image =
-    IsFinished plan (contents files (stub_path sources)) (parts_bytes (contents files) (part_list sources)) (new_sbat sources) image
+    IsFinished plan (contents files (stub_path sources)) (parts_bytes (contents files) (part_list sources))
+    (new_sbat sources) image
 
 -- the finished image by the plan of these sources in these files: where the plan was made for them, the one that is so
 abbrev pub planned_image : Plan → Sources → Files → List ℕ
 planned_image plan sources files =
-    image_by plan (parts_bytes (contents files) (part_list sources)) (new_sbat sources) (contents files (stub_path sources))
+    image_by plan (parts_bytes (contents files) (part_list sources)) (new_sbat sources)
+    (contents files (stub_path sources))

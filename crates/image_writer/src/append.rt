@@ -20,7 +20,8 @@ pub fn write_zeros<M: Machine>(
     requires room { 0 < length buffer.old }
     ensures length { length buffer.new ≡ length buffer.old }
     ensures appends { IsTrue M.tells → AppendsOnly M.clock M.since M.state temp.now machine.old machine.new }
-    ensures grows { OnOk result (IsTrue M.tells → Grown temp.now (replicate count 0) (M.state machine.old) (M.state machine.new)) }
+    ensures grows { OnOk result (IsTrue M.tells
+        → Grown temp.now (replicate count 0) (M.state machine.old) (M.state machine.new)) }
     ensures counts { CountsDisk result (M.counts machine.old) (M.counts machine.new) }
 {
     buffer.fill(0);
@@ -38,7 +39,8 @@ fn append_zeros<M: Machine>(
     requires room { 0 < length zeros.now }
     requires zeros { zeros.now ≡ replicate (length zeros.now) 0 }
     ensures appends { IsTrue M.tells → AppendsOnly M.clock M.since M.state temp.now machine.old machine.new }
-    ensures grows { OnOk result (IsTrue M.tells → Grown temp.now (replicate count 0) (M.state machine.old) (M.state machine.new)) }
+    ensures grows { OnOk result (IsTrue M.tells
+        → Grown temp.now (replicate count 0) (M.state machine.old) (M.state machine.new)) }
     ensures counts { CountsDisk result (M.counts machine.old) (M.counts machine.new) }
 {
     let mut done = 0;

@@ -8,7 +8,7 @@ use pe_builder::Plan;
 use pe_reader::Section;
 
 /// Some bytes of an image, up to the end of its stub.
-#[derive(Clone, Copy, Debug)]
+#[derive(Clone, Copy)]
 pub enum Chunk {
     /// The stub's bytes from a place up to another.
     Stub { from: u64, to: u64 },
@@ -94,7 +94,8 @@ pub fn section_chunks(section: &Section) -> [Chunk; 7]
 
 /// From the end of the image's section table up to the stub's end.
 pub fn rest_chunks(plan: &Plan) -> [Chunk; 4]
-    ensures { result ≡ rest_chunks ((planned_before plan.now).table_place + 40 * (planned_after plan.now).section_count) (planned_stub_length plan.now) (planned_sbat plan.now) }
+    ensures { result ≡ rest_chunks ((planned_before plan.now).table_place
+        + 40 * (planned_after plan.now).section_count) (planned_stub_length plan.now) (planned_sbat plan.now) }
 {
     let from = plan.stub_head().table_place as u64 + 40 * plan.image_head().section_count as u64;
     let to = plan.stub_length() as u64;

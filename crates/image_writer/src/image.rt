@@ -19,9 +19,9 @@ use pe_builder::Plan;
 use pe_reader::Section;
 
 /// Appends the finished image by a plan to a temporary file that is there and empty, as `image_bytes` of `pe_builder`
-/// gives it (UAPI Unified Kernel Image, Microsoft PE/COFF). Files are read once and in order, through the buffer, and no
-/// memory is taken. The plan was made for these sources. Zeros stand for bytes that the machine doesn't give. Afterwards
-/// the buffer holds anything.
+/// gives it (UAPI Unified Kernel Image, Microsoft PE/COFF). Files are read once and in order, through the buffer, and
+/// no memory is taken. The plan was made for these sources. Zeros stand for bytes that the machine doesn't give.
+/// Afterwards the buffer holds anything.
 ///
 /// # Errors
 ///
@@ -37,7 +37,8 @@ pub fn write_image<M: Machine>(
     requires there { IsTrue M.tells → has (M.state machine.old).files temp.now ≡ true }
     requires empty { IsTrue M.tells → contents (M.state machine.old).files temp.now ≡ [] }
     ensures image { OnOk result (IsTrue M.tells
-        → IsPlannedImage plan.now sources.now (view (M.state machine.old).files) (contents (M.state machine.new).files temp.now)) }
+        → IsPlannedImage plan.now sources.now (view (M.state machine.old).files)
+        (contents (M.state machine.new).files temp.now)) }
     ensures appends { IsTrue M.tells → AppendsOnly M.clock M.since M.state temp.now machine.old machine.new }
     ensures counts { CountsDisk result (M.counts machine.old) (M.counts machine.new) }
 {
@@ -94,7 +95,8 @@ fn write_headers<M: Machine>(
     ensures length { length buffer.new ≡ length buffer.old }
     ensures appends { IsTrue M.tells → AppendsOnly M.clock M.since M.state temp.now machine.old machine.new }
     ensures grows { OnOk result (IsTrue M.tells → Grown temp.now
-        (headers_bytes (contents (M.state machine.old).files (stub_path sources.now)) (new_sbat sources.now) sections.now)
+        (headers_bytes (contents (M.state machine.old).files (stub_path sources.now))
+        (new_sbat sources.now) sections.now)
         (M.state machine.old) (M.state machine.new)) }
     ensures counts { CountsDisk result (M.counts machine.old) (M.counts machine.new) }
 {

@@ -27,7 +27,8 @@ pub fn write_parts<M: Machine>(
     requires room { 0 < length buffer.old }
     ensures length { length buffer.new ≡ length buffer.old }
     ensures appends { IsTrue M.tells → AppendsOnly M.clock M.since M.state temp.now machine.old machine.new }
-    ensures grows { OnOk result (IsTrue M.tells → 0 < unit → (files : Reading) → Agrees files (M.state machine.old).files
+    ensures grows { OnOk result (IsTrue M.tells → 0 < unit → (files : Reading)
+        → Agrees files (M.state machine.old).files
         → Grown temp.now (behind_stub files unit stub_length parts.now) (M.state machine.old) (M.state machine.new)) }
     ensures counts { CountsDisk result (M.counts machine.old) (M.counts machine.new) }
 {
@@ -51,7 +52,8 @@ fn write_each_part<M: Machine>(
     requires room { 0 < length buffer.old }
     ensures length { length buffer.new ≡ length buffer.old }
     ensures appends { IsTrue M.tells → AppendsOnly M.clock M.since M.state temp.now machine.old machine.new }
-    ensures grows { OnOk result (IsTrue M.tells → 0 < unit → (files : Reading) → Agrees files (M.state machine.old).files
+    ensures grows { OnOk result (IsTrue M.tells → 0 < unit → (files : Reading)
+        → Agrees files (M.state machine.old).files
         → Grown temp.now (flat_map (padded_part files unit) parts.now) (M.state machine.old) (M.state machine.new)) }
     ensures counts { CountsDisk result (M.counts machine.old) (M.counts machine.new) }
 {
@@ -74,7 +76,8 @@ fn write_part<M: Machine>(
     requires room { 0 < length buffer.old }
     ensures length { length buffer.new ≡ length buffer.old }
     ensures appends { IsTrue M.tells → AppendsOnly M.clock M.since M.state temp.now machine.old machine.new }
-    ensures grows { OnOk result (IsTrue M.tells → 0 < unit → (files : Reading) → Agrees files (M.state machine.old).files
+    ensures grows { OnOk result (IsTrue M.tells → 0 < unit → (files : Reading)
+        → Agrees files (M.state machine.old).files
         → Grown temp.now (padded_part files unit part.now) (M.state machine.old) (M.state machine.new)) }
     ensures counts { CountsDisk result (M.counts machine.old) (M.counts machine.new) }
 {

@@ -14,18 +14,20 @@ SeesSame old m o = (recovered_view m ≡ recovered_view old.files) × (o ≡ old
 abbrev pub StaysOrSame : State → Files → List Printed → Type 0
 StaysOrSame old m o = (IsImage old m ⊎ (recovered_view m ≡ recovered_view old.files)) × (o ≡ old.printed)
 
--- At some time the names were synced. At each moment up to it a stop leaves what it would have left before, and from it on
--- boot sees the same at each moment.
-pub record SameFrom {D : Type 0} (clock : D → ℕ) (since : D → ℕ → Files → List Printed → Type 0) (state : D → State) (old new : D) : Type 0 where
+-- At some time the names were synced. At each moment up to it a stop leaves what it would have left before, and from it
+-- on boot sees the same at each moment.
+pub record SameFrom {D : Type 0} (clock : D → ℕ) (since : D → ℕ → Files → List Printed → Type 0) (state : D → State)
+    (old new : D) : Type 0 where
   pub synced : D
   pub until : EachSince clock since old synced (IsIdleMoment (state old))
   pub one : HasOneCandidate (state synced)
   pub files : (state synced).files ≡ (state old).files
   pub from : EachSince clock since synced new (SeesSame (state old))
 
--- A recovery of a firm machine, whatever its answer: it has only read, or the names were synced and from then on boot sees
--- the same.
-pub record RecoversTo {D : Type 0} (clock : D → ℕ) (since : D → ℕ → Files → List Printed → Type 0) (state : D → State) (old new : D) : Type 0 where
+-- A recovery of a firm machine, whatever its answer: it has only read, or the names were synced and from then on boot
+-- sees the same.
+pub record RecoversTo {D : Type 0} (clock : D → ℕ) (since : D → ℕ → Files → List Printed → Type 0) (state : D → State)
+    (old new : D) : Type 0 where
   pub moments : EachSince clock since old new (StaysOrSame (state old))
   pub firm : IsFirm (state new)
   pub files : recovered_view (state new).files ≡ recovered_view (state old).files

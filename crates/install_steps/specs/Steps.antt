@@ -33,10 +33,12 @@ pub record IsDone (new : State) (next : Files) : Type 0 where
   pub files : recovered_view new.files ≡ next
 
 -- Each moment of a step and what it leaves, whatever its answer.
-pub record StepsTo {D : Type 0} (clock : D → ℕ) (since : D → ℕ → Files → List Printed → Type 0) (state : D → State) (next : Files) (old new : D) : Type 0 where
+pub record StepsTo {D : Type 0} (clock : D → ℕ) (since : D → ℕ → Files → List Printed → Type 0) (state : D → State)
+    (next : Files) (old new : D) : Type 0 where
   pub moments : EachSince clock since old new (Sees (state old) next)
   pub firm : IsFirm (state new)
-  pub files : (recovered_view (state new).files ≡ recovered_view (state old).files) ⊎ (recovered_view (state new).files ≡ next)
+  pub files : (recovered_view (state new).files ≡ recovered_view (state old).files)
+      ⊎ (recovered_view (state new).files ≡ next)
 
 -- the files with the bytes of the file at `from` at `to` too, or as they are where no file is at `from`
 abbrev pub copied : Path → Path → Files → Files
@@ -47,7 +49,8 @@ abbrev pub moved : Path → Path → Files → Files
 moved from to files = if has files from && not (has files to) then move_in from to files else files
 
 -- no moment since old has anything printed that wasn't printed then
-abbrev pub PrintsNothing : {D : Type 0} → (D → ℕ) → (D → ℕ → Files → List Printed → Type 0) → (D → State) → D → D → Type 0
+abbrev pub PrintsNothing : {D : Type 0} → (D → ℕ) → (D → ℕ → Files → List Printed → Type 0) → (D → State) → D → D
+    → Type 0
 PrintsNothing clock since state old new = EachSince clock since old new (λ m o. o ≡ (state old).printed)
 
 -- the machine is rested after every answer but this fault

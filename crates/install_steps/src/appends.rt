@@ -30,7 +30,8 @@ impl<M: Machine> ByteSink<M> for Growing<'_> {
     ghost more = { λ a b s t u m n o first second.
         grows_more M.tells M.clock M.since M.state a b s.temp.now t.temp.now u.temp.now m n o first second };
 
-    ghost goes_on = { λ bytes s t m n can took. grows_on M.tells M.clock M.since M.state bytes s.temp.now t.temp.now m n can took };
+    ghost goes_on = { λ bytes s t m n can took. grows_on M.tells M.clock M.since M.state bytes s.temp.now t.temp.now m
+        n can took };
 
     ghost keeps = { λ bytes s t m n path can took told shown.
         grows_source M.tells M.clock M.since M.state bytes s.temp.now t.temp.now m n path can took told shown };
@@ -45,7 +46,8 @@ impl<M: Machine> ByteSink<M> for Growing<'_> {
 pub fn append<M: Machine>(machine: &mut M, temp: &TempPath, bytes: &[u8]) -> Result<(), DiskFault>
     requires there { IsTrue M.tells → has (M.state machine.old).files temp.now ≡ true }
     ensures appends { IsTrue M.tells → AppendsOnly M.clock M.since M.state temp.now machine.old machine.new }
-    ensures grows { OnOk result (IsTrue M.tells → Grown temp.now bytes.now (M.state machine.old) (M.state machine.new)) }
+    ensures grows { OnOk result (IsTrue M.tells
+        → Grown temp.now bytes.now (M.state machine.old) (M.state machine.new)) }
     ensures counts { CountsDisk result (M.counts machine.old) (M.counts machine.new) }
     ensures taken { IsTrue M.tells → TakesNone (M.taken machine.old) (M.taken machine.new) }
 {
@@ -68,7 +70,8 @@ pub fn copy_part<M: Machine>(
     ensures length { length buffer.new ≡ length buffer.old }
     ensures appends { IsTrue M.tells → AppendsOnly M.clock M.since M.state temp.now machine.old machine.new }
     ensures grows { OnOk result (IsTrue M.tells
-        → Grown temp.now (between (contents (M.state machine.old).files file.now) from to) (M.state machine.old) (M.state machine.new)) }
+        → Grown temp.now (between (contents (M.state machine.old).files file.now) from to) (M.state machine.old)
+        (M.state machine.new)) }
     ensures counts { CountsDisk result (M.counts machine.old) (M.counts machine.new) }
 {
     file.know();

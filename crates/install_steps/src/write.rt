@@ -85,9 +85,9 @@ pub fn write_whole<M: Machine>(
     Ok(())
 }
 
-/// Puts the target's temporary file, which is written, in its place: syncs it, renames it, and syncs the names. A stop at
-/// any moment leaves what boot saw before, or that with the whole new file. After a fault of the disk either stands, and
-/// the temporary file may be left.
+/// Puts the target's temporary file, which is written, in its place: syncs it, renames it, and syncs the names. A stop
+/// at any moment leaves what boot saw before, or that with the whole new file. After a fault of the disk either stands,
+/// and the temporary file may be left.
 pub fn put_in_place<M: Machine>(machine: &mut M, target: &Target) -> Result<(), DiskFault>
     requires there { IsTrue M.tells → has (M.state machine.old).files target.now.temp ≡ true }
     ensures done { OnOk result (IsTrue M.tells → IsFirm (M.state machine.old) → IsSettled (M.state machine.old)

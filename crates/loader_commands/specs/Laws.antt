@@ -27,15 +27,18 @@ pub record ShowsDefaultEntry (view : Files) (word text : List ℕ) : Type 0 wher
 
 -- whatever `loader show` tells is of the default entry
 abbrev pub ShowTellsOfTheDefault : Type 0
-ShowTellsOfTheDefault = (view : Files) (word text : List ℕ) → show_said view word ≡ Ok text → ShowsDefaultEntry view word text
+ShowTellsOfTheDefault =
+    (view : Files) (word text : List ℕ) → show_said view word ≡ Ok text → ShowsDefaultEntry view word text
 
 -- the new text of the loader.conf at a path has the value at its key and the old one at the other, and each other line
 -- byte for byte and in order, and behind them the one that gives the key the value
-pub record ChangesOneKey (view : Files) (key : ConfKey) (value word : List ℕ) (path : Path) (text : List ℕ) : Type 0 where
+pub record ChangesOneKey (view : Files) (key : ConfKey) (value word : List ℕ) (path : Path)
+    (text : List ℕ) : Type 0 where
   pub bytes : List ℕ
   pub path_is : conf_path word ≡ Ok path
   pub bytes_are : conf_bytes view path ≡ Ok bytes
-  pub lines : raw_lines text ≡ filter (lacks_value (conf_key_name key)) (raw_lines bytes) ++ key_line (conf_key_name key) value ∷ []
+  pub lines : raw_lines text ≡ filter (lacks_value (conf_key_name key)) (raw_lines bytes)
+      ++ key_line (conf_key_name key) value ∷ []
   pub set : conf_value key (conf_of text) ≡ Some value
   pub other : conf_value (other_conf_key key) (conf_of text) ≡ conf_value (other_conf_key key) (conf_of bytes)
 

@@ -37,7 +37,8 @@ loader_paths word =
 
 -- bytes of a loader.conf at a path, unless they are too many
 abbrev pub within_limit : Path → List ℕ → Result (List ℕ) Refusal
-within_limit path bytes = if nat_lt conf_limit (length bytes) then Err (refusals.TooLarge (printed_path path) (length bytes)) else Ok bytes
+within_limit path bytes =
+    if nat_lt conf_limit (length bytes) then Err (refusals.TooLarge (printed_path path) (length bytes)) else Ok bytes
 
 -- a file that isn't there counts as empty
 abbrev pub conf_or_empty : Path → Option (List ℕ) → Result (List ℕ) Refusal
@@ -50,7 +51,8 @@ conf_bytes view path = conf_or_empty path (get view path)
 -- the menu of the two folders, or that they have more than 4,096 entry files
 abbrev pub loader_menu : Files → Folders → Result (List MenuItem) Refusal
 loader_menu view folders =
-    if nat_lt 4096 (entry_count view folders) then Err (refusals.TooMany (entry_count view folders)) else Ok (boot_menu view folders)
+    if nat_lt 4096 (entry_count view folders) then Err (refusals.TooMany (entry_count view folders))
+    else Ok (boot_menu view folders)
 
 -- why there is no menu; folders that are at hand have paths
 abbrev pub menu_unsaid : ScanFault → Unsaid

@@ -27,7 +27,8 @@ conf_words key value word = value_in key value >>= λ value. conf_path word
 
 -- the text of the loader.conf at a path with the key's value, unless the old or the new text is too long
 abbrev pub text_set : Files → ConfKey → List ℕ → Path → Result (List ℕ) Refusal
-text_set view key value path = conf_bytes view path >>= λ bytes. within_limit path (text_with_value (conf_key_name key) value bytes)
+text_set view key value path =
+    conf_bytes view path >>= λ bytes. within_limit path (text_with_value (conf_key_name key) value bytes)
 
 -- where the loader.conf of an ESP stands, and its text with the key's value
 abbrev pub conf_set : Files → ConfKey → List ℕ → List ℕ → Result (Path × List ℕ) Refusal

@@ -6,7 +6,8 @@ pub fn show_tells_of_the_default()
     ensures { ShowTellsOfTheDefault }
 {}
 
-/// The text that a change writes has the value at its key and the old value at the other, and all other lines as they were.
+/// The text that a change writes has the value at its key and the old value at the other, and all other lines as they
+/// were.
 pub fn setting_changes_one_key()
     ensures { SettingChangesOneKey }
 {}

@@ -1,5 +1,5 @@
-//! The commands on the `loader.conf` of an EFI system partition (loader.conf(5)), each planned by reads alone: what is told
-//! of the entry that boots by default, and the change of the default or of the timeout.
+//! The commands on the `loader.conf` of an EFI system partition (loader.conf(5)), each planned by reads alone: what is
+//! told of the entry that boots by default, and the change of the default or of the timeout.
 #![tactic(auto)]
 
 mod laws;

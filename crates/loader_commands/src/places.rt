@@ -66,7 +66,8 @@ pub(crate) fn conf_bytes<M: Machine>(
     path: &BootPath,
     machine: &mut M,
 ) -> Result<Vec<u8>, Unsaid>
-    ensures says { IsTrue M.tells → Says (λ bytes. bytes.items) result (conf_bytes (seen (M.state machine.old)) path.now) }
+    ensures says { IsTrue M.tells → Says (λ bytes. bytes.items) result
+        (conf_bytes (seen (M.state machine.old)) path.now) }
     ensures reads { IsTrue M.tells → OnlyReads M.clock M.since M.state machine.old machine.new }
     ensures counts { CountsUnsaid result (M.counts machine.old) (M.counts machine.new) }
     ensures taken { IsTrue M.tells → TakesAtMost 65536 (M.taken machine.old) (M.taken machine.new) }

@@ -171,7 +171,8 @@ fn planned<M: Machine>(
     Ok(plan_of(change))
 }
 
-/// What is going to be done where the pattern of the default entry is set in the loader.conf of an EFI system partition.
+/// What is going to be done where the pattern of the default entry is set in the loader.conf of an EFI system
+/// partition.
 pub fn plan_default<M: Machine>(
     alloc: Global,
     pattern: &str,

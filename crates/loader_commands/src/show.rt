@@ -98,7 +98,8 @@ fn shown<M: Machine>(alloc: Global, esp: &str, machine: &mut M) -> Result<Vec<u8
     ensures reads { IsTrue M.tells → OnlyReads M.clock M.since M.state machine.old machine.new }
     ensures counts { CountsUnsaid result (M.counts machine.old) (M.counts machine.new) }
     ensures taken { IsTrue M.tells
-        → TakesAtMost (show_limit (M.state machine.old).files (loader_paths esp.now)) (M.taken machine.old) (M.taken machine.new) }
+        → TakesAtMost (show_limit (M.state machine.old).files (loader_paths esp.now)) (M.taken machine.old)
+        (M.taken machine.new) }
     ensures words { DeclinesWords (loader_paths esp.now) result }
 {
     let paths = loader_paths(alloc, esp)?;
@@ -107,8 +108,8 @@ fn shown<M: Machine>(alloc: Global, esp: &str, machine: &mut M) -> Result<Vec<u8
     menu_shown(alloc, &bytes, menu.as_slice())
 }
 
-/// What is going to be told of the entry that boots by default in an EFI system partition: its id, its file and how long
-/// the menu waits. Of the entries only headers and texts are read, and at most 65,536 bytes of loader.conf.
+/// What is going to be told of the entry that boots by default in an EFI system partition: its id, its file and how
+/// long the menu waits. Of the entries only headers and texts are read, and at most 65,536 bytes of loader.conf.
 pub fn plan_show<M: Machine>(alloc: Global, esp: &str, machine: &mut M) -> Result<Plan, Stop>
     ensures plans { IfOk result (λ plan. IsTrue M.tells → Plans (M.state machine.old) plan
         (show_answer (seen (M.state machine.old)) esp.now)) }
@@ -117,7 +118,8 @@ pub fn plan_show<M: Machine>(alloc: Global, esp: &str, machine: &mut M) -> Resul
     ensures reads { IsTrue M.tells → OnlyReads M.clock M.since M.state machine.old machine.new }
     ensures counts { CountsStop result (M.counts machine.old) (M.counts machine.new) }
     ensures taken { IsTrue M.tells
-        → TakesAtMost (show_limit (M.state machine.old).files (loader_paths esp.now)) (M.taken machine.old) (M.taken machine.new) }
+        → TakesAtMost (show_limit (M.state machine.old).files (loader_paths esp.now)) (M.taken machine.old)
+        (M.taken machine.new) }
     ensures words { RefusesWords (loader_paths esp.now) result }
 {
     let text = shown(alloc, esp, machine);

@@ -21,7 +21,8 @@ DefaultMatchesNone default ids = (k : ℕ) → k < length ids → DefaultMatches
 
 -- the first entry whose id is matched, or the first of all where none is
 abbrev pub IsDefaultEntry : Option (List ℕ) → List (List ℕ) → ℕ → Type 0
-IsDefaultEntry default ids place = IsFirstMatch default ids place ⊎ ((place ≡ 0) × (0 < length ids) × DefaultMatchesNone default ids)
+IsDefaultEntry default ids place =
+    IsFirstMatch default ids place ⊎ ((place ≡ 0) × (0 < length ids) × DefaultMatchesNone default ids)
 
 -- ---- the same as a function
 

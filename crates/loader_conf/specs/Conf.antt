@@ -73,7 +73,8 @@ IsConfValue Timeout value = is_timeout value ≡ true
 
 unfoldable pub may_be_default : List ℕ → Bool
 may_be_default value =
-    not (length value == 0) && nat_le (length value) 255 && list_all is_ascii_graphic value && not (names_variable value) && is_pattern_text value
+    not (length value == 0) && nat_le (length value) 255 && list_all is_ascii_graphic value
+    && not (names_variable value) && is_pattern_text value
 
 -- whether a value may be written for the key
 abbrev pub may_be_value : ConfKey → List ℕ → Bool

@@ -9,7 +9,8 @@ with_item item None = None
 with_item item (Some items) = Some (item ∷ items)
 
 -- the items of bytes by their first item and what is read behind it
-abbrev pub items_by : (List ℕ → Option (List PatternItem)) → List ℕ → Option (PatternItem × List ℕ) → Option (List PatternItem)
+abbrev pub items_by : (List ℕ → Option (List PatternItem)) → List ℕ → Option (PatternItem × List ℕ)
+    → Option (List PatternItem)
 items_by behind [] first = Some []
 items_by behind (byte ∷ bytes) None = None
 items_by behind (byte ∷ bytes) (Some first) = with_item first.0 (behind first.1)

@@ -9,11 +9,15 @@ EmptyMatches = (text : List ℕ) → PatternMatches [] text ↔ (text ≡ [])
 
 -- `*` matches any run of bytes
 abbrev pub StarMatches : Type 0
-StarMatches = (pattern text : List ℕ) → PatternMatches (42 ∷ pattern) text ↔ ((run : List ℕ) × (rest : List ℕ) × (text ≡ run ++ rest) × PatternMatches pattern rest)
+StarMatches =
+    (pattern text : List ℕ) → PatternMatches (42 ∷ pattern) text
+    ↔ ((run : List ℕ) × (rest : List ℕ) × (text ≡ run ++ rest) × PatternMatches pattern rest)
 
 -- `?` matches any one byte
 abbrev pub QuestionMatches : Type 0
-QuestionMatches = (pattern text : List ℕ) → PatternMatches (63 ∷ pattern) text ↔ ((byte : ℕ) × (rest : List ℕ) × (text ≡ byte ∷ rest) × PatternMatches pattern rest)
+QuestionMatches =
+    (pattern text : List ℕ) → PatternMatches (63 ∷ pattern) text
+    ↔ ((byte : ℕ) × (rest : List ℕ) × (text ≡ byte ∷ rest) × PatternMatches pattern rest)
 
 -- a set matches one byte that equals a member, or lies in a range with both ends
 abbrev pub IsInSet : ℕ → List ℕ → Type 0
@@ -24,7 +28,8 @@ IsInSet byte between =
 abbrev pub SetMatches : Type 0
 SetMatches =
     (between pattern text : List ℕ) → between ≢ [] → list_all is_inside_set between ≡ true
-    → PatternMatches (91 ∷ (between ++ 93 ∷ pattern)) text ↔ ((byte : ℕ) × (rest : List ℕ) × (text ≡ byte ∷ rest) × IsInSet byte between × PatternMatches pattern rest)
+    → PatternMatches (91 ∷ (between ++ 93 ∷ pattern)) text
+    ↔ ((byte : ℕ) × (rest : List ℕ) × (text ≡ byte ∷ rest) × IsInSet byte between × PatternMatches pattern rest)
 
 -- the members of a set are all that stands between its brackets
 abbrev pub MembersAreBetween : Type 0
@@ -32,16 +37,24 @@ MembersAreBetween = (between : List ℕ) → flat_map member_bytes (members_of b
 
 -- a backslash and a byte match that byte
 abbrev pub EscapeMatches : Type 0
-EscapeMatches = (byte : ℕ) (pattern text : List ℕ) → PatternMatches (92 ∷ byte ∷ pattern) text ↔ ((rest : List ℕ) × (text ≡ byte ∷ rest) × PatternMatches pattern rest)
+EscapeMatches =
+    (byte : ℕ) (pattern text : List ℕ) → PatternMatches (92 ∷ byte ∷ pattern) text
+    ↔ ((rest : List ℕ) × (text ≡ byte ∷ rest) × PatternMatches pattern rest)
 
 -- any other byte matches itself
 abbrev pub PlainMatches : Type 0
-PlainMatches = (byte : ℕ) (pattern text : List ℕ) → stands_for_itself byte ≡ true → PatternMatches (byte ∷ pattern) text ↔ ((rest : List ℕ) × (text ≡ byte ∷ rest) × PatternMatches pattern rest)
+PlainMatches =
+    (byte : ℕ) (pattern text : List ℕ) → stands_for_itself byte ≡ true → PatternMatches (byte ∷ pattern) text
+    ↔ ((rest : List ℕ) × (text ≡ byte ∷ rest) × PatternMatches pattern rest)
 
 -- a set without end, or without a member, and a backslash at the end are no pattern
 abbrev pub Unreadable : Type 0
-Unreadable = ((rest : List ℕ) → list_all is_inside_set rest ≡ true → IsPattern (91 ∷ rest) → ⊥) × ((rest : List ℕ) → IsPattern (91 ∷ 93 ∷ rest) → ⊥) × (IsPattern (92 ∷ []) → ⊥)
+Unreadable =
+    ((rest : List ℕ) → list_all is_inside_set rest ≡ true → IsPattern (91 ∷ rest) → ⊥)
+    × ((rest : List ℕ) → IsPattern (91 ∷ 93 ∷ rest) → ⊥) × (IsPattern (92 ∷ []) → ⊥)
 
 -- bytes are one list of items at most
 abbrev pub OneItemList : Type 0
-OneItemList = (items others : List PatternItem) (bytes : List ℕ) → AreItemsOf items bytes → AreItemsOf others bytes → items ≡ others
+OneItemList =
+    (items others : List PatternItem) (bytes : List ℕ) → AreItemsOf items bytes → AreItemsOf others bytes
+    → items ≡ others

@@ -96,7 +96,8 @@ IsPattern bytes = (items : List PatternItem) × AreItemsOf items bytes
 -- items match a text that is a piece for each of them, in order
 abbrev pub ItemsMatch : List PatternItem → List ℕ → Type 0
 ItemsMatch [] text = text ≡ []
-ItemsMatch (item ∷ items) text = (piece : List ℕ) × (rest : List ℕ) × (text ≡ piece ++ rest) × ItemMatches item piece × ItemsMatch items rest
+ItemsMatch (item ∷ items) text =
+    (piece : List ℕ) × (rest : List ℕ) × (text ≡ piece ++ rest) × ItemMatches item piece × ItemsMatch items rest
 
 -- a pattern matches a text; bytes that aren't a list of items match nothing
 abbrev pub PatternMatches : List ℕ → List ℕ → Type 0

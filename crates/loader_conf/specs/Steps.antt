@@ -20,6 +20,9 @@ IsSearchStep pattern text Done = PatternMatches pattern text
 IsSearchStep pattern text Fails = PatternMatches pattern text → ⊥
 IsSearchStep pattern text Never = (other : List ℕ) → PatternMatches pattern other → ⊥
 IsSearchStep pattern text (Run behind) =
-    (length behind.now < length pattern) × ((other : List ℕ) → PatternMatches pattern other ↔ (PatternMatches behind.now other ⊎ MatchesLater behind.now other))
+    (length behind.now < length pattern) × ((other : List ℕ) → PatternMatches pattern other
+    ↔ (PatternMatches behind.now other ⊎ MatchesLater behind.now other))
 IsSearchStep pattern text (On behind rest) =
-    (length behind.now < length pattern) × (length rest.now < length text) × (PatternMatches pattern text ↔ PatternMatches behind.now rest.now) × (MatchesLater pattern text → MatchesLater behind.now rest.now)
+    (length behind.now < length pattern) × (length rest.now < length text)
+    × (PatternMatches pattern text ↔ PatternMatches behind.now rest.now)
+    × (MatchesLater pattern text → MatchesLater behind.now rest.now)

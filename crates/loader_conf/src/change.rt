@@ -55,7 +55,8 @@ pub fn with_key(
     requires { IsConfValue key value.now }
     ensures lines { IfOk result (λ made. made.items ≡ text_with_value (conf_key_name key) value.now bytes.now) }
     ensures kept { IfOk result (λ made. raw_lines made.items
-        ≡ filter (lacks_value (conf_key_name key)) (raw_lines bytes.now) ++ key_line (conf_key_name key) value.now ∷ []) }
+        ≡ filter (lacks_value (conf_key_name key)) (raw_lines bytes.now)
+        ++ key_line (conf_key_name key) value.now ∷ []) }
     ensures set { IfOk result (λ made. conf_value key (conf_of made.items) ≡ Some value.now) }
     ensures other { IfOk result (λ made. conf_value (other_conf_key key) (conf_of made.items)
         ≡ conf_value (other_conf_key key) (conf_of bytes.now)) }
@@ -105,7 +106,8 @@ fn other_lines(alloc: Global, bytes: &[u8], key: &str) -> Result<Vec<u8>, AllocE
 
 // Appends a line that gives the key no value, and a newline.
 fn keep_line(made: &mut Vec<u8>, line: &[u8], key: &str) -> Result<(), AllocError>
-    ensures { OnOk result (made.new.items ≡ made.old.items ++ text_of_lines (filter (lacks_value key.now) (line.now ∷ []))) }
+    ensures { OnOk result (made.new.items ≡ made.old.items
+        ++ text_of_lines (filter (lacks_value key.now) (line.now ∷ []))) }
 {
     if !has_value(line, key) {
         made.extend_from_slice(line)?;

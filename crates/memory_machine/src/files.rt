@@ -253,7 +253,8 @@ impl FileList {
 
     // The file at `from`, if one is there, stands at `to` after it.
     pub(crate) fn rename(&mut self, from: &str, to: &str) -> Result<(), AllocError>
-        ensures ok { OnOk result (self.new ≡ (if has self.old from.now then move_in from.now to.now self.old else self.old)) }
+        ensures ok { OnOk result (self.new ≡
+            (if has self.old from.now then move_in from.now to.now self.old else self.old)) }
         ensures err { OnErr result (self.new ≡ self.old) }
     {
         let Some(at) = place(&self.entries, from) else {
@@ -271,7 +272,9 @@ impl FileList {
 
     // The file at `from`, if one is there, stands at `to` too after it.
     pub(crate) fn link(&mut self, from: &str, to: &str) -> Result<(), AllocError>
-        ensures { OnOk result (self.new ≡ (if has self.old from.now then map.insert self.old to.now (contents self.old from.now) else self.old)) }
+        ensures { OnOk result
+            (self.new ≡ (if has self.old from.now then map.insert self.old to.now (contents self.old from.now)
+            else self.old)) }
     {
         let Some(at) = place(&self.entries, from) else {
             return Ok(());

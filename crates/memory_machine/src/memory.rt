@@ -239,7 +239,8 @@ impl MemMachine {
     /// The machine after a stop: with the chosen files, all of them synced. What was printed, its input,
     /// its counts, its reads and its orders stay.
     pub fn crash(self, alloc: Global, choice: &CrashChoice) -> Result<MemMachine, AllocError>
-        ensures state { IfOk result (λ machine. mem_state machine ≡ stopped (mem_state machine).files (mem_state self)) }
+        ensures state { IfOk result (λ machine. mem_state machine
+            ≡ stopped (mem_state machine).files (mem_state self)) }
         ensures left { IfOk result (λ machine.
             IsLeft (mem_state self) choice.now.candidate choice.now.fill.items (mem_state machine).files) }
         ensures image { IfOk result (λ machine. IsImage (mem_state self) (mem_state machine).files) }
@@ -312,7 +313,8 @@ impl MemMachine {
 
     // Keeps a read of that place that gave so many bytes.
     fn keep_read(&mut self, path: &BootPath, at: u64, count: usize) -> Result<(), AllocError>
-        ensures ok { OnOk result (mem_reads self.new ≡ mem_reads self.old ++ record { path = path.now; at = at; length = count } ∷ []) }
+        ensures ok { OnOk result (mem_reads self.new
+            ≡ mem_reads self.old ++ record { path = path.now; at = at; length = count } ∷ []) }
         ensures err { OnErr result (mem_reads self.new ≡ mem_reads self.old) }
         ensures start { mem_start self.new ≡ mem_start self.old }
         ensures events { mem_events self.new ≡ mem_events self.old }
@@ -393,7 +395,8 @@ impl MemMachine {
     // Records an append that failed before it wrote anything: its path isn't synced.
     fn skip_append(&mut self, path: Text)
         requires { has (mem_state self.old).files path ≡ true }
-        ensures state { ((mem_state self.new ≡ appended path [] (mem_state self.old)) × (mem_starved self.new ≡ mem_starved self.old))
+        ensures state { ((mem_state self.new ≡ appended path [] (mem_state self.old))
+            × (mem_starved self.new ≡ mem_starved self.old))
             ⊎ ((mem_state self.new ≡ mem_state self.old) × IsStarved self.old self.new) }
         ensures plan { mem_plan self.new ≡ mem_plan self.old }
         ensures moments { Elapses mem_clock mem_since mem_state self.old self.new }
@@ -548,9 +551,11 @@ impl Machine for MemMachine {
 
     ghost sound = { λ m told. sound-input _ _ (sound_held m.start (mem_events m)) };
 
-    ghost counts_now = { λ m t files told le image. now_counts (mem_start m) (mem_events m) t files (image_input _ (mem_input m) files image) };
+    ghost counts_now = { λ m t files told le image. now_counts (mem_start m) (mem_events m) t files
+        (image_input _ (mem_input m) files image) };
 
-    ghost only_now = { λ m files printed told left. let now = now_only (mem_start m) (mem_events m) files printed left in
+    ghost only_now = { λ m files printed told left. let now = now_only (mem_start m)
+        (mem_events m) files printed left in
         (image-input _ (mem_input m) files now.image, now.printed) };
 
     fn size(&mut self, path: &BootPath) -> Result<Option<u64>, DiskFault>
@@ -661,7 +666,8 @@ impl Machine for MemMachine {
         requires there { has (mem_state self.old).files from.now ≡ true }
         requires differ { from.now ≢ to.now }
         ensures row { RenameRow (mem_state self.old) (mem_state self.new) from.now to.now result }
-        ensures told { AsTold self.old self.new (mem_state self.old) (renamed from.now to.now (mem_state self.old)) result }
+        ensures told { AsTold self.old self.new (mem_state self.old)
+            (renamed from.now to.now (mem_state self.old)) result }
         ensures moments { Elapses mem_clock mem_since mem_state self.old self.new }
         ensures counts { CountsDisk result (mem_counts self.old) (mem_counts self.new) }
         ensures once { OnErr result (DiskFailsOnce (mem_counts self.old) (mem_counts self.new)) }
@@ -679,7 +685,8 @@ impl Machine for MemMachine {
         requires there { has (mem_state self.old).files from.now ≡ true }
         requires differ { from.now ≢ to.now }
         ensures row { RenameRow (mem_state self.old) (mem_state self.new) from.now to.now result }
-        ensures told { AsTold self.old self.new (mem_state self.old) (renamed from.now to.now (mem_state self.old)) result }
+        ensures told { AsTold self.old self.new (mem_state self.old)
+            (renamed from.now to.now (mem_state self.old)) result }
         ensures moments { Elapses mem_clock mem_since mem_state self.old self.new }
         ensures counts { CountsDisk result (mem_counts self.old) (mem_counts self.new) }
         ensures once { OnErr result (DiskFailsOnce (mem_counts self.old) (mem_counts self.new)) }
@@ -740,7 +747,8 @@ impl Machine for MemMachine {
 
     fn print(&mut self, to: Channel, bytes: &[u8]) -> Result<(), PipeFault>
         ensures row { PrintRow (mem_state self.old) (mem_state self.new) to bytes.now result }
-        ensures told { AsTold self.old self.new (mem_state self.old) (with_printed to bytes.now (mem_state self.old)) result }
+        ensures told { AsTold self.old self.new (mem_state self.old)
+            (with_printed to bytes.now (mem_state self.old)) result }
         ensures moments { Elapses mem_clock mem_since mem_state self.old self.new }
         ensures counts { CountsPipe result (mem_counts self.old) (mem_counts self.new) }
         ensures once { OnErr result (PipeFailsOnce (mem_counts self.old) (mem_counts self.new)) }

@@ -88,7 +88,9 @@ pub record OsLine (line key value : List ℕ) : Type 0 where
 
 -- what the text behind an opening single quote stands for
 abbrev pub single_reading : List ℕ → Option (List ℕ)
-single_reading text = let end = position_or_len (λ byte. byte == 39) text in if end + 1 == length text then Some (before_first (λ byte. byte == 39) text) else None
+single_reading text =
+    let end = position_or_len (λ byte. byte == 39) text in if end + 1 == length text
+    then Some (before_first (λ byte. byte == 39) text) else None
 
 abbrev pub behind : List ℕ → Option (List ℕ) → Option (List ℕ)
 behind front value = option_map (λ rest. front ++ rest) value
@@ -99,7 +101,8 @@ double_reading [] = None
 double_reading (byte ∷ []) = if byte == 34 then Some [] else None
 double_reading (byte ∷ next ∷ rest) =
     if byte == 34 then None
-    else if byte == 92 then (if is_escapable next then behind (next ∷ []) (double_reading rest) else behind (byte ∷ next ∷ []) (double_reading rest))
+    else if byte == 92 then (if is_escapable next then behind (next ∷ []) (double_reading rest)
+    else behind (byte ∷ next ∷ []) (double_reading rest))
     else behind (byte ∷ []) (double_reading (next ∷ rest))
 
 -- what the text behind the `=` stands for

@@ -14,8 +14,10 @@ use std::alloc::{AllocError, Global};
 /// last line that assigns one.
 pub fn lines_are_read_in_one_way()
     ensures reading { (line key value : List ℕ) → (os_reading line ≡ Some (key, value)) ↔ OsLine line key value }
-    ensures once { (line key value other_key other : List ℕ) → OsLine line key value → OsLine line other_key other → (key ≡ other_key) × (value ≡ other) }
-    ensures last { (text key value : List ℕ) → (last_value key (os_pairs text) ≡ Some value) ↔ IsLastValue OsLine key (os_lines text) value }
+    ensures once { (line key value other_key other : List ℕ) → OsLine line key value → OsLine line other_key other
+        → (key ≡ other_key) × (value ≡ other) }
+    ensures last { (text key value : List ℕ) → (last_value key (os_pairs text) ≡ Some value)
+        ↔ IsLastValue OsLine key (os_lines text) value }
     ensures none { (text key : List ℕ) → (last_value key (os_pairs text) ≡ None) ↔ LacksKey OsLine key (os_lines text) }
 {}
 

@@ -77,7 +77,8 @@ fn read_double(alloc: Global, text: &[u8]) -> Result<Option<Bytes>, AllocError>
 // What the first piece of a text before a closing double quote stands for, and what is behind the piece.
 fn first_piece(text: &[u8]) -> Option<(&[u8], &[u8])>
     requires { text.now ≡ 34 ∷ [] → ⊥ }
-    ensures value { MatchOption result (double_reading text.now ≡ None) (λ piece. double_reading text.now ≡ behind piece.0.now (double_reading piece.1.now)) }
+    ensures value { MatchOption result (double_reading text.now ≡ None)
+        (λ piece. double_reading text.now ≡ behind piece.0.now (double_reading piece.1.now)) }
     ensures shorter { IfSome result (λ piece. length piece.1.now < length text.now) }
 {
     let (first, rest) = text.split_first()?;

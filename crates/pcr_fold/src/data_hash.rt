@@ -44,7 +44,8 @@ impl DataHash {
     /// Takes the bytes in behind the data that it has taken.
     #[tactic(auto, unfolding(crate::specs::Hashes::HoldsData))]
     pub fn update(&mut self, bytes: &[u8])
-        ensures { (bank : Bank) (taken : List ℕ) → HoldsData self.old bank taken → HoldsData self.new bank (taken ++ bytes.now) }
+        ensures { (bank : Bank) (taken : List ℕ) → HoldsData self.old bank taken
+            → HoldsData self.new bank (taken ++ bytes.now) }
     {
         match &mut self.hasher {
             Hasher::Sha1(hasher) => hasher.update(bytes),
@@ -58,7 +59,8 @@ impl DataHash {
     #[tactic(auto, unfolding(crate::specs::Banks::digest_of, crate::specs::Hashes::HoldsData))]
     pub fn finish(self) -> Digest
         ensures bank { (bank : Bank) (taken : List ℕ) → HoldsData self bank taken → bank_of result ≡ bank }
-        ensures bytes { (bank : Bank) (taken : List ℕ) → HoldsData self bank taken → bytes_of_digest result ≡ digest_of bank taken }
+        ensures bytes { (bank : Bank) (taken : List ℕ) → HoldsData self bank taken
+            → bytes_of_digest result ≡ digest_of bank taken }
     {
         let bytes = match self.hasher {
             Hasher::Sha1(hasher) => DigestBytes::Sha1(hasher.finalize()),

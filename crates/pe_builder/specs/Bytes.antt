@@ -42,14 +42,18 @@ abbrev pub rewritten_sbat : Headers → Option (List ℕ) → List Range
 rewritten_sbat h None = []
 rewritten_sbat h (Some sbat) =
     record { place = h.head.table_place + 40 * sbat_index h + 8; bytes = little_bytes 4 (length sbat) }
-    ∷ record { place = (section_at_index h.sections (sbat_index h)).raw_place; bytes = sbat ++ replicate (sbat_room h - length sbat) 0 }
+    ∷ record {
+      place = (section_at_index h.sections (sbat_index h)).raw_place;
+      bytes = sbat ++ replicate (sbat_room h - length sbat) 0;
+    }
     ∷ []
 
 -- the contents, each from the raw place of its section on
 unfoldable pub raw_data : List Section → List (List ℕ) → List Range
 raw_data [] contents = []
 raw_data (s ∷ sections) [] = []
-raw_data (s ∷ sections) (content ∷ contents) = record { place = s.raw_place; bytes = content } ∷ raw_data sections contents
+raw_data (s ∷ sections) (content ∷ contents) = record { place = s.raw_place; bytes = content }
+    ∷ raw_data sections contents
 
 -- The byte at a place of the finished image: that of a rewritten field, a new section header or the new `.sbat`, else
 -- the stub's byte, and behind the stub that of the part whose raw data stand there, else zero.

@@ -13,7 +13,8 @@ use Rattle.pe_builder.specs.Bytes.{finished_byte}
 
 -- There is a finished image: the stub reads with these headers, nothing is refused, and the contents have the parts'
 -- lengths.
-pub record HasFinished (h : Headers) (sizes : List WideSize) (contents : List (List ℕ)) (sbat : Option (List ℕ)) (stub : List ℕ) : Type 0 where
+pub record HasFinished (h : Headers) (sizes : List WideSize) (contents : List (List ℕ)) (sbat : Option (List ℕ))
+    (stub : List ℕ) : Type 0 where
   pub reads : pe_of stub ≡ Ok h
   pub buildable : IsBuildable h (length stub) sizes (option_map length sbat)
   pub lengths : map length contents ≡ map (λ p. p.length) sizes
@@ -25,13 +26,15 @@ ImageReads = (h : Headers) (sizes : List WideSize) (contents : List (List ℕ)) 
     pe_of (finished h sizes contents sbat stub) ≡ Ok (finished_headers h (length stub) sizes (option_map length sbat))
 
 -- The finished image, place by place.
-pub record IsByPlace (h : Headers) (sizes : List WideSize) (contents : List (List ℕ)) (sbat : Option (List ℕ)) (stub : List ℕ) : Type 0 where
+pub record IsByPlace (h : Headers) (sizes : List WideSize) (contents : List (List ℕ)) (sbat : Option (List ℕ))
+    (stub : List ℕ) : Type 0 where
   pub length_is : length (finished h sizes contents sbat stub) ≡ length_after h.head (length stub) sizes
   pub byte_is : (k : ℕ) → get_or (finished h sizes contents sbat stub) k 0 ≡ finished_byte h sizes contents sbat stub k
 
 -- The finished image has the stated length, and the stated byte at each place.
 abbrev pub ImageByPlace : Type 0
-ImageByPlace = (h : Headers) (sizes : List WideSize) (contents : List (List ℕ)) (sbat : Option (List ℕ)) (stub : List ℕ) →
+ImageByPlace =
+    (h : Headers) (sizes : List WideSize) (contents : List (List ℕ)) (sbat : Option (List ℕ)) (stub : List ℕ) →
     HasFinished h sizes contents sbat stub → IsByPlace h sizes contents sbat stub
 
 -- What the finished image has loaded of a name: the new `.sbat` of that name, else what the stub has by its first
@@ -40,7 +43,8 @@ abbrev pub finished_loaded : Headers → List WideSize → List (List ℕ) → O
 finished_loaded h sizes contents None stub name =
     loaded_or_part stub (find (is_named name) h.sections) (content_named name sizes contents)
 finished_loaded h sizes contents (Some sbat) stub name =
-    if bytes_eq sbat_name name then sbat else loaded_or_part stub (find (is_named name) h.sections) (content_named name sizes contents)
+    if bytes_eq sbat_name name then sbat else loaded_or_part stub (find (is_named name) h.sections)
+    (content_named name sizes contents)
 
 abbrev pub ImageLoads : Type 0
 ImageLoads = (h : Headers) (sizes : List WideSize) (contents : List (List ℕ)) (sbat : Option (List ℕ)) (stub : List ℕ) →

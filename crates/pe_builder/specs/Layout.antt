@@ -37,7 +37,8 @@ unfoldable pub sections_for : Head → ℕ → ℕ → List WideSize → List Se
 sections_for h file_length address [] = []
 sections_for h file_length address (p ∷ parts) =
     section_for h file_length address p
-    ∷ sections_for h (raw_end (section_for h file_length address p)) (virtual_end (section_for h file_length address p)) parts
+    ∷ sections_for h (raw_end (section_for h file_length address p))
+    (virtual_end (section_for h file_length address p)) parts
 
 -- the file's length, and the address, behind one part more
 abbrev pub file_behind : Head → ℕ → WideSize → ℕ

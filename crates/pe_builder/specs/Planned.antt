@@ -29,7 +29,8 @@ sbat_place h (Some size) = Some (record {
 
 -- The plan of an image of a stub of that length with these headers, of parts of these sizes, and of a new `.sbat` of
 -- that length where the stub's is replaced in place.
-pub record PlansImage (plan : Plan) (h : Headers) (stub_length : ℕ) (sizes : List WideSize) (sbat : Option ℕ) : Type 0 where
+pub record PlansImage (plan : Plan) (h : Headers) (stub_length : ℕ) (sizes : List WideSize)
+    (sbat : Option ℕ) : Type 0 where
   pub stub_length_is : plan.stub_length ≡ stub_length
   pub before : plan.before ≡ h.head
   pub sections : plan.sections.items ≡ new_sections (with_sbat_size h sbat) stub_length sizes
@@ -91,7 +92,8 @@ replaced_by (Some p) sbat stub =
 abbrev pub image_by : Plan → List (List ℕ) → List ℕ → List ℕ → List ℕ
 image_by plan contents sbat stub =
     with_raw plan.before.file_alignment (
-    with_fields plan.before plan.after (flat_map section_header plan.sections.items) (replaced_by plan.sbat sbat stub)) contents
+    with_fields plan.before plan.after (flat_map section_header plan.sections.items) (replaced_by plan.sbat sbat stub))
+    contents
 
 -- what a plan writes lies in a stub of that length
 abbrev pub FitsPlace : Option SbatPlace → ℕ → ℕ → Type 0

@@ -59,7 +59,8 @@ have h = min h.head.header_size (h.head.table_place + 3840)
 
 -- SizeOfImage and SizeOfInitializedData of the image
 abbrev pub image_size : Headers → List WideSize → ℕ
-image_size h parts = next_multiple_of (address_after h.head (end_after h.head.header_size h.sections) parts) h.head.section_alignment
+image_size h parts =
+    next_multiple_of (address_after h.head (end_after h.head.header_size h.sections) parts) h.head.section_alignment
 
 abbrev pub initialized_size : Headers → List WideSize → ℕ
 initialized_size h parts = h.head.initialized_size + sum_by (λ p. p.length) parts
@@ -69,7 +70,8 @@ size_refusal h stub_length parts =
     refuse (nat_lt (have h) (need h parts)) (NoHeaderSpace (need h parts) (have h)) (
     refuse (nat_le 4294967296 (image_size h parts)) (AddressSpace (image_size h parts)) (
     refuse (nat_le 4294967296 (initialized_size h parts)) (AddressSpace (initialized_size h parts)) (
-    refuse (nat_lt 268435456 (length_after h.head stub_length parts)) (ImageTooLarge (length_after h.head stub_length parts)) None)))
+    refuse (nat_lt 268435456 (length_after h.head stub_length parts))
+    (ImageTooLarge (length_after h.head stub_length parts)) None)))
 
 -- The first refusal for a stub of that length with these headers, parts of these sizes, and a new `.sbat` of that
 -- length where the stub's is replaced in place.

@@ -38,7 +38,8 @@ with_sbat_size h sbat = record h { sections = sections_resized h sbat }
 unfoldable pub with_content : Headers → ℕ → List ℕ → List ℕ → List ℕ
 with_content h i content stub =
     put (h.head.table_place + 40 * i + 8) (little_bytes 4 (length content)) (
-    put (section_at_index h.sections i).raw_place (content ++ replicate ((section_at_index h.sections i).raw_size - length content) 0) stub)
+    put (section_at_index h.sections i).raw_place
+    (content ++ replicate ((section_at_index h.sections i).raw_size - length content) 0) stub)
 
 -- the stub with a new `.sbat`, where it is given
 abbrev pub with_sbat : Headers → Option (List ℕ) → List ℕ → List ℕ

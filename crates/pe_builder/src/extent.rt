@@ -20,7 +20,8 @@ pub fn sbat_index(stub: &Pe) -> usize
 /// The address behind the stub's headers and sections, with a new `.sbat` of that length where it is given.
 pub fn stub_end(stub: &Pe, sbat_in_place: Option<u32>) -> u64
     requires { MayReplace (headers_of stub.now) sbat_in_place }
-    ensures exact { result ≡ end_after (headers_of stub.now).head.header_size (with_sbat_size (headers_of stub.now) sbat_in_place).sections }
+    ensures exact { result ≡ end_after (headers_of stub.now).head.header_size
+        (with_sbat_size (headers_of stub.now) sbat_in_place).sections }
     ensures small { result < 2 ^ 33 }
 {
     let start = stub.head().header_size as u64;
@@ -34,7 +35,8 @@ pub fn stub_end(stub: &Pe, sbat_in_place: Option<u32>) -> u64
 fn end_resized(address: u64, sections: &[Section], index: usize, size: u32) -> u64
     requires small { address < 2 ^ 33 }
     requires inside { index < length sections.now }
-    ensures exact { result ≡ end_after address (set sections.now index (record (section_at_index sections.now index) { virtual_size = size })) }
+    ensures exact { result ≡ end_after address
+        (set sections.now index (record (section_at_index sections.now index) { virtual_size = size })) }
     ensures small { result < 2 ^ 33 }
 {
     let before = end_after(address, &sections[..index]);

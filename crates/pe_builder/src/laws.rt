@@ -7,8 +7,8 @@ pub fn image_reads()
     ensures { ImageReads }
 {}
 
-/// The finished image has the stated length, and at each place the byte of a rewritten field, of the new `.sbat`, of the
-/// stub or of a part, or zero where none of them stands.
+/// The finished image has the stated length, and at each place the byte of a rewritten field, of the new `.sbat`, of
+/// the stub or of a part, or zero where none of them stands.
 pub fn image_by_place()
     ensures { ImageByPlace }
 {}

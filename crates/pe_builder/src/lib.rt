@@ -1,9 +1,9 @@
 //! Builds a unified kernel image of a UEFI stub and the bytes of its parts, as ukify does (UAPI Unified Kernel Image,
 //! Microsoft PE/COFF).
 //!
-//! A plan is made of the stub's headers and of the parts' names, lengths and flags alone: it says where each new section
-//! stands, or why there is no image. The image then keeps the stub's bytes but for four numbers of its headers, the
-//! section headers behind its own, and the content of its `.sbat` where that is replaced in place; the parts stand
+//! A plan is made of the stub's headers and of the parts' names, lengths and flags alone: it says where each new
+//! section stands, or why there is no image. The image then keeps the stub's bytes but for four numbers of its headers,
+//! the section headers behind its own, and the content of its `.sbat` where that is replaced in place; the parts stand
 //! behind it. All places and sizes are counted in bytes.
 #![tactic(auto)]
 

@@ -61,7 +61,9 @@ IsInside headers size s = 0 < s.raw_size → (headers ≤ s.raw_place) × (s.raw
 
 -- the raw data of two sections that both have some don't meet
 abbrev pub AreApart : Section → Section → Type 0
-AreApart a b = 0 < a.raw_size → 0 < b.raw_size → (a.raw_place + a.raw_size ≤ b.raw_place) ⊎ (b.raw_place + b.raw_size ≤ a.raw_place)
+AreApart a b =
+    0 < a.raw_size → 0 < b.raw_size → (a.raw_place + a.raw_size ≤ b.raw_place)
+    ⊎ (b.raw_place + b.raw_size ≤ a.raw_place)
 
 -- the nineteen facts
 pub record IsPe (bytes : List ℕ) : Type 0 where
@@ -81,8 +83,10 @@ pub record IsPe (bytes : List ℕ) : Type 0 where
   pub table_inside : section_table_end bytes ≤ length bytes
   pub headers_inside : (section_table_end bytes ≤ header_size bytes) × (header_size bytes ≤ length bytes)
   pub sizes_bounded : (i : ℕ) → i < section_count bytes → (section_in bytes i).virtual_size ≤ 268435456
-  pub addresses_bounded : (i : ℕ) → i < section_count bytes → (section_in bytes i).virtual_address + (section_in bytes i).virtual_size ≤ 4294967296
-  pub raw_data_inside : (i : ℕ) → i < section_count bytes → IsInside (header_size bytes) (length bytes) (section_in bytes i)
+  pub addresses_bounded : (i : ℕ) → i < section_count bytes
+      → (section_in bytes i).virtual_address + (section_in bytes i).virtual_size ≤ 4294967296
+  pub raw_data_inside : (i : ℕ) → i < section_count bytes
+      → IsInside (header_size bytes) (length bytes) (section_in bytes i)
   pub raw_data_apart : (i j : ℕ) → i < j → j < section_count bytes → AreApart (section_in bytes j) (section_in bytes i)
 
 -- the numbers of the headers before the section table, each at its place

@@ -71,11 +71,14 @@ optional_of size place coff optional =
 
 -- whether the raw ranges of two sections don't meet
 abbrev pub is_apart : Section → Section → Bool
-is_apart a b = a.raw_size == 0 || b.raw_size == 0 || nat_le (a.raw_place + a.raw_size) b.raw_place || nat_le (b.raw_place + b.raw_size) a.raw_place
+is_apart a b =
+    a.raw_size == 0 || b.raw_size == 0 || nat_le (a.raw_place + a.raw_size) b.raw_place
+    || nat_le (b.raw_place + b.raw_size) a.raw_place
 
 -- whether a section's raw range lies between the headers and the end of the file
 abbrev pub is_in_file : ℕ → ℕ → Section → Bool
-is_in_file size header_size s = s.raw_size == 0 || (nat_le header_size s.raw_place && nat_le (s.raw_place + s.raw_size) size)
+is_in_file size header_size s =
+    s.raw_size == 0 || (nat_le header_size s.raw_place && nat_le (s.raw_place + s.raw_size) size)
 
 -- the fields of a section header, which has 40 bytes
 unfoldable pub section_at : List ℕ → Section
@@ -125,5 +128,6 @@ head_of bytes = do
 unfoldable pub pe_of : List ℕ → Result Headers FailedCheck
 pe_of bytes = do
   head ← head_of bytes
-  sections ← sections_of (length bytes) head.header_size head.section_count head.table_place [] (part bytes head.table_place (40 * head.section_count))
+  sections ← sections_of (length bytes) head.header_size head.section_count head.table_place []
+      (part bytes head.table_place (40 * head.section_count))
   Ok (record { head = head; sections = sections })

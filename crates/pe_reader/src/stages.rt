@@ -18,7 +18,8 @@ use std::alloc::{AllocError, Global};
 
 /// The file's length in bytes: 0 where no such file is there, and at most the limit.
 pub fn known_size<M: Machine>(machine: &mut M, path: &BootPath) -> Result<u64, DiskFault>
-    ensures value { IfOk result (λ size. IsTrue M.tells → length (contents (M.state machine.old).files path.now) ≤ 268435456
+    ensures value { IfOk result (λ size. IsTrue M.tells
+        → length (contents (M.state machine.old).files path.now) ≤ 268435456
         → size ≡ length (contents (M.state machine.old).files path.now)) }
     ensures small { IfOk result (λ size. size ≤ 268435456) }
     ensures reads { IsTrue M.tells → OnlyReads M.clock M.since M.state machine.old machine.new }
@@ -55,7 +56,8 @@ pub fn head_in<M: Machine>(
 // The place of the PE header.
 fn place_in<M: Machine>(machine: &mut M, path: &BootPath, size: u64) -> Result<u32, HeadFault>
     ensures exact { IsTrue M.tells → size ≡ length (contents (M.state machine.old).files path.now)
-        → GivesFrom (λ place. place) result (pe_place_of size (part (contents (M.state machine.old).files path.now) 0 64)) }
+        → GivesFrom (λ place. place) result (pe_place_of size
+        (part (contents (M.state machine.old).files path.now) 0 64)) }
     ensures read { IfOk result (FromBytes 64 (pe_place_of size)) }
     ensures reads { IsTrue M.tells → OnlyReads M.clock M.since M.state machine.old machine.new }
     ensures counts { CountsHead result (M.counts machine.old) (M.counts machine.new) }
@@ -74,7 +76,8 @@ fn coff_in<M: Machine>(
     place: u32,
 ) -> Result<Coff, HeadFault>
     ensures exact { IsTrue M.tells → size ≡ length (contents (M.state machine.old).files path.now)
-        → GivesFrom (λ coff. coff) result (coff_of size place (part (contents (M.state machine.old).files path.now) place 24)) }
+        → GivesFrom (λ coff. coff) result (coff_of size place
+        (part (contents (M.state machine.old).files path.now) place 24)) }
     ensures read { IfOk result (FromBytes 24 (coff_of size place)) }
     ensures long { IfOk result (λ coff. 112 ≤ coff.optional_size) }
     ensures inside { IfOk result (λ coff. place + 24 + coff.optional_size ≤ size) }
@@ -126,13 +129,15 @@ pub fn sections_in<M: Machine>(
     requires small { size ≤ 268435456 }
     requires inside { head.now.table_place + 40 * head.now.section_count ≤ size }
     ensures exact { IsTrue M.tells → size ≡ length (contents (M.state machine.old).files path.now)
-        → GivesFrom (λ sections. sections.items) result (sections_of size head.now.header_size head.now.section_count head.now.table_place []
+        → GivesFrom (λ sections. sections.items) result
+        (sections_of size head.now.header_size head.now.section_count head.now.table_place []
         (part (contents (M.state machine.old).files path.now) head.now.table_place (40 * head.now.section_count))) }
     ensures read { IfOk result (λ sections. FromBytes (40 * head.now.section_count)
         (sections_of size head.now.header_size head.now.section_count head.now.table_place []) sections.items) }
     ensures reads { IsTrue M.tells → OnlyReads M.clock M.since M.state machine.old machine.new }
     ensures counts { CountsHead result (M.counts machine.old) (M.counts machine.new) }
-    ensures taken { IsTrue M.tells → TakesAtMost (40 * head.now.section_count) (M.taken machine.old) (M.taken machine.new) }
+    ensures taken { IsTrue M.tells → TakesAtMost (40 * head.now.section_count) (M.taken machine.old)
+        (M.taken machine.new) }
 {
     let mut table = zeros(alloc, 40 * head.section_count as usize)?;
     read_part(machine, path, head.table_place as u64, &mut table)?;

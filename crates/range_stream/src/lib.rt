@@ -1,5 +1,5 @@
-//! The one loop that streams a range of a file through a buffer, whatever takes the bytes: a file that grows, a hash, or
-//! several hashes.
+//! The one loop that streams a range of a file through a buffer, whatever takes the bytes: a file that grows, a hash,
+//! or several hashes.
 #![tactic(auto)]
 
 mod sink;

@@ -11,8 +11,8 @@ use boot_machine::{DiskFault, Machine};
 
 /// What takes bytes, piece after piece. It may change the machine that they come from, but no bytes of a boot file.
 ///
-/// The laws say what an implementation means by `took`: a machine that only reads meanwhile gives nothing, and pieces that
-/// are taken one behind the other are their bytes together. Whoever may take bytes may go on.
+/// The laws say what an implementation means by `took`: a machine that only reads meanwhile gives nothing, and pieces
+/// that are taken one behind the other are their bytes together. Whoever may take bytes may go on.
 pub trait ByteSink<M: Machine> {
     /// It may take bytes while that is the machine.
     ghost can_take: { Self → M → Type 0 };

@@ -28,7 +28,8 @@ pub fn stream_range<M: Machine, S: ByteSink<M>>(
     requires can { S.can_take sink.old machine.old }
     ensures length { length buffer.new ≡ length buffer.old }
     ensures took { OnOk result (TookWhere S.took (IsTrue M.tells)
-        (zero_filled (drop start (contents (M.state machine.old).files path.now)) count) sink.old machine.old sink.new machine.new) }
+        (zero_filled (drop start (contents (M.state machine.old).files path.now)) count) sink.old machine.old sink.new
+        machine.new) }
     ensures some { OnErr result (IsTrue M.tells → TookSome S.took sink.old machine.old sink.new machine.new) }
     ensures counts { CountsDisk result (M.counts machine.old) (M.counts machine.new) }
     ensures taken { IsTrue M.tells → TakesAtMost count (M.taken machine.old) (M.taken machine.new) }
@@ -58,7 +59,8 @@ fn stream_piece<M: Machine, S: ByteSink<M>>(
     ensures grows { IfOk result (λ count. 0 < count) }
     ensures within { IfOk result (λ count. count ≤ left) }
     ensures took { IfOk result (λ count. TookWhere S.took (IsTrue M.tells)
-        (zero_filled (drop at (contents (M.state machine.old).files path.now)) count) sink.old machine.old sink.new machine.new) }
+        (zero_filled (drop at (contents (M.state machine.old).files path.now)) count) sink.old machine.old sink.new
+        machine.new) }
     ensures some { OnErr result (IsTrue M.tells → TookSome S.took sink.old machine.old sink.new machine.new) }
     ensures counts { CountsDisk result (M.counts machine.old) (M.counts machine.new) }
     ensures taken { IsTrue M.tells → TakesPiece left result (M.taken machine.old) (M.taken machine.new) }

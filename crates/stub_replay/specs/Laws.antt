@@ -39,12 +39,16 @@ PredictionIsReplay = (image : List ℕ) (parts : List ℕ → List ℕ) (bank : 
 
 -- The finished image shows what it was built of.
 abbrev pub ImageShowsItsParts : Type 0
-ImageShowsItsParts = (h : Headers) (sizes : List WideSize) (contents : List (List ℕ)) (sbat : Option (List ℕ)) (stub : List ℕ) →
+ImageShowsItsParts =
+    (h : Headers) (sizes : List WideSize) (contents : List (List ℕ)) (sbat : Option (List ℕ)) (stub : List ℕ) →
     HasFinished h sizes contents sbat stub →
     Shows (finished h sizes contents sbat stub) (given_parts sizes contents sbat stub)
 
 -- What is predicted from a stub and parts is the stub's value of the finished image.
 abbrev pub PredictionOfParts : Type 0
-PredictionOfParts = (h : Headers) (sizes : List WideSize) (contents : List (List ℕ)) (sbat : Option (List ℕ)) (stub : List ℕ) (bank : Bank) (path : List (List ℕ)) →
+PredictionOfParts =
+    (h : Headers) (sizes : List WideSize) (contents : List (List ℕ)) (sbat : Option (List ℕ)) (stub : List ℕ)
+    (bank : Bank) (path : List (List ℕ)) →
     HasFinished h sizes contents sbat stub →
-    predicted_pcr (given_parts sizes contents sbat stub) bank path ≡ stub_pcr (finished h sizes contents sbat stub) bank path
+    predicted_pcr (given_parts sizes contents sbat stub) bank path
+    ≡ stub_pcr (finished h sizes contents sbat stub) bank path

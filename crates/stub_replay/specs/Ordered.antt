@@ -28,5 +28,7 @@ part_of (part ∷ parts) name = if bytes_eq part.0 name then part.1 else part_of
 -- What is measured of parts in that order is what is measured of them by their names, and so what their items fold to
 -- is the predicted PCR 11, after the words of a phase path too.
 abbrev pub PredictionOfOrderedParts : Type 0
-PredictionOfOrderedParts = (parts : List (List ℕ × List ℕ)) (bank : Bank) (path : List (List ℕ)) → InMeasuredOrder parts →
-    (items_of parts ≡ measured_by (part_of parts)) × (fold_of bank (items_of parts ++ path) ≡ predicted_pcr (part_of parts) bank path)
+PredictionOfOrderedParts =
+    (parts : List (List ℕ × List ℕ)) (bank : Bank) (path : List (List ℕ)) → InMeasuredOrder parts →
+    (items_of parts ≡ measured_by (part_of parts))
+    × (fold_of bank (items_of parts ++ path) ≡ predicted_pcr (part_of parts) bank path)

@@ -23,11 +23,14 @@ IsHeld register = (bank : Bank) × (items : List (List ℕ)) × (taken : List �
 
 -- registers hold something, all the same
 abbrev pub AreHeld : List Register → Type 0
-AreHeld registers = (banks : List Bank) × (items : List (List ℕ)) × (taken : List ℕ) × AllHold registers banks items taken
+AreHeld registers =
+    (banks : List Bank) × (items : List (List ℕ)) × (taken : List ℕ) × AllHold registers banks items taken
 
 -- the hash takes these bytes
 abbrev pub Takes : List ℕ → Register → Register → Type 0
-Takes bytes old new = (bank : Bank) (items : List (List ℕ)) (taken : List ℕ) → Holds old bank items taken → Holds new bank items (taken ++ bytes)
+Takes bytes old new =
+    (bank : Bank) (items : List (List ℕ)) (taken : List ℕ) → Holds old bank items taken
+    → Holds new bank items (taken ++ bytes)
 
 -- the name with one NUL and the bytes that the hash has taken extend the register, and the hash begins again
 abbrev pub Closes : List ℕ → Register → Register → Type 0
@@ -36,4 +39,5 @@ Closes name old new = (bank : Bank) (items : List (List ℕ)) (taken : List ℕ)
 
 -- these items extend the register
 abbrev pub Extends : List (List ℕ) → Register → Register → Type 0
-Extends more old new = (bank : Bank) (items : List (List ℕ)) → Holds old bank items [] → Holds new bank (items ++ more) []
+Extends more old new =
+    (bank : Bank) (items : List (List ℕ)) → Holds old bank items [] → Holds new bank (items ++ more) []

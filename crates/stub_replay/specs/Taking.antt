@@ -14,12 +14,15 @@ TakesWhere condition bytes old new = (taken : List ℕ) × AllZip (Takes taken) 
 
 -- the same items extend the registers, which are these where the condition holds
 abbrev pub ExtendsWhere : Type 0 → List (List ℕ) → List Register → List Register → Type 0
-ExtendsWhere condition items old new = (more : List (List ℕ)) × AllZip (Extends more) old new × (condition → more ≡ items)
+ExtendsWhere condition items old new =
+    (more : List (List ℕ)) × AllZip (Extends more) old new × (condition → more ≡ items)
 
 -- the same items have extended the registers, and their hashes have taken nothing
 abbrev pub AreBetween : List Register → Type 0
 AreBetween registers = (banks : List Bank) × (items : List (List ℕ)) × AllHold registers banks items []
 
 -- the hashes take these bytes, and the machine only reads meanwhile
-abbrev pub TakesReading : {D : Type 0} → Bool → (D → ℕ) → (D → ℕ → Files → List Printed → Type 0) → (D → State) → List ℕ → List Register → D → List Register → D → Type 0
-TakesReading tells clock since state bytes old before new after = AllZip (Takes bytes) old new × (IsTrue tells → OnlyReads clock since state before after)
+abbrev pub TakesReading : {D : Type 0} → Bool → (D → ℕ) → (D → ℕ → Files → List Printed → Type 0) → (D → State)
+    → List ℕ → List Register → D → List Register → D → Type 0
+TakesReading tells clock since state bytes old before new after =
+    AllZip (Takes bytes) old new × (IsTrue tells → OnlyReads clock since state before after)

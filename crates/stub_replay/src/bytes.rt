@@ -52,7 +52,8 @@ fn after_section(
 #[tactic(auto, unfolding(crate::specs::Measured::section_items))]
 fn after_content(pcr: Pcr, name: &[u8], content: &[u8]) -> Pcr
     ensures bank { pcr_bank result ≡ pcr_bank pcr }
-    ensures value { pcr_bytes result ≡ extended_by_all (pcr_bank pcr) (pcr_bytes pcr) (section_items name.now content.now) }
+    ensures value { pcr_bytes result ≡ extended_by_all (pcr_bank pcr) (pcr_bytes pcr)
+        (section_items name.now content.now) }
 {
     if content.is_empty() {
         return pcr;

@@ -46,7 +46,8 @@ pub fn replay<M: Machine>(
     ensures reads { IsTrue M.tells → OnlyReads M.clock M.since M.state machine.old machine.new }
     ensures counts { CountsDisk result (M.counts machine.old) (M.counts machine.new) }
     ensures taken { IsTrue M.tells
-        → TakesAtMost (measured_length (contents (M.state machine.old).files path.now)) (M.taken machine.old) (M.taken machine.new) }
+        → TakesAtMost (measured_length (contents (M.state machine.old).files path.now)) (M.taken machine.old)
+        (M.taken machine.new) }
 {
     let mut register = Register::new(bank);
     let registers = slice::from_mut(&mut register);
@@ -72,11 +73,13 @@ pub fn replay_all<M: Machine>(
     requires { IsTrue M.tells → pe_of (contents (M.state machine.old).files path.now) ≡ Ok (headers_of head.now) }
     ensures banks { IfOk result (λ pcrs. map pcr_bank pcrs.items ≡ banks.now) }
     ensures value { IfOk result (λ pcrs. IsTrue M.tells
-        → map shown pcrs.items ≡ map (folded (measured_list (contents (M.state machine.old).files path.now))) banks.now) }
+        → map shown pcrs.items
+        ≡ map (folded (measured_list (contents (M.state machine.old).files path.now))) banks.now) }
     ensures reads { IsTrue M.tells → OnlyReads M.clock M.since M.state machine.old machine.new }
     ensures counts { CountsPredict result (M.counts machine.old) (M.counts machine.new) }
     ensures taken { IsTrue M.tells
-        → TakesAtMost (measured_length (contents (M.state machine.old).files path.now)) (M.taken machine.old) (M.taken machine.new) }
+        → TakesAtMost (measured_length (contents (M.state machine.old).files path.now)) (M.taken machine.old)
+        (M.taken machine.new) }
 {
     let mut registers = begin_all(alloc, banks)?;
     measure_sections(&mut registers, machine, path, head, buffer)?;
@@ -101,7 +104,8 @@ fn measure_sections<M: Machine>(
     ensures reads { IsTrue M.tells → OnlyReads M.clock M.since M.state machine.old machine.new }
     ensures counts { CountsDisk result (M.counts machine.old) (M.counts machine.new) }
     ensures taken { IsTrue M.tells
-        → TakesAtMost (measured_length (contents (M.state machine.old).files path.now)) (M.taken machine.old) (M.taken machine.new) }
+        → TakesAtMost (measured_length (contents (M.state machine.old).files path.now)) (M.taken machine.old)
+        (M.taken machine.new) }
 {
     for name in measured_names() {
         measure_section(registers, machine, path, head, name, buffer)?;
@@ -123,11 +127,13 @@ fn measure_section<M: Machine>(
     requires room { 0 < length buffer.old }
     ensures length { length buffer.new ≡ length buffer.old }
     ensures value { OnOk result (ExtendsWhere (IsTrue M.tells)
-        (section_items name.now (loaded (contents (M.state machine.old).files path.now) name.now)) registers.old registers.new) }
+        (section_items name.now (loaded (contents (M.state machine.old).files path.now) name.now)) registers.old
+        registers.new) }
     ensures reads { IsTrue M.tells → OnlyReads M.clock M.since M.state machine.old machine.new }
     ensures counts { CountsDisk result (M.counts machine.old) (M.counts machine.new) }
     ensures taken { IsTrue M.tells → TakesAtMost
-        (length (loaded (contents (M.state machine.old).files path.now) name.now)) (M.taken machine.old) (M.taken machine.new) }
+        (length (loaded (contents (M.state machine.old).files path.now) name.now)) (M.taken machine.old)
+        (M.taken machine.new) }
 {
     match head.find(name) {
         None => Ok(()),
@@ -159,7 +165,8 @@ pub fn range_digest<M: Machine>(
     requires room { 0 < length buffer.old }
     ensures length { length buffer.new ≡ length buffer.old }
     ensures bank { IfOk result (λ digest. bank_of digest ≡ bank) }
-    ensures value { IfOk result (λ digest. IsTrue M.tells → range.length ≤ length (drop range.place (contents (M.state machine.old).files path.now))
+    ensures value { IfOk result (λ digest. IsTrue M.tells
+        → range.length ≤ length (drop range.place (contents (M.state machine.old).files path.now))
         → bytes_of_digest digest ≡ digest_of bank (bytes_in (contents (M.state machine.old).files path.now) range)) }
     ensures reads { IsTrue M.tells → OnlyReads M.clock M.since M.state machine.old machine.new }
     ensures counts { CountsDisk result (M.counts machine.old) (M.counts machine.new) }

@@ -30,7 +30,8 @@ pub(crate) fn take_content<M: Machine>(
     requires placed { IsPlaced content.now }
     requires room { 0 < length buffer.old }
     ensures length { length buffer.new ≡ length buffer.old }
-    ensures data { OnOk result (TakesWhere (IsTrue M.tells × IsWhole (contents (seen (M.state machine.old))) content.now)
+    ensures data { OnOk result
+        (TakesWhere (IsTrue M.tells × IsWhole (contents (seen (M.state machine.old))) content.now)
         (content_bytes (contents (seen (M.state machine.old))) content.now) registers.old registers.new) }
     ensures reads { IsTrue M.tells → OnlyReads M.clock M.since M.state machine.old machine.new }
     ensures counts { CountsDisk result (M.counts machine.old) (M.counts machine.new) }
@@ -55,11 +56,13 @@ fn take_pieces<M: Machine>(
 ) -> Result<(), DiskFault>
     requires room { 0 < length buffer.old }
     ensures length { length buffer.new ≡ length buffer.old }
-    ensures data { OnOk result (TakesWhere (IsTrue M.tells × HasSizes (contents (seen (M.state machine.old))) pieces.now)
+    ensures data { OnOk result
+        (TakesWhere (IsTrue M.tells × HasSizes (contents (seen (M.state machine.old))) pieces.now)
         (bytes_of (contents (seen (M.state machine.old))) pieces.now) registers.old registers.new) }
     ensures reads { IsTrue M.tells → OnlyReads M.clock M.since M.state machine.old machine.new }
     ensures counts { CountsDisk result (M.counts machine.old) (M.counts machine.new) }
-    ensures taken { IsTrue M.tells → TakesAtMost (sum_by file_length pieces.now) (M.taken machine.old) (M.taken machine.new) }
+    ensures taken { IsTrue M.tells → TakesAtMost (sum_by file_length pieces.now) (M.taken machine.old)
+        (M.taken machine.new) }
 {
     for piece in pieces {
         take_piece(registers, machine, piece, buffer)?;

@@ -40,7 +40,8 @@ pub fn predict<M: Machine>(
     ensures length { length buffer.new ≡ length buffer.old }
     ensures banks { IfOk result (λ pcrs. map pcr_bank pcrs.items ≡ banks.now) }
     ensures value { IfOk result (λ pcrs. IsTrue M.tells → HaveSizes (contents (seen (M.state machine.old))) parts.now
-        → map shown pcrs.items ≡ map (folded (items_of (map (named_bytes (contents (seen (M.state machine.old)))) parts.now))) banks.now) }
+        → map shown pcrs.items
+        ≡ map (folded (items_of (map (named_bytes (contents (seen (M.state machine.old)))) parts.now))) banks.now) }
     ensures reads { IsTrue M.tells → OnlyReads M.clock M.since M.state machine.old machine.new }
     ensures counts { CountsPredict result (M.counts machine.old) (M.counts machine.new) }
     ensures taken { IsTrue M.tells → TakesAtMost (files_length parts.now) (M.taken machine.old) (M.taken machine.new) }
@@ -61,7 +62,8 @@ fn measure_all<M: Machine>(
     requires room { 0 < length buffer.old }
     requires ranges { All (λ part. IsPlaced part.content) parts.now }
     ensures length { length buffer.new ≡ length buffer.old }
-    ensures value { OnOk result (ExtendsWhere (IsTrue M.tells × HaveSizes (contents (seen (M.state machine.old))) parts.now)
+    ensures value { OnOk result (ExtendsWhere
+        (IsTrue M.tells × HaveSizes (contents (seen (M.state machine.old))) parts.now)
         (items_of (map (named_bytes (contents (seen (M.state machine.old)))) parts.now)) registers.old registers.new) }
     ensures reads { IsTrue M.tells → OnlyReads M.clock M.since M.state machine.old machine.new }
     ensures counts { CountsDisk result (M.counts machine.old) (M.counts machine.new) }
@@ -84,12 +86,14 @@ pub(crate) fn measure_part<M: Machine>(
     requires room { 0 < length buffer.old }
     requires range { IsPlaced part.now.content }
     ensures length { length buffer.new ≡ length buffer.old }
-    ensures value { OnOk result (ExtendsWhere (IsTrue M.tells × IsWhole (contents (seen (M.state machine.old))) part.now.content)
+    ensures value { OnOk result (ExtendsWhere
+        (IsTrue M.tells × IsWhole (contents (seen (M.state machine.old))) part.now.content)
         (section_items part.now.name.now (content_bytes (contents (seen (M.state machine.old))) part.now.content))
         registers.old registers.new) }
     ensures reads { IsTrue M.tells → OnlyReads M.clock M.since M.state machine.old machine.new }
     ensures counts { CountsDisk result (M.counts machine.old) (M.counts machine.new) }
-    ensures taken { IsTrue M.tells → TakesAtMost (read_length part.now.content) (M.taken machine.old) (M.taken machine.new) }
+    ensures taken { IsTrue M.tells → TakesAtMost (read_length part.now.content) (M.taken machine.old)
+        (M.taken machine.new) }
 {
     if content_length(&part.content) == 0 {
         return Ok(());

@@ -1,5 +1,5 @@
--- The lines of a type 1 entry file (UAPI Boot Loader Specification, "Type #1 Boot Loader Specification Entries"), and of
--- loader.conf, which has the same ones.
+-- The lines of a type 1 entry file (UAPI Boot Loader Specification, "Type #1 Boot Loader Specification Entries"), and
+-- of loader.conf, which has the same ones.
 use Rattle.std.specs.Prelude.{◌≡◌, ◌≢◌, ℕ, ◌==◌, Bool, not, ◌||◌, true, List, [], ◌++◌, length, drop, Option, Some, None, if◌then◌else◌}
 use Rattle.std.specs.List.{filter_map, list_all, position_or_len, prefix_len, before_first}
 use Rattle.text_lines.specs.Lines.{lines_of}
@@ -34,7 +34,8 @@ value_of line = let rest = drop (position_or_len is_gap line) line in drop (pref
 
 -- the key and the value of a line that has both
 abbrev pub entry_reading : List ℕ → Option Pair
-entry_reading line = if length (key_of line) == 0 || length (value_of line) == 0 then None else Some (key_of line, value_of line)
+entry_reading line =
+    if length (key_of line) == 0 || length (value_of line) == 0 then None else Some (key_of line, value_of line)
 
 -- the keys and values of a file, in order
 abbrev pub entry_pairs : List ℕ → List Pair

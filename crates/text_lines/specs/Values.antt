@@ -41,5 +41,6 @@ IsLastValue gives key lines value =
 abbrev pub AreAllValues : Grammar → List ℕ → List (List ℕ) → List (List ℕ) → Type 0
 AreAllValues gives key [] values = values ≡ []
 AreAllValues gives key (line ∷ lines) values =
-    ((value : List ℕ) × (rest : List (List ℕ)) × (values ≡ value ∷ rest) × gives line key value × AreAllValues gives key lines rest)
+    ((value : List ℕ) × (rest : List (List ℕ)) × (values ≡ value ∷ rest) × gives line key value
+    × AreAllValues gives key lines rest)
     ⊎ (((value : List ℕ) → gives line key value → ⊥) × AreAllValues gives key lines values)

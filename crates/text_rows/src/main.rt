@@ -18,8 +18,8 @@
 //! - `values KEY,..|TEXT`, `release TEXT`: values of an os-release text by their keys; its title, version and sort key.
 //! - `entry TEXT`: what an entry file says.
 //! - `matches PATTERN|TEXT`, `pattern BYTES`: whether a pattern matches a text, and whether bytes are a pattern.
-//! - `value KEY|VALUE`, `settings TEXT`, `change KEY|VALUE|TEXT`: whether a value may be written for a key of loader.conf,
-//!   what such a text says, and the text with another value. The keys are `default` and `timeout`.
+//! - `value KEY|VALUE`, `settings TEXT`, `change KEY|VALUE|TEXT`: whether a value may be written for a key of
+//!   loader.conf, what such a text says, and the text with another value. The keys are `default` and `timeout`.
 //! - `chosen TEXT|IDS`: the place, counted from 0, of the id that a text of loader.conf chooses; newlines part the ids.
 //! - `split LINE`, `words LINE`: the words of a line, parted by `|`, and the command that they mean or the usage line.
 //!

@@ -73,7 +73,8 @@ without_value option = if is_flag option.takes then Whole option.text [] else Op
 abbrev pub option_said : CommandName → Word → Result Said UsageReason
 option_said command word =
     if has_equals word
-    then (option_of command (before_first is_equals_sign word) >>= λ option. with_value option (after_first is_equals_sign word))
+    then (option_of command (before_first is_equals_sign word)
+    >>= λ option. with_value option (after_first is_equals_sign word))
     else (option_of command word >>= λ option. Ok (without_value option))
 
 abbrev pub word_meaning : CommandName → Word → Result Said UsageReason
@@ -93,12 +94,15 @@ last_items word Plain = Ok (Operand word ∷ [])
 last_items word (Whole text value) = Ok (Value text value ∷ [])
 last_items word (Open option) = Err (NeedsValue word)
 
--- the items of a word with words after it: `later` are those of the words after it, `latest` those of the words after the next
-abbrev pub more_items : Word → Word → List Word → Said → Result (List Item) UsageReason → Result (List Item) UsageReason → Result (List Item) UsageReason
+-- the items of a word with words after it: `later` are those of the words after it, `latest` those of the words after
+-- the next
+abbrev pub more_items : Word → Word → List Word → Said → Result (List Item) UsageReason
+    → Result (List Item) UsageReason → Result (List Item) UsageReason
 more_items word next words Ends later latest = Ok (map Operand (next ∷ words))
 more_items word next words Plain later latest = onto (Operand word) later
 more_items word next words (Whole text value) later latest = onto (Value text value) later
-more_items word next words (Open option) later latest = valued option next >>= λ value. onto (Value option.text value) latest
+more_items word next words (Open option) later latest =
+    valued option next >>= λ value. onto (Value option.text value) latest
 
 -- the items of the words from the left, or the first word's reason that has one
 unfoldable pub items : CommandName → List Word → Result (List Item) UsageReason

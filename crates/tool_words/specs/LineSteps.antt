@@ -14,4 +14,5 @@ words_on (Some word) (piece ∷ pieces) = (word ++ text piece) ∷ words_between
 
 -- the words so far, and those of the rest of the line
 abbrev pub all_words : SoFar → List ℕ → List (List ℕ)
-all_words s rest = texts s.words.items ++ words_on (option_map string_bytes s.word) (slice_split is_gap_mark (marks s.quoted rest))
+all_words s rest =
+    texts s.words.items ++ words_on (option_map string_bytes s.word) (slice_split is_gap_mark (marks s.quoted rest))

@@ -43,7 +43,8 @@ command_of (word ∷ words) = found_name (find (is_name_of word) commands) word 
 
 -- as many operands as the command takes
 abbrev pub counted : ℕ → ℕ → Result (Unit {0}) UsageReason
-counted wanted count = if nat_lt count wanted then Err reason.TooFew else (if nat_lt wanted count then Err reason.TooMany else Ok tt)
+counted wanted count =
+    if nat_lt count wanted then Err reason.TooFew else (if nat_lt wanted count then Err reason.TooMany else Ok tt)
 
 abbrev pub is_repeated : Takes → Bool
 is_repeated Repeated = true
@@ -55,8 +56,8 @@ is_repeated Flag = false
 abbrev pub repeats : CommandName → Word → Bool
 repeats c text = list_any (λ option. is_text_of text option && is_repeated option.takes) (row c).options
 
--- what the items of a command give: of each option, by its text, the last value, of a repeatable one all values in order;
--- and the operands
+-- what the items of a command give: of each option, by its text, the last value, of a repeatable one all values in
+-- order; and the operands
 pub record Gathered : Type 0 where
   pub last : Word → Option Word
   pub all : Word → List Word

@@ -18,5 +18,6 @@ opened option word (next ∷ words) = valued option next >>= λ value. Ok (Value
 -- the items of a word and those after it begin with the item that is answered
 abbrev pub Steps : CommandName → Word → List Word → Result (Option Next) WordsFault → Type 0
 Steps command word after (Ok None) = items command (word ∷ after) ≡ Ok (map Operand after)
-Steps command word after (Ok (Some next)) = items command (word ∷ after) ≡ onto (item_shown next.item) (items command (texts next.rest.now))
+Steps command word after (Ok (Some next)) =
+    items command (word ∷ after) ≡ onto (item_shown next.item) (items command (texts next.rest.now))
 Steps command word after (Err fault) = FaultIs fault (items command (word ∷ after))

@@ -321,7 +321,8 @@ fn two_lists(
     second: &str,
 ) -> Result<(TextList, TextList), AllocError>
     ensures { IfOk {T = List Word × List Word} result (λ lists.
-        (lists.0 ≡ all_values first.now (items_shown items.now)) × (lists.1 ≡ all_values second.now (items_shown items.now))) }
+        (lists.0 ≡ all_values first.now (items_shown items.now))
+        × (lists.1 ≡ all_values second.now (items_shown items.now))) }
 {
     let first = all_values(alloc, items, first)?;
     let second = all_values(alloc, items, second)?;

@@ -49,7 +49,8 @@ impl SoFar {
 
     // Takes a gap, which ends the word that is begun.
     fn take_gap(self) -> Result<SoFar, AllocError>
-        ensures { IfOk result (λ after. (c : ℕ) (rest : List ℕ) → mark self.quoted c ≡ Gap → all_words self (c ∷ rest) ≡ all_words after rest) }
+        ensures { IfOk result (λ after. (c : ℕ) (rest : List ℕ) → mark self.quoted c ≡ Gap
+            → all_words self (c ∷ rest) ≡ all_words after rest) }
     {
         let SoFar {
             mut words,
@@ -68,7 +69,8 @@ impl SoFar {
 
     // Takes a character that stands for itself.
     fn take_itself(self, alloc: Global, c: char) -> Result<SoFar, AllocError>
-        ensures { IfOk result (λ after. (rest : List ℕ) → mark self.quoted c ≡ Itself c → all_words self (c ∷ rest) ≡ all_words after rest) }
+        ensures { IfOk result (λ after. (rest : List ℕ) → mark self.quoted c ≡ Itself c
+            → all_words self (c ∷ rest) ≡ all_words after rest) }
     {
         let SoFar {
             words,

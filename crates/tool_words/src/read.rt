@@ -98,7 +98,8 @@ fn is_missing(items: &[Item<'_>], option: OptionRow) -> bool
 
 // The first required option of the command that is not given.
 fn first_missing(command: CommandName, items: &[Item<'_>]) -> Option<OptionRow>
-    ensures { option_map option_shown result ≡ find (is_missing (gathered command (items_shown items.now)).last) (row command).options }
+    ensures { option_map option_shown result
+        ≡ find (is_missing (gathered command (items_shown items.now)).last) (row command).options }
 {
     let row = command.row();
     row.options

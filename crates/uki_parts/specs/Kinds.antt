@@ -7,7 +7,8 @@ use Rattle.uki_parts.specs.contracts.kind.PartKindPartialEq.TheImpl as compariso
 use Rattle.uki_parts.specs.declared.kind.PartKind.{PartKind}
 use Rattle.uki_parts.specs.declared.kind.PartKind.TheVariants as kinds
 
--- the kinds in append order, each with the section name that all its parts have; a user's own sections have none in common
+-- the kinds in append order, each with the section name that all its parts have; a user's own sections have none in
+-- common
 abbrev pub part_rows : List (PartKind × Option (List ℕ))
 part_rows =
     (kinds.Osrel, Some (codes ".osrel"))

@@ -25,7 +25,8 @@ is_section_name_byte byte = nat_le 0x21 byte && nat_le byte 0x7E && not (byte ==
 -- a name that a user may give: 1 to 8 such bytes, and not `.sbat`, whose part is merged from several sources
 abbrev pub is_section_name : List ℕ → Bool
 is_section_name text =
-    nat_le 1 (length text) && nat_le (length text) 8 && list_all is_section_name_byte text && not (bytes_eq text (codes ".sbat"))
+    nat_le 1 (length text) && nat_le (length text) 8 && list_all is_section_name_byte text
+    && not (bytes_eq text (codes ".sbat"))
 
 -- the name that a text is, where it is one
 abbrev pub read_name : List ℕ → Option SectionName

@@ -27,7 +27,8 @@ fn is_whitespace(byte: u8) -> bool
 
 // Puts a word behind the others.
 fn append_word(line: &mut Vec<u8>, word: &[u8]) -> Result<(), AllocError>
-    ensures { OnOk result (line.new.items ≡ (if length line.old.items == 0 then word.now else line.old.items ++ (32 ∷ word.now))) }
+    ensures { OnOk result
+        (line.new.items ≡ (if length line.old.items == 0 then word.now else line.old.items ++ (32 ∷ word.now))) }
 {
     if !line.is_empty() {
         line.push(b' ')?;

@@ -13,7 +13,8 @@ use std::alloc::{AllocError, Global};
 pub fn join_initrds(alloc: Global, files: Vec<Piece>) -> Result<Vec<Piece>, AllocError>
     ensures exact { IfOk result (λ joined. joined.items ≡ joined_initrds files.items) }
     ensures length { IfOk result (λ joined. total_length joined.items ≡ joined_length (map piece_length files.items)) }
-    ensures bound { IfOk result (λ joined. total_length joined.items ≤ total_length files.items + 3 * length files.items) }
+    ensures bound { IfOk result (λ joined. total_length joined.items
+        ≤ total_length files.items + 3 * length files.items) }
 {
     if files.len() <= 1 {
         return Ok(files);

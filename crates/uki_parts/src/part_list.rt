@@ -68,8 +68,8 @@ impl PartList {
     }
 }
 
-// The index behind the parts of that kind and of those before it. It is looked for by halves, so that many parts take no
-// time that grows with their square.
+// The index behind the parts of that kind and of those before it. It is looked for by halves, so that many parts take
+// no time that grows with their square.
 fn place_for(parts: &[Part], kind: PartKind) -> usize
     requires { IsNonDecreasingBy part_place parts.now }
     ensures place { result ≡ position_or_len (is_after kind) parts.now }

@@ -4,7 +4,8 @@ use Rattle.std.specs.Char.{is_ascii_alphabetic, is_ascii_digit}
 use Rattle.std.specs.Str.Parse.{digits_value}
 use Rattle.std.specs.List.{filter_map}
 
--- a token: one of the four marks, the end of the version, a run of letters with its bytes, or a run of digits with its number
+-- a token: one of the four marks, the end of the version, a run of letters with its bytes, or a run of digits with its
+-- number
 pub data Token : Type 0 where
   Tilde : Token
   End : Token

@@ -14,8 +14,12 @@ WordsFindTheirCommand = (c : CommandName) → with_words (row c).name (row c).ve
 
 -- each option of a command is found by its own text, so no two of a command have the same
 abbrev pub TextsFindTheirOption : Type 0
-TextsFindTheirOption = (c : CommandName) → map (λ option. find (is_text_of option.text) (row c).options) (row c).options ≡ map Some (row c).options
+TextsFindTheirOption =
+    (c : CommandName) → map (λ option. find (is_text_of option.text) (row c).options) (row c).options
+    ≡ map Some (row c).options
 
 -- a command has a verb where the first command of its name has one
 abbrev pub NamesHaveVerbsOrNone : Type 0
-NamesHaveVerbsOrNone = (c : CommandName) → IfSome (find (is_name_of (row c).name) commands) (λ first. is_some (row first).verb ≡ is_some (row c).verb)
+NamesHaveVerbsOrNone =
+    (c : CommandName) → IfSome (find (is_name_of (row c).name) commands)
+    (λ first. is_some (row first).verb ≡ is_some (row c).verb)

@@ -10,4 +10,9 @@ option_shown o = record { text = o.text.now; takes = o.takes; value = o.value }
 
 -- a line of the code's table
 abbrev pub row_shown : CommandRow → Row
-row_shown r = record { name = r.name.now; verb = option_copied r.verb; operands = r.operands; options = map option_shown r.options.now }
+row_shown r = record {
+  name = r.name.now;
+  verb = option_copied r.verb;
+  operands = r.operands;
+  options = map option_shown r.options.now;
+}
