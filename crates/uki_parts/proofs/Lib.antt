@@ -1,7 +1,6 @@
 mod Adding
 mod Cases
 mod Entries
-mod Joined
 mod Kept
 mod Ordered
 mod Padded
