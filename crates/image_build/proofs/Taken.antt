@@ -10,7 +10,7 @@ use Rattle.boot_machine.specs.Rows.{contents}
 use Rattle.boot_machine.specs.Sent.{seen}
 use Rattle.image_writer.specs.Sourced.{planned_image}
 use Rattle.pe_reader.specs.Loaded.{loaded}
-use Rattle.stub_replay.proofs.Ranges.{length-bytes_in}
+use Rattle.pe_reader.proofs.Ranges.{length-bytes_in}
 use Rattle.stub_replay.proofs.Turns.{IsName}
 use Rattle.stub_replay.specs.Measured.{measured_names}
 use Rattle.stub_replay.specs.Parts.{IsWhole, content_bytes, content_or, file_length, files_length, given_part, read_length}

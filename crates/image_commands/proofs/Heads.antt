@@ -5,7 +5,8 @@ use Rattle.pe_reader.specs.declared.section.LoadedRange.{LoadedRange}
 use Rattle.pe_reader.specs.Grammar.{Headers, pe_of}
 use Rattle.pe_reader.specs.Loaded.{is_named, section_at_index, range_of}
 use Rattle.pe_reader.proofs.Finding.{loaded-none}
-use Rattle.stub_replay.proofs.Ranges.{found_range, length-bytes_in}
+use Rattle.pe_reader.proofs.Ranges.{length-bytes_in}
+use Rattle.stub_replay.proofs.Ranges.{found_range}
 use Rattle.image_commands.specs.Said.{has_loaded}
 
 pub none_loaded : (bytes name : List ℕ) (h : Headers) → pe_of bytes ≡ Ok h → position (is_named name) h.sections ≡ None → false ≡ has_loaded bytes name

@@ -15,7 +15,7 @@ use Rattle.stub_replay.specs.Parts.{HaveSizes, IsWhole, content_bytes, file_leng
 use Rattle.stub_replay.specs.declared.measurable.Content.{Content}
 use Rattle.stub_replay.specs.declared.measurable.Content.TheVariants as sources
 use Rattle.stub_replay.specs.declared.measurable.Measurable.{Measurable}
-use Rattle.stub_replay.proofs.Ranges.{length-bytes_in}
+use Rattle.pe_reader.proofs.Ranges.{length-bytes_in}
 use Rattle.uki_parts.specs.Pieces.{HasSizes, Reading, bytes_of, piece_bytes, piece_length}
 use Rattle.uki_parts.specs.declared.piece.Piece.{Piece}
 use Rattle.uki_parts.specs.declared.piece.Piece.TheVariants as pieces
