@@ -5,7 +5,6 @@ ghost use Rattle.boot_machine.specs.Counts.{CountsDisk};
 ghost use Rattle.boot_machine.specs.Disk.{has, view};
 ghost use Rattle.boot_machine.specs.Reading.{TakesAtMost};
 ghost use Rattle.boot_machine.specs.Rows.{contents};
-ghost use Rattle.boot_machine.specs.Taken.{TakesNone};
 ghost use Rattle.install_steps.specs.Appends.{AppendsOnly, Grown};
 ghost use Rattle.image_writer.specs.Chunks.{chunk_bytes, chunks_bytes, headers_bytes, stub_bytes};
 ghost use Rattle.image_writer.specs.Sourced.{IsSourced, IsPlannedImage, stub_path, new_sbat};
@@ -103,7 +102,7 @@ fn write_headers<M: Machine>(
         (headers_bytes (contents (M.state machine.old).files (stub_path sources.now)) (new_sbat sources.now) sections.now)
         (M.state machine.old) (M.state machine.new)) }
     ensures counts { CountsDisk result (M.counts machine.old) (M.counts machine.new) }
-    ensures taken { IsTrue M.tells → TakesNone (M.taken machine.old) (M.taken machine.new) }
+    ensures taken { IsTrue M.tells → TakesAtMost 0 (M.taken machine.old) (M.taken machine.new) }
 {
     sources.stub.know();
     temp.know();
