@@ -301,3 +301,9 @@ kept_within plan stub sbat contents is =
     (subst (λ (a : Head). R h.head a plan.sbat plan.stub_length) (sym p.after)
     (subst (λ (o : Option SbatPlace). R h.head (head_with changed new) o plan.stub_length) (sym p.sbat_is)
     (subst (λ (n : ℕ). R h.head (head_with changed new) (sbat_place h is.in_place) n) (sym p.stub_length_is) here)))
+
+-- What stands in the place of the stub has as many bytes.
+pub stub_kept : (plan : Plan) (stub sbat : List ℕ) (contents : List (List ℕ)) → IsPlanFor plan stub contents sbat → length (stub_bytes plan stub sbat) ≡ planned_stub_length plan
+stub_kept plan stub sbat contents is =
+    let front = planned plan stub sbat contents is in
+    ap length front.is ∙ front.long ∙ sym is.plans.stub_length_is
