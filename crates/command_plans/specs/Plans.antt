@@ -1,5 +1,5 @@
 -- A plan: the change that a command is going to make, and its whole reply.
-use Rattle.std.specs.Prelude.{◌≡◌, ◌≤◌, true, false, All, Result, Ok, MatchResult, bytes_eq, length}
+use Rattle.std.specs.Prelude.{◌≡◌, ◌≤◌, ℕ, true, false, All, Result, Ok, MatchResult, bytes_eq, length}
 use Rattle.std.specs.List.{IsDistinct}
 use Rattle.std.specs.FinMap.{insert, remove}
 use Rattle.boot_base.specs.Limits.{file_limit}
@@ -11,6 +11,7 @@ use Rattle.boot_machine.specs.Sent.{seen}
 use Rattle.pe_builder.specs.declared.plan.Plan.{Plan as ImagePlan}
 use Rattle.image_writer.specs.declared.sources.Sources.{Sources}
 use Rattle.image_writer.specs.Sourced.{IsSourced, planned_image}
+use Rattle.image_writer.specs.Taken.{writing_length}
 use Rattle.install_steps.specs.Steps.{Lacks}
 use Rattle.command_reads.specs.Saying.{UnsaidFor}
 use Rattle.command_reads.specs.declared.saying.Unsaid.{Unsaid}
@@ -64,6 +65,17 @@ CanMake s (Write image sources target) = IsSourced image sources (seen s)
 CanMake s (Put target bytes) = Unit {0}
 CanMake s (Copy from target gone) = CanCopy s from
 CanMake s (Move from to intent gone exists) = (has (seen s) from ≡ true) × (has (seen s) to ≡ false)
+
+-- how many bytes of files are read to make a change, at most: those that an image is written of, and those of a file that is
+-- copied
+abbrev pub making_length : Files → Change → ℕ
+making_length view Nothing = 0
+making_length view (Remove path gone) = 0
+making_length view (Leftovers temps) = 0
+making_length view (Write image sources target) = writing_length image sources
+making_length view (Put target bytes) = 0
+making_length view (Copy from target gone) = length (contents view from)
+making_length view (Move from to intent gone exists) = 0
 
 -- what of the temporary files is gone after a change
 abbrev pub Drops : Change → Files → Files → Type 0

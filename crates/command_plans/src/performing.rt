@@ -6,13 +6,16 @@ ghost use Rattle.boot_base.specs.Paths.{IsFree};
 ghost use Rattle.boot_machine.specs.Counts.{CountsDisk};
 ghost use Rattle.boot_machine.specs.Disk.{HasOneCandidate, IsRested, has};
 ghost use Rattle.boot_machine.specs.Images.{IsFirm};
+ghost use Rattle.boot_machine.specs.Reading.{TakesAtMost};
 ghost use Rattle.boot_machine.specs.Rows.{contents};
 ghost use Rattle.boot_machine.specs.Sent.{seen};
+ghost use Rattle.boot_machine.specs.Taken.{TakesNone};
 ghost use Rattle.image_writer.specs.Sourced.{IsSourced};
+ghost use Rattle.image_writer.specs.Taken.{writing_length};
 ghost use Rattle.install_steps.specs.Steps.{CountsStep, IsDone, Keeps, NoNewTemp, RestsUnless, StepsTo};
 ghost use Rattle.command_plans.specs.Deeds.{made};
 ghost use Rattle.command_plans.specs.Performs.{CountsFault, LeavesNoTempBy, LeavesRestedBy, Performs, Syncs, end_by};
-ghost use Rattle.command_plans.specs.Plans.{CanMake, Drops, DropsBy, IsMakeable, duplicated, effect, planned, view_with_image};
+ghost use Rattle.command_plans.specs.Plans.{CanMake, Drops, DropsBy, IsMakeable, duplicated, effect, making_length, planned, view_with_image};
 
 use crate::outcome::{MachineFault, Outcome};
 use crate::plan::{Change, Plan, RefusalLine};
@@ -45,6 +48,8 @@ fn write<M: Machine>(
     ensures rests { OnOk result (IsTrue M.tells → IsRested (M.state machine.new)) }
     ensures temps { OnOk result (IsTrue M.tells → NoNewTemp (M.state machine.old) (M.state machine.new)) }
     ensures counts { CountsDisk result (M.counts machine.old) (M.counts machine.new) }
+    ensures taken { IsTrue M.tells → TakesAtMost (writing_length image.now sources.now)
+        (M.taken machine.old) (M.taken machine.new) }
 {
     let mut buffer = [0; PIECE_SIZE];
     write_planned(machine, image, sources, target, &mut buffer)
@@ -63,6 +68,7 @@ fn put<M: Machine>(bytes: &[u8], target: &Target, machine: &mut M) -> Result<(),
     ensures rests { OnOk result (IsTrue M.tells → IsRested (M.state machine.new)) }
     ensures temps { OnOk result (IsTrue M.tells → NoNewTemp (M.state machine.old) (M.state machine.new)) }
     ensures counts { CountsDisk result (M.counts machine.old) (M.counts machine.new) }
+    ensures taken { IsTrue M.tells → TakesNone (M.taken machine.old) (M.taken machine.new) }
 {
     write_bytes(machine, target, bytes)
 }
@@ -84,7 +90,10 @@ fn copy<M: Machine>(from: &BootPath, target: &Target, machine: &mut M) -> Result
     ensures rests { IsTrue M.tells → RestsUnless StepFault.Disk result (M.state machine.new) }
     ensures temps { OnOk result (IsTrue M.tells → NoNewTemp (M.state machine.old) (M.state machine.new)) }
     ensures counts { CountsStep result (M.counts machine.old) (M.counts machine.new) }
+    ensures taken { IsTrue M.tells → TakesAtMost (length (contents (seen (M.state machine.old)) from.now))
+        (M.taken machine.old) (M.taken machine.new) }
 {
+    from.know();
     let mut buffer = [0; PIECE_SIZE];
     write_whole(machine, from, target, &mut buffer)
 }
@@ -116,6 +125,8 @@ fn apply<'a, M: Machine>(change: &'a Change, machine: &mut M) -> Result<Applied<
     ensures rests { OnOk result (IsTrue M.tells → IsRested (M.state machine.new)) }
     ensures temps { OnOk result (IsTrue M.tells → NoNewTemp (M.state machine.old) (M.state machine.new)) }
     ensures counts { CountsDisk result (M.counts machine.old) (M.counts machine.new) }
+    ensures taken { IsTrue M.tells → TakesAtMost (making_length (seen (M.state machine.old)) change.now)
+        (M.taken machine.old) (M.taken machine.new) }
 {
     match change {
         Change::Nothing => Ok(Applied::Done),
@@ -177,6 +188,8 @@ pub fn perform<M: Machine>(plan: &Plan, machine: &mut M) -> Result<Outcome, Mach
     ensures rests { IsTrue M.tells → LeavesRestedBy result (M.state machine.new) }
     ensures temps { IsTrue M.tells → LeavesNoTempBy result (M.state machine.old) (M.state machine.new) }
     ensures counts { CountsFault result (M.counts machine.old) (M.counts machine.new) }
+    ensures taken { IsTrue M.tells → TakesAtMost (making_length (seen (M.state machine.old)) plan.now.change)
+        (M.taken machine.old) (M.taken machine.new) }
 {
     settle(machine)?;
     match apply(&plan.change, machine)? {

@@ -31,6 +31,7 @@ use Rattle.pe_builder.proofs.Totals.{buildable_image, buildable_sbat}
 use Rattle.boot_machine.specs.Reading.{between}
 use Rattle.image_writer.specs.Chunks.{chunks_bytes, number_chunks, table_end, table_chunks, section_chunks, rest_chunks, headers_bytes, new_stub_bytes, behind_stub}
 use Rattle.image_writer.specs.Sourced.{parts_bytes, IsPieced}
+use Rattle.image_writer.specs.Taken.{chunks_length, kept_length}
 use Rattle.image_writer.proofs.Padded.{behind-is}
 use Rattle.image_writer.proofs.Rising.{Patch, puts, Rising, drop-puts, length-puts, put-swap}
 
@@ -272,3 +273,37 @@ pub is_finished : (plan : Plan) (stub sbat : List ℕ) (contents : List (List �
     → IsFinished plan stub contents sbat (finished h sizes contents (sbat_if_in_place in_place sbat) stub)
 is_finished plan stub sbat contents h sizes in_place reads plans len = λ h' sizes' in_place' reads' plans' len'.
     sym (image_by-is plan h sizes contents in_place sbat stub reads plans len) ∙ image_by-is plan h' sizes' contents in_place' sbat stub reads' plans' len'
+
+-- how many of the stub's bytes stand in a row up to the stub's end
+abbrev row_length : Head → Head → Option SbatPlace → ℕ → ℕ
+row_length before after place n =
+    chunks_length (number_chunks before after)
+    + (chunks_length (table_chunks before place) + chunks_length (rest_chunks (before.table_place + 40 * after.section_count) n place))
+
+row_within : (before after : Head) (sections : List Section) (place : Option SbatPlace) (n : ℕ) (sbat : List ℕ) → Ordered before after sections place n sbat → row_length before after place n ≤ n
+row_within before after sections None n sbat o = omega (arith, o.fields, o.behind, o.inside)
+row_within before after sections (Some p) n sbat o =
+    let stands = o.replaced in
+    omega (arith, o.fields, o.behind, o.inside, stands.0, stands.1, stands.2, stands.3)
+
+-- No byte of the stub is read twice.
+pub kept_within : (plan : Plan) (stub sbat : List ℕ) (contents : List (List ℕ)) → IsPlanFor plan stub contents sbat → kept_length plan ≤ planned_stub_length plan
+kept_within plan stub sbat contents is =
+    let h = is.headers in
+    let p = is.plans in
+    let changed = with_sbat_size h is.in_place in
+    let new = new_sections changed (length stub) is.sizes in
+    let R : Head → Head → Option SbatPlace → ℕ → Type 0 = λ b a o n. row_length b a o n ≤ n in
+    let all = ordered h stub sbat is.sizes is.in_place (stages-shape stub h (pe_of-stages stub h is.reads)) (buildable_sbat _ _ _ _ p.buildable)
+    (buildable_image _ _ _ _ p.buildable) is.sbat_length in
+    let here = row_within h.head (head_with changed new) new (sbat_place h is.in_place) (length stub) sbat all in
+    subst (λ (b : Head). R b plan.after plan.sbat plan.stub_length) (sym p.before)
+    (subst (λ (a : Head). R h.head a plan.sbat plan.stub_length) (sym p.after)
+    (subst (λ (o : Option SbatPlace). R h.head (head_with changed new) o plan.stub_length) (sym p.sbat_is)
+    (subst (λ (n : ℕ). R h.head (head_with changed new) (sbat_place h is.in_place) n) (sym p.stub_length_is) here)))
+
+-- What stands in the place of the stub has as many bytes.
+pub stub_kept : (plan : Plan) (stub sbat : List ℕ) (contents : List (List ℕ)) → IsPlanFor plan stub contents sbat → length (new_stub_bytes plan stub sbat) ≡ planned_stub_length plan
+stub_kept plan stub sbat contents is =
+    let front = planned plan stub sbat contents is in
+    ap length front.is ∙ front.long ∙ sym is.plans.stub_length_is

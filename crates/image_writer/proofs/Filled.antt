@@ -1,9 +1,10 @@
 -- Bytes that are given piece by piece.
-use Rattle.std.proofs.Common.{◌≡◌, ◌<◌, ◌≤◌, ◌+◌, ◌-◌, ℕ, List, [], ◌∷◌, ◌++◌, length, take, get_or, sym, ap, ◌∙◌}
-use Rattle.std.specs.Prelude.{replicate, ◌==◌, false}
+use Rattle.std.proofs.Common.{◌≡◌, ◌<◌, ◌≤◌, ◌+◌, ◌-◌, ℕ, List, [], ◌∷◌, ◌++◌, length, take, get_or, sym, ap, ◌∙◌, arith}
+use Rattle.std.specs.Prelude.{replicate, sum_by, ◌==◌, false}
 use Rattle.std.specs.List.{flat_map}
 use Rattle.std.proofs.lemmas.Grind.{flat_map-append}
 use Rattle.std.proofs.lemmas.List.{take_all, take_more, append-nil, take-replicate, replicate-append-replicate}
+use Rattle.std.proofs.lemmas.List.Sums.{sum_by_more, sum_by-take-le}
 use Rattle.uki_parts.specs.declared.part.Part.{Part}
 use Rattle.uki_parts.specs.Pieces.{Reading}
 use Rattle.image_writer.specs.Chunks.{gap, padded_part, behind_stub}
@@ -45,3 +46,12 @@ pub behind_some : (files : Reading) (unit stub_length count : ℕ) (parts : List
     → replicate count 0 ++ flat_map (padded_part files unit) parts ≡ behind_stub files unit stub_length parts
 behind_some files unit stub_length count [] some is = cc
 behind_some files unit stub_length count (p ∷ ps) some is = ap (λ (n : ℕ). replicate n 0 ++ flat_map (padded_part files unit) (p ∷ ps)) is
+
+-- one more item is read
+pub reads_more : {X : Type 0} (f : X → ℕ) (xs : List X) (i : ℕ) (d : X) (start before after : ℕ) → i < length xs → before ≤ start + sum_by f (take i xs) → after ≤ before + f (get_or xs i d)
+    → after ≤ start + sum_by f (take (i + 1) xs)
+reads_more f xs i d start before after lt first second = omega (arith, first, second, sum_by_more f xs i d lt)
+
+-- of all items no more is read than all have
+pub reads_all : {X : Type 0} (f : X → ℕ) (xs : List X) (i : ℕ) (start after : ℕ) → after ≤ start + sum_by f (take i xs) → after ≤ start + sum_by f xs
+reads_all f xs i start after first = omega (arith, first, sum_by-take-le f xs i)

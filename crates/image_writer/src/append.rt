@@ -3,6 +3,7 @@
 ghost use Rattle.std.specs.Prelude.{◌≡◌, ◌<◌, true, length, replicate, IsTrue, OnOk};
 ghost use Rattle.boot_machine.specs.Counts.{CountsDisk};
 ghost use Rattle.boot_machine.specs.Disk.{has};
+ghost use Rattle.boot_machine.specs.Taken.{TakesNone};
 ghost use Rattle.install_steps.specs.Appends.{AppendsOnly, Grown};
 
 use boot_base::TempPath;
@@ -23,6 +24,7 @@ pub fn write_zeros<M: Machine>(
     ensures grows { OnOk result (IsTrue M.tells
         → Grown temp.now (replicate count 0) (M.state machine.old) (M.state machine.new)) }
     ensures counts { CountsDisk result (M.counts machine.old) (M.counts machine.new) }
+    ensures taken { IsTrue M.tells → TakesNone (M.taken machine.old) (M.taken machine.new) }
 {
     buffer.fill(0);
     append_zeros(machine, temp, count, buffer)
@@ -42,6 +44,7 @@ fn append_zeros<M: Machine>(
     ensures grows { OnOk result (IsTrue M.tells
         → Grown temp.now (replicate count 0) (M.state machine.old) (M.state machine.new)) }
     ensures counts { CountsDisk result (M.counts machine.old) (M.counts machine.new) }
+    ensures taken { IsTrue M.tells → TakesNone (M.taken machine.old) (M.taken machine.new) }
 {
     let mut done = 0;
     while done < count {

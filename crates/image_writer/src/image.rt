@@ -3,10 +3,12 @@
 ghost use Rattle.std.specs.Prelude.{◌≡◌, ◌<◌, [], true, length, IsTrue, OnOk};
 ghost use Rattle.boot_machine.specs.Counts.{CountsDisk};
 ghost use Rattle.boot_machine.specs.Disk.{has, view};
+ghost use Rattle.boot_machine.specs.Reading.{TakesAtMost};
 ghost use Rattle.boot_machine.specs.Rows.{contents};
 ghost use Rattle.install_steps.specs.Appends.{AppendsOnly, Grown};
 ghost use Rattle.image_writer.specs.Chunks.{chunk_bytes, chunks_bytes, headers_bytes, new_stub_bytes};
 ghost use Rattle.image_writer.specs.Sourced.{IsSourced, IsPlannedImage, stub_path, new_sbat};
+ghost use Rattle.image_writer.specs.Taken.{chunk_length, chunks_length, kept_length, writing_length};
 
 use crate::append::write_zeros;
 use crate::chunk::{Chunk, number_chunks, rest_chunks, section_chunks, table_chunks};
@@ -41,6 +43,8 @@ pub fn write_image<M: Machine>(
         (contents (M.state machine.new).files temp.now)) }
     ensures appends { IsTrue M.tells → AppendsOnly M.clock M.since M.state temp.now machine.old machine.new }
     ensures counts { CountsDisk result (M.counts machine.old) (M.counts machine.new) }
+    ensures taken { IsTrue M.tells → TakesAtMost (writing_length plan.now sources.now)
+        (M.taken machine.old) (M.taken machine.new) }
 {
     sources.stub.know();
     temp.know();
@@ -73,6 +77,7 @@ fn write_stub<M: Machine>(
         (new_stub_bytes plan.now (contents (M.state machine.old).files (stub_path sources.now)) (new_sbat sources.now))
         (M.state machine.old) (M.state machine.new)) }
     ensures counts { CountsDisk result (M.counts machine.old) (M.counts machine.new) }
+    ensures taken { IsTrue M.tells → TakesAtMost (kept_length plan.now) (M.taken machine.old) (M.taken machine.new) }
 {
     sources.stub.know();
     temp.know();
@@ -99,6 +104,7 @@ fn write_headers<M: Machine>(
         (new_sbat sources.now) sections.now)
         (M.state machine.old) (M.state machine.new)) }
     ensures counts { CountsDisk result (M.counts machine.old) (M.counts machine.new) }
+    ensures taken { IsTrue M.tells → TakesAtMost 0 (M.taken machine.old) (M.taken machine.new) }
 {
     sources.stub.know();
     temp.know();
@@ -124,6 +130,8 @@ fn write_chunks<M: Machine>(
         (chunks_bytes (contents (M.state machine.old).files (stub_path sources.now)) (new_sbat sources.now) chunks.now)
         (M.state machine.old) (M.state machine.new)) }
     ensures counts { CountsDisk result (M.counts machine.old) (M.counts machine.new) }
+    ensures taken { IsTrue M.tells → TakesAtMost (chunks_length chunks.now)
+        (M.taken machine.old) (M.taken machine.new) }
 {
     sources.stub.know();
     temp.know();
@@ -149,6 +157,7 @@ fn write_chunk<M: Machine>(
         (chunk_bytes (contents (M.state machine.old).files (stub_path sources.now)) (new_sbat sources.now) chunk)
         (M.state machine.old) (M.state machine.new)) }
     ensures counts { CountsDisk result (M.counts machine.old) (M.counts machine.new) }
+    ensures taken { IsTrue M.tells → TakesAtMost (chunk_length chunk) (M.taken machine.old) (M.taken machine.new) }
 {
     match chunk {
         Chunk::Stub { from, to } => copy_part(machine, temp, &sources.stub, from, to, buffer),

@@ -1,12 +1,14 @@
 //! The parts of an image behind its stub.
 
-ghost use Rattle.std.specs.Prelude.{◌≡◌, ◌<◌, true, length, replicate, IsTrue, OnOk};
+ghost use Rattle.std.specs.Prelude.{◌≡◌, ◌<◌, true, length, replicate, sum_by, IsTrue, OnOk};
 ghost use Rattle.std.specs.List.{flat_map};
 ghost use Rattle.boot_machine.specs.Counts.{CountsDisk};
 ghost use Rattle.boot_machine.specs.Disk.{has};
+ghost use Rattle.boot_machine.specs.Reading.{TakesAtMost};
 ghost use Rattle.uki_parts.specs.Pieces.{Reading};
 ghost use Rattle.install_steps.specs.Appends.{AppendsOnly, Grown};
 ghost use Rattle.image_writer.specs.Chunks.{Agrees, behind_stub, gap, given_bytes, padded_part};
+ghost use Rattle.image_writer.specs.Taken.{part_reading, piece_reading};
 
 use crate::append::write_zeros;
 use boot_base::TempPath;
@@ -31,6 +33,8 @@ pub fn write_parts<M: Machine>(
         → Agrees files (M.state machine.old).files
         → Grown temp.now (behind_stub files unit stub_length parts.now) (M.state machine.old) (M.state machine.new)) }
     ensures counts { CountsDisk result (M.counts machine.old) (M.counts machine.new) }
+    ensures taken { IsTrue M.tells → TakesAtMost (sum_by part_reading parts.now)
+        (M.taken machine.old) (M.taken machine.new) }
 {
     if parts.is_empty() {
         return Ok(());
@@ -56,6 +60,8 @@ fn write_each_part<M: Machine>(
         → Agrees files (M.state machine.old).files
         → Grown temp.now (flat_map (padded_part files unit) parts.now) (M.state machine.old) (M.state machine.new)) }
     ensures counts { CountsDisk result (M.counts machine.old) (M.counts machine.new) }
+    ensures taken { IsTrue M.tells → TakesAtMost (sum_by part_reading parts.now)
+        (M.taken machine.old) (M.taken machine.new) }
 {
     temp.know();
     for part in parts {
@@ -80,6 +86,7 @@ fn write_part<M: Machine>(
         → Agrees files (M.state machine.old).files
         → Grown temp.now (padded_part files unit part.now) (M.state machine.old) (M.state machine.new)) }
     ensures counts { CountsDisk result (M.counts machine.old) (M.counts machine.new) }
+    ensures taken { IsTrue M.tells → TakesAtMost (part_reading part.now) (M.taken machine.old) (M.taken machine.new) }
 {
     write_pieces(machine, temp, &part.pieces, buffer)?;
     write_zeros(machine, temp, gap(unit, part.length), buffer)
@@ -99,6 +106,8 @@ fn write_pieces<M: Machine>(
     ensures grows { OnOk result (IsTrue M.tells → (files : Reading) → Agrees files (M.state machine.old).files
         → Grown temp.now (flat_map (given_bytes files) pieces.now) (M.state machine.old) (M.state machine.new)) }
     ensures counts { CountsDisk result (M.counts machine.old) (M.counts machine.new) }
+    ensures taken { IsTrue M.tells → TakesAtMost (sum_by piece_reading pieces.now)
+        (M.taken machine.old) (M.taken machine.new) }
 {
     temp.know();
     for piece in pieces {
@@ -121,6 +130,7 @@ fn write_piece<M: Machine>(
     ensures grows { OnOk result (IsTrue M.tells → (files : Reading) → Agrees files (M.state machine.old).files
         → Grown temp.now (given_bytes files piece.now) (M.state machine.old) (M.state machine.new)) }
     ensures counts { CountsDisk result (M.counts machine.old) (M.counts machine.new) }
+    ensures taken { IsTrue M.tells → TakesAtMost (piece_reading piece.now) (M.taken machine.old) (M.taken machine.new) }
 {
     match piece {
         Piece::Bytes(bytes) => append(machine, temp, bytes.as_slice()),

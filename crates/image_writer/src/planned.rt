@@ -6,8 +6,10 @@ ghost use Rattle.boot_base.specs.Paths.{IsFree};
 ghost use Rattle.boot_machine.specs.Counts.{CountsDisk};
 ghost use Rattle.boot_machine.specs.Disk.{HasOneCandidate, IsRested, recovered_view, view};
 ghost use Rattle.boot_machine.specs.Images.{IsFirm};
+ghost use Rattle.boot_machine.specs.Reading.{TakesAtMost};
 ghost use Rattle.install_steps.specs.Steps.{Keeps, StepsTo, IsDone, NoNewTemp, PrintsNothing};
 ghost use Rattle.image_writer.specs.Sourced.{IsSourced, IsPlannedImage};
+ghost use Rattle.image_writer.specs.Taken.{writing_length};
 
 use crate::image::write_image;
 use crate::sources::Sources;
@@ -45,6 +47,8 @@ pub fn write_planned<M: Machine>(
     ensures rests { OnOk result (IsTrue M.tells → IsRested (M.state machine.new)) }
     ensures temps { OnOk result (IsTrue M.tells → NoNewTemp (M.state machine.old) (M.state machine.new)) }
     ensures counts { CountsDisk result (M.counts machine.old) (M.counts machine.new) }
+    ensures taken { IsTrue M.tells → TakesAtMost (writing_length plan.now sources.now)
+        (M.taken machine.old) (M.taken machine.new) }
 {
     target.path.know();
     target.temp.know();

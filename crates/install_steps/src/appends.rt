@@ -1,8 +1,8 @@
 //! Appends to a temporary file: bytes at hand, and some of a file's bytes.
-ghost use Rattle.std.specs.Prelude.{◌≡◌, ◌<◌, true, length, IsTrue, OnOk};
+ghost use Rattle.std.specs.Prelude.{◌≡◌, ◌<◌, ◌-◌, true, length, IsTrue, OnOk};
 ghost use Rattle.boot_machine.specs.Counts.{CountsDisk};
 ghost use Rattle.boot_machine.specs.Disk.{has};
-ghost use Rattle.boot_machine.specs.Reading.{between};
+ghost use Rattle.boot_machine.specs.Reading.{TakesAtMost, between};
 ghost use Rattle.boot_machine.specs.Rows.{contents};
 ghost use Rattle.boot_machine.specs.Taken.{TakesNone};
 ghost use Rattle.install_steps.specs.Appends.{AppendsOnly, Grown};
@@ -73,6 +73,7 @@ pub fn copy_part<M: Machine>(
         → Grown temp.now (between (contents (M.state machine.old).files file.now) from to) (M.state machine.old)
         (M.state machine.new)) }
     ensures counts { CountsDisk result (M.counts machine.old) (M.counts machine.new) }
+    ensures taken { IsTrue M.tells → TakesAtMost (to - from) (M.taken machine.old) (M.taken machine.new) }
 {
     file.know();
     temp.know();

@@ -5,6 +5,7 @@ ghost use Rattle.boot_machine.specs.Disk.{HasOneCandidate, IsRested, has, intend
 ghost use Rattle.boot_machine.specs.Images.{IsFirm};
 ghost use Rattle.boot_machine.specs.Rows.{move_in};
 ghost use Rattle.boot_machine.specs.Counts.{CountsDisk};
+ghost use Rattle.boot_machine.specs.Taken.{TakesNone};
 ghost use Rattle.install_steps.specs.Appends.{AppendsOnly, Grown};
 ghost use Rattle.install_steps.specs.Steps.{Keeps, StepsTo, IsDone, NoNewTemp, Intends, PrintsNothing, RestsUnless, CountsMove, moved};
 
@@ -25,6 +26,7 @@ fn append_name<M: Machine>(
     ensures grown { OnOk result (IsTrue M.tells
         → Grown temp.now (name.now ++ 0 ∷ []) (M.state machine.old) (M.state machine.new)) }
     ensures counts { CountsDisk result (M.counts machine.old) (M.counts machine.new) }
+    ensures taken { IsTrue M.tells → TakesNone (M.taken machine.old) (M.taken machine.new) }
 {
     machine.append(temp, name.as_str().as_bytes())?;
     machine.append(temp, &[0])
@@ -53,6 +55,7 @@ fn put_intent<M: Machine>(
     ensures keeps { IsTrue M.tells → Keeps (M.state machine.old) (M.state machine.new) }
     ensures quiet { IsTrue M.tells → PrintsNothing M.clock M.since M.state machine.old machine.new }
     ensures counts { CountsDisk result (M.counts machine.old) (M.counts machine.new) }
+    ensures taken { IsTrue M.tells → TakesNone (M.taken machine.old) (M.taken machine.new) }
 {
     from.know_normal();
     to.know_normal();
@@ -80,6 +83,7 @@ fn rename_synced<M: Machine>(
     ensures keeps { IsTrue M.tells → Keeps (M.state machine.old) (M.state machine.new) }
     ensures quiet { IsTrue M.tells → PrintsNothing M.clock M.since M.state machine.old machine.new }
     ensures counts { CountsDisk result (M.counts machine.old) (M.counts machine.new) }
+    ensures taken { IsTrue M.tells → TakesNone (M.taken machine.old) (M.taken machine.new) }
 {
     from.know();
     machine.rename_name(from, to)?;
@@ -109,6 +113,7 @@ fn move_intended<M: Machine>(
     ensures rests { OnOk result (IsTrue M.tells → IsRested (M.state machine.new)) }
     ensures temps { OnOk result (IsTrue M.tells → NoNewTemp (M.state machine.old) (M.state machine.new)) }
     ensures counts { CountsDisk result (M.counts machine.old) (M.counts machine.new) }
+    ensures taken { IsTrue M.tells → TakesNone (M.taken machine.old) (M.taken machine.new) }
 {
     from.know();
     to.know();
@@ -150,6 +155,7 @@ pub fn move_name<M: Machine>(
     ensures rests { IsTrue M.tells → RestsUnless MoveFault.Disk result (M.state machine.new) }
     ensures temps { OnOk result (IsTrue M.tells → NoNewTemp (M.state machine.old) (M.state machine.new)) }
     ensures counts { CountsMove result (M.counts machine.old) (M.counts machine.new) }
+    ensures taken { IsTrue M.tells → TakesNone (M.taken machine.old) (M.taken machine.new) }
 {
     from.know();
     to.know();

@@ -5,9 +5,10 @@ ghost use Rattle.boot_base.specs.Paths.{intent as intent_path};
 ghost use Rattle.boot_machine.specs.Disk.{HasNoHalfRename, HasOneCandidate, IsRested, has, intended, recovered_view};
 ghost use Rattle.boot_machine.specs.Images.{IsFirm, IsSettled};
 ghost use Rattle.boot_machine.specs.Moments.{EachSince};
-ghost use Rattle.boot_machine.specs.Reading.{OnlyReads};
+ghost use Rattle.boot_machine.specs.Reading.{OnlyReads, TakesAtMost};
 ghost use Rattle.boot_machine.specs.Rows.{contents};
 ghost use Rattle.boot_machine.specs.Counts.{CountsDisk};
+ghost use Rattle.boot_machine.specs.Taken.{TakesNone};
 ghost use Rattle.install_steps.specs.Names.{names_of};
 ghost use Rattle.install_steps.specs.Recovery.{RecoversTo, SameFrom, SeesSame};
 ghost use Rattle.install_steps.specs.Steps.{Keeps, StepsTo, NoNewTemp, PrintsNothing, CountsRecover};
@@ -43,6 +44,7 @@ fn left_names<M: Machine>(
         → option_map names_of found ≡ intended (M.state machine.old).files) }
     ensures reads { IsTrue M.tells → OnlyReads M.clock M.since M.state machine.old machine.new }
     ensures counts { CountsRecover result (M.counts machine.old) (M.counts machine.new) }
+    ensures taken { IsTrue M.tells → TakesAtMost 2050 (M.taken machine.old) (M.taken machine.new) }
 {
     if size > INTENT_LIMIT {
         return Ok(None);
@@ -65,6 +67,7 @@ fn drop_left<M: Machine>(machine: &mut M, names: &Names) -> Result<(), DiskFault
     ensures quiet { IsTrue M.tells → PrintsNothing M.clock M.since M.state machine.old machine.new }
     ensures temps { IsTrue M.tells → NoNewTemp (M.state machine.old) (M.state machine.new) }
     ensures counts { CountsDisk result (M.counts machine.old) (M.counts machine.new) }
+    ensures taken { IsTrue M.tells → TakesNone (M.taken machine.old) (M.taken machine.new) }
 {
     if machine.size(&names.from)?.is_none() {
         return Ok(());
@@ -89,6 +92,7 @@ fn drop_intent<M: Machine>(machine: &mut M, intent: &Target) -> Result<(), DiskF
     ensures quiet { IsTrue M.tells → PrintsNothing M.clock M.since M.state machine.old machine.new }
     ensures temps { IsTrue M.tells → NoNewTemp (M.state machine.old) (M.state machine.new) }
     ensures counts { CountsDisk result (M.counts machine.old) (M.counts machine.new) }
+    ensures taken { IsTrue M.tells → TakesNone (M.taken machine.old) (M.taken machine.new) }
 {
     unlink_synced(machine, &intent.path)
 }
@@ -109,6 +113,7 @@ fn finish_left<M: Machine>(
     ensures quiet { IsTrue M.tells → PrintsNothing M.clock M.since M.state machine.old machine.new }
     ensures temps { IsTrue M.tells → NoNewTemp (M.state machine.old) (M.state machine.new) }
     ensures counts { CountsRecover result (M.counts machine.old) (M.counts machine.new) }
+    ensures taken { IsTrue M.tells → TakesAtMost 2050 (M.taken machine.old) (M.taken machine.new) }
 {
     let Some(size) = machine.size(&intent.path)? else {
         return Ok(());
@@ -144,6 +149,7 @@ pub fn recover<M: Machine>(
     ensures quiet { IsTrue M.tells → PrintsNothing M.clock M.since M.state machine.old machine.new }
     ensures temps { IsTrue M.tells → NoNewTemp (M.state machine.old) (M.state machine.new) }
     ensures counts { CountsRecover result (M.counts machine.old) (M.counts machine.new) }
+    ensures taken { IsTrue M.tells → TakesAtMost 2050 (M.taken machine.old) (M.taken machine.new) }
 {
     settle(machine)?;
     finish_left(alloc, machine, intent)

@@ -7,6 +7,7 @@ ghost use Rattle.boot_machine.specs.Disk.{HasOneCandidate, IsRested, has, recove
 ghost use Rattle.boot_machine.specs.Images.{IsImage, IsFirm, IsSettled};
 ghost use Rattle.boot_machine.specs.Moments.{EachSince};
 ghost use Rattle.boot_machine.specs.Counts.{CountsDisk};
+ghost use Rattle.boot_machine.specs.Taken.{TakesNone};
 ghost use Rattle.install_steps.specs.Steps.{Keeps, StepsTo, IsDone, NoNewTemp, Lacks, PrintsNothing, RestsUnless, CountsStep};
 
 use crate::StepFault;
@@ -26,6 +27,7 @@ pub fn settle<M: Machine>(machine: &mut M) -> Result<(), DiskFault>
     ensures moments { IsTrue M.tells → EachSince M.clock M.since machine.old machine.new
         (λ m o. IsImage (M.state machine.old) m × (o ≡ (M.state machine.old).printed)) }
     ensures counts { CountsDisk result (M.counts machine.old) (M.counts machine.new) }
+    ensures taken { IsTrue M.tells → TakesNone (M.taken machine.old) (M.taken machine.new) }
 {
     machine.sync_names()
 }
@@ -50,6 +52,7 @@ pub fn drop_name<M: Machine>(machine: &mut M, path: &BootPath) -> Result<(), Ste
     ensures rests { IsTrue M.tells → RestsUnless StepFault.Disk result (M.state machine.new) }
     ensures temps { OnOk result (IsTrue M.tells → NoNewTemp (M.state machine.old) (M.state machine.new)) }
     ensures counts { CountsStep result (M.counts machine.old) (M.counts machine.new) }
+    ensures taken { IsTrue M.tells → TakesNone (M.taken machine.old) (M.taken machine.new) }
 {
     path.know();
     if machine.size(path)?.is_none() {
@@ -77,6 +80,7 @@ pub fn drop_leftovers<M: Machine>(machine: &mut M, paths: &[TempPath]) -> Result
     ensures rests { OnOk result (IsTrue M.tells → IsRested (M.state machine.new)) }
     ensures temps { OnOk result (IsTrue M.tells → NoNewTemp (M.state machine.old) (M.state machine.new)) }
     ensures counts { CountsDisk result (M.counts machine.old) (M.counts machine.new) }
+    ensures taken { IsTrue M.tells → TakesNone (M.taken machine.old) (M.taken machine.new) }
 {
     for path in paths {
         path.know();
@@ -99,6 +103,7 @@ pub(crate) fn unlink_synced<M: Machine>(machine: &mut M, path: &BootPath) -> Res
     ensures quiet { IsTrue M.tells → PrintsNothing M.clock M.since M.state machine.old machine.new }
     ensures temps { IsTrue M.tells → NoNewTemp (M.state machine.old) (M.state machine.new) }
     ensures counts { CountsDisk result (M.counts machine.old) (M.counts machine.new) }
+    ensures taken { IsTrue M.tells → TakesNone (M.taken machine.old) (M.taken machine.new) }
 {
     machine.unlink(path)?;
     machine.sync_names()

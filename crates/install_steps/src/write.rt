@@ -3,8 +3,10 @@ ghost use Rattle.std.specs.Prelude.{◌≡◌, ◌≤◌, ℕ, List, true, false
 ghost use Rattle.std.specs.FinMap as map;
 ghost use Rattle.boot_machine.specs.Disk.{HasOneCandidate, IsRested, has, recovered_view, view};
 ghost use Rattle.boot_machine.specs.Images.{IsFirm, IsSettled};
+ghost use Rattle.boot_machine.specs.Reading.{TakesAtMost};
 ghost use Rattle.boot_machine.specs.Rows.{contents, move_in};
 ghost use Rattle.boot_machine.specs.Counts.{CountsDisk};
+ghost use Rattle.boot_machine.specs.Taken.{TakesNone};
 ghost use Rattle.boot_base.specs.Paths.{IsFree};
 ghost use Rattle.install_steps.specs.Steps.{Keeps, StepsTo, IsDone, NoNewTemp, PrintsNothing, RestsUnless, CountsStep, copied};
 
@@ -34,6 +36,7 @@ pub fn write_bytes<M: Machine>(
     ensures rests { OnOk result (IsTrue M.tells → IsRested (M.state machine.new)) }
     ensures temps { OnOk result (IsTrue M.tells → NoNewTemp (M.state machine.old) (M.state machine.new)) }
     ensures counts { CountsDisk result (M.counts machine.old) (M.counts machine.new) }
+    ensures taken { IsTrue M.tells → TakesNone (M.taken machine.old) (M.taken machine.new) }
 {
     target.path.know();
     target.temp.know();
@@ -71,6 +74,8 @@ pub fn write_whole<M: Machine>(
     ensures rests { IsTrue M.tells → RestsUnless StepFault.Disk result (M.state machine.new) }
     ensures temps { OnOk result (IsTrue M.tells → NoNewTemp (M.state machine.old) (M.state machine.new)) }
     ensures counts { CountsStep result (M.counts machine.old) (M.counts machine.new) }
+    ensures taken { IsTrue M.tells → TakesAtMost (length (contents (M.state machine.old).files from.now))
+        (M.taken machine.old) (M.taken machine.new) }
 {
     from.know();
     target.path.know();
@@ -102,6 +107,7 @@ pub fn put_in_place<M: Machine>(machine: &mut M, target: &Target) -> Result<(), 
     ensures keeps { IsTrue M.tells → Keeps (M.state machine.old) (M.state machine.new) }
     ensures quiet { IsTrue M.tells → PrintsNothing M.clock M.since M.state machine.old machine.new }
     ensures counts { CountsDisk result (M.counts machine.old) (M.counts machine.new) }
+    ensures taken { IsTrue M.tells → TakesNone (M.taken machine.old) (M.taken machine.new) }
 {
     target.path.know();
     target.temp.know();

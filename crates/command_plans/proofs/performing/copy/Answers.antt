@@ -1,5 +1,6 @@
-use Rattle.std.proofs.Common.{subst}
+use Rattle.std.proofs.Common.{subst, ap, arith, ℕ, List, length}
 use Rattle.install_steps.specs.Steps.{IsDone, StepsTo}
+use Rattle.install_steps.specs.AppendLaws.{contents-view}
 use Rattle.install_steps.proofs.StepLemmas.{ok_then}
 use Rattle.command_plans.proofs.Effects.{copied_rested, copies, small_rested}
 use Rattle.command_plans.proofs.performing.copy.Goals as goal
@@ -25,3 +26,8 @@ returns-clause-step g c told firm =
 pub returns-clause-found : goal.returns-clause-found
 returns-clause-found g c is told =
     copies (g.M.Machine.state c.args.machine.now) c.args.from.now c.args.target.now.path (c.requires.rested told) (c.requires.there told) (c.write_whole.ensures.not_found is told).0
+
+pub returns-clause-taken : goal.returns-clause-taken
+returns-clause-taken g c told =
+    let same = ap (λ (bytes : List ℕ). length bytes) (contents-view (g.M.Machine.state c.args.machine.now).files c.args.from.now c.know.ensures) in
+    omega (arith, same, c.write_whole.ensures.taken told)

@@ -1,4 +1,4 @@
-use Rattle.std.proofs.Common.{◌≡◌, inr, ℕ, take, ap, subst}
+use Rattle.std.proofs.Common.{◌≡◌, inr, ℕ, take, ap, subst, arith}
 use Rattle.boot_machine.specs.Disk.{view}
 use Rattle.boot_machine.specs.Moments.{EachSince}
 use Rattle.boot_machine.specs.Rows.{tagged, with_printed}
@@ -6,7 +6,7 @@ use Rattle.boot_machine.specs.Sent.{PrintsPart, seen}
 use Rattle.boot_machine.proofs.Seeing.{sees}
 use Rattle.install_steps.specs.Steps.{Sees, IsDone}
 use Rattle.command_plans.specs.Answers.{channel_of}
-use Rattle.command_plans.specs.Plans.{effect}
+use Rattle.command_plans.specs.Plans.{effect, making_length}
 use Rattle.command_plans.proofs.Exits.{on_err, not_ok}
 use Rattle.command_plans.proofs.Performed.{settle_failed, change_failed, reply_failed, all_done}
 use Rattle.command_plans.proofs.Syncing.{change_late, reply_late}
@@ -105,3 +105,8 @@ returns-in_ok-print_all-in-Done-clause-syncs g c told firm =
     (subst (λ v. EachSince g.M.Machine.clock g.M.Machine.since c.settle.new.machine c.apply.new.machine (Sees (g.M.Machine.state c.settle.new.machine) (effect v c.args.plan.now.change))) same_view (c.apply.ensures.step told firm_then).moments)
     (subst (λ bytes. EachSince g.M.Machine.clock g.M.Machine.since c.apply.new.machine c.print_all.new.machine (PrintsPart (g.M.Machine.state c.apply.new.machine) (tagged (channel_of c.args.plan.now.outcome) bytes))) c.as_slice.ensures printing) in
     record { ok = λ settles. late; err = tt }
+
+pub returns-in_err-apply-clause-taken : goal.returns-in_err-apply-clause-taken
+returns-in_err-apply-clause-taken g c told =
+    let same = ap (λ files. making_length (view files) c.args.plan.now.change) (c.settle.ensures.files told) in
+    omega (arith, same, c.settle.ensures.taken told, c.apply.ensures.taken told)

@@ -10,6 +10,7 @@ loop-done-init g c = record {
   within = omega arith;
   appends = λ told. appends_none g.M.Machine.clock g.M.Machine.since g.M.Machine.state c.args.temp.now c.args.machine.now (λ m o left. g.met.M.Machine.only_now c.args.machine.now m o told left);
   grown = λ told. grown_none c.args.temp.now (g.M.Machine.state c.args.machine.now);
+  taken = λ told. refl;
   counts = refl;
 }
 
@@ -30,6 +31,7 @@ loop-done-preserved g c = record {
       grown_as _ _ _ _ _
       (zeros_more c.args.zeros.now c.loop-done.done c.min-room.result c.requires.zeros (omega arith))
       (grown_on c.args.temp.now _ _ _ _ _ (c.loop-done.invariant.grown told) (c.in_ok-append.ensures.grows told));
+  taken = λ told. omega (arith, c.loop-done.invariant.taken told, c.in_ok-append.ensures.taken told);
   counts = search rules;
 }
 

@@ -1,6 +1,7 @@
-use Rattle.std.proofs.Common.{ℕ, List, refl, rules}
+use Rattle.std.proofs.Common.{◌+◌, ℕ, List, refl, rules, arith}
 use Rattle.install_steps.specs.AppendLaws.{appends_none, appends_on, appends-there, appends-source, grown_none, grown_on, grown_as}
-use Rattle.image_writer.proofs.Filled.{flat_map-next}
+use Rattle.image_writer.specs.Taken.{chunk_length}
+use Rattle.image_writer.proofs.Filled.{flat_map-next, reads_all, reads_more}
 use Rattle.image_writer.specs.Chunks.{chunk_bytes}
 use Rattle.image_writer.specs.Sourced.{new_sbat, stub_path}
 use Rattle.image_writer.specs.declared.chunk.Chunk.{Chunk}
@@ -11,6 +12,7 @@ loop-chunk-init g c = record {
   room = refl;
   appends = λ told. appends_none g.M.Machine.clock g.M.Machine.since g.M.Machine.state c.args.temp.now c.args.machine.now (λ m o left. g.met.M.Machine.only_now c.args.machine.now m o told left);
   grown = λ told. grown_none c.args.temp.now (g.M.Machine.state c.args.machine.now);
+  taken = λ told. omega arith;
   counts = refl;
 }
 
@@ -31,5 +33,11 @@ loop-chunk-preserved g c = record {
       (flat_map-next (λ (stub : List ℕ) (x : Chunk). chunk_bytes stub (new_sbat c.args.sources.now) x) (λ (x : Chunk). x) _ _ c.args.chunks.now c.loop-chunk.chunk-index _ _ c.loop-chunk-test.true
       (appends-source g.M.Machine.clock g.M.Machine.since g.M.Machine.state c.args.temp.now c.args.machine.now c.loop-chunk.machine (stub_path c.args.sources.now) c.know-2.ensures c.know.ensures (c.loop-chunk.invariant.appends told)) refl)
       (grown_on _ _ _ _ _ _ (c.loop-chunk.invariant.grown told) (c.in_ok-write_chunk.ensures.grows told));
+  taken = λ told. reads_more chunk_length c.args.chunks.now c.loop-chunk.chunk-index _ _ _ _ c.loop-chunk-test.true (c.loop-chunk.invariant.taken told) (c.in_ok-write_chunk.ensures.taken told);
   counts = search rules;
 }
+
+pub returns-in_err-write_chunk-clause-taken : goal.returns-in_err-write_chunk-clause-taken
+returns-in_err-write_chunk-clause-taken g c told =
+    reads_all chunk_length c.args.chunks.now (c.loop-chunk.chunk-index + 1) _ _
+    (reads_more chunk_length c.args.chunks.now c.loop-chunk.chunk-index _ _ _ _ c.loop-chunk-test.true (c.loop-chunk.invariant.taken told) (c.write_chunk.ensures.taken told))

@@ -1,4 +1,4 @@
-use Rattle.std.proofs.Common.{◌≡◌, ◌<◌, ℕ, List, sym, ap, subst, ◌∙◌}
+use Rattle.std.proofs.Common.{◌≡◌, ◌<◌, ◌≤◌, ◌+◌, ℕ, List, sym, ap, subst, ◌∙◌, arith}
 use Rattle.boot_base.specs.Paths.{Path}
 use Rattle.boot_machine.specs.Disk.{view}
 use Rattle.boot_machine.specs.Rows.{contents}
@@ -7,7 +7,10 @@ use Rattle.pe_builder.specs.Known.{planned_before, planned_stub_length}
 use Rattle.image_writer.specs.Chunks.{behind_stub, new_stub_bytes}
 use Rattle.image_writer.specs.Sourced.{new_sbat, part_list, parts_bytes, stub_path}
 use Rattle.install_steps.specs.AppendLaws.{appends_on, appends-there, appends-source, contents-view, grown_as, grown_from_none, ok_then}
-use Rattle.image_writer.proofs.Assembled.{aligned, finished_bytes}
+use Rattle.std.specs.Prelude.{sum_by}
+use Rattle.uki_parts.specs.declared.part.Part.{Part}
+use Rattle.image_writer.specs.Taken.{kept_length, part_reading}
+use Rattle.image_writer.proofs.Assembled.{aligned, finished_bytes, kept_within}
 use Rattle.image_writer.proofs.image.write_image.Goals as goal
 
 pub write_parts-requires-clause-there : goal.write_parts-requires-clause-there
@@ -34,3 +37,15 @@ returns-clause-image g c = ok_then c.write_parts.result c.write_parts.ensures.gr
     ∙ ap (behind_stub files (planned_before plan).file_alignment (planned_stub_length plan)) c.parts.ensures.items in
     grown_from_none _ _ _ _ _ _ _ (c.requires.empty told) (grown_as _ _ _ _ _ (ap (λ (l : List ℕ). new_stub_bytes plan l (new_sbat sources)) (sym (contents-view m (stub_path sources) c.know.ensures))) (c.in_ok-write_stub.ensures.grows told)) back same
     ∙ finished_bytes plan stub (new_sbat sources) files (part_list sources) is.plan_is is.pieced h sizes in_place reads plans len)
+
+pub returns-in_err-write_stub-clause-taken : goal.returns-in_err-write_stub-clause-taken
+returns-in_err-write_stub-clause-taken g c told =
+    let plan = c.args.plan.now in
+    let within : kept_length plan ≤ planned_stub_length plan = kept_within plan _ _ _ (c.requires.sourced told).plan_is in
+    omega (arith, within, c.write_stub.ensures.taken told)
+
+pub returns-clause-taken : goal.returns-clause-taken
+returns-clause-taken g c told =
+    let plan = c.args.plan.now in
+    let within : kept_length plan ≤ planned_stub_length plan = kept_within plan _ _ _ (c.requires.sourced told).plan_is in
+    omega (arith, within, c.write_stub.ensures.taken told, c.write_parts.ensures.taken told, ap (λ (ps : List Part). sum_by part_reading ps) c.parts.ensures.items)

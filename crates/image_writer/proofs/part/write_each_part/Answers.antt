@@ -1,6 +1,8 @@
-use Rattle.std.proofs.Common.{refl, sym, ◌∙◌, rules}
+use Rattle.std.proofs.Common.{refl, sym, ◌∙◌, rules, ap, arith}
+use Rattle.std.proofs.lemmas.List.Sums.{sum_by_more}
 use Rattle.boot_base.specs.Paths.{Path}
 use Rattle.install_steps.specs.AppendLaws.{appends_none, appends_on, appends-there, appends-source, grown_none, grown_on, grown_as}
+use Rattle.image_writer.specs.Taken.{part_reading}
 use Rattle.image_writer.proofs.Filled.{flat_map-more}
 use Rattle.image_writer.specs.Chunks.{padded_part}
 use Rattle.image_writer.proofs.part.write_each_part.Goals as goal
@@ -10,6 +12,7 @@ loop-part-init g c = record {
   room = refl;
   appends = λ told. appends_none g.M.Machine.clock g.M.Machine.since g.M.Machine.state c.args.temp.now c.args.machine.now (λ m o left. g.met.M.Machine.only_now c.args.machine.now m o told left);
   grown = λ told unit files agrees. grown_none c.args.temp.now (g.M.Machine.state c.args.machine.now);
+  taken = λ told. omega arith;
   counts = refl;
 }
 
@@ -30,5 +33,13 @@ loop-part-preserved g c = record {
       (flat_map-more (padded_part files c.args.unit) c.args.parts.now c.loop-part.part-index c.part-item.result c.loop-part-test.true c.part-item.is)
       (grown_on _ _ _ _ _ _ (c.loop-part.invariant.grown told unit files agrees) (c.in_ok-write_part.ensures.grows told unit files
       (λ (q : Path) shown. agrees q shown ∙ sym (appends-source g.M.Machine.clock g.M.Machine.since g.M.Machine.state c.args.temp.now c.args.machine.now c.loop-part.machine q c.know.ensures shown (c.loop-part.invariant.appends told)))));
+  taken = λ told.
+      omega (
+        arith,
+        c.loop-part.invariant.taken told,
+        c.in_ok-write_part.ensures.taken told,
+        ap part_reading c.part-item.is,
+        sum_by_more part_reading c.args.parts.now c.loop-part.part-index c.part-item.result (omega arith),
+      );
   counts = search rules;
 }

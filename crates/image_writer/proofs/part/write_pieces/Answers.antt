@@ -1,6 +1,8 @@
-use Rattle.std.proofs.Common.{refl, sym, ◌∙◌, rules}
+use Rattle.std.proofs.Common.{refl, sym, ◌∙◌, rules, ap, arith}
+use Rattle.std.proofs.lemmas.List.Sums.{sum_by_more}
 use Rattle.boot_base.specs.Paths.{Path}
 use Rattle.install_steps.specs.AppendLaws.{appends_none, appends_on, appends-there, appends-source, grown_none, grown_on, grown_as}
+use Rattle.image_writer.specs.Taken.{piece_reading}
 use Rattle.image_writer.proofs.Filled.{flat_map-more, flat_map-all}
 use Rattle.image_writer.specs.Chunks.{given_bytes}
 use Rattle.image_writer.proofs.part.write_pieces.Goals as goal
@@ -10,6 +12,7 @@ loop-piece-init g c = record {
   room = refl;
   appends = λ told. appends_none g.M.Machine.clock g.M.Machine.since g.M.Machine.state c.args.temp.now c.args.machine.now (λ m o left. g.met.M.Machine.only_now c.args.machine.now m o told left);
   grown = λ told files agrees. grown_none c.args.temp.now (g.M.Machine.state c.args.machine.now);
+  taken = λ told. omega arith;
   counts = refl;
 }
 
@@ -30,6 +33,14 @@ loop-piece-preserved g c = record {
       (flat_map-more (given_bytes files) c.args.pieces.now c.loop-piece.piece-index c.piece-item.result c.loop-piece-test.true c.piece-item.is)
       (grown_on _ _ _ _ _ _ (c.loop-piece.invariant.grown told files agrees) (c.in_ok-write_piece.ensures.grows told files
       (λ (q : Path) shown. agrees q shown ∙ sym (appends-source g.M.Machine.clock g.M.Machine.since g.M.Machine.state c.args.temp.now c.args.machine.now c.loop-piece.machine q c.know.ensures shown (c.loop-piece.invariant.appends told)))));
+  taken = λ told.
+      omega (
+        arith,
+        c.loop-piece.invariant.taken told,
+        c.in_ok-write_piece.ensures.taken told,
+        ap piece_reading c.piece-item.is,
+        sum_by_more piece_reading c.args.pieces.now c.loop-piece.piece-index c.piece-item.result (omega arith),
+      );
   counts = search rules;
 }
 

@@ -1,4 +1,4 @@
-use Rattle.std.proofs.Common.{◌≡◌, ⊎_elim, true, refl, sym, subst, rules, []}
+use Rattle.std.proofs.Common.{◌≡◌, ⊎_elim, true, refl, sym, subst, rules, arith, []}
 use Rattle.std.specs.FinMap as map
 use Rattle.boot_machine.specs.Disk.{has, recovered_view}
 use Rattle.boot_machine.specs.Rows.{unlinked}
@@ -17,6 +17,7 @@ loop-path-init g c = record {
   going = λ told firm. begins g.M.Machine.clock g.M.Machine.since g.M.Machine.state (recovered_view (g.M.Machine.state c.args.machine.now).files) c.args.machine.now (λ m o. g.met.M.Machine.only_now c.args.machine.now m o told) (g.met.M.Machine.sound c.args.machine.now told) firm (c.requires.one told);
   lacks = λ told. lacks_none (g.M.Machine.state c.args.machine.now).files;
   keeps = λ told. record { printed = refl; input = refl };
+  taken = λ told. refl;
   counts = refl;
 }
 
@@ -54,6 +55,7 @@ loop-path-preserved g c = record {
       gone;
   lacks = λ told. rw (c.in_ok-unlink_temp.ensures.row told) (lacks_more c.args.paths.now c.loop-path.path-index c.path-item.result (g.M.Machine.state c.args.machine.now).files (g.M.Machine.state c.loop-path.machine).files c.loop-path-test.true c.path-item.is (c.loop-path.invariant.lacks told));
   keeps = λ told. let kept = c.loop-path.invariant.keeps told in rw (c.in_ok-unlink_temp.ensures.row told) (record { printed = kept.printed; input = kept.input });
+  taken = λ told. omega (arith, c.loop-path.invariant.taken told, c.unlink_temp.ensures.taken told);
   counts = search rules;
 }
 
