@@ -8,7 +8,7 @@ use Rattle.std.proofs.lemmas.Bool.{and_parts, cases_Bool, eqb-false, not-true}
 use Rattle.std.proofs.lemmas.Bool.Decides.{nat_tests}
 use Rattle.std.proofs.lemmas.Result.{OkIff-at_err, OkIff-at_ok}
 use Rattle.std.proofs.lemmas.Str.Parse.{parse_digits}
-use Rattle.boot_counter.proofs.Written.{numerals}
+use Rattle.menu_order.proofs.CounterWritten.{numerals}
 use Rattle.boot_commands.specs.Demonstration.{is_long_number, long_number}
 
 digit_is : (c : ℕ) → is_ascii_digit c ≡ true → digit_value c < 10

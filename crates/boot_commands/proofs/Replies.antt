@@ -5,34 +5,34 @@ use Rattle.boot_base.specs.Paths.{Path}
 use Rattle.boot_base.specs.declared.refusal.Refusal.{Refusal}
 use Rattle.boot_base.specs.declared.refusal.Refusal.TheVariants as refusals
 use Rattle.boot_machine.specs.Disk.{Files}
-use Rattle.boot_phases.specs.Lines.{heading_of, value_lines}
+use Rattle.pcr_values.specs.ValueLines.{heading_of, value_lines}
 use Rattle.tool_words.specs.declared.command.Command.{Command}
 use Rattle.tool_words.specs.declared.command.Command.TheVariants as command
 use Rattle.command_plans.specs.Answers.{Answer, answered}
-use Rattle.pcr_fold.specs.declared.bank.Bank.{Bank}
+use Rattle.pcr_values.specs.declared.bank.Bank.{Bank}
 use Rattle.pe_reader.specs.declared.fault.FailedCheck.{FailedCheck}
 use Rattle.pe_reader.specs.Grammar.{Headers, pe_of}
 use Rattle.image_build.specs.Building.{Built, build_of, built_answer}
-use Rattle.command_reads.specs.Files.{bytes_at, each, image_at}
+use Rattle.command_plans.specs.Files.{bytes_at, each, image_at}
 use Rattle.image_commands.specs.Calculating.{calculate_said, part_words, under_name}
 use Rattle.stub_replay.specs.Ordered.{present}
 use Rattle.image_commands.specs.Said.{has_loaded, identify_said, image_said, inspect_said, inspection_at, kind_at, kind_of, values_at}
-use Rattle.command_reads.specs.Values.{banks_of, once, paths_of}
+use Rattle.command_plans.specs.Choices.{banks_of, once, paths_of}
 use Rattle.boot_commands.specs.Commands.{step_reply}
 use Rattle.boot_commands.specs.Plain.{plain_answer}
 use Rattle.boot_commands.specs.Demonstration.{demo_said, number_up_to}
 use Rattle.entry_commands.specs.Folders.{folders_of}
 use Rattle.entry_commands.proofs.Replies.{HasText, some_boot, some_install, some_line, some_list, some_marked, some_said, text_next}
-use Rattle.command_reads.specs.Refusing.{◌>>=◌, path_in, printed_path}
+use Rattle.command_plans.specs.Declining.{◌>>=◌, path_in, printed_path}
 use Rattle.command_plans.specs.Refusing.{unless_refused}
 use Rattle.entry_commands.specs.Tidying.{tidy_answer}
 use Rattle.entry_commands.specs.Unlinking.{entry_path, removal, unlink_answer}
 use Rattle.loader_commands.specs.Places.{conf_bytes, loader_menu, loader_paths}
 use Rattle.loader_commands.specs.Setting.{conf_changed, conf_set}
 use Rattle.loader_commands.specs.Showing.{default_item, menu_shown, show_said, shown_or_empty}
-use Rattle.loader_conf.specs.Conf.{conf_default, conf_timeout}
-use Rattle.loader_conf.specs.declared.change.ConfKey.{ConfKey}
-use Rattle.loader_conf.specs.declared.change.ConfKey.TheVariants.{Default, Timeout}
+use Rattle.boot_texts.specs.Conf.{conf_default, conf_timeout}
+use Rattle.boot_texts.specs.declared.conf_change.ConfKey.{ConfKey}
+use Rattle.boot_texts.specs.declared.conf_change.ConfKey.TheVariants.{Default, Timeout}
 use Rattle.menu_order.specs.declared.item.MenuItem.{MenuItem}
 
 -- refused for the words, or what comes next has a text

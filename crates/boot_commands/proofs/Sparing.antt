@@ -7,7 +7,7 @@ use Rattle.boot_folder.specs.declared.folders.Folders.{Folders}
 use Rattle.boot_machine.specs.Disk.{Files}
 use Rattle.command_plans.specs.Answers.{Answer, answer_of_read, answered}
 use Rattle.command_plans.specs.Refusing.{unless_refused}
-use Rattle.command_reads.specs.Refusing.{◌>>=◌, path_in}
+use Rattle.command_plans.specs.Declining.{◌>>=◌, path_in}
 use Rattle.tool_words.specs.declared.command.Command.{Command}
 use Rattle.tool_words.specs.declared.command.Command.TheVariants as command
 use Rattle.image_build.specs.Building.{Built, build_of, built_answer}
@@ -22,8 +22,8 @@ use Rattle.entry_commands.proofs.GoodEntries.{kept_bless, kept_boot, kept_instal
 use Rattle.loader_commands.specs.Places.{conf_path}
 use Rattle.loader_commands.specs.Setting.{conf_changed, conf_set, text_set, value_in}
 use Rattle.loader_commands.specs.Showing.{show_said}
-use Rattle.loader_conf.specs.declared.change.ConfKey.{ConfKey}
-use Rattle.loader_conf.specs.declared.change.ConfKey.TheVariants.{Default, Timeout}
+use Rattle.boot_texts.specs.declared.conf_change.ConfKey.{ConfKey}
+use Rattle.boot_texts.specs.declared.conf_change.ConfKey.TheVariants.{Default, Timeout}
 use Rattle.boot_commands.specs.Commands.{step_reply}
 use Rattle.boot_commands.specs.Plain.{plain_answer}
 use Rattle.boot_commands.specs.Demonstration.{demo_said}

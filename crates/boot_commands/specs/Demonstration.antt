@@ -13,10 +13,10 @@ use Rattle.boot_machine.specs.Disk.{Files, view}
 use Rattle.tool_words.specs.declared.command.Command.{Command}
 use Rattle.tool_words.specs.declared.command.Command.TheVariants as command
 use Rattle.tool_words.specs.declared.command.BlessWord.TheVariants.{Good, Bad}
-use Rattle.pcr_fold.specs.declared.bank.Bank.TheVariants as banks
-use Rattle.pcr_fold.specs.Banks.{digest_of}
+use Rattle.pcr_values.specs.declared.bank.Bank.TheVariants as banks
+use Rattle.pcr_values.specs.Banks.{digest_of}
 use Rattle.command_plans.specs.Answers.{Answer, is_refusal}
-use Rattle.command_reads.specs.Refusing.{◌>>=◌}
+use Rattle.command_plans.specs.Declining.{◌>>=◌}
 use Rattle.boot_commands.specs.DemoImages.{demo_image}
 use Rattle.boot_commands.specs.Draws.{drawn, next_number}
 use Rattle.boot_commands.specs.Plain.{plain_reply}

@@ -19,7 +19,7 @@ use Rattle.entry_commands.specs.Listing.{list_said}
 use Rattle.entry_commands.specs.Tidying.{tidy_answer}
 use Rattle.loader_commands.specs.Setting.{set_answer}
 use Rattle.loader_commands.specs.Showing.{show_answer}
-use Rattle.loader_conf.specs.declared.change.ConfKey.TheVariants.{Default, Timeout}
+use Rattle.boot_texts.specs.declared.conf_change.ConfKey.TheVariants.{Default, Timeout}
 
 -- it runs the lines of standard input
 abbrev pub is_script : Command → Bool

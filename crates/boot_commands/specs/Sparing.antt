@@ -1,7 +1,7 @@
 -- What each command spares of the boot entries: a case for each command that doesn't spare all.
 use Rattle.std.specs.Prelude.{◌≢◌, Ok}
 use Rattle.boot_base.specs.Paths.{Path}
-use Rattle.command_reads.specs.Refusing.{path_in}
+use Rattle.command_plans.specs.Declining.{path_in}
 use Rattle.tool_words.specs.declared.command.Command.{Command}
 use Rattle.tool_words.specs.declared.command.Command.TheVariants as command
 use Rattle.entry_commands.specs.GoodEntries.{SparesGoodName}

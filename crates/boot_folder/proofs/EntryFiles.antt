@@ -14,21 +14,21 @@ use Rattle.std.proofs.lemmas.Map.Made.{is_member-filter, length-from_same_keys}
 use Rattle.std.proofs.lemmas.Map.Views.{Contains-from_any, list_any-from_Contains}
 use Rattle.std.proofs.lemmas.Slice.Eq.{bytes_eq-Decides}
 use Rattle.boot_base.specs.Paths.{Path, file_name_of, is_file_name, is_temp, path_of, under}
-use Rattle.boot_counter.proofs.Splitting.{one_suffix, suffix_cut}
-use Rattle.boot_counter.specs.Splits.{has_suffix, stem_of}
-use Rattle.boot_counter.specs.declared.counted.Suffix.{Suffix}
-use Rattle.boot_counter.specs.declared.counted.Suffix.TheVariants.{Conf, Efi}
+use Rattle.menu_order.proofs.Splitting.{one_suffix, suffix_cut}
+use Rattle.menu_order.specs.Splits.{has_suffix, stem_of}
+use Rattle.menu_order.specs.declared.counted.Suffix.{Suffix}
+use Rattle.menu_order.specs.declared.counted.Suffix.TheVariants.{Conf, Efi}
 use Rattle.boot_machine.proofs.Listing.{same_bytes}
 use Rattle.boot_machine.proofs.Views.{get-view_shown, has-view}
 use Rattle.boot_machine.specs.Disk.{Files, has, path_cmp, same, view}
-use Rattle.entry_reader.specs.Entries.{boots, type1_of}
+use Rattle.boot_texts.specs.BootEntries.{boots, type1_of}
 use Rattle.menu_order.proofs.Menus.{menu_of_entries, one_menu}
 use Rattle.menu_order.specs.Menu.{HaveOwnPaths, IsBefore, IsMenu}
 use Rattle.menu_order.specs.declared.item.MenuItem.{MenuItem}
-use Rattle.os_release.specs.OsRelease.{title_of}
+use Rattle.boot_texts.specs.OsRelease.{title_of}
 use Rattle.pe_reader.specs.Grammar.{Headers, pe_of}
 use Rattle.pe_reader.specs.declared.fault.FailedCheck.{FailedCheck}
-use Rattle.text_lines.specs.Values.{Pair}
+use Rattle.boot_texts.specs.KeyValues.{Pair}
 use Rattle.boot_folder.specs.Entries.{IsEntry, boot_menu, entries_of, entry_at, entry_count, entry_if, entry_in, entry_of, folder_of, own_path, stands_in, type_count}
 use Rattle.boot_folder.specs.Laws.{EntriesMenu, ViewMenu, ViewCount}
 use Rattle.boot_folder.specs.Records.{Unfit, found, titled, type1_item, type2_item, uki_from, uki_of, unless_missing}

@@ -4,9 +4,9 @@ use Rattle.std.specs.Prelude.{bytes_eq, is_some, nat_le, option_and_then, unwrap
 use Rattle.std.specs.FinMap as map
 use Rattle.std.proofs.lemmas.Bool.{cases_Bool, cond-true, cond-false, leb-true}
 use Rattle.boot_base.specs.Paths.{Path}
-use Rattle.boot_counter.specs.Splits.{has_suffix}
-use Rattle.boot_counter.specs.declared.counted.Suffix.{Suffix}
-use Rattle.boot_counter.specs.declared.counted.Suffix.TheVariants.{Conf, Efi}
+use Rattle.menu_order.specs.Splits.{has_suffix}
+use Rattle.menu_order.specs.declared.counted.Suffix.{Suffix}
+use Rattle.menu_order.specs.declared.counted.Suffix.TheVariants.{Conf, Efi}
 use Rattle.boot_machine.specs.Disk.{Files, has}
 use Rattle.boot_machine.specs.Rows.{IsNamesOf, contents}
 use Rattle.menu_order.specs.declared.item.MenuItem.{MenuItem}

@@ -12,10 +12,10 @@ use Rattle.boot_base.specs.Paths.{Path, components, file_name_of, is_component, 
 use Rattle.boot_base.proofs.Joined.{joined, adding, joined-kept}
 use Rattle.boot_base.proofs.LastComponent.{file_name_of-from}
 use Rattle.boot_base.proofs.Normal.{path-some}
-use Rattle.boot_counter.proofs.Splitting.{suffix_cut}
-use Rattle.boot_counter.specs.Splits.{has_suffix, stem_of}
-use Rattle.boot_counter.specs.declared.counted.Suffix.{Suffix}
-use Rattle.boot_counter.specs.declared.counted.Suffix.TheVariants.{Conf, Efi}
+use Rattle.menu_order.proofs.Splitting.{suffix_cut}
+use Rattle.menu_order.specs.Splits.{has_suffix, stem_of}
+use Rattle.menu_order.specs.declared.counted.Suffix.{Suffix}
+use Rattle.menu_order.specs.declared.counted.Suffix.TheVariants.{Conf, Efi}
 use Rattle.boot_folder.specs.Entries.{own_path, reads_as}
 
 -- ---- names

@@ -6,7 +6,7 @@ use Rattle.boot_base.specs.Paths.{Path}
 use Rattle.pe_reader.specs.Grammar.{Headers, pe_of}
 use Rattle.pe_reader.specs.Loaded.{bytes_in, loaded}
 use Rattle.pe_reader.specs.declared.section.LoadedRange.{LoadedRange}
-use Rattle.os_release.specs.OsRelease.{os_pairs}
+use Rattle.boot_texts.specs.OsRelease.{os_pairs}
 use Rattle.boot_folder.specs.Records.{NotUki, is_os_length, titled, uki_from, uki_of, unless_missing}
 use Rattle.boot_folder.specs.Ranges.{IsRange}
 use Rattle.boot_folder.specs.declared.fault.Missing.TheVariants as missing

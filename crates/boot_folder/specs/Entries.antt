@@ -3,9 +3,9 @@ use Rattle.std.specs.Prelude.{◌≡◌, ℕ, true, false, Bool, ◌&&◌, ◌+�
 use Rattle.std.specs.List.{filter_map}
 use Rattle.std.specs.FinMap as map
 use Rattle.boot_base.specs.Paths.{Path, path_of, path_below, under, file_name_of, is_file_name}
-use Rattle.boot_counter.specs.Splits.{has_suffix}
-use Rattle.boot_counter.specs.declared.counted.Suffix.{Suffix}
-use Rattle.boot_counter.specs.declared.counted.Suffix.TheVariants.{Conf, Efi}
+use Rattle.menu_order.specs.Splits.{has_suffix}
+use Rattle.menu_order.specs.declared.counted.Suffix.{Suffix}
+use Rattle.menu_order.specs.declared.counted.Suffix.TheVariants.{Conf, Efi}
 use Rattle.boot_machine.specs.Disk.{Files}
 use Rattle.menu_order.specs.declared.item.MenuItem.{MenuItem}
 use Rattle.menu_order.specs.Menu.{menu_of}

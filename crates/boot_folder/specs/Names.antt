@@ -1,8 +1,8 @@
 -- What the name of an entry's file says (UAPI Boot Loader Specification, "Boot counting").
 use Rattle.std.specs.Prelude.{ℕ, List, take, Option, Some, None}
-use Rattle.boot_counter.specs.Splits.{split_of, stem_of}
-use Rattle.boot_counter.specs.declared.counted.Counted.{Counted}
-use Rattle.boot_counter.specs.declared.counted.Suffix.{Suffix}
+use Rattle.menu_order.specs.Splits.{split_of, stem_of}
+use Rattle.menu_order.specs.declared.counted.Counted.{Counted}
+use Rattle.menu_order.specs.declared.counted.Suffix.{Suffix}
 use Rattle.menu_order.specs.declared.item.Counter.{Counter}
 
 -- the base of a name, and its counter if it has one

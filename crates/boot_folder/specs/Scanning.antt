@@ -4,9 +4,9 @@ use Rattle.std.specs.List.{IsDistinct, filter_map}
 use Rattle.boot_base.specs.Paths.{Path, is_file_name, under}
 use Rattle.boot_base.specs.declared.path.PathFault.{PathFault}
 use Rattle.boot_base.specs.declared.path.PathFault.TheVariants as paths
-use Rattle.boot_counter.specs.Splits.{has_suffix}
-use Rattle.boot_counter.specs.declared.counted.Suffix.{Suffix}
-use Rattle.boot_counter.specs.declared.counted.Suffix.TheVariants.{Conf, Efi}
+use Rattle.menu_order.specs.Splits.{has_suffix}
+use Rattle.menu_order.specs.declared.counted.Suffix.{Suffix}
+use Rattle.menu_order.specs.declared.counted.Suffix.TheVariants.{Conf, Efi}
 use Rattle.boot_machine.specs.Counts.{Counts, DiskFailed}
 use Rattle.boot_machine.specs.Disk.{Files, has, path_cmp}
 use Rattle.std.specs.Ordering.{on}

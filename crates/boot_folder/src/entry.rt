@@ -2,8 +2,8 @@
 ghost use Rattle.std.specs.Prelude.{◌≡◌, ◌≤◌, IfOk, IfSome, IsTrue, Result, length, true};
 ghost use Rattle.std.specs.FinMap.{get};
 ghost use Rattle.boot_base.specs.Paths.{file_name_of, under};
-ghost use Rattle.boot_counter.specs.Splits.{has_suffix};
-ghost use Rattle.boot_counter.specs.declared.counted.Suffix.TheVariants.{Conf, Efi};
+ghost use Rattle.menu_order.specs.Splits.{has_suffix};
+ghost use Rattle.menu_order.specs.declared.counted.Suffix.TheVariants.{Conf, Efi};
 ghost use Rattle.boot_folder.specs.Entries.{entry_at, entry_if, own_path};
 ghost use Rattle.boot_folder.specs.Items.{CountsItem, GivesItem};
 ghost use Rattle.boot_folder.specs.Records.{Unfit, found, type1_entry, type1_item};
@@ -17,10 +17,9 @@ use crate::fault::{ItemFault, ReadFault};
 use crate::name::named;
 use crate::uki::{uki_item, zeros};
 use boot_base::{BootPath, FileName, PathFault};
-use boot_counter::Suffix;
 use boot_machine::{DiskFault, Machine, read_part};
-use entry_reader::{EntryFault, Type1};
-use menu_order::MenuItem;
+use boot_texts::{EntryFault, Type1};
+use menu_order::{MenuItem, Suffix};
 use std::alloc::{AllocError, Global};
 
 /// The most bytes of a type 1 file.

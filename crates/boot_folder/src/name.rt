@@ -1,11 +1,10 @@
 //! What the name of an entry's file says.
 ghost use Rattle.std.specs.Prelude.{◌≡◌, true, IfOk};
-ghost use Rattle.boot_counter.specs.Splits.{has_suffix, stem_of};
+ghost use Rattle.menu_order.specs.Splits.{has_suffix, stem_of};
 ghost use Rattle.boot_folder.specs.Names.{parts_of_name};
 
 use boot_base::Bytes;
-use boot_counter::{Counted, Suffix};
-use menu_order::Counter;
+use menu_order::{Counted, Counter, Suffix};
 use std::alloc::{AllocError, Global};
 
 /// The base of a name with that suffix, and its counter if it has one.

@@ -1,7 +1,7 @@
 //! The names of entry files.
 ghost use Rattle.std.specs.Prelude.{◌≡◌, ◌≤◌, ◌<◌, All, IfErr, IfOk, IsTrue, Some, true};
-ghost use Rattle.boot_counter.specs.Splits.{has_suffix};
-ghost use Rattle.boot_counter.specs.declared.counted.Suffix.TheVariants.{Conf, Efi};
+ghost use Rattle.menu_order.specs.Splits.{has_suffix};
+ghost use Rattle.menu_order.specs.declared.counted.Suffix.TheVariants.{Conf, Efi};
 ghost use Rattle.boot_folder.specs.Entries.{entry_count};
 ghost use Rattle.boot_folder.specs.Scanning.{AreEntryNames, CountsRead, CountsScan, FindsFolders, fault_many};
 ghost use Rattle.boot_machine.specs.Reading.{OnlyReads};
@@ -9,8 +9,8 @@ ghost use Rattle.boot_machine.specs.Reading.{OnlyReads};
 use crate::fault::{ReadFault, ScanFault};
 use crate::folders::Folders;
 use boot_base::{BootPath, FileName};
-use boot_counter::Suffix;
 use boot_machine::Machine;
+use menu_order::Suffix;
 use std::alloc::Global;
 
 /// The most entry files in both folders.

@@ -1,8 +1,8 @@
 //! The menu of the boot folders.
 ghost use Rattle.std.specs.Prelude.{◌≡◌, ◌≤◌, ◌<◌, ◌*◌, ◌++◌, ◌↔◌, All, Contains, IfErr, IfOk, IfSome, IsTrue, OnOk, Some, option_to_list, length, true};
 ghost use Rattle.boot_base.specs.Paths.{under};
-ghost use Rattle.boot_counter.specs.Splits.{has_suffix};
-ghost use Rattle.boot_counter.specs.declared.counted.Suffix.TheVariants.{Conf, Efi};
+ghost use Rattle.menu_order.specs.Splits.{has_suffix};
+ghost use Rattle.menu_order.specs.declared.counted.Suffix.TheVariants.{Conf, Efi};
 ghost use Rattle.boot_folder.specs.Entries.{IsEntry, boot_menu, entry_count, entry_if, esp_folders};
 ghost use Rattle.boot_folder.specs.Scanning.{AreEntryNames, CountsRead, CountsScan, FindsFolders, entries_named, fault_many, read_limit, scan_limit};
 ghost use Rattle.boot_machine.specs.Reading.{OnlyReads, TakesAtMost};
@@ -16,9 +16,8 @@ use crate::folders::Folders;
 use crate::names::{EntryNames, entry_names};
 use crate::once::menu_of;
 use boot_base::{BootPath, FileName};
-use boot_counter::Suffix;
 use boot_machine::Machine;
-use menu_order::MenuItem;
+use menu_order::{MenuItem, Suffix};
 use std::alloc::{AllocError, Global};
 
 /// The menu of an EFI system partition: the entries of the files in its two folders, in the order of the menu. A file

@@ -3,7 +3,7 @@ ghost use Rattle.std.specs.Prelude.{◌≡◌, ◌≤◌, ◌<◌, ◌+◌, ◌^
 ghost use Rattle.boot_base.specs.Paths.{file_name_of};
 ghost use Rattle.boot_machine.specs.Counts.{Counts};
 ghost use Rattle.boot_machine.specs.Disk.{has};
-ghost use Rattle.boot_counter.specs.Splits.{has_suffix};
+ghost use Rattle.menu_order.specs.Splits.{has_suffix};
 ghost use Rattle.boot_folder.specs.Records.{titled, type2_item, uki_of};
 ghost use Rattle.boot_machine.specs.Reading.{OnlyReads, TakesAtMost};
 ghost use Rattle.boot_machine.specs.Rows.{contents};
@@ -16,10 +16,9 @@ ghost use Rattle.boot_folder.specs.Ranges.{IsRange, FindsOsrel};
 use crate::fault::{ItemFault, Missing};
 use crate::name::named;
 use boot_base::{BootPath, Bytes, BytesList};
-use boot_counter::Suffix;
 use boot_machine::{Machine, read_part};
-use menu_order::MenuItem;
-use os_release::OsRelease;
+use boot_texts::OsRelease;
+use menu_order::{MenuItem, Suffix};
 use pe_reader::{LoadedRange, Pe};
 use std::alloc::{AllocError, Global};
 

@@ -2,6 +2,7 @@ pub mod Elapsing
 pub mod Filling
 pub mod Going
 pub mod Listing
+pub mod Pieces
 pub mod Printing
 pub mod Ranges
 pub mod Reading

@@ -1,7 +1,7 @@
 //! What a file has, told whole: by a sample, as a short text, or by the digest of its bytes.
 use crate::replies::push_escaped;
 use crate::samples::{Sample, sample_of};
-use pcr_fold::{Bank, Digest};
+use pcr_values::{Bank, Digest};
 use std::alloc::{AllocError, Global};
 
 /// How many bytes a file has at most that is told as a text.

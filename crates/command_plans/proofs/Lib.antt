@@ -1,5 +1,13 @@
+pub mod Declining
+pub mod Each
 mod Effects
 pub mod Exits
+pub mod Freeing
+mod Known
+mod Once
 pub mod Performed
+pub mod Registers
+pub mod Sizes
 pub mod Syncing
+pub mod Unsaying
 pub mod Worded

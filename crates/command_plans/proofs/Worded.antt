@@ -4,12 +4,12 @@ use Rattle.std.specs.Prelude.{IfOk}
 use Rattle.boot_base.specs.declared.refusal.Refusal.{Refusal}
 use Rattle.boot_machine.specs.Disk.{State}
 use Rattle.boot_machine.specs.Sent.{seen}
-use Rattle.command_reads.specs.Refusing.{DeclinedFor}
-use Rattle.command_reads.specs.Saying.{Says, UnsaidFor}
-use Rattle.command_reads.specs.declared.refusing.Declined.{Declined}
-use Rattle.command_reads.specs.declared.refusing.Declined.TheVariants as declines
-use Rattle.command_reads.specs.declared.saying.Unsaid.{Unsaid}
-use Rattle.command_reads.specs.declared.saying.Unsaid.TheVariants as unsaid
+use Rattle.command_plans.specs.Declining.{DeclinedFor}
+use Rattle.command_plans.specs.Unsaying.{Says, UnsaidFor}
+use Rattle.command_plans.specs.declared.declined.Declined.{Declined}
+use Rattle.command_plans.specs.declared.declined.Declined.TheVariants as declines
+use Rattle.command_plans.specs.declared.unsaid.Unsaid.{Unsaid}
+use Rattle.command_plans.specs.declared.unsaid.Unsaid.TheVariants as unsaid
 use Rattle.command_plans.specs.Answers.{Answer, answer_of_read, answered, refusal}
 use Rattle.command_plans.specs.Plans.{Plans, PlansAs}
 use Rattle.command_plans.specs.Refusing.{DeclinesWords, PlansDeclined, PlansUnsaid, RefusesWords}

@@ -1,3 +1,8 @@
+pub mod Files
+pub mod Names
+pub mod Declining
+pub mod Unsaying
+pub mod Choices
 pub mod Answers
 pub mod Deeds
 pub mod Performs

@@ -13,8 +13,8 @@ use Rattle.image_writer.specs.declared.sources.Sources.{Sources}
 use Rattle.image_writer.specs.Sourced.{IsSourced, planned_image}
 use Rattle.image_writer.specs.Taken.{writing_length}
 use Rattle.install_steps.specs.Steps.{Lacks}
-use Rattle.command_reads.specs.Saying.{UnsaidFor}
-use Rattle.command_reads.specs.declared.saying.Unsaid.{Unsaid}
+use Rattle.command_plans.specs.Unsaying.{UnsaidFor}
+use Rattle.command_plans.specs.declared.unsaid.Unsaid.{Unsaid}
 use Rattle.command_plans.specs.Answers.{Answer, is_refusal}
 use Rattle.command_plans.specs.declared.outcome.MachineFault.{MachineFault}
 use Rattle.command_plans.specs.declared.outcome.MachineFault.TheVariants as faults

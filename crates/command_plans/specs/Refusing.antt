@@ -3,11 +3,11 @@ use Rattle.std.specs.Prelude.{◌≡◌, Result, Ok, Err, IfOk, MatchResult}
 use Rattle.boot_base.specs.declared.refusal.Refusal.{Refusal}
 use Rattle.boot_machine.specs.Disk.{Files, State}
 use Rattle.boot_machine.specs.Sent.{seen}
-use Rattle.command_reads.specs.declared.refusing.Declined.{Declined}
-use Rattle.command_reads.specs.declared.refusing.Declined.TheVariants as declines
-use Rattle.command_reads.specs.Saying.{UnsaidFor}
-use Rattle.command_reads.specs.declared.saying.Unsaid.{Unsaid}
-use Rattle.command_reads.specs.declared.saying.Unsaid.TheVariants as unsaid
+use Rattle.command_plans.specs.declared.declined.Declined.{Declined}
+use Rattle.command_plans.specs.declared.declined.Declined.TheVariants as declines
+use Rattle.command_plans.specs.Unsaying.{UnsaidFor}
+use Rattle.command_plans.specs.declared.unsaid.Unsaid.{Unsaid}
+use Rattle.command_plans.specs.declared.unsaid.Unsaid.TheVariants as unsaid
 use Rattle.command_plans.specs.Answers.{Answer, refusal}
 use Rattle.command_plans.specs.Plans.{Plans}
 use Rattle.command_plans.specs.declared.outcome.Stop.{Stop}

@@ -4,16 +4,33 @@
 //! Then `perform` settles the machine, makes the change and prints the reply; it takes no memory. Whatever
 //! fails and wherever it is stopped, the boot files are as before the command or as after it, and no byte of
 //! the reply is printed before the change can't be undone.
+//!
+//! What planners share when they read stands here too: paths of words, files with their sizes and headers, choices
+//! of banks and phase paths, names as they are printed, and why there may be nothing to say.
 #![tactic(auto)]
 
+mod choices;
+mod declined;
+mod files;
+mod lists;
+mod names;
 mod outcome;
 mod performing;
 mod plan;
+mod reading;
 mod refusing;
 mod saying;
+mod unsaid;
 
+pub use choices::{banks_of, paths_of};
+pub use declined::{Declined, not_there, path_in, path_under, printed};
+pub use files::{file_bytes, file_part, head_of_size, image_head, not_pe, readable, sized_head};
+pub use lists::push;
+pub use names::shown_name;
 pub use outcome::{MachineFault, Outcome, Stop};
 pub use performing::perform;
 pub use plan::{Change, Plan, RefusalLine};
+pub use reading::seen_size;
 pub use refusing::{plan_declined, refusal_line, refused};
 pub use saying::{answered, plan_unsaid, said};
+pub use unsaid::Unsaid;

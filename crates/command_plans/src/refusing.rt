@@ -7,10 +7,10 @@ ghost use Rattle.command_plans.specs.Answers.{refusal};
 ghost use Rattle.command_plans.specs.Plans.{IsMakeable, Plans};
 ghost use Rattle.command_plans.specs.Refusing.{PlansDeclined};
 
+use crate::declined::Declined;
 use crate::outcome::Outcome;
 use crate::plan::{Change, Plan, RefusalLine};
 use boot_base::{Bytes, Refusal};
-use command_reads::Declined;
 use std::alloc::{AllocError, Global};
 
 /// The whole line of a refusal.

@@ -4,7 +4,7 @@ ghost use Rattle.boot_base.specs.declared.refusal.Refusal.{Refusal};
 ghost use Rattle.boot_machine.specs.Counts.{Counts};
 ghost use Rattle.boot_machine.specs.Disk.{State};
 ghost use Rattle.boot_machine.specs.Sent.{seen};
-ghost use Rattle.command_reads.specs.Saying.{CountsUnsaid, Says, unsaid_counts};
+ghost use Rattle.command_plans.specs.Unsaying.{CountsUnsaid, Says, unsaid_counts};
 ghost use Rattle.command_plans.specs.Answers.{Answer, answer_of_read, answered};
 ghost use Rattle.command_plans.specs.Performs.{CountsStop};
 ghost use Rattle.command_plans.specs.Plans.{IsIdleIfRefused, IsMakeable, Plans, PlansAs};
@@ -13,8 +13,8 @@ ghost use Rattle.command_plans.specs.Refusing.{PlansUnsaid};
 use crate::outcome::{Outcome, Stop};
 use crate::plan::{Change, Plan};
 use crate::refusing::refused;
+use crate::unsaid::Unsaid;
 use boot_base::Bytes;
-use command_reads::Unsaid;
 use std::alloc::Global;
 
 /// The plan of the refusal, or why there is none.

@@ -5,11 +5,11 @@ use Rattle.boot_base.specs.declared.refusal.Refusal.{Refusal}
 use Rattle.boot_machine.specs.Disk.{Files, State}
 use Rattle.boot_machine.specs.Sent.{seen}
 use Rattle.boot_folder.specs.declared.folders.Folders.{Folders}
-use Rattle.command_reads.specs.Refusing.{DeclinedFor}
-use Rattle.command_reads.specs.Saying.{unsaid_of}
-use Rattle.command_reads.specs.declared.refusing.Declined.{Declined}
-use Rattle.command_reads.specs.declared.refusing.Declined.TheVariants as declines
-use Rattle.command_reads.specs.declared.saying.Unsaid.{Unsaid}
+use Rattle.command_plans.specs.Declining.{DeclinedFor}
+use Rattle.command_plans.specs.Unsaying.{unsaid_of}
+use Rattle.command_plans.specs.declared.declined.Declined.{Declined}
+use Rattle.command_plans.specs.declared.declined.Declined.TheVariants as declines
+use Rattle.command_plans.specs.declared.unsaid.Unsaid.{Unsaid}
 use Rattle.command_plans.specs.Answers.{Answer}
 use Rattle.command_plans.specs.Plans.{Drops, Plans}
 use Rattle.command_plans.specs.Refusing.{PlansDeclined, PlansUnsaid, RefusesWords, unless_refused}

@@ -4,8 +4,8 @@ use Rattle.std.specs.Prelude.{if◌then◌else◌}
 use Rattle.boot_base.specs.Paths.{Path, IsFree}
 use Rattle.boot_base.specs.declared.refusal.Refusal.{Refusal}
 use Rattle.boot_base.specs.declared.refusal.Refusal.TheVariants as refusals
-use Rattle.command_reads.specs.Refusing.{◌>>=◌, path_in, path_under}
-use Rattle.command_reads.proofs.Freeing.{path_under-free}
+use Rattle.command_plans.specs.Declining.{◌>>=◌, path_in, path_under}
+use Rattle.command_plans.proofs.Freeing.{path_under-free}
 use Rattle.entry_commands.specs.Unlinking.{entry_below, entry_path, entry_under, is_entry_name}
 
 next_of : {A B : Type 0} (first : Result A Refusal) (next : A → Result B Refusal) (b : B) → (first >>= next) ≡ Ok b → (a : A) × (next a ≡ Ok b)

@@ -6,16 +6,16 @@ use Rattle.std.proofs.lemmas.Bool.{and_from}
 use Rattle.boot_base.specs.Paths.{Path, file_name_of, is_file_name, path_of, under}
 use Rattle.boot_base.specs.declared.refusal.Refusal.{Refusal}
 use Rattle.boot_base.specs.declared.refusal.Refusal.TheVariants as refusals
-use Rattle.boot_counter.specs.Bless.{GoodName, CountedName, BadName, choice_of, target_of}
-use Rattle.boot_counter.specs.Renames.{booted_name_of}
-use Rattle.boot_counter.specs.Splits.{has_suffix, split_of}
-use Rattle.boot_counter.specs.declared.bless.BlessVerb.{BlessVerb}
-use Rattle.boot_counter.specs.declared.bless.BlessVerb.TheVariants as verbs
-use Rattle.boot_counter.specs.declared.bless.Choice.{Choice}
-use Rattle.boot_counter.specs.declared.bless.Choice.TheVariants as choices
-use Rattle.boot_counter.specs.declared.counted.Suffix.{Suffix}
-use Rattle.boot_counter.specs.declared.counted.Suffix.TheVariants.{Conf, Efi}
-use Rattle.boot_counter.proofs.Splitting.{split_none}
+use Rattle.menu_order.specs.Bless.{GoodName, CountedName, BadName, choice_of, target_of}
+use Rattle.menu_order.specs.Renames.{booted_name_of}
+use Rattle.menu_order.specs.Splits.{has_suffix, split_of}
+use Rattle.menu_order.specs.declared.bless.BlessVerb.{BlessVerb}
+use Rattle.menu_order.specs.declared.bless.BlessVerb.TheVariants as verbs
+use Rattle.menu_order.specs.declared.bless.Choice.{Choice}
+use Rattle.menu_order.specs.declared.bless.Choice.TheVariants as choices
+use Rattle.menu_order.specs.declared.counted.Suffix.{Suffix}
+use Rattle.menu_order.specs.declared.counted.Suffix.TheVariants.{Conf, Efi}
+use Rattle.menu_order.proofs.Splitting.{split_none}
 use Rattle.boot_folder.specs.Entries.{entry_at, entry_of, folder_of, stands_in}
 use Rattle.boot_folder.specs.declared.folders.Folders.{Folders}
 use Rattle.boot_folder.proofs.EntryFiles.{built, bytes_self, one_type}
@@ -24,7 +24,7 @@ use Rattle.boot_machine.specs.Disk.{Files, has}
 use Rattle.boot_machine.specs.Maps.{cases_same, get-insert_apart, get-insert_here, get-remove_apart}
 use Rattle.boot_machine.specs.Rows.{contents, move_in}
 use Rattle.command_plans.specs.Answers.{Answer, answered, done}
-use Rattle.command_reads.specs.Refusing.{path_under, printed_path}
+use Rattle.command_plans.specs.Declining.{path_under, printed_path}
 use Rattle.menu_order.specs.declared.item.MenuItem.{MenuItem}
 use Rattle.tool_words.specs.declared.command.BlessWord.{BlessWord}
 use Rattle.tool_words.specs.declared.command.BlessWord.TheVariants as words

@@ -9,11 +9,11 @@ use Rattle.boot_base.proofs.Joined.{adding, joined, joined-kept}
 use Rattle.boot_base.proofs.Normal.{path-some}
 use Rattle.boot_base.specs.declared.refusal.Refusal.{Refusal}
 use Rattle.boot_base.specs.declared.refusal.Refusal.TheVariants as refusals
-use Rattle.boot_counter.specs.declared.counted.Suffix.TheVariants.{Efi}
-use Rattle.boot_counter.specs.Counter.{suffix_text}
-use Rattle.boot_counter.specs.Splits.{has_suffix}
-use Rattle.boot_counter.proofs.Splitting.{suffix_there}
-use Rattle.command_reads.specs.Refusing.{◌>>=◌, path_in, path_or, path_under}
+use Rattle.menu_order.specs.declared.counted.Suffix.TheVariants.{Efi}
+use Rattle.menu_order.specs.Counter.{suffix_text}
+use Rattle.menu_order.specs.Splits.{has_suffix}
+use Rattle.menu_order.proofs.Splitting.{suffix_there}
+use Rattle.command_plans.specs.Declining.{◌>>=◌, path_in, path_or, path_under}
 use Rattle.entry_commands.specs.Installing.{IsImageName, image_name, image_path, install_name, is_entry_name_byte, is_install_name, is_name_text}
 use Rattle.entry_commands.proofs.Siblings.{decimal_lacks, file_name_under, file_name_whole, kept_from_long, none-append, one_more}
 

@@ -12,14 +12,14 @@ use Rattle.std.proofs.lemmas.Int.Digits.{digits_value-lt}
 use Rattle.boot_base.specs.Limits.{file_limit}
 use Rattle.boot_base.specs.Paths.{Path, file_name_of}
 use Rattle.boot_base.specs.declared.refusal.Refusal.TheVariants as refusals
-use Rattle.boot_counter.specs.Counter.{is_number}
-use Rattle.boot_counter.specs.Splits.{has_suffix, number_in}
-use Rattle.boot_counter.specs.declared.counted.Suffix.TheVariants.{Efi}
+use Rattle.menu_order.specs.Counter.{is_number}
+use Rattle.menu_order.specs.Splits.{has_suffix, number_in}
+use Rattle.menu_order.specs.declared.counted.Suffix.TheVariants.{Efi}
 use Rattle.boot_folder.specs.Entries.{entry_of}
 use Rattle.boot_folder.specs.Records.{Unfit, NotPe, NotUki, uki_of}
 use Rattle.boot_machine.specs.Disk.{Files}
-use Rattle.command_reads.specs.Files.{bytes_at, if_given, readable}
-use Rattle.command_reads.specs.Refusing.{path_in, printed_path}
+use Rattle.command_plans.specs.Files.{bytes_at, if_given, readable}
+use Rattle.command_plans.specs.Declining.{path_in, printed_path}
 use Rattle.menu_order.specs.declared.item.MenuItem.{MenuItem}
 use Rattle.entry_commands.specs.Installing.{entry_or, image_name, image_name_in, image_path, install_name, installation_of, installed_image, is_install_name, tries_in, tries_or}
 use Rattle.entry_commands.specs.declared.install.Installation.{Installation}

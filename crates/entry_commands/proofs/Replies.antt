@@ -6,18 +6,18 @@ use Rattle.boot_base.specs.Paths.{Path, file_name_of}
 use Rattle.boot_base.specs.Refusals.{line_of}
 use Rattle.boot_base.specs.declared.refusal.Refusal.{Refusal}
 use Rattle.boot_base.specs.declared.refusal.Refusal.TheVariants as refusals
-use Rattle.boot_counter.specs.Renames.{booted_name_of}
-use Rattle.boot_counter.specs.declared.bless.BlessVerb.{BlessVerb}
-use Rattle.boot_counter.specs.declared.bless.BlessVerb.TheVariants as verbs
-use Rattle.boot_counter.specs.declared.bless.Choice.{Choice}
-use Rattle.boot_counter.specs.declared.bless.Choice.TheVariants as choices
-use Rattle.boot_counter.specs.declared.bless.Present.{Present}
+use Rattle.menu_order.specs.Renames.{booted_name_of}
+use Rattle.menu_order.specs.declared.bless.BlessVerb.{BlessVerb}
+use Rattle.menu_order.specs.declared.bless.BlessVerb.TheVariants as verbs
+use Rattle.menu_order.specs.declared.bless.Choice.{Choice}
+use Rattle.menu_order.specs.declared.bless.Choice.TheVariants as choices
+use Rattle.menu_order.specs.declared.bless.Present.{Present}
 use Rattle.boot_folder.specs.Entries.{folder_of}
 use Rattle.boot_folder.specs.Listing.{behind_newline, boot_lines, counter_lines, file_lines, item_text, key_lines, title_lines}
 use Rattle.boot_machine.specs.Disk.{Files, has}
 use Rattle.boot_machine.specs.Rows.{move_in}
 use Rattle.command_plans.specs.Answers.{Answer, answer_of_read, answered, done}
-use Rattle.command_reads.specs.Refusing.{◌>>=◌, path_under, printed_path}
+use Rattle.command_plans.specs.Declining.{◌>>=◌, path_under, printed_path}
 use Rattle.entry_commands.specs.Blessing.{bless_answer, bless_entry, bless_meant, blessed_by, blessed_text, present_at, reported_paths, status_by, status_said, verb_text}
 use Rattle.entry_commands.specs.Booting.{boot_answer, boot_entry, boot_meant, booted_entry, booted_text, first_of, renamed_entry}
 use Rattle.entry_commands.specs.Folders.{folders_of}

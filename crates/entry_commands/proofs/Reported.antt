@@ -6,9 +6,9 @@ use Rattle.std.proofs.lemmas.Bool.{and_parts, not-true, or_parts}
 use Rattle.boot_base.specs.Paths.{Path, beside, components, file_name_of, intent, is_form, is_kept, is_normal, is_path, is_path_text, is_refused, normal_of, path_below, path_of, under}
 use Rattle.boot_base.specs.declared.refusal.Refusal.TheVariants as refusals
 use Rattle.boot_base.proofs.Normal.{normal_from, path-some}
-use Rattle.boot_counter.specs.Renames.{bad_name_of}
-use Rattle.boot_counter.specs.Splits.{split_of}
-use Rattle.command_reads.specs.Refusing.{path_in, path_or, path_under, printed_path}
+use Rattle.menu_order.specs.Renames.{bad_name_of}
+use Rattle.menu_order.specs.Splits.{split_of}
+use Rattle.command_plans.specs.Declining.{path_in, path_or, path_under, printed_path}
 use Rattle.entry_commands.specs.Blessing.{bad_name_in, entry_paths, good_name_in, name_or, reported_paths}
 use Rattle.entry_commands.specs.declared.bless.EntryPaths.{EntryPaths}
 use Rattle.entry_commands.proofs.Siblings.{bad_counted}

@@ -19,15 +19,15 @@ use Rattle.boot_base.specs.Paths.{Path, beside, components, file_name_of, intent
 use Rattle.boot_base.proofs.Joined.{adding, is_kept-long, joined, joined-kept, joined-left_out}
 use Rattle.boot_base.proofs.LastComponent.{file_name_of-from}
 use Rattle.boot_base.proofs.Normal.{normal-no_nul, normal-short}
-use Rattle.boot_counter.specs.declared.counted.Counted.{Counted}
-use Rattle.boot_counter.specs.declared.counted.Suffix.{Suffix}
-use Rattle.boot_counter.specs.declared.counted.Suffix.TheVariants.{Conf, Efi}
-use Rattle.boot_counter.specs.Counter.{IsCounted, IsDoneText, IsNumber, IsUncounted, done_text_of, suffix_text, written_name}
-use Rattle.boot_counter.specs.Renames.{bad_name_of, good_name_of}
-use Rattle.boot_counter.specs.Splits.{has_suffix, split_of, stem_of}
-use Rattle.boot_counter.proofs.Readings.{number_lacks}
-use Rattle.boot_counter.proofs.Splitting.{split_none, split_some, suffix_cut, suffix_there}
-use Rattle.boot_counter.proofs.Written.{decimal_number, number_bound, reading_bounds, written_reads}
+use Rattle.menu_order.specs.declared.counted.Counted.{Counted}
+use Rattle.menu_order.specs.declared.counted.Suffix.{Suffix}
+use Rattle.menu_order.specs.declared.counted.Suffix.TheVariants.{Conf, Efi}
+use Rattle.menu_order.specs.Counter.{IsCounted, IsDoneText, IsNumber, IsUncounted, done_text_of, suffix_text, written_name}
+use Rattle.menu_order.specs.Renames.{bad_name_of, good_name_of}
+use Rattle.menu_order.specs.Splits.{has_suffix, split_of, stem_of}
+use Rattle.menu_order.proofs.CounterReadings.{number_lacks}
+use Rattle.menu_order.proofs.Splitting.{split_none, split_some, suffix_cut, suffix_there}
+use Rattle.menu_order.proofs.CounterWritten.{decimal_number, number_bound, reading_bounds, written_reads}
 
 -- ---- lists of which no element passes
 

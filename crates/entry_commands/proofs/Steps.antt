@@ -3,7 +3,7 @@ use Rattle.std.proofs.Common.{◌≡◌, ℕ, Bool, true, false, List, Some, Non
 use Rattle.boot_base.specs.declared.refusal.Refusal.{Refusal}
 use Rattle.boot_machine.specs.Disk.{Files}
 use Rattle.command_plans.specs.Answers.{Answer, answer_of_read, answered}
-use Rattle.command_reads.specs.Refusing.{◌>>=◌}
+use Rattle.command_plans.specs.Declining.{◌>>=◌}
 
 -- what a step that is done went through
 pub done_by : {A B : Type 0} (first : Result A Refusal) (next : A → Result B Refusal) (b : B) → (first >>= next) ≡ Ok b

@@ -3,18 +3,18 @@ use Rattle.std.specs.Prelude.{ℕ, List, ◌++◌, codes, is_some, Option, Some,
 use Rattle.boot_base.specs.Paths.{Path, IsFree, beside, file_name_of}
 use Rattle.boot_base.specs.declared.refusal.Refusal.{Refusal}
 use Rattle.boot_base.specs.declared.refusal.Refusal.TheVariants as refusals
-use Rattle.boot_counter.specs.Bless.{Name, GoodName, CountedName, BadName, choice_of, target_of}
-use Rattle.boot_counter.specs.Renames.{bad_name_of, good_name_of}
-use Rattle.boot_counter.specs.Splits.{split_of}
-use Rattle.boot_counter.specs.declared.bless.BlessVerb.{BlessVerb}
-use Rattle.boot_counter.specs.declared.bless.BlessVerb.TheVariants as verbs
-use Rattle.boot_counter.specs.declared.bless.Choice.{Choice}
-use Rattle.boot_counter.specs.declared.bless.Choice.TheVariants as choices
-use Rattle.boot_counter.specs.declared.bless.Present.{Present}
+use Rattle.menu_order.specs.Bless.{Name, GoodName, CountedName, BadName, choice_of, target_of}
+use Rattle.menu_order.specs.Renames.{bad_name_of, good_name_of}
+use Rattle.menu_order.specs.Splits.{split_of}
+use Rattle.menu_order.specs.declared.bless.BlessVerb.{BlessVerb}
+use Rattle.menu_order.specs.declared.bless.BlessVerb.TheVariants as verbs
+use Rattle.menu_order.specs.declared.bless.Choice.{Choice}
+use Rattle.menu_order.specs.declared.bless.Choice.TheVariants as choices
+use Rattle.menu_order.specs.declared.bless.Present.{Present}
 use Rattle.boot_machine.specs.Disk.{Files, has}
 use Rattle.boot_machine.specs.Rows.{move_in}
 use Rattle.command_plans.specs.Answers.{Answer, answer_of_read, answered, done}
-use Rattle.command_reads.specs.Refusing.{◌>>=◌, path_in, path_under, printed_path}
+use Rattle.command_plans.specs.Declining.{◌>>=◌, path_in, path_under, printed_path}
 use Rattle.entry_commands.specs.declared.bless.EntryPaths.{EntryPaths}
 use Rattle.tool_words.specs.declared.command.BlessWord.{BlessWord}
 use Rattle.tool_words.specs.declared.command.BlessWord.TheVariants as words

@@ -4,13 +4,13 @@ use Rattle.std.specs.Prelude.{ℕ, List, [], ◌∷◌, ◌++◌, codes, Option,
 use Rattle.boot_base.specs.Paths.{Path, file_name_of}
 use Rattle.boot_base.specs.declared.refusal.Refusal.{Refusal}
 use Rattle.boot_base.specs.declared.refusal.Refusal.TheVariants as refusals
-use Rattle.boot_counter.specs.Renames.{booted_name_of}
+use Rattle.menu_order.specs.Renames.{booted_name_of}
 use Rattle.boot_folder.specs.Entries.{folder_of}
 use Rattle.boot_folder.specs.declared.folders.Folders.{Folders}
 use Rattle.boot_machine.specs.Disk.{Files, has}
 use Rattle.boot_machine.specs.Rows.{move_in}
 use Rattle.command_plans.specs.Answers.{Answer, answered, done}
-use Rattle.command_reads.specs.Refusing.{◌>>=◌, path_under, printed_path}
+use Rattle.command_plans.specs.Declining.{◌>>=◌, path_under, printed_path}
 use Rattle.entry_commands.specs.Folders.{folders_of}
 use Rattle.entry_commands.specs.Listing.{menu_at}
 use Rattle.menu_order.specs.declared.item.MenuItem.{MenuItem}

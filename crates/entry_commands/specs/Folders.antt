@@ -1,7 +1,7 @@
 -- The two folders of boot entries in an EFI system partition (UAPI Boot Loader Specification).
 use Rattle.std.specs.Prelude.{ℕ, List, codes, Result, Ok}
 use Rattle.boot_base.specs.declared.refusal.Refusal.{Refusal}
-use Rattle.command_reads.specs.Refusing.{◌>>=◌, path_in, path_under}
+use Rattle.command_plans.specs.Declining.{◌>>=◌, path_in, path_under}
 use Rattle.boot_folder.specs.declared.folders.Folders.{Folders}
 
 -- entries of type 1, and images of type 2

@@ -1,7 +1,7 @@
 -- Good entries: valid ones whose names have no boot counter (UAPI Boot Loader Specification, "Boot counting").
 use Rattle.std.specs.Prelude.{◌≡◌, ◌≢◌, ℕ, List, IfOk}
 use Rattle.boot_base.specs.Paths.{Path, file_name_of}
-use Rattle.boot_counter.specs.Counter.{IsUncounted}
+use Rattle.menu_order.specs.Counter.{IsUncounted}
 use Rattle.boot_folder.specs.Entries.{IsEntry}
 use Rattle.boot_folder.specs.declared.folders.Folders.{Folders}
 use Rattle.boot_machine.specs.Disk.{Files}

@@ -6,17 +6,17 @@ use Rattle.std.specs.List.{list_all, list_any, starts_with}
 use Rattle.boot_base.specs.Paths.{Path, is_kept, is_slash}
 use Rattle.boot_base.specs.declared.refusal.Refusal.{Refusal}
 use Rattle.boot_base.specs.declared.refusal.Refusal.TheVariants as refusals
-use Rattle.boot_counter.specs.Counter.{suffix_text, written_name}
-use Rattle.boot_counter.specs.Splits.{has_suffix, number_in, split_of}
-use Rattle.boot_counter.specs.declared.counted.Suffix.TheVariants.{Efi}
+use Rattle.menu_order.specs.Counter.{suffix_text, written_name}
+use Rattle.menu_order.specs.Splits.{has_suffix, number_in, split_of}
+use Rattle.menu_order.specs.declared.counted.Suffix.TheVariants.{Efi}
 use Rattle.boot_folder.specs.Missing.{missing_text}
 use Rattle.boot_folder.specs.Records.{Unfit, NotPe, NotUki, uki_of}
 use Rattle.boot_machine.specs.Disk.{Files}
 use Rattle.command_plans.specs.Answers.{Answer, answered, done}
-use Rattle.command_reads.specs.Files.{bytes_at, if_given}
-use Rattle.command_reads.specs.Refusing.{◌>>=◌, path_in, path_under, printed_path}
-use Rattle.command_reads.specs.Saying.{UnsaidFor}
-use Rattle.command_reads.specs.declared.saying.Unsaid.{Unsaid}
+use Rattle.command_plans.specs.Files.{bytes_at, if_given}
+use Rattle.command_plans.specs.Declining.{◌>>=◌, path_in, path_under, printed_path}
+use Rattle.command_plans.specs.Unsaying.{UnsaidFor}
+use Rattle.command_plans.specs.declared.unsaid.Unsaid.{Unsaid}
 use Rattle.entry_commands.specs.declared.install.Installation.{Installation}
 use Rattle.menu_order.specs.declared.item.MenuItem.{MenuItem}
 use Rattle.pe_reader.specs.Reasons.{pe_reason_text}

@@ -9,9 +9,9 @@ use Rattle.boot_folder.specs.Listing.{list_text}
 use Rattle.boot_folder.specs.declared.fault.ScanFault.{ScanFault}
 use Rattle.boot_folder.specs.declared.fault.ScanFault.TheVariants as scans
 use Rattle.boot_folder.specs.declared.folders.Folders.{Folders}
-use Rattle.command_reads.specs.Refusing.{◌>>=◌}
-use Rattle.command_reads.specs.declared.saying.Unsaid.{Unsaid}
-use Rattle.command_reads.specs.declared.saying.Unsaid.TheVariants as unsaid
+use Rattle.command_plans.specs.Declining.{◌>>=◌}
+use Rattle.command_plans.specs.declared.unsaid.Unsaid.{Unsaid}
+use Rattle.command_plans.specs.declared.unsaid.Unsaid.TheVariants as unsaid
 use Rattle.entry_commands.specs.Folders.{folders_of}
 
 -- the menu of two folders, or that they have more than 4,096 entry files

@@ -7,7 +7,7 @@ use Rattle.boot_base.specs.declared.refusal.Refusal.{Refusal}
 use Rattle.boot_base.specs.declared.refusal.Refusal.TheVariants as refusals
 use Rattle.boot_machine.specs.Disk.{Files}
 use Rattle.command_plans.specs.Answers.{Answer, refusal, done}
-use Rattle.command_reads.specs.Refusing.{◌>>=◌, path_in, path_under, printed_path}
+use Rattle.command_plans.specs.Declining.{◌>>=◌, path_in, path_under, printed_path}
 
 -- an entry of type 1 (UAPI Boot Loader Specification)
 abbrev pub is_type1_name : List ℕ → Bool

@@ -2,8 +2,8 @@
 ghost use Rattle.std.specs.Prelude.{◌≡◌, ◌++◌, codes, false, true, Ok, Some, IfOk, IsTrue, string_bytes};
 ghost use Rattle.std.specs.Option.{option_map};
 ghost use Rattle.boot_base.specs.Paths.{IsFree, beside, file_name_of, sibling_of};
-ghost use Rattle.boot_counter.specs.Bless.{choice_of, target_of};
-ghost use Rattle.boot_counter.specs.Renames.{bad_name_of, good_name_of};
+ghost use Rattle.menu_order.specs.Bless.{choice_of, target_of};
+ghost use Rattle.menu_order.specs.Renames.{bad_name_of, good_name_of};
 ghost use Rattle.boot_machine.specs.Counts.{Counts, CountsDisk};
 ghost use Rattle.boot_machine.specs.Disk.{State, has};
 ghost use Rattle.boot_machine.specs.Reading.{OnlyReads, TakesAtMost};
@@ -12,16 +12,15 @@ ghost use Rattle.command_plans.specs.Answers.{answer_of_read};
 ghost use Rattle.command_plans.specs.Performs.{CountsStop};
 ghost use Rattle.command_plans.specs.Plans.{IsIdleIfRefused, IsMakeable, Plans, PlansAs};
 ghost use Rattle.command_plans.specs.Refusing.{DeclinesWords, RefusesWords};
-ghost use Rattle.command_reads.specs.Refusing.{Means, printed_path};
-ghost use Rattle.command_reads.specs.Saying.{CountsUnsaid, Says};
+ghost use Rattle.command_plans.specs.Declining.{Means, printed_path};
+ghost use Rattle.command_plans.specs.Unsaying.{CountsUnsaid, Says};
 ghost use Rattle.entry_commands.specs.Blessing.{AreFree, bad_name_in, bless_answer, bless_entry, bless_meant, blessed_by, blessed_from, blessed_text, entry_paths, good_name_in, name_or, path_at, present_at, reported_paths, status_by, status_said, verb_text};
 
 use crate::moves::{is_there, plan_move, plan_nothing};
 use boot_base::{BootPath, PathFault, Refusal, Text};
-use boot_counter::{BlessVerb, Choice, Counted, Present, bless_choice};
 use boot_machine::{DiskFault, Machine};
-use command_plans::{Plan, Stop, answered, said};
-use command_reads::{Declined, Unsaid, path_in, path_under, printed};
+use command_plans::{Declined, Plan, Stop, Unsaid, answered, path_in, path_under, printed, said};
+use menu_order::{BlessVerb, Choice, Counted, Present, bless_choice};
 use std::alloc::{AllocError, Global};
 use tool_words::BlessWord;
 

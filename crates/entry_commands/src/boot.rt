@@ -9,7 +9,7 @@ ghost use Rattle.boot_machine.specs.Sent.{seen};
 ghost use Rattle.command_plans.specs.Performs.{CountsStop};
 ghost use Rattle.command_plans.specs.Plans.{IsIdleIfRefused, IsMakeable, Plans, PlansAs};
 ghost use Rattle.command_plans.specs.Refusing.{DeclinesWords, RefusesWords};
-ghost use Rattle.command_reads.specs.Saying.{CountsUnsaid};
+ghost use Rattle.command_plans.specs.Unsaying.{CountsUnsaid};
 ghost use Rattle.entry_commands.specs.Booting.{boot_answer, boot_entry, boot_meant, booted_entry, booted_text, renamed_entry};
 ghost use Rattle.entry_commands.specs.Folders.{folders_of};
 ghost use Rattle.entry_commands.specs.Taking.{menu_limit};
@@ -18,12 +18,10 @@ use crate::folders::folders_in;
 use crate::menus::menu_at;
 use crate::moves::{already_there, is_there, plan_move, plan_nothing};
 use boot_base::{BootPath, Refusal};
-use boot_counter::{Counted, Suffix};
 use boot_folder::Folders;
 use boot_machine::Machine;
-use command_plans::{Plan, Stop, answered};
-use command_reads::{Unsaid, path_in, path_under};
-use menu_order::MenuItem;
+use command_plans::{Plan, Stop, Unsaid, answered, path_in, path_under};
+use menu_order::{Counted, MenuItem, Suffix};
 use std::alloc::{AllocError, Global};
 
 // What is told of an entry that stands at a path after the boot.

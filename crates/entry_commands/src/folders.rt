@@ -1,10 +1,10 @@
 //! The two folders of boot entries in an EFI system partition that a word names.
 ghost use Rattle.std.specs.Prelude.{◌≡◌};
 ghost use Rattle.entry_commands.specs.Folders.{folders_of};
-ghost use Rattle.command_reads.specs.Refusing.{Means};
+ghost use Rattle.command_plans.specs.Declining.{Means};
 
 use boot_folder::Folders;
-use command_reads::{Declined, path_in, path_under};
+use command_plans::{Declined, path_in, path_under};
 use std::alloc::Global;
 
 /// The folders of the partition that a word names, or the first refusal.

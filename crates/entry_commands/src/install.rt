@@ -3,8 +3,8 @@ ghost use Rattle.std.specs.Prelude.{◌≡◌, ◌≤◌, ◌<◌, length, true,
 ghost use Rattle.std.specs.List.{list_all};
 ghost use Rattle.std.specs.Option.{option_map};
 ghost use Rattle.boot_base.specs.Paths.{IsFree, file_name_of};
-ghost use Rattle.boot_counter.specs.Splits.{has_suffix};
-ghost use Rattle.boot_counter.specs.declared.counted.Suffix.TheVariants.{Efi};
+ghost use Rattle.menu_order.specs.Splits.{has_suffix};
+ghost use Rattle.menu_order.specs.declared.counted.Suffix.TheVariants.{Efi};
 ghost use Rattle.boot_folder.specs.Items.{FailsAs, item_counts};
 ghost use Rattle.boot_folder.specs.Missing.{missing_text};
 ghost use Rattle.boot_folder.specs.Records.{Unfit, uki_of};
@@ -16,20 +16,21 @@ ghost use Rattle.boot_machine.specs.Sent.{seen};
 ghost use Rattle.command_plans.specs.Performs.{CountsStop};
 ghost use Rattle.command_plans.specs.Plans.{CanCopy, IsIdleIfRefused, IsMakeable, Plans, PlansAs};
 ghost use Rattle.command_plans.specs.Refusing.{DeclinesWords, RefusesWords};
-ghost use Rattle.command_reads.specs.Files.{if_given};
-ghost use Rattle.command_reads.specs.Refusing.{Means};
-ghost use Rattle.command_reads.specs.Saying.{CountsUnsaid, Says, UnsaidFor, unsaid_counts};
+ghost use Rattle.command_plans.specs.Files.{if_given};
+ghost use Rattle.command_plans.specs.Declining.{Means};
+ghost use Rattle.command_plans.specs.Unsaying.{CountsUnsaid, Says, UnsaidFor, unsaid_counts};
 ghost use Rattle.entry_commands.specs.Installing.{IsImageName, ShowsEntry, entry_or, image_name, image_name_in, image_path, install_answer, install_meant, install_name, installation_of, installed, installed_image, installed_text, is_entry_name_byte, is_install_name, is_name_text, tries_in};
 ghost use Rattle.entry_commands.specs.Moving.{IsCopy};
 ghost use Rattle.menu_order.specs.declared.item.MenuItem.{MenuItem};
 
 use crate::moves::gone_line;
 use boot_base::{BootPath, Bytes, PeText, Refusal, Target, Text};
-use boot_counter::{Counted, Suffix, read_count};
 use boot_folder::{ItemFault, Missing, uki_item};
 use boot_machine::Machine;
-use command_plans::{Change, Outcome, Plan, Stop, answered};
-use command_reads::{Declined, Unsaid, not_pe, path_in, path_under, readable};
+use command_plans::{
+    Change, Declined, Outcome, Plan, Stop, Unsaid, answered, not_pe, path_in, path_under, readable,
+};
+use menu_order::{Counted, Suffix, read_count};
 use std::alloc::{AllocError, Global};
 
 /// The most bytes of a name.

@@ -8,7 +8,7 @@ ghost use Rattle.command_plans.specs.Performs.{CountsStop};
 ghost use Rattle.command_plans.specs.Plans.{IsMakeable, Plans};
 ghost use Rattle.command_plans.specs.Refusing.{DeclinesWords, RefusesWords};
 ghost use Rattle.command_plans.specs.declared.plan.Change.TheVariants.{Nothing};
-ghost use Rattle.command_reads.specs.Saying.{CountsUnsaid, Says};
+ghost use Rattle.command_plans.specs.Unsaying.{CountsUnsaid, Says};
 ghost use Rattle.entry_commands.specs.Folders.{folders_of};
 ghost use Rattle.entry_commands.specs.Listing.{list_said, menu_said};
 ghost use Rattle.entry_commands.specs.Taking.{menu_limit};
@@ -18,8 +18,7 @@ use crate::menus::menu_at;
 use boot_base::Refusal;
 use boot_folder::list_text;
 use boot_machine::Machine;
-use command_plans::{Plan, Stop, said};
-use command_reads::Unsaid;
+use command_plans::{Plan, Stop, Unsaid, said};
 use menu_order::MenuItem;
 use std::alloc::Global;
 

@@ -6,14 +6,14 @@ ghost use Rattle.boot_folder.specs.declared.fault.ScanFault.TheVariants as scans
 ghost use Rattle.boot_machine.specs.Counts.{Counts};
 ghost use Rattle.boot_machine.specs.Reading.{OnlyReads, TakesAtMost};
 ghost use Rattle.boot_machine.specs.Sent.{seen};
-ghost use Rattle.command_reads.specs.Saying.{CountsUnsaid, Says, unsaid_counts};
+ghost use Rattle.command_plans.specs.Unsaying.{CountsUnsaid, Says, unsaid_counts};
 ghost use Rattle.entry_commands.specs.Listing.{menu_at, unlisted};
 ghost use Rattle.menu_order.specs.Menu.{IsMenu};
 
 use boot_base::Refusal;
 use boot_folder::{Folders, ScanFault, scan_folders};
 use boot_machine::Machine;
-use command_reads::Unsaid;
+use command_plans::Unsaid;
 use menu_order::MenuItem;
 use std::alloc::Global;
 

@@ -9,13 +9,12 @@ ghost use Rattle.boot_machine.specs.Sent.{seen};
 ghost use Rattle.boot_machine.specs.Counts.{CountsDisk};
 ghost use Rattle.command_plans.specs.Answers.{done};
 ghost use Rattle.command_plans.specs.Plans.{IsIdleIfRefused, IsMakeable, Plans};
-ghost use Rattle.command_reads.specs.Refusing.{printed_path};
+ghost use Rattle.command_plans.specs.Declining.{printed_path};
 ghost use Rattle.entry_commands.specs.Moving.{IsMove};
 
 use boot_base::{BootPath, Bytes, Refusal, Target};
 use boot_machine::{DiskFault, Machine};
-use command_plans::{Change, Outcome, Plan, RefusalLine};
-use command_reads::{not_there, printed, seen_size};
+use command_plans::{Change, Outcome, Plan, RefusalLine, not_there, printed, seen_size};
 use std::alloc::{AllocError, Global};
 
 /// Whether a boot file stands at a path.

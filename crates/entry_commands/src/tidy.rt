@@ -15,8 +15,7 @@ use crate::folders::folders_in;
 use boot_base::{BootPath, Bytes, FileName, TempPath};
 use boot_folder::Folders;
 use boot_machine::Machine;
-use command_plans::{Change, Outcome, Plan, Stop, plan_unsaid};
-use command_reads::Unsaid;
+use command_plans::{Change, Outcome, Plan, Stop, Unsaid, plan_unsaid};
 use std::alloc::{AllocError, Global};
 
 // The paths of the temporary files among these names of a folder.

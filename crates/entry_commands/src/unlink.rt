@@ -9,15 +9,17 @@ ghost use Rattle.boot_machine.specs.Reading.{OnlyReads, TakesAtMost};
 ghost use Rattle.command_plans.specs.Performs.{CountsStop};
 ghost use Rattle.command_plans.specs.Plans.{IsIdleIfRefused, IsMakeable, Plans};
 ghost use Rattle.command_plans.specs.Answers.{refusal};
-ghost use Rattle.command_reads.specs.Refusing.{Means, printed_path};
+ghost use Rattle.command_plans.specs.Declining.{Means, printed_path};
 ghost use Rattle.command_plans.specs.Refusing.{RefusesWords, unless_refused};
 ghost use Rattle.entry_commands.specs.Unlinking.{entry_below, entry_path, entry_under, is_entry_name, is_type1_name, unlink_answer, unlinked_text};
 
 use crate::moves::gone_line;
 use boot_base::{BootPath, Bytes, FileName, PathFault, Refusal, Text};
 use boot_machine::Machine;
-use command_plans::{Change, Outcome, Plan, Stop, plan_unsaid, refused};
-use command_reads::{Declined, Unsaid, not_there, path_in, path_under, seen_size};
+use command_plans::{
+    Change, Declined, Outcome, Plan, Stop, Unsaid, not_there, path_in, path_under, plan_unsaid,
+    refused, seen_size,
+};
 use std::alloc::{AllocError, Global};
 
 fn is_type1_name(name: &str) -> bool

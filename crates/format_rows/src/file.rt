@@ -3,7 +3,7 @@ use crate::case::Case;
 use crate::fault::RowFault;
 use crate::image::field_of_word;
 use crate::words::{number, parted, quoted};
-use pcr_fold::{Bank, Digest};
+use pcr_values::{Bank, Digest};
 use sample_images::field_of;
 use std::alloc::Global;
 

@@ -5,7 +5,7 @@ use crate::read::{head_there, reads_text};
 use crate::words::bank_of;
 use boot_base::{BootPath, PIECE_SIZE, Piece};
 use memory_machine::MemMachine;
-use pcr_fold::{Bank, Pcr};
+use pcr_values::{Bank, Pcr};
 use pe_reader::{HeadFault, Pe};
 use std::alloc::Global;
 use stub_replay::{replay, replay_bytes};

@@ -1,8 +1,7 @@
 //! Digests and registers of banks, and phase paths.
 use crate::fault::RowFault;
 use crate::words::{bank_of, bytes_of, parted, quoted};
-use boot_phases::{PhasePath, append_heading};
-use pcr_fold::{Bank, DataHash, Digest, Pcr};
+use pcr_values::{Bank, DataHash, Digest, Pcr, PhasePath, append_heading};
 use std::alloc::Global;
 
 // The bank that a text names, and what stands behind it.

@@ -1,6 +1,6 @@
 //! Numbers, bytes and banks as rows write them, and bytes as they are told.
 use crate::fault::RowFault;
-use pcr_fold::Bank;
+use pcr_values::Bank;
 use std::alloc::{AllocError, Global};
 
 /// A number, in decimal or behind `0x` in hex.

@@ -9,15 +9,15 @@ use Rattle.boot_base.specs.declared.refusal.Refusal.{Refusal}
 use Rattle.boot_machine.specs.Disk.{State}
 use Rattle.uki_parts.specs.Pieces.{total_length}
 use Rattle.uki_parts.specs.declared.part.Part.{Part}
-use Rattle.command_reads.specs.Files.{each}
+use Rattle.command_plans.specs.Files.{each}
 use Rattle.image_build.specs.Reads.{PartFrom, source_limit, sources_limit}
-use Rattle.command_reads.specs.Saying.{Says, UnsaidFor}
+use Rattle.command_plans.specs.Unsaying.{Says, UnsaidFor}
 use Rattle.image_build.specs.declared.source.PartSources.{PartSources}
 use Rattle.image_build.specs.declared.source.Source.{Source}
-use Rattle.command_reads.specs.declared.saying.Unsaid.{Unsaid}
-use Rattle.command_reads.specs.declared.saying.Unsaid.TheVariants as unsaid
-use Rattle.command_reads.proofs.Each.{each_more, each_refused}
-use Rattle.command_reads.proofs.Unsaying.{says_unsaid}
+use Rattle.command_plans.specs.declared.unsaid.Unsaid.{Unsaid}
+use Rattle.command_plans.specs.declared.unsaid.Unsaid.TheVariants as unsaid
+use Rattle.command_plans.proofs.Each.{each_more, each_refused}
+use Rattle.command_plans.proofs.Unsaying.{says_unsaid}
 
 -- one more is made, of a state that stands
 pub made_more : {A B C : Type 0} (F : State → A → Result B Refusal) (V : State → C → B) (s now : State) (xs : List A) (made more : List C) (x : A) (y : C) → now ≡ s

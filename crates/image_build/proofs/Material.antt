@@ -5,10 +5,10 @@ use Rattle.boot_machine.specs.Disk.{Files, State}
 use Rattle.boot_machine.specs.Rows.{contents}
 use Rattle.boot_machine.specs.Sent.{seen}
 use Rattle.pe_reader.specs.Grammar.{Headers, pe_of}
-use Rattle.command_reads.specs.Refusing.{◌>>=◌}
+use Rattle.command_plans.specs.Declining.{◌>>=◌}
 use Rattle.image_build.specs.declared.build_reads.BuildFiles.{BuildFiles}
 use Rattle.image_build.specs.Building.{Contents, Material, Named, contents_of, material, material_of, sbat_of}
-use Rattle.command_reads.specs.Files.{headers_or}
+use Rattle.command_plans.specs.Files.{headers_or}
 use Rattle.image_build.specs.Reads.{contents_as}
 
 abbrev made_of : Contents → Headers → List ℕ → List ℕ → Material

@@ -7,9 +7,9 @@ use Rattle.std.specs.Option.{option_map}
 use Rattle.std.proofs.lemmas.List.{map-append}
 use Rattle.std.proofs.lemmas.List.Elements.{All-cons, All-nil}
 use Rattle.boot_base.specs.declared.refusal.Refusal.{Refusal}
-use Rattle.command_reads.specs.Refusing.{path_in}
-use Rattle.command_reads.proofs.Each.{bind_ok, each_cut, none_made}
-use Rattle.command_reads.specs.Files.{each, if_given}
+use Rattle.command_plans.specs.Declining.{path_in}
+use Rattle.command_plans.proofs.Each.{bind_ok, each_cut, none_made}
+use Rattle.command_plans.specs.Files.{each, if_given}
 use Rattle.tool_words.specs.declared.command.BuildWords.{BuildWords}
 use Rattle.tool_words.specs.declared.command.Given.{Given}
 use Rattle.tool_words.specs.declared.command.Given.TheVariants.{File, Inline}

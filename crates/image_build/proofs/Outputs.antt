@@ -11,8 +11,8 @@ use Rattle.uki_parts.specs.declared.name.SectionName.{SectionName}
 use Rattle.pe_builder.specs.Refusals.{first_refusal}
 use Rattle.pe_builder.specs.Replaced.{sbat_name}
 use Rattle.tool_words.specs.declared.command.BuildWords.{BuildWords}
-use Rattle.command_reads.specs.Files.{each, if_given}
-use Rattle.command_reads.specs.Refusing.{◌>>=◌, path_in}
+use Rattle.command_plans.specs.Files.{each, if_given}
+use Rattle.command_plans.specs.Declining.{◌>>=◌, path_in}
 use Rattle.image_build.specs.Building.{Built, Named, build_of, builder_refusal, has_bytes, has_sbat, image_of, image_of_parts, image_or, material_of, named_of, section_of, size_of_part, source_of, sources_of, wanted_parts, with_sbat_text}
 
 -- what is so of each outcome of the next step is so of both together

@@ -13,8 +13,8 @@ use Rattle.uki_parts.specs.Initrds.{joined_bytes, joined_initrds, padded_piece, 
 use Rattle.uki_parts.specs.Pieces.{HasSizes, Reading, bytes_of, piece_bytes, piece_length}
 use Rattle.image_build.specs.declared.source.Source.{Source}
 use Rattle.image_build.specs.Building.{named_part, part_bytes, source_bytes}
-use Rattle.command_reads.specs.Files.{each}
-use Rattle.command_reads.specs.Refusing.{◌>>=◌}
+use Rattle.command_plans.specs.Files.{each}
+use Rattle.command_plans.specs.Declining.{◌>>=◌}
 
 abbrev HasSize : Reading → Piece → Type 0
 HasSize files piece = length (piece_bytes files piece) ≡ piece_length piece

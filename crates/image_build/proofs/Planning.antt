@@ -16,8 +16,8 @@ use Rattle.command_plans.specs.declared.plan.Plan.{Plan as CommandPlan}
 use Rattle.command_plans.specs.declared.plan.Change.TheVariants as changes
 use Rattle.command_plans.specs.declared.outcome.Outcome.TheVariants as outcomes
 use Rattle.boot_machine.specs.Rows.{contents}
-use Rattle.command_reads.proofs.Each.{bind_ok}
-use Rattle.command_reads.specs.Files.{headers_or}
+use Rattle.command_plans.proofs.Each.{bind_ok}
+use Rattle.command_plans.specs.Files.{headers_or}
 use Rattle.image_writer.specs.Sourced.{IsPieced, IsSourced, new_sbat, part_list, parts_bytes, planned_image, stub_path}
 use Rattle.image_writer.specs.declared.sources.Sources.{Sources}
 use Rattle.image_writer.proofs.PlannedImages.{planned_image-is}
@@ -40,17 +40,17 @@ use Rattle.image_build.specs.Imaged.{AreFound, AreOrdered, Images, IsCountable, 
 use Rattle.image_build.proofs.Imaged.{AreRead}
 use Rattle.image_build.specs.Planning.{HasItsLength, IsPlannable, IsPlannedOn, built_as}
 use Rattle.image_build.specs.declared.planned.PlannedBuild.{PlannedBuild}
-use Rattle.boot_phases.specs.Phases.{default_phase_paths}
+use Rattle.pcr_values.specs.Phases.{default_phase_paths}
 use Rattle.stub_replay.specs.Measured.{stub_pcr}
 use Rattle.command_plans.specs.Refusing.{PlansDeclined, PlansUnsaid}
-use Rattle.command_reads.specs.Refusing.{◌>>=◌, DeclinedFor}
-use Rattle.command_reads.specs.declared.refusing.Declined.{Declined}
-use Rattle.command_reads.specs.declared.refusing.Declined.TheVariants as declines
-use Rattle.command_reads.specs.Saying.{UnsaidFor}
-use Rattle.boot_phases.specs.Lines.{value_lines}
-use Rattle.pcr_fold.specs.Banks.{all_banks}
-use Rattle.command_reads.specs.declared.saying.Unsaid.{Unsaid}
-use Rattle.command_reads.specs.declared.saying.Unsaid.TheVariants as unsaid
+use Rattle.command_plans.specs.Declining.{◌>>=◌, DeclinedFor}
+use Rattle.command_plans.specs.declared.declined.Declined.{Declined}
+use Rattle.command_plans.specs.declared.declined.Declined.TheVariants as declines
+use Rattle.command_plans.specs.Unsaying.{UnsaidFor}
+use Rattle.pcr_values.specs.ValueLines.{value_lines}
+use Rattle.pcr_values.specs.Banks.{all_banks}
+use Rattle.command_plans.specs.declared.unsaid.Unsaid.{Unsaid}
+use Rattle.command_plans.specs.declared.unsaid.Unsaid.TheVariants as unsaid
 use Rattle.image_build.specs.Reads.{BuiltFrom, BuiltHasSizes, PartFrom, PartHasSizes, material_as}
 use Rattle.image_build.specs.declared.build_plan.ImagePlan.{ImagePlan}
 use Rattle.image_build.specs.declared.build_reads.BuildParts.{BuildParts}

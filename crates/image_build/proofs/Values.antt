@@ -7,13 +7,13 @@ use Rattle.std.proofs.lemmas.List.Elements.{All-head, All-tail}
 use Rattle.boot_base.specs.Paths.{Path}
 use Rattle.boot_base.specs.declared.refusal.Refusal.{Refusal}
 use Rattle.boot_machine.specs.Disk.{Files}
-use Rattle.boot_phases.specs.Lines.{value_lines}
-use Rattle.boot_phases.specs.Phases.{default_phase_paths}
-use Rattle.command_reads.proofs.Registers.{AreSaid}
-use Rattle.pcr_fold.specs.Banks.{all_banks, fold_of, folded}
-use Rattle.pcr_fold.specs.Values.{shown}
-use Rattle.pcr_fold.specs.declared.pcr.Pcr.{Pcr}
-use Rattle.pcr_fold.specs.declared.bank.Bank.{Bank}
+use Rattle.pcr_values.specs.ValueLines.{value_lines}
+use Rattle.pcr_values.specs.Phases.{default_phase_paths}
+use Rattle.command_plans.proofs.Registers.{AreSaid}
+use Rattle.pcr_values.specs.Banks.{all_banks, fold_of, folded}
+use Rattle.pcr_values.specs.Values.{shown}
+use Rattle.pcr_values.specs.declared.pcr.Pcr.{Pcr}
+use Rattle.pcr_values.specs.declared.bank.Bank.{Bank}
 use Rattle.stub_replay.specs.Parts.{content_or, given_part, items_of, named_bytes}
 use Rattle.stub_replay.specs.declared.measurable.Content.{Content}
 use Rattle.stub_replay.proofs.Pushed.{items_pushed}

@@ -2,9 +2,9 @@
 use Rattle.std.proofs.Common.{◌≡◌, ℕ, List, [], ◌∷◌, ◌++◌, Option, Some, None, Result, Ok, Err, refl, sym, ap, ◌∙◌, ◌<◌, ◌+◌, subst, arith, append_assoc, append-nil, drop, get_or, length, map, take}
 use Rattle.std.proofs.lemmas.List.{drop_more, map-append, take-append-drop, take_more}
 use Rattle.boot_base.specs.declared.refusal.Refusal.{Refusal}
-use Rattle.command_reads.specs.Refusing.{◌>>=◌, DeclinedFor}
-use Rattle.command_reads.specs.declared.refusing.Declined.{Declined}
-use Rattle.command_reads.specs.declared.refusing.Declined.TheVariants.{Memory, Refused}
+use Rattle.command_plans.specs.Declining.{◌>>=◌, DeclinedFor}
+use Rattle.command_plans.specs.declared.declined.Declined.{Declined}
+use Rattle.command_plans.specs.declared.declined.Declined.TheVariants.{Memory, Refused}
 use Rattle.tool_words.specs.declared.command.Given.{Given}
 use Rattle.tool_words.specs.declared.command.Given.TheVariants.{File}
 use Rattle.uki_parts.specs.Names.{padded_name}
@@ -13,8 +13,8 @@ use Rattle.uki_parts.specs.declared.name.SectionName.{SectionName}
 use Rattle.image_build.specs.declared.source.PartSources.{PartSources}
 use Rattle.image_build.specs.declared.source.Source.{Source}
 use Rattle.image_build.specs.Building.{NamedPart, Wanted, extra, given_once, named_part, part_named, source_of, sources_of, wanted, with_parts}
-use Rattle.command_reads.specs.Files.{each}
-use Rattle.command_reads.proofs.Each.{each_append, each_map, each_one, each_one_declined}
+use Rattle.command_plans.specs.Files.{each}
+use Rattle.command_plans.proofs.Each.{each_append, each_map, each_one, each_one_declined}
 
 abbrev Found : Type 0
 Found = List NamedPart

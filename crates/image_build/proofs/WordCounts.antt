@@ -47,7 +47,7 @@ few_onto : (count : ℕ) (item : Item) (later : Result (List Item) UsageReason) 
 few_onto count item (Ok more) found short fine is = subst (AreFew (count + 1)) (cc is) (few_more count item more short (fine more refl))
 few_onto count item (Err e) found short fine is = cc
 
--- what an option is word_meaning with in the same word is short
+-- what an option is said with in the same word is short
 abbrev pub SaysShort : Said → Type 0
 SaysShort Ends = Unit {0}
 SaysShort Plain = Unit {0}

@@ -29,16 +29,16 @@ use Rattle.tool_words.specs.declared.command.Given.{Given}
 use Rattle.tool_words.specs.declared.command.Given.TheVariants.{Inline, File}
 use Rattle.tool_words.specs.Meaning.{inline_or_file}
 use Rattle.command_plans.specs.Answers.{Answer, done, refusal}
-use Rattle.command_reads.specs.Refusing.{◌>>=◌, path_in, printed_path}
+use Rattle.command_plans.specs.Declining.{◌>>=◌, path_in, printed_path}
 use Rattle.image_build.specs.declared.source.Source.{Source}
 use Rattle.image_build.specs.declared.source.PartSources.{PartSources}
 use Rattle.image_build.specs.declared.source.BuildSources.{BuildSources}
 use Rattle.image_build.specs.declared.source.Source.TheVariants as sources
-use Rattle.command_reads.specs.Files.{bytes_at, each, headers_or, if_given}
-use Rattle.command_reads.specs.Names.{shown_byte}
-use Rattle.boot_phases.specs.Lines.{value_lines}
-use Rattle.pcr_fold.specs.Banks.{all_banks}
-use Rattle.boot_phases.specs.Phases.{default_phase_paths}
+use Rattle.command_plans.specs.Files.{bytes_at, each, headers_or, if_given}
+use Rattle.command_plans.specs.Names.{shown_byte}
+use Rattle.pcr_values.specs.ValueLines.{value_lines}
+use Rattle.pcr_values.specs.Banks.{all_banks}
+use Rattle.pcr_values.specs.Phases.{default_phase_paths}
 use Rattle.stub_replay.specs.Measured.{stub_pcr}
 
 -- A value of `--section=`: a section's name, and behind the first colon a text, or `@` and the path of a file. Without

@@ -2,9 +2,9 @@
 use Rattle.std.specs.Prelude.{◌≡◌, ◌++◌, true, length, Ok}
 use Rattle.boot_machine.specs.Disk.{Files}
 use Rattle.boot_machine.specs.Rows.{contents}
-use Rattle.boot_phases.specs.Phases.{default_phase_paths}
-use Rattle.boot_phases.specs.Lines.{value_lines}
-use Rattle.pcr_fold.specs.Banks.{all_banks}
+use Rattle.pcr_values.specs.Phases.{default_phase_paths}
+use Rattle.pcr_values.specs.ValueLines.{value_lines}
+use Rattle.pcr_values.specs.Banks.{all_banks}
 use Rattle.stub_replay.specs.Measured.{stub_pcr}
 use Rattle.tool_words.specs.declared.command.BuildWords.{BuildWords}
 use Rattle.image_build.specs.Building.{Built, build_answer, build_of, built_line}

@@ -11,11 +11,11 @@ ghost use Rattle.boot_machine.specs.Sent.{seen};
 ghost use Rattle.command_plans.specs.Performs.{CountsStop};
 ghost use Rattle.command_plans.specs.Plans.{IsIdleIfRefused, IsMakeable, Plans};
 ghost use Rattle.command_plans.specs.Refusing.{PlansDeclined};
-ghost use Rattle.command_reads.specs.Refusing.{printed_path};
+ghost use Rattle.command_plans.specs.Declining.{printed_path};
 ghost use Rattle.image_writer.specs.Sourced.{IsSourced, planned_image};
-ghost use Rattle.command_reads.specs.Names.{shown_byte};
-ghost use Rattle.command_reads.specs.declared.refusing.Declined.TheVariants as declines;
-ghost use Rattle.command_reads.specs.Saying.{CountsUnsaid, Says, UnsaidFor};
+ghost use Rattle.command_plans.specs.Names.{shown_byte};
+ghost use Rattle.command_plans.specs.declared.declined.Declined.TheVariants as declines;
+ghost use Rattle.command_plans.specs.Unsaying.{CountsUnsaid, Says, UnsaidFor};
 ghost use Rattle.image_build.specs.Building.{AreNamed, Built, build_answer, build_named, builder_refusal, named_as, named_of, built_answer, built_line, built_text, image_of};
 ghost use Rattle.image_build.specs.Imaged.{Images};
 ghost use Rattle.image_build.specs.Planning.{built_as, IsPlannable, IsPlannedOn, measuring_length, planning_length};
@@ -32,8 +32,9 @@ use crate::planned::PlannedBuild;
 use crate::source::BuildSources;
 use boot_base::{BootPath, Bytes, Refusal, Target, Text};
 use boot_machine::Machine;
-use command_plans::{Change, Outcome, Plan, Stop, plan_declined, plan_unsaid};
-use command_reads::{Unsaid, printed, shown_name};
+use command_plans::{
+    Change, Outcome, Plan, Stop, Unsaid, plan_declined, plan_unsaid, printed, shown_name,
+};
 use pe_builder::PlanFault;
 use std::alloc::{AllocError, Global};
 use tool_words::BuildWords;

@@ -11,14 +11,14 @@ ghost use Rattle.pe_reader.specs.Reads.{headers_of};
 ghost use Rattle.uki_parts.specs.Pieces.{HasSizes, Reading, bytes_of, piece_bytes, piece_length, total_length};
 ghost use Rattle.image_build.specs.Building.{contents_of, given_sbat, material_of, named_as, part_bytes, part_named, sbat_of, source_bytes};
 ghost use Rattle.boot_base.specs.Limits.{file_limit};
-ghost use Rattle.command_reads.specs.Files.{bytes_at, each};
+ghost use Rattle.command_plans.specs.Files.{bytes_at, each};
 ghost use Rattle.image_build.specs.Reads.{BuiltFrom, BuiltHasSizes, FilesFrom, FilesHaveSizes, IsKernel, PartFrom, PartHasSizes, contents_as, loaded_sbat_length, material_as, part_as, reading_length, source_file_length, source_limit};
-ghost use Rattle.command_reads.specs.Saying.{CountsUnsaid, Says};
+ghost use Rattle.command_plans.specs.Unsaying.{CountsUnsaid, Says};
 
 use crate::source::{BuildSources, PartSources, Source};
 use boot_base::BootPath;
 use boot_machine::Machine;
-use command_reads::{Unsaid, file_bytes, file_part, head_of_size, readable, sized_head};
+use command_plans::{Unsaid, file_bytes, file_part, head_of_size, readable, sized_head};
 use pe_reader::{HeadFault, LoadedRange, Pe};
 use std::alloc::{AllocError, Global};
 use uki_parts::{

@@ -2,16 +2,16 @@
 ghost use Rattle.std.specs.Prelude.{◌≡◌, ◌++◌, ◌∷◌, [], List, ℕ, Some, IfOk, IsTrue, OnOk, codes, is_some, map};
 ghost use Rattle.std.specs.Option.{option_map};
 ghost use Rattle.boot_base.specs.Paths.{IsFree};
-ghost use Rattle.command_reads.specs.Refusing.{Means};
+ghost use Rattle.command_plans.specs.Declining.{Means};
 ghost use Rattle.tool_words.specs.declared.command.Given.TheVariants.{Inline, File};
 ghost use Rattle.uki_parts.specs.declared.kind.PartKind.TheVariants as kinds;
 ghost use Rattle.uki_parts.specs.Names.{fixed_name, padded_name, read_name};
 ghost use Rattle.image_build.specs.Building.{clean, extra, given_once, named_as, named_of, named_part, part_named, section_name, section_of, source_of, sources_of, wanted, wanted_parts, with_parts};
-ghost use Rattle.command_reads.specs.Files.{each, if_given};
+ghost use Rattle.command_plans.specs.Files.{each, if_given};
 
 use crate::source::{BuildSources, PartSources, Source};
 use boot_base::{Bytes, Refusal, Text};
-use command_reads::{Declined, path_in, push};
+use command_plans::{Declined, path_in, push};
 use std::alloc::{AllocError, Global};
 use tool_words::{BuildWords, Given, given};
 use uki_parts::{PartKind, SectionName, clean_cmdline};

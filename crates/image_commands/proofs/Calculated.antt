@@ -5,18 +5,18 @@ use Rattle.boot_base.specs.Paths.{Path}
 use Rattle.boot_machine.specs.Disk.{State}
 use Rattle.boot_machine.specs.Rows.{contents}
 use Rattle.boot_machine.specs.Sent.{seen}
-use Rattle.pcr_fold.specs.declared.bank.Bank.{Bank}
-use Rattle.pcr_fold.specs.declared.pcr.Pcr.{Pcr}
-use Rattle.pcr_fold.specs.Banks.{folded}
-use Rattle.pcr_fold.specs.Values.{shown}
+use Rattle.pcr_values.specs.declared.bank.Bank.{Bank}
+use Rattle.pcr_values.specs.declared.pcr.Pcr.{Pcr}
+use Rattle.pcr_values.specs.Banks.{folded}
+use Rattle.pcr_values.specs.Values.{shown}
 use Rattle.stub_replay.specs.Ordered.{present}
 use Rattle.stub_replay.specs.Parts.{HaveSizes, files_length, items_of, named_bytes}
 use Rattle.stub_replay.specs.declared.measurable.Measurable.{Measurable}
 use Rattle.tool_words.specs.declared.command.CalculateWords.{CalculateWords}
 use Rattle.uki_parts.specs.Pieces.{Reading}
 use Rattle.uki_parts.specs.declared.piece.Piece.{Piece}
-use Rattle.command_reads.specs.Files.{bytes_at, each}
-use Rattle.command_reads.specs.Refusing.{path_in}
+use Rattle.command_plans.specs.Files.{bytes_at, each}
+use Rattle.command_plans.specs.Declining.{path_in}
 use Rattle.image_commands.specs.Calculating.{part_words, under_name}
 use Rattle.image_commands.specs.Parts.{HasItsSize, named_file}
 use Rattle.image_commands.specs.Taking.{named_length}

@@ -5,15 +5,15 @@ use Rattle.std.proofs.lemmas.Grind.{flat_map-append}
 use Rattle.std.proofs.lemmas.List.{append-nil, get_or_default, take_more}
 use Rattle.boot_base.specs.declared.refusal.Refusal.{Refusal}
 use Rattle.std.specs.Prelude.{Result}
-use Rattle.pcr_fold.specs.declared.bank.Bank.TheVariants as banks
-use Rattle.pcr_fold.specs.Banks.{digest_of}
+use Rattle.pcr_values.specs.declared.bank.Bank.TheVariants as banks
+use Rattle.pcr_values.specs.Banks.{digest_of}
 use Rattle.pe_reader.specs.declared.section.Section.{Section}
 use Rattle.pe_reader.specs.declared.section.LoadedRange.{LoadedRange}
 use Rattle.pe_reader.specs.Grammar.{Headers, pe_of}
 use Rattle.boot_base.specs.Names.{short_name}
 use Rattle.pe_reader.specs.Loaded.{bytes_in, loaded_by, no_section, range_of}
 use Rattle.pe_reader.proofs.Ranges.{length-bytes_in, range_inside}
-use Rattle.command_reads.specs.Names.{shown_byte}
+use Rattle.command_plans.specs.Names.{shown_byte}
 use Rattle.image_commands.specs.Said.{measures, section_lines}
 
 -- the raw data of each section of a PE32+ file lie in it

@@ -19,16 +19,16 @@ use Rattle.stub_replay.specs.declared.measurable.Measurable.{Measurable}
 use Rattle.tool_words.specs.declared.command.CalculateWords.{CalculateWords}
 use Rattle.uki_parts.specs.Pieces.{HasSizes, Reading, bytes_of, piece_bytes, piece_length}
 use Rattle.uki_parts.specs.declared.piece.Piece.{Piece}
-use Rattle.command_reads.proofs.Declining.{done_next, means_declined}
-use Rattle.command_reads.proofs.Each.{bind_ok, each_cut, each_more, each_refused, none_made}
-use Rattle.command_reads.proofs.Unsaying.{says_unsaid}
-use Rattle.command_reads.specs.Files.{bytes_at, each}
-use Rattle.command_reads.specs.Refusing.{◌>>=◌, DeclinedFor, Means, path_in}
-use Rattle.command_reads.specs.Saying.{Says, UnsaidFor}
-use Rattle.command_reads.specs.declared.refusing.Declined.{Declined}
-use Rattle.command_reads.specs.declared.refusing.Declined.TheVariants.{Memory, Refused}
-use Rattle.command_reads.specs.declared.saying.Unsaid.{Unsaid}
-use Rattle.command_reads.specs.declared.saying.Unsaid.TheVariants.{Memory as WithoutMemory, Disk, Refused as UnsaidRefused}
+use Rattle.command_plans.proofs.Declining.{done_next, means_declined}
+use Rattle.command_plans.proofs.Each.{bind_ok, each_cut, each_more, each_refused, none_made}
+use Rattle.command_plans.proofs.Unsaying.{says_unsaid}
+use Rattle.command_plans.specs.Files.{bytes_at, each}
+use Rattle.command_plans.specs.Declining.{◌>>=◌, DeclinedFor, Means, path_in}
+use Rattle.command_plans.specs.Unsaying.{Says, UnsaidFor}
+use Rattle.command_plans.specs.declared.declined.Declined.{Declined}
+use Rattle.command_plans.specs.declared.declined.Declined.TheVariants.{Memory, Refused}
+use Rattle.command_plans.specs.declared.unsaid.Unsaid.{Unsaid}
+use Rattle.command_plans.specs.declared.unsaid.Unsaid.TheVariants.{Memory as WithoutMemory, Disk, Refused as UnsaidRefused}
 use Rattle.image_commands.specs.Calculating.{part_words, under_name}
 use Rattle.image_commands.specs.Parts.{HasItsSize, named_file, named_path, named_word}
 

@@ -3,12 +3,12 @@ use Rattle.std.proofs.Common.{◌≡◌, ◌++◌, ℕ, List, [], ◌∷◌, Ok,
 use Rattle.std.specs.List.{flat_map}
 use Rattle.boot_base.specs.Paths.{Path}
 use Rattle.boot_machine.specs.Disk.{Files}
-use Rattle.boot_phases.specs.Lines.{heading_of, value_line, value_lines}
-use Rattle.command_reads.proofs.Declining.{done_next}
-use Rattle.command_reads.specs.Files.{bytes_at, each}
-use Rattle.command_reads.specs.Refusing.{path_in}
-use Rattle.command_reads.specs.Values.{banks_of, paths_of}
-use Rattle.pcr_fold.specs.declared.bank.Bank.{Bank}
+use Rattle.pcr_values.specs.ValueLines.{heading_of, value_line, value_lines}
+use Rattle.command_plans.proofs.Declining.{done_next}
+use Rattle.command_plans.specs.Files.{bytes_at, each}
+use Rattle.command_plans.specs.Declining.{path_in}
+use Rattle.command_plans.specs.Choices.{banks_of, paths_of}
+use Rattle.pcr_values.specs.declared.bank.Bank.{Bank}
 use Rattle.stub_replay.specs.Ordered.{part_of, present}
 use Rattle.stub_replay.specs.Measured.{Shows, predicted_pcr, stub_pcr}
 use Rattle.stub_replay.proofs.Predicting.{predicted_is_replayed}

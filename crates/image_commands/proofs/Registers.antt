@@ -3,22 +3,22 @@ use Rattle.std.proofs.Common.{◌≡◌, ◌++◌, ℕ, List, [], map, Result, O
 use Rattle.boot_base.specs.Paths.{Path}
 use Rattle.boot_base.specs.declared.refusal.Refusal.{Refusal}
 use Rattle.boot_machine.specs.Disk.{Files}
-use Rattle.boot_phases.specs.Lines.{value_lines}
-use Rattle.pcr_fold.specs.declared.bank.Bank.{Bank}
-use Rattle.pcr_fold.specs.declared.bank.Bank.TheVariants as bank_names
-use Rattle.pcr_fold.specs.declared.pcr.Pcr.{Pcr}
-use Rattle.pcr_fold.specs.Banks.{fold_of, folded}
-use Rattle.pcr_fold.specs.Values.{shown}
+use Rattle.pcr_values.specs.ValueLines.{value_lines}
+use Rattle.pcr_values.specs.declared.bank.Bank.{Bank}
+use Rattle.pcr_values.specs.declared.bank.Bank.TheVariants as bank_names
+use Rattle.pcr_values.specs.declared.pcr.Pcr.{Pcr}
+use Rattle.pcr_values.specs.Banks.{fold_of, folded}
+use Rattle.pcr_values.specs.Values.{shown}
 use Rattle.pe_reader.specs.Grammar.{Headers}
 use Rattle.stub_replay.specs.Measured.{measured_list, stub_pcr}
 use Rattle.stub_replay.specs.Ordered.{present}
 use Rattle.stub_replay.specs.Parts.{items_of}
 use Rattle.stub_replay.proofs.Ordered.{predicted_in_order}
 use Rattle.tool_words.specs.declared.command.CalculateWords.{CalculateWords}
-use Rattle.command_reads.proofs.Declining.{done_next}
-use Rattle.command_reads.specs.Files.{bytes_at, each, image_at}
-use Rattle.command_reads.specs.Refusing.{path_in}
-use Rattle.command_reads.specs.Values.{banks_of, paths_of}
+use Rattle.command_plans.proofs.Declining.{done_next}
+use Rattle.command_plans.specs.Files.{bytes_at, each, image_at}
+use Rattle.command_plans.specs.Declining.{path_in}
+use Rattle.command_plans.specs.Choices.{banks_of, paths_of}
 use Rattle.image_commands.proofs.Parts.{parts_in_order, words_in_order}
 use Rattle.image_commands.specs.Calculating.{calculate_said, part_words, under_name}
 use Rattle.image_commands.specs.Said.{values_at}

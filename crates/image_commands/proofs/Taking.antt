@@ -19,9 +19,9 @@ use Rattle.pe_reader.proofs.Ranges.{length-bytes_in}
 use Rattle.uki_parts.specs.Pieces.{HasSizes, Reading, bytes_of, piece_bytes, piece_length}
 use Rattle.uki_parts.specs.declared.piece.Piece.{Piece}
 use Rattle.uki_parts.specs.declared.piece.Piece.TheVariants as pieces
-use Rattle.command_reads.proofs.Each.{bind_ok, each_cut, none_made}
-use Rattle.command_reads.specs.Files.{bytes_at, each, headers_or, image_at}
-use Rattle.command_reads.specs.Refusing.{◌>>=◌, path_in}
+use Rattle.command_plans.proofs.Each.{bind_ok, each_cut, none_made}
+use Rattle.command_plans.specs.Files.{bytes_at, each, headers_or, image_at}
+use Rattle.command_plans.specs.Declining.{◌>>=◌, path_in}
 use Rattle.image_commands.specs.Calculating.{under_name}
 use Rattle.image_commands.specs.Taking.{all_raw_length, found_bytes, named_content, raw_length}
 

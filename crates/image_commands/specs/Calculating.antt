@@ -2,13 +2,13 @@
 use Rattle.std.specs.Prelude.{ℕ, List, [], ◌∷◌, codes, Option, Some, Result, Ok}
 use Rattle.boot_base.specs.declared.refusal.Refusal.{Refusal}
 use Rattle.boot_machine.specs.Disk.{Files}
-use Rattle.boot_phases.specs.Lines.{value_lines}
+use Rattle.pcr_values.specs.ValueLines.{value_lines}
 use Rattle.stub_replay.specs.Measured.{predicted_pcr}
 use Rattle.stub_replay.specs.Ordered.{part_of, present}
 use Rattle.tool_words.specs.declared.command.CalculateWords.{CalculateWords}
-use Rattle.command_reads.specs.Refusing.{◌>>=◌, path_in}
-use Rattle.command_reads.specs.Files.{bytes_at, each}
-use Rattle.command_reads.specs.Values.{banks_of, paths_of}
+use Rattle.command_plans.specs.Declining.{◌>>=◌, path_in}
+use Rattle.command_plans.specs.Files.{bytes_at, each}
+use Rattle.command_plans.specs.Choices.{banks_of, paths_of}
 
 -- the names of the measured sections, each with the word of the part's file where one is given
 abbrev pub part_words : CalculateWords → List (List ℕ × Option (List ℕ))

@@ -2,10 +2,10 @@
 use Rattle.std.specs.Prelude.{◌≡◌, ℕ, List, Ok, map}
 use Rattle.boot_base.specs.Paths.{Path}
 use Rattle.boot_machine.specs.Disk.{Files}
-use Rattle.boot_phases.specs.Lines.{value_lines}
-use Rattle.command_reads.specs.Files.{bytes_at, each}
-use Rattle.command_reads.specs.Refusing.{path_in}
-use Rattle.command_reads.specs.Values.{banks_of, paths_of}
+use Rattle.pcr_values.specs.ValueLines.{value_lines}
+use Rattle.command_plans.specs.Files.{bytes_at, each}
+use Rattle.command_plans.specs.Declining.{path_in}
+use Rattle.command_plans.specs.Choices.{banks_of, paths_of}
 use Rattle.stub_replay.specs.Measured.{Shows, measured_names, stub_pcr}
 use Rattle.stub_replay.specs.Ordered.{part_of}
 use Rattle.tool_words.specs.declared.command.CalculateWords.{CalculateWords}

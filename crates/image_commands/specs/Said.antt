@@ -5,20 +5,20 @@ use Rattle.std.specs.Fmt.{decimal}
 use Rattle.boot_base.specs.Paths.{Path}
 use Rattle.boot_base.specs.declared.refusal.Refusal.{Refusal}
 use Rattle.boot_machine.specs.Disk.{Files}
-use Rattle.boot_phases.specs.Lines.{value_lines}
+use Rattle.pcr_values.specs.ValueLines.{value_lines}
 use Rattle.hex.specs.Hex.{encode_lower}
-use Rattle.pcr_fold.specs.declared.bank.Bank.TheVariants as banks
-use Rattle.pcr_fold.specs.Banks.{digest_of}
+use Rattle.pcr_values.specs.declared.bank.Bank.TheVariants as banks
+use Rattle.pcr_values.specs.Banks.{digest_of}
 use Rattle.pe_reader.specs.declared.fault.FailedCheck.{FailedCheck}
 use Rattle.pe_reader.specs.declared.section.Section.{Section}
 use Rattle.pe_reader.specs.Grammar.{Headers, pe_of}
 use Rattle.boot_base.specs.Names.{short_name}
 use Rattle.pe_reader.specs.Loaded.{loaded, loaded_by}
 use Rattle.stub_replay.specs.Measured.{stub_pcr}
-use Rattle.command_reads.specs.Refusing.{◌>>=◌, path_in, printed_path}
-use Rattle.command_reads.specs.Files.{bytes_at, image_at}
-use Rattle.command_reads.specs.Names.{shown_byte}
-use Rattle.command_reads.specs.Values.{banks_of, paths_of}
+use Rattle.command_plans.specs.Declining.{◌>>=◌, path_in, printed_path}
+use Rattle.command_plans.specs.Files.{bytes_at, image_at}
+use Rattle.command_plans.specs.Names.{shown_byte}
+use Rattle.command_plans.specs.Choices.{banks_of, paths_of}
 
 -- what is printed behind a section's name: the number and the SHA-256 digest of its loaded bytes
 unfoldable pub measures : ℕ → List ℕ → List ℕ

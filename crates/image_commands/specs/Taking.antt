@@ -7,8 +7,8 @@ use Rattle.pe_reader.specs.declared.section.Section.{Section}
 use Rattle.pe_reader.specs.Grammar.{Headers}
 use Rattle.pe_reader.specs.Loaded.{range_of}
 use Rattle.tool_words.specs.declared.command.CalculateWords.{CalculateWords}
-use Rattle.command_reads.specs.Refusing.{◌>>=◌, path_in}
-use Rattle.command_reads.specs.Files.{bytes_at}
+use Rattle.command_plans.specs.Declining.{◌>>=◌, path_in}
+use Rattle.command_plans.specs.Files.{bytes_at}
 use Rattle.image_commands.specs.Calculating.{given_words}
 
 -- the bytes that were found, none where the file is refused

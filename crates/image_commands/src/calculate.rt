@@ -5,8 +5,8 @@ ghost use Rattle.boot_machine.specs.Reading.{OnlyReads, TakesAtMost};
 ghost use Rattle.boot_machine.specs.Rows.{contents};
 ghost use Rattle.boot_machine.specs.Sent.{seen};
 ghost use Rattle.uki_parts.specs.Pieces.{Reading, piece_bytes, piece_length};
-ghost use Rattle.pcr_fold.specs.Banks.{folded};
-ghost use Rattle.pcr_fold.specs.Values.{pcr_bank, shown};
+ghost use Rattle.pcr_values.specs.Banks.{folded};
+ghost use Rattle.pcr_values.specs.Values.{pcr_bank, shown};
 ghost use Rattle.stub_replay.specs.Ordered.{present};
 ghost use Rattle.stub_replay.specs.Parts.{HaveSizes, IsPlaced, items_of, named_bytes};
 ghost use Rattle.command_plans.specs.Answers.{answer_of_read};
@@ -14,19 +14,19 @@ ghost use Rattle.command_plans.specs.Performs.{CountsStop};
 ghost use Rattle.command_plans.specs.Plans.{IsMakeable, Plans};
 ghost use Rattle.command_plans.specs.Refusing.{DeclinesWords, RefusesWords};
 ghost use Rattle.command_plans.specs.declared.plan.Change.TheVariants.{Nothing};
-ghost use Rattle.command_reads.specs.Files.{bytes_at, each};
-ghost use Rattle.command_reads.specs.Refusing.{Means, path_in};
-ghost use Rattle.command_reads.specs.Saying.{CountsUnsaid, Says};
+ghost use Rattle.command_plans.specs.Files.{bytes_at, each};
+ghost use Rattle.command_plans.specs.Declining.{Means, path_in};
+ghost use Rattle.command_plans.specs.Unsaying.{CountsUnsaid, Says};
 ghost use Rattle.image_commands.specs.Calculating.{calculate_said, given_words, under_name};
 ghost use Rattle.image_commands.specs.Parts.{HasItsSize, named_file, named_path, named_word};
 ghost use Rattle.image_commands.specs.Taking.{named_length};
 
 use boot_base::{BootPath, PIECE_SIZE, Text};
 use boot_machine::Machine;
-use boot_phases::result_lines;
-use command_plans::{Plan, Stop, said};
-use command_reads::{Declined, Unsaid, banks_of, path_in, paths_of, push, readable};
-use pcr_fold::{Bank, Pcr};
+use command_plans::{
+    Declined, Plan, Stop, Unsaid, banks_of, path_in, paths_of, push, readable, said,
+};
+use pcr_values::{Bank, Pcr, result_lines};
 use std::alloc::{AllocError, Global};
 use std::slice;
 use stub_replay::{Content, Measurable, PredictFault, predict};

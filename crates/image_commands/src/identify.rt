@@ -10,13 +10,12 @@ ghost use Rattle.command_plans.specs.Plans.{IsMakeable, Plans};
 ghost use Rattle.command_plans.specs.Refusing.{DeclinesWords, RefusesWords};
 ghost use Rattle.command_plans.specs.declared.plan.Change.TheVariants.{Nothing};
 ghost use Rattle.image_commands.specs.Said.{has_loaded, identify_said, kind_at, kind_of};
-ghost use Rattle.command_reads.specs.Refusing.{path_in};
-ghost use Rattle.command_reads.specs.Saying.{CountsUnsaid, Says};
+ghost use Rattle.command_plans.specs.Declining.{path_in};
+ghost use Rattle.command_plans.specs.Unsaying.{CountsUnsaid, Says};
 
 use boot_base::BootPath;
 use boot_machine::Machine;
-use command_plans::{Plan, Stop, said};
-use command_reads::{Unsaid, path_in, readable};
+use command_plans::{Plan, Stop, Unsaid, path_in, readable, said};
 use pe_reader::{HeadFault, Pe};
 use std::alloc::Global;
 

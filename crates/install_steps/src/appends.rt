@@ -8,8 +8,7 @@ ghost use Rattle.boot_machine.specs.Taken.{TakesNone};
 ghost use Rattle.install_steps.specs.Appends.{AppendsOnly, Grown};
 
 use boot_base::{BootPath, TempPath};
-use boot_machine::{DiskFault, Machine};
-use range_stream::{ByteSink, stream_range};
+use boot_machine::{ByteSink, DiskFault, Machine, stream_range};
 
 /// A temporary file that grows by the bytes that it takes.
 #[derive(Drop)]

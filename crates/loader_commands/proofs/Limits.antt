@@ -9,9 +9,9 @@ use Rattle.boot_base.specs.Paths.{Path}
 use Rattle.boot_base.specs.declared.refusal.Refusal.TheVariants as refusals
 use Rattle.boot_machine.specs.Disk.{Files}
 use Rattle.boot_machine.specs.Rows.{contents}
-use Rattle.command_reads.specs.Files.{readable}
-use Rattle.command_reads.specs.Refusing.{printed_path}
-use Rattle.command_reads.proofs.Sizes.{none_of, some_of}
+use Rattle.command_plans.specs.Files.{readable}
+use Rattle.command_plans.specs.Declining.{printed_path}
+use Rattle.command_plans.proofs.Sizes.{none_of, some_of}
 use Rattle.loader_commands.specs.Places.{conf_limit, conf_or_empty, within_limit}
 
 not_above : (limit n : ℕ) → n ≤ limit → nat_lt limit n ≡ false

@@ -11,7 +11,7 @@ use Rattle.boot_folder.specs.declared.fault.ScanFault.{ScanFault}
 use Rattle.boot_folder.specs.declared.fault.ScanFault.TheVariants as scans
 use Rattle.boot_folder.specs.declared.folders.Folders.{Folders}
 use Rattle.boot_folder.proofs.EntryFiles.{view_count}
-use Rattle.command_reads.specs.Saying.{UnsaidFor}
+use Rattle.command_plans.specs.Unsaying.{UnsaidFor}
 use Rattle.loader_commands.specs.Places.{loader_menu, menu_unsaid}
 
 not_many : (n : ℕ) → n ≤ 4096 → nat_lt 4096 n ≡ false

@@ -7,23 +7,23 @@ use Rattle.boot_base.specs.declared.refusal.Refusal.TheVariants as refusals
 use Rattle.boot_folder.specs.Entries.{boot_menu, entry_count}
 use Rattle.boot_folder.specs.declared.folders.Folders.{Folders}
 use Rattle.boot_machine.specs.Disk.{Files}
-use Rattle.command_reads.specs.Refusing.{◌>>=◌, printed_path}
-use Rattle.command_reads.specs.Saying.{Says}
-use Rattle.command_reads.specs.declared.saying.Unsaid.{Unsaid}
-use Rattle.command_reads.proofs.Declining.{done_next}
+use Rattle.command_plans.specs.Declining.{◌>>=◌, printed_path}
+use Rattle.command_plans.specs.Unsaying.{Says}
+use Rattle.command_plans.specs.declared.unsaid.Unsaid.{Unsaid}
+use Rattle.command_plans.proofs.Declining.{done_next}
 use Rattle.loader_commands.specs.Laws.{ChangesOneKey, ShowsDefaultEntry}
 use Rattle.loader_commands.specs.Places.{conf_bytes, conf_limit, conf_path, loader_menu, loader_paths, within_limit}
 use Rattle.loader_commands.specs.Setting.{bad_value, conf_set, text_set, value_in}
 use Rattle.loader_commands.specs.Showing.{default_item, entry_id, menu_shown, show_said, show_text, shown_or_empty}
 use Rattle.loader_commands.specs.declared.places.LoaderPaths.{LoaderPaths}
-use Rattle.loader_conf.specs.Choice.{IsDefaultEntry, default_place}
-use Rattle.loader_conf.specs.Conf.{IsConfValue, conf_default, conf_key_name, conf_of, conf_timeout, conf_value, may_be_value, other_conf_key}
-use Rattle.loader_conf.specs.FileLines.{raw_lines, text_with_value}
-use Rattle.loader_conf.specs.declared.change.ConfKey.{ConfKey}
-use Rattle.loader_conf.specs.declared.change.ConfKey.TheVariants.{Default, Timeout}
-use Rattle.loader_conf.proofs.Changes.{conf_lines, conf_other, conf_set as value_set}
-use Rattle.loader_conf.proofs.Choices.{entry_at}
-use Rattle.loader_conf.proofs.Decisions.{default_decides}
+use Rattle.boot_texts.specs.ConfChoice.{IsDefaultEntry, default_place}
+use Rattle.boot_texts.specs.Conf.{IsConfValue, conf_default, conf_key_name, conf_of, conf_timeout, conf_value, may_be_value, other_conf_key}
+use Rattle.boot_texts.specs.FileLines.{raw_lines, text_with_value}
+use Rattle.boot_texts.specs.declared.conf_change.ConfKey.{ConfKey}
+use Rattle.boot_texts.specs.declared.conf_change.ConfKey.TheVariants.{Default, Timeout}
+use Rattle.boot_texts.proofs.ConfChanges.{conf_lines, conf_other, conf_set as value_set}
+use Rattle.boot_texts.proofs.ConfChoices.{entry_at}
+use Rattle.boot_texts.proofs.PatternDecisions.{default_decides}
 use Rattle.menu_order.specs.declared.item.MenuItem.{MenuItem}
 
 -- what a step that is done went through

@@ -9,9 +9,9 @@ use Rattle.boot_folder.specs.declared.fault.ScanFault.{ScanFault}
 use Rattle.boot_folder.specs.declared.fault.ScanFault.TheVariants as scans
 use Rattle.boot_folder.specs.declared.folders.Folders.{Folders}
 use Rattle.boot_machine.specs.Disk.{Files}
-use Rattle.command_reads.specs.Refusing.{◌>>=◌, path_in, path_under, printed_path}
-use Rattle.command_reads.specs.declared.saying.Unsaid.{Unsaid}
-use Rattle.command_reads.specs.declared.saying.Unsaid.TheVariants as unsaid
+use Rattle.command_plans.specs.Declining.{◌>>=◌, path_in, path_under, printed_path}
+use Rattle.command_plans.specs.declared.unsaid.Unsaid.{Unsaid}
+use Rattle.command_plans.specs.declared.unsaid.Unsaid.TheVariants as unsaid
 use Rattle.loader_commands.specs.declared.places.LoaderPaths.{LoaderPaths}
 use Rattle.menu_order.specs.declared.item.MenuItem.{MenuItem}
 

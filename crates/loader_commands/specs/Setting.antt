@@ -6,12 +6,12 @@ use Rattle.boot_base.specs.declared.refusal.Refusal.{Refusal}
 use Rattle.boot_base.specs.declared.refusal.Refusal.TheVariants as refusals
 use Rattle.boot_machine.specs.Disk.{Files}
 use Rattle.command_plans.specs.Answers.{Answer, answered, done}
-use Rattle.command_reads.specs.Refusing.{◌>>=◌}
+use Rattle.command_plans.specs.Declining.{◌>>=◌}
 use Rattle.loader_commands.specs.Places.{conf_bytes, conf_path, within_limit}
-use Rattle.loader_conf.specs.Conf.{conf_key_name, may_be_value}
-use Rattle.loader_conf.specs.FileLines.{text_with_value}
-use Rattle.loader_conf.specs.declared.change.ConfKey.{ConfKey}
-use Rattle.loader_conf.specs.declared.change.ConfKey.TheVariants.{Default, Timeout}
+use Rattle.boot_texts.specs.Conf.{conf_key_name, may_be_value}
+use Rattle.boot_texts.specs.FileLines.{text_with_value}
+use Rattle.boot_texts.specs.declared.conf_change.ConfKey.{ConfKey}
+use Rattle.boot_texts.specs.declared.conf_change.ConfKey.TheVariants.{Default, Timeout}
 
 -- what a word is refused for that may not be written for the key
 abbrev pub bad_value : ConfKey → List ℕ → Refusal

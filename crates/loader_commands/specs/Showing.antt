@@ -2,13 +2,13 @@
 use Rattle.std.specs.Prelude.{ℕ, List, ◌++◌, codes, map, slice_get, Option, Some, None, option_and_then, Result, Ok, Err}
 use Rattle.boot_base.specs.declared.refusal.Refusal.{Refusal}
 use Rattle.boot_base.specs.declared.refusal.Refusal.TheVariants as refusals
-use Rattle.boot_counter.specs.Counter.{suffix_text}
+use Rattle.menu_order.specs.Counter.{suffix_text}
 use Rattle.boot_machine.specs.Disk.{Files}
 use Rattle.command_plans.specs.Answers.{Answer, answer_of_read}
-use Rattle.command_reads.specs.Refusing.{◌>>=◌, printed_path}
+use Rattle.command_plans.specs.Declining.{◌>>=◌, printed_path}
 use Rattle.loader_commands.specs.Places.{conf_bytes, loader_menu, loader_paths}
-use Rattle.loader_conf.specs.Choice.{default_place}
-use Rattle.loader_conf.specs.Conf.{conf_default, conf_timeout}
+use Rattle.boot_texts.specs.ConfChoice.{default_place}
+use Rattle.boot_texts.specs.Conf.{conf_default, conf_timeout}
 use Rattle.menu_order.specs.declared.item.MenuItem.{MenuItem}
 
 -- the id of an entry: the name of its file without the counter (UAPI Boot Loader Specification)

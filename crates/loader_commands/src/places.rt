@@ -5,14 +5,14 @@ ghost use Rattle.boot_folder.specs.Scanning.{scan_limit};
 ghost use Rattle.boot_folder.specs.declared.fault.ScanFault.TheVariants as scans;
 ghost use Rattle.boot_machine.specs.Reading.{OnlyReads, TakesAtMost};
 ghost use Rattle.boot_machine.specs.Sent.{seen};
-ghost use Rattle.command_reads.specs.Refusing.{Means, printed_path};
-ghost use Rattle.command_reads.specs.Saying.{CountsUnsaid, Says};
+ghost use Rattle.command_plans.specs.Declining.{Means, printed_path};
+ghost use Rattle.command_plans.specs.Unsaying.{CountsUnsaid, Says};
 ghost use Rattle.loader_commands.specs.Places.{conf_bytes, conf_path, loader_menu, loader_paths, menu_unsaid};
 
 use boot_base::{BootPath, Refusal};
 use boot_folder::{Folders, ScanFault, scan_folders};
 use boot_machine::Machine;
-use command_reads::{Declined, Unsaid, file_bytes, path_in, path_under, printed, seen_size};
+use command_plans::{Declined, Unsaid, file_bytes, path_in, path_under, printed, seen_size};
 use menu_order::MenuItem;
 use std::alloc::{AllocError, Global};
 

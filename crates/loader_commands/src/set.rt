@@ -7,20 +7,19 @@ ghost use Rattle.boot_machine.specs.Sent.{seen};
 ghost use Rattle.command_plans.specs.Performs.{CountsStop};
 ghost use Rattle.command_plans.specs.Plans.{IsIdleIfRefused, IsMakeable, Plans, PlansAs};
 ghost use Rattle.command_plans.specs.Refusing.{DeclinesWords, RefusesWords};
-ghost use Rattle.command_reads.specs.Refusing.{Means};
-ghost use Rattle.command_reads.specs.Saying.{CountsUnsaid, Says};
+ghost use Rattle.command_plans.specs.Declining.{Means};
+ghost use Rattle.command_plans.specs.Unsaying.{CountsUnsaid, Says};
 ghost use Rattle.loader_commands.specs.Places.{within_limit};
 ghost use Rattle.loader_commands.specs.Setting.{bad_value, conf_set, conf_words, set_answer, set_meant, set_text, text_set, value_in};
-ghost use Rattle.loader_conf.specs.Conf.{IsConfValue, conf_key_name};
-ghost use Rattle.loader_conf.specs.FileLines.{text_with_value};
-ghost use Rattle.loader_conf.specs.declared.change.ConfKey.TheVariants as keys;
+ghost use Rattle.boot_texts.specs.Conf.{IsConfValue, conf_key_name};
+ghost use Rattle.boot_texts.specs.FileLines.{text_with_value};
+ghost use Rattle.boot_texts.specs.declared.conf_change.ConfKey.TheVariants as keys;
 
 use crate::places::{CONF_LIMIT, conf_bytes, conf_path, too_long};
 use boot_base::{BootPath, Bytes, Refusal, Target, Text};
 use boot_machine::Machine;
-use command_plans::{Change, Outcome, Plan, Stop, answered};
-use command_reads::{Declined, Unsaid};
-use loader_conf::{ConfKey, may_be_value, with_key};
+use boot_texts::{ConfKey, may_be_value, with_key};
+use command_plans::{Change, Declined, Outcome, Plan, Stop, Unsaid, answered};
 use std::alloc::{AllocError, Global};
 
 /// A change of a loader.conf: where it is written, its whole new text, and what is told of it.

@@ -7,18 +7,17 @@ ghost use Rattle.command_plans.specs.Performs.{CountsStop};
 ghost use Rattle.command_plans.specs.Plans.{IsMakeable, Plans};
 ghost use Rattle.command_plans.specs.Refusing.{DeclinesWords, RefusesWords};
 ghost use Rattle.command_plans.specs.declared.plan.Change.TheVariants.{Nothing};
-ghost use Rattle.command_reads.specs.Saying.{CountsUnsaid, Says};
+ghost use Rattle.command_plans.specs.Unsaying.{CountsUnsaid, Says};
 ghost use Rattle.loader_commands.specs.Places.{loader_paths};
 ghost use Rattle.loader_commands.specs.Taking.{show_limit};
 ghost use Rattle.loader_commands.specs.Showing.{entry_id, default_item, menu_shown, show_answer, show_said, show_text, timeout_or_none};
-ghost use Rattle.loader_conf.specs.Conf.{conf_of};
+ghost use Rattle.boot_texts.specs.Conf.{conf_of};
 
 use crate::places::{conf_bytes, loader_menu, loader_paths};
 use boot_base::{Bytes, BytesList, Refusal};
 use boot_machine::Machine;
-use command_plans::{Plan, Stop, said};
-use command_reads::Unsaid;
-use loader_conf::{LoaderConf, chosen};
+use boot_texts::{LoaderConf, chosen};
+use command_plans::{Plan, Stop, Unsaid, said};
 use menu_order::MenuItem;
 use std::alloc::{AllocError, Global};
 

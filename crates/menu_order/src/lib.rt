@@ -1,10 +1,23 @@
 //! The entries of a boot menu and their order, as the UAPI Boot Loader Specification gives it.
+//!
+//! Versions are ordered by the UAPI Version Format: a text is read as a list of tokens, and lists are compared
+//! token by token with their end as a token of its own. Boot counters stand in the names of entries: how they are
+//! read and written, and which file a blessing renames. `sort_menu` puts entries into the order of the menu.
 #![tactic(auto)]
 
+mod bless;
+mod counted;
 mod item;
 mod key;
+mod lexeme;
 mod menu;
+mod version;
+mod version_key;
 
+pub use bless::{BlessVerb, Choice, Present, bless_choice};
+pub use counted::{Counted, MAX_COUNT, Suffix, counter_laws, read_count};
 pub use item::{Counter, MenuItem};
 pub use key::MenuKey;
 pub use menu::{menu_laws, sort_menu};
+pub use version::{compare_versions, version_laws};
+pub use version_key::VersionKey;

@@ -6,10 +6,10 @@ use Rattle.std.proofs.lemmas.List.{take_more, map-append}
 use Rattle.uki_parts.specs.Pieces.{Reading}
 use Rattle.stub_replay.specs.Measured.{section_items}
 use Rattle.stub_replay.proofs.Ranges.{items_none, items_some}
-use Rattle.pcr_fold.specs.declared.bank.Bank.{Bank}
-use Rattle.pcr_fold.specs.declared.pcr.Pcr.{Pcr}
-use Rattle.pcr_fold.specs.Banks.{folded}
-use Rattle.pcr_fold.specs.Values.{pcr_bank, shown}
+use Rattle.pcr_values.specs.declared.bank.Bank.{Bank}
+use Rattle.pcr_values.specs.declared.pcr.Pcr.{Pcr}
+use Rattle.pcr_values.specs.Banks.{folded}
+use Rattle.pcr_values.specs.Values.{pcr_bank, shown}
 use Rattle.stub_replay.specs.declared.measurable.Content.{Content}
 use Rattle.stub_replay.specs.declared.measurable.Measurable.{Measurable}
 use Rattle.stub_replay.specs.declared.register.Register.{Register}

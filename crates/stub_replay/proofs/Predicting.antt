@@ -4,8 +4,8 @@ use Rattle.std.specs.Prelude.{Option}
 use Rattle.std.specs.List.{flat_map, AllByRecursion}
 use Rattle.pe_reader.specs.Grammar.{Headers}
 use Rattle.pe_reader.specs.Loaded.{loaded}
-use Rattle.pcr_fold.specs.declared.bank.Bank.{Bank}
-use Rattle.pcr_fold.specs.Banks.{fold_of}
+use Rattle.pcr_values.specs.declared.bank.Bank.{Bank}
+use Rattle.pcr_values.specs.Banks.{fold_of}
 use Rattle.pe_builder.specs.declared.size.WideSize.{WideSize}
 use Rattle.pe_builder.specs.Image.{finished}
 use Rattle.pe_builder.specs.Laws.{HasFinished}

@@ -6,8 +6,8 @@ use Rattle.pe_reader.specs.Grammar.{Headers, pe_of}
 use Rattle.pe_reader.specs.Loaded.{is_named, section_at_index, range_of, bytes_in, loaded}
 use Rattle.pe_reader.proofs.Finding.{loaded-found}
 use Rattle.pe_reader.proofs.Ranges.{length-bytes_in, range_inside}
-use Rattle.pcr_fold.specs.declared.bank.Bank.{Bank}
-use Rattle.pcr_fold.specs.Banks.{digest_of, extended, extended_by_digest, extended_by_all}
+use Rattle.pcr_values.specs.declared.bank.Bank.{Bank}
+use Rattle.pcr_values.specs.Banks.{digest_of, extended, extended_by_digest, extended_by_all}
 use Rattle.stub_replay.specs.Measured.{section_items}
 
 pub items_none : (name bytes : List ℕ) → length bytes ≡ 0 → section_items name bytes ≡ []

@@ -5,10 +5,10 @@ use Rattle.std.specs.List.{AllZip}
 use Rattle.pe_reader.specs.declared.section.LoadedRange.{LoadedRange}
 use Rattle.pe_reader.specs.Grammar.{Headers, pe_of}
 use Rattle.pe_reader.specs.Loaded.{is_named, section_at_index, range_of, bytes_in, loaded}
-use Rattle.pcr_fold.specs.declared.bank.Bank.{Bank}
-use Rattle.pcr_fold.specs.Banks.{fold_of}
-use Rattle.pcr_fold.specs.Hashes.{HoldsData}
-use Rattle.pcr_fold.specs.Values.{pcr_bank, pcr_bytes}
+use Rattle.pcr_values.specs.declared.bank.Bank.{Bank}
+use Rattle.pcr_values.specs.Banks.{fold_of}
+use Rattle.pcr_values.specs.Hashes.{HoldsData}
+use Rattle.pcr_values.specs.Values.{pcr_bank, pcr_bytes}
 use Rattle.stub_replay.specs.declared.register.Register.{Register}
 use Rattle.stub_replay.specs.Measured.{section_items, measured_names, measured_by, measured_list}
 use Rattle.stub_replay.specs.Registers.{AllHold, Holds, Takes, Extends}

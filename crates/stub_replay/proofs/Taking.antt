@@ -14,7 +14,7 @@ use Rattle.boot_machine.specs.Sent.{seen}
 use Rattle.boot_machine.proofs.Filling.{zero_filled-inside}
 use Rattle.uki_parts.specs.declared.piece.Piece.{Piece}
 use Rattle.uki_parts.specs.Pieces.{Reading, HasSizes, piece_length, total_length, piece_bytes, bytes_of}
-use Rattle.pcr_fold.specs.declared.bank.Bank.{Bank}
+use Rattle.pcr_values.specs.declared.bank.Bank.{Bank}
 use Rattle.pe_reader.proofs.Ranges.{length-bytes_in}
 use Rattle.stub_replay.specs.declared.measurable.Content.{Content}
 use Rattle.stub_replay.specs.declared.measurable.Content.TheVariants as variants

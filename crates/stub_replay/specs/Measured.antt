@@ -4,8 +4,8 @@ use Rattle.std.specs.Prelude.{◌≡◌, ℕ, List, [], ◌∷◌, ◌++◌, cod
 use Rattle.std.specs.List.{flat_map, AllByRecursion}
 use Rattle.pe_reader.specs.Grammar.{pe_of}
 use Rattle.pe_reader.specs.Loaded.{loaded}
-use Rattle.pcr_fold.specs.declared.bank.Bank.{Bank}
-use Rattle.pcr_fold.specs.Banks.{fold_of}
+use Rattle.pcr_values.specs.declared.bank.Bank.{Bank}
+use Rattle.pcr_values.specs.Banks.{fold_of}
 
 -- the names of the measured sections, in the order in which they are measured; `.pcrsig` isn't measured
 abbrev pub measured_names : List (List ℕ)

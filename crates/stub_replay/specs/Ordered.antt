@@ -2,8 +2,8 @@
 use Rattle.std.specs.Prelude.{◌≡◌, ℕ, List, [], ◌∷◌, ◌++◌, Option, Some, None, if◌then◌else◌}
 use Rattle.std.specs.List.{flat_map, zip}
 use Rattle.std.specs.Str.{bytes_eq}
-use Rattle.pcr_fold.specs.declared.bank.Bank.{Bank}
-use Rattle.pcr_fold.specs.Banks.{fold_of}
+use Rattle.pcr_values.specs.declared.bank.Bank.{Bank}
+use Rattle.pcr_values.specs.Banks.{fold_of}
 use Rattle.stub_replay.specs.Measured.{measured_names, measured_by, predicted_pcr}
 use Rattle.stub_replay.specs.Parts.{items_of}
 

@@ -1,10 +1,10 @@
 -- Registers, and the data that extends them next.
 use Rattle.std.specs.Prelude.{◌≡◌, ℕ, List, [], ◌∷◌, ◌++◌}
 use Rattle.std.specs.List.{AllZip}
-use Rattle.pcr_fold.specs.declared.bank.Bank.{Bank}
-use Rattle.pcr_fold.specs.Banks.{fold_of}
-use Rattle.pcr_fold.specs.Values.{pcr_bank, pcr_bytes}
-use Rattle.pcr_fold.specs.Hashes.{HoldsData}
+use Rattle.pcr_values.specs.declared.bank.Bank.{Bank}
+use Rattle.pcr_values.specs.Banks.{fold_of}
+use Rattle.pcr_values.specs.Values.{pcr_bank, pcr_bytes}
+use Rattle.pcr_values.specs.Hashes.{HoldsData}
 use Rattle.stub_replay.specs.declared.register.Register.{Register}
 
 -- The register is of this bank and these items have extended it from the start, and its hash has taken these bytes.

@@ -4,7 +4,7 @@ use Rattle.std.specs.List.{AllZip}
 use Rattle.boot_machine.specs.Disk.{Files, State}
 use Rattle.boot_machine.specs.Reading.{OnlyReads}
 use Rattle.boot_machine.specs.declared.machine.Printed.{Printed}
-use Rattle.pcr_fold.specs.declared.bank.Bank.{Bank}
+use Rattle.pcr_values.specs.declared.bank.Bank.{Bank}
 use Rattle.stub_replay.specs.declared.register.Register.{Register}
 use Rattle.stub_replay.specs.Registers.{AllHold, Takes, Extends}
 

@@ -3,12 +3,12 @@ ghost use Rattle.std.specs.Prelude.{◌≡◌, ◌+◌, ◌<◌, ◌^◌, Ok, If
 ghost use Rattle.pe_reader.specs.Grammar.{pe_of};
 ghost use Rattle.pe_reader.specs.Loaded.{loaded, bytes_in};
 ghost use Rattle.pe_reader.specs.Reads.{headers_of};
-ghost use Rattle.pcr_fold.specs.Banks.{extended_by_all, fold_of};
-ghost use Rattle.pcr_fold.specs.Values.{pcr_bank, pcr_bytes};
+ghost use Rattle.pcr_values.specs.Banks.{extended_by_all, fold_of};
+ghost use Rattle.pcr_values.specs.Values.{pcr_bank, pcr_bytes};
 ghost use Rattle.stub_replay.specs.Measured.{section_items, measured_list};
 
 use crate::measured::{after_name, measured_names};
-use pcr_fold::{Bank, Pcr};
+use pcr_values::{Bank, Pcr};
 use pe_reader::{LoadedRange, Pe, part};
 use std::alloc::{AllocError, Global};
 

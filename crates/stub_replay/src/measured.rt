@@ -1,10 +1,10 @@
 //! The names of the measured sections, and how a register takes one.
 ghost use Rattle.std.specs.Prelude.{◌≡◌, ◌++◌, ◌∷◌, [], map};
-ghost use Rattle.pcr_fold.specs.Banks.{extended};
-ghost use Rattle.pcr_fold.specs.Values.{pcr_bank, pcr_bytes};
+ghost use Rattle.pcr_values.specs.Banks.{extended};
+ghost use Rattle.pcr_values.specs.Values.{pcr_bank, pcr_bytes};
 ghost use Rattle.stub_replay.specs.Measured.{measured_names};
 
-use pcr_fold::{DataHash, Pcr};
+use pcr_values::{DataHash, Pcr};
 
 /// The names of the measured sections, in the order in which a stub measures them.
 pub fn measured_names() -> &'static [&'static [u8]]

@@ -14,9 +14,8 @@ ghost use Rattle.stub_replay.specs.Taking.{TakesWhere};
 use crate::measurable::Content;
 use crate::register::{Hashes, Register, update_all};
 use boot_base::BootPath;
-use boot_machine::{DiskFault, Machine};
+use boot_machine::{DiskFault, Machine, stream_range};
 use pe_reader::LoadedRange;
-use range_stream::stream_range;
 use uki_parts::Piece;
 
 /// Takes the bytes of the content, each of a file read once and through the buffer, which holds anything afterwards.

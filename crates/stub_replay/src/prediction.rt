@@ -4,8 +4,8 @@ ghost use Rattle.boot_machine.specs.Counts.{CountsDisk};
 ghost use Rattle.boot_machine.specs.Reading.{OnlyReads, TakesAtMost};
 ghost use Rattle.boot_machine.specs.Rows.{contents};
 ghost use Rattle.boot_machine.specs.Sent.{seen};
-ghost use Rattle.pcr_fold.specs.Banks.{folded};
-ghost use Rattle.pcr_fold.specs.Values.{pcr_bank, shown};
+ghost use Rattle.pcr_values.specs.Banks.{folded};
+ghost use Rattle.pcr_values.specs.Values.{pcr_bank, shown};
 ghost use Rattle.stub_replay.specs.Measured.{section_items};
 ghost use Rattle.stub_replay.specs.Faults.{CountsPredict};
 ghost use Rattle.stub_replay.specs.Parts.{IsPlaced, IsWhole, content_bytes, named_bytes, items_of, HaveSizes, read_length, files_length};
@@ -16,7 +16,7 @@ use crate::measurable::{Measurable, content_length};
 use crate::pieces::take_content;
 use crate::register::{Register, begin_all, close_all, values};
 use boot_machine::{DiskFault, Machine};
-use pcr_fold::{Bank, Pcr};
+use pcr_values::{Bank, Pcr};
 use std::alloc::Global;
 
 /// PCR 11 of each bank, in the order of the banks, after a stub has measured these parts in their order and before

@@ -4,9 +4,8 @@ ghost use Rattle.std.specs.List.{AllZip};
 ghost use Rattle.stub_replay.specs.Registers.{Holds, AllHold, IsHeld, AreHeld, Takes, Closes};
 
 use crate::measured::after_name;
-use boot_machine::{DiskFault, Machine};
-use pcr_fold::{Bank, DataHash, Pcr};
-use range_stream::ByteSink;
+use boot_machine::{ByteSink, DiskFault, Machine};
+use pcr_values::{Bank, DataHash, Pcr};
 use std::alloc::{AllocError, Global};
 use std::mem;
 

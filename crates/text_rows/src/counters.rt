@@ -2,7 +2,7 @@
 use crate::fault::RowFault;
 use crate::row::Row;
 use crate::texts::text_or_none;
-use boot_counter::{BlessVerb, Counted, Present, Suffix, bless_choice, read_count};
+use menu_order::{BlessVerb, Counted, Present, Suffix, bless_choice, read_count};
 use std::alloc::{AllocError, Global};
 
 fn counter_text(alloc: Global, counted: Option<Counted>) -> Result<String, AllocError> {

@@ -1,6 +1,6 @@
 //! What a call refuses, or why a row isn't told.
 use boot_base::PathFault;
-use entry_reader::EntryFault;
+use boot_texts::EntryFault;
 use std::alloc::AllocError;
 use std::io;
 use thiserror::Error;

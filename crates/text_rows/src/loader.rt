@@ -3,7 +3,7 @@ use crate::fault::RowFault;
 use crate::row::Row;
 use crate::settings::add_value;
 use boot_base::{Bytes, BytesList};
-use loader_conf::{ConfKey, LoaderConf, chosen, is_pattern, matches, may_be_value, with_key};
+use boot_texts::{ConfKey, LoaderConf, chosen, is_pattern, matches, may_be_value, with_key};
 use std::alloc::{AllocError, Global};
 
 fn answer(alloc: Global, is: bool) -> Result<Vec<u8>, AllocError> {

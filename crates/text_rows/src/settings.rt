@@ -2,10 +2,8 @@
 use crate::fault::RowFault;
 use crate::row::Row;
 use boot_base::Bytes;
-use entry_reader::Type1;
-use os_release::OsRelease;
+use boot_texts::{OsRelease, TextLines, Type1};
 use std::alloc::{AllocError, Global};
-use text_lines::TextLines;
 
 /// Adds a name and its value, if it has one, before a `;`.
 pub(crate) fn add_value(

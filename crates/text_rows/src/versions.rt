@@ -1,8 +1,8 @@
 //! The order of versions.
 use crate::fault::RowFault;
 use crate::row::Row;
+use menu_order::{VersionKey, compare_versions};
 use std::alloc::{AllocError, Global};
-use version_order::{VersionKey, compare};
 
 fn keys_text(alloc: Global, left: &[u8], right: &[u8]) -> Result<String, AllocError> {
     let (left, right) = (VersionKey::of(alloc, left)?, VersionKey::of(alloc, right)?);
@@ -11,7 +11,7 @@ fn keys_text(alloc: Global, left: &[u8], right: &[u8]) -> Result<String, AllocEr
 }
 
 fn compared_text(alloc: Global, left: &[u8], right: &[u8]) -> Result<String, AllocError> {
-    let (order, back) = (compare(left, right), compare(right, left));
+    let (order, back) = (compare_versions(left, right), compare_versions(right, left));
     format!(in alloc; "{order:?}, {back:?}")
 }
 

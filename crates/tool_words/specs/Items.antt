@@ -7,7 +7,7 @@ use Rattle.word_grammar.specs.declared.grammar.Takes.{Takes}
 use Rattle.word_grammar.specs.declared.grammar.Takes.TheVariants.{Required, Once, Repeated, Flag}
 use Rattle.word_grammar.specs.declared.grammar.ValueKind.{ValueKind}
 use Rattle.word_grammar.specs.declared.grammar.ValueKind.TheVariants.{Any, Bank}
-use Rattle.pcr_fold.specs.Banks.{bank_named}
+use Rattle.pcr_values.specs.Banks.{bank_named}
 use Rattle.tool_words.specs.declared.fault.UsageReason.{UsageReason}
 use Rattle.tool_words.specs.declared.fault.UsageReason.TheVariants.{UnknownOption, NeedsValue, TakesNoValue, UnknownBank}
 use Rattle.word_grammar.specs.Grammar.{Word, OptionRule, row, is_text_of}

@@ -1,8 +1,8 @@
 use Rattle.std.proofs.Common.{ℕ, List, ◌∙◌, ap}
 use Rattle.hex.specs.Hex.{encode_lower}
 use Rattle.boot_machine.specs.Sent.{seen}
-use Rattle.pcr_fold.specs.declared.bank.Bank.TheVariants as banks
-use Rattle.pcr_fold.specs.Banks.{digest_of}
+use Rattle.pcr_values.specs.declared.bank.Bank.TheVariants as banks
+use Rattle.pcr_values.specs.Banks.{digest_of}
 use Rattle.command_plans.specs.Answers.{Answer}
 use Rattle.memory_machine.specs.Memory.{mem_state}
 use Rattle.boot_commands.specs.Demonstration.{listed_on_out}

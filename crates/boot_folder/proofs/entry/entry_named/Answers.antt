@@ -1,9 +1,9 @@
 -- Nothing is read of a file without a path.
 use Rattle.std.proofs.Common.{◌≡◌, sym, ap, ◌∙◌, subst, IfSome}
 use Rattle.boot_base.specs.Paths.{file_name_of}
-use Rattle.boot_counter.specs.Splits.{has_suffix}
-use Rattle.boot_counter.specs.declared.counted.Suffix.{Suffix}
-use Rattle.boot_counter.specs.declared.counted.Suffix.TheVariants.{Efi}
+use Rattle.menu_order.specs.Splits.{has_suffix}
+use Rattle.menu_order.specs.declared.counted.Suffix.{Suffix}
+use Rattle.menu_order.specs.declared.counted.Suffix.TheVariants.{Efi}
 use Rattle.boot_machine.proofs.Reading.{reads_none}
 use Rattle.boot_folder.proofs.entry.entry_named.Goals as goal
 

@@ -1,6 +1,6 @@
 -- The names of both types are listed one after the other.
 use Rattle.std.proofs.Common.{◌≡◌, ◌≤◌, ◌+◌, length, ap₂, ◌∙◌, subst, arith, rules}
-use Rattle.boot_counter.specs.declared.counted.Suffix.TheVariants.{Efi}
+use Rattle.menu_order.specs.declared.counted.Suffix.TheVariants.{Efi}
 use Rattle.boot_machine.proofs.Reading.{reads_on}
 use Rattle.boot_machine.specs.Disk.{State}
 use Rattle.boot_folder.specs.Scanning.{AreEntryNames}

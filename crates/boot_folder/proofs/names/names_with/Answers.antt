@@ -3,7 +3,7 @@ use Rattle.std.proofs.Common.{◌≡◌, ℕ, List, true, sym, subst, rules}
 use Rattle.std.specs.Prelude.{All}
 use Rattle.std.proofs.lemmas.Fn.{filter_same}
 use Rattle.std.proofs.lemmas.List.Elements.{filter_passes}
-use Rattle.boot_counter.specs.Splits.{has_suffix}
+use Rattle.menu_order.specs.Splits.{has_suffix}
 use Rattle.boot_machine.proofs.Reading.{reads_once}
 use Rattle.boot_folder.specs.Scanning.{AreEntryNames}
 use Rattle.boot_folder.proofs.Finding.{suffix_names}

@@ -1,7 +1,7 @@
 -- The files of both types are read one after the other.
 use Rattle.std.proofs.Common.{◌≡◌, ◌++◌, ◌↔◌, ◌*◌, ℕ, List, length, ap, sym, ◌∙◌, subst}
 use Rattle.std.specs.Prelude.{Contains}
-use Rattle.boot_counter.specs.declared.counted.Suffix.TheVariants.{Conf, Efi}
+use Rattle.menu_order.specs.declared.counted.Suffix.TheVariants.{Conf, Efi}
 use Rattle.boot_machine.proofs.Reading.{reads_on}
 use Rattle.boot_machine.specs.Disk.{State}
 use Rattle.boot_machine.specs.Reading.{TakesAtMost}

@@ -1,7 +1,7 @@
 use Rattle.std.proofs.Common.{◌∙◌}
 use Rattle.entry_commands.specs.Folders.{entries_below, images_below}
-use Rattle.command_reads.specs.Refusing.{path_under}
-use Rattle.command_reads.proofs.Declining.{declined_first, declined_next, done_next, means_declined}
+use Rattle.command_plans.specs.Declining.{path_under}
+use Rattle.command_plans.proofs.Declining.{declined_first, declined_next, done_next, means_declined}
 use Rattle.entry_commands.proofs.folders.folders_in.Goals as goal
 
 pub returns-in_err-entries : goal.returns-in_err-entries

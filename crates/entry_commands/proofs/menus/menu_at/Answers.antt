@@ -1,5 +1,5 @@
 use Rattle.std.proofs.Common.{sym, subst}
-use Rattle.command_reads.specs.Saying.{UnsaidFor}
+use Rattle.command_plans.specs.Unsaying.{UnsaidFor}
 use Rattle.entry_commands.specs.Listing.{menu_at}
 use Rattle.boot_machine.specs.Sent.{seen}
 use Rattle.entry_commands.proofs.Scanned.{few_said, unsaid_menu}

@@ -1,5 +1,5 @@
 use Rattle.std.proofs.Common.{◌++◌, ap, ◌∙◌}
-use Rattle.command_reads.proofs.Each.{one_over}
+use Rattle.command_plans.proofs.Each.{one_over}
 use Rattle.image_build.proofs.Listed.{added}
 use Rattle.image_build.proofs.build_plan.listed.Goals as goal
 

@@ -7,7 +7,7 @@ use Rattle.pe_reader.proofs.Finding.{loaded-none}
 use Rattle.pe_reader.specs.Loaded.{bytes_in, loaded}
 use Rattle.pe_reader.specs.Reads.{headers_of}
 use Rattle.stub_replay.proofs.Ranges.{found_range}
-use Rattle.command_reads.proofs.Unsaying.{says_same}
+use Rattle.command_plans.proofs.Unsaying.{says_same}
 use Rattle.std.specs.Prelude.{IsTrue}
 use Rattle.stub_replay.proofs.Sections.{section_long}
 use Rattle.image_build.proofs.build_reads.loaded_sbat.Goals as goal

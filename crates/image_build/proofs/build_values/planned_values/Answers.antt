@@ -1,9 +1,9 @@
 use Rattle.std.proofs.Common.{ap, map, subst, sym, ◌∙◌}
 use Rattle.boot_machine.proofs.Reading.{reads_none}
 use Rattle.boot_machine.specs.Sent.{seen}
-use Rattle.boot_phases.specs.Lines.{HasDistinctBanks}
-use Rattle.boot_phases.proofs.Distinct.{distinct_registers}
-use Rattle.pcr_fold.specs.Values.{shown}
+use Rattle.pcr_values.specs.ValueLines.{HasDistinctBanks}
+use Rattle.pcr_values.proofs.Distinct.{distinct_registers}
+use Rattle.pcr_values.specs.Values.{shown}
 use Rattle.image_writer.specs.Sourced.{planned_image}
 use Rattle.image_build.proofs.Values.{values_said}
 use Rattle.image_build.proofs.build_values.planned_values.Goals as goal

@@ -2,7 +2,7 @@ use Rattle.std.proofs.Common.{ap, arith, map, subst, sym}
 use Rattle.boot_machine.proofs.Reading.{reads_none}
 use Rattle.boot_machine.specs.Rows.{contents}
 use Rattle.boot_machine.specs.Sent.{seen}
-use Rattle.pcr_fold.specs.Values.{shown}
+use Rattle.pcr_values.specs.Values.{shown}
 use Rattle.image_writer.specs.Sourced.{planned_image}
 use Rattle.stub_replay.specs.Parts.{HaveSizes, files_length}
 use Rattle.stub_replay.specs.Measured.{measured_list}

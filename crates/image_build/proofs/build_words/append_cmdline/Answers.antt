@@ -1,6 +1,6 @@
 use Rattle.std.proofs.Common.{codes, refl, ap}
 use Rattle.std.specs.Option.{option_map}
-use Rattle.command_reads.proofs.Declining.{means_declined}
+use Rattle.command_plans.proofs.Declining.{means_declined}
 use Rattle.uki_parts.specs.declared.kind.PartKind.TheVariants.{Cmdline}
 use Rattle.image_build.specs.Building.{clean}
 use Rattle.image_build.proofs.Wants.{with_absent, with_given, with_given_declined}

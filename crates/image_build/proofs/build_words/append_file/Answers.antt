@@ -1,6 +1,6 @@
 use Rattle.std.proofs.Common.{◌∙◌, Some, ap, sym}
 use Rattle.std.specs.Option.{option_map}
-use Rattle.command_reads.proofs.Declining.{means_declined}
+use Rattle.command_plans.proofs.Declining.{means_declined}
 use Rattle.tool_words.specs.declared.command.Given.TheVariants.{File}
 use Rattle.image_build.proofs.Wants.{with_absent, with_given, with_given_declined}
 use Rattle.image_build.proofs.build_words.append_file.Goals as goal

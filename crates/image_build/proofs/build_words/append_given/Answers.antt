@@ -1,4 +1,4 @@
-use Rattle.command_reads.proofs.Declining.{means_declined}
+use Rattle.command_plans.proofs.Declining.{means_declined}
 use Rattle.image_build.proofs.Wants.{with_absent, with_given, with_given_declined}
 use Rattle.image_build.proofs.build_words.append_given.Goals as goal
 

@@ -1,5 +1,5 @@
 use Rattle.std.proofs.Common.{codes, refl, rules}
-use Rattle.command_reads.proofs.Declining.{means_declined}
+use Rattle.command_plans.proofs.Declining.{means_declined}
 use Rattle.uki_parts.specs.declared.kind.PartKind.TheVariants.{Initrd}
 use Rattle.image_build.proofs.Wants.{with_files, with_files_declined, with_no_files}
 use Rattle.image_build.proofs.build_words.append_initrds.Goals as goal

@@ -1,6 +1,6 @@
-use Rattle.command_reads.proofs.Declining.{means_declined}
+use Rattle.command_plans.proofs.Declining.{means_declined}
 use Rattle.image_build.specs.Building.{extra, source_of}
-use Rattle.command_reads.proofs.Each.{each_one, each_one_declined}
+use Rattle.command_plans.proofs.Each.{each_one, each_one_declined}
 use Rattle.image_build.proofs.Wants.{part_put, with_one, with_one_declined}
 use Rattle.image_build.proofs.build_words.append_section.Goals as goal
 

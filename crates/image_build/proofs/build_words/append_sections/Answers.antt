@@ -1,4 +1,4 @@
-use Rattle.command_reads.proofs.Declining.{means_declined}
+use Rattle.command_plans.proofs.Declining.{means_declined}
 use Rattle.image_build.proofs.Wants.{section_declined, section_more, with_none}
 use Rattle.image_build.proofs.build_words.append_sections.Goals as goal
 

@@ -1,4 +1,4 @@
-use Rattle.command_reads.proofs.Freeing.{path_in-free}
+use Rattle.command_plans.proofs.Freeing.{path_in-free}
 use Rattle.image_build.proofs.build_words.build_sources.Goals as goal
 
 pub returns-clause-free : goal.returns-clause-free

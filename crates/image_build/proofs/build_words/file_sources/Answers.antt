@@ -1,8 +1,8 @@
 use Rattle.std.proofs.Common.{◌∙◌, ap, sym, Ok}
-use Rattle.command_reads.proofs.Declining.{means_declined}
+use Rattle.command_plans.proofs.Declining.{means_declined}
 use Rattle.tool_words.specs.declared.command.Given.TheVariants.{File}
 use Rattle.image_build.specs.Building.{source_of}
-use Rattle.command_reads.proofs.Each.{each_none, each_taken, taken_declined}
+use Rattle.command_plans.proofs.Each.{each_none, each_taken, taken_declined}
 use Rattle.image_build.proofs.build_words.file_sources.Goals as goal
 
 pub loop-word-init : goal.loop-word-init

@@ -1,5 +1,5 @@
 use Rattle.std.proofs.Common.{codes, refl, ap, map}
-use Rattle.command_reads.proofs.Declining.{means_declined}
+use Rattle.command_plans.proofs.Declining.{means_declined}
 use Rattle.image_build.specs.Building.{part_named, wanted_parts}
 use Rattle.image_build.proofs.Wants.{after_more_declined, all_declined, all_found, done_more, with_more_declined}
 use Rattle.image_build.proofs.build_words.parts_of.Goals as goal

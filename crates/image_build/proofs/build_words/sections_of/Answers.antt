@@ -1,7 +1,7 @@
 use Rattle.std.proofs.Common.{◌∙◌, ap, sym, Ok}
-use Rattle.command_reads.proofs.Declining.{means_declined}
+use Rattle.command_plans.proofs.Declining.{means_declined}
 use Rattle.image_build.specs.Building.{section_of}
-use Rattle.command_reads.proofs.Each.{each_none, each_taken, taken_declined}
+use Rattle.command_plans.proofs.Each.{each_none, each_taken, taken_declined}
 use Rattle.image_build.proofs.build_words.sections_of.Goals as goal
 
 pub loop-value-init : goal.loop-value-init

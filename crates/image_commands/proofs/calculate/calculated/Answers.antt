@@ -1,8 +1,8 @@
 use Rattle.std.proofs.Common.{◌∙◌, map, sym, subst, rules}
 use Rattle.boot_machine.specs.Rows.{contents}
 use Rattle.boot_machine.specs.Sent.{seen}
-use Rattle.boot_phases.specs.Lines.{HasDistinctBanks}
-use Rattle.boot_phases.proofs.Distinct.{distinct_registers}
+use Rattle.pcr_values.specs.ValueLines.{HasDistinctBanks}
+use Rattle.pcr_values.proofs.Distinct.{distinct_registers}
 use Rattle.boot_machine.proofs.Reading.{reads_none, reads_on}
 use Rattle.image_commands.specs.Parts.{named_file, named_path}
 use Rattle.image_commands.proofs.Calculated.{registers_of, taken_of}

@@ -1,5 +1,5 @@
 use Rattle.std.proofs.Common.{arith}
-use Rattle.command_reads.proofs.Each.{each_none}
+use Rattle.command_plans.proofs.Each.{each_none}
 use Rattle.image_commands.proofs.Parts.{word_more, word_declined, words_all}
 use Rattle.image_commands.proofs.calculate.given_paths.Goals as goal
 

@@ -1,6 +1,6 @@
 use Rattle.std.proofs.Common.{◌∙◌, ◌++◌, ap, arith, sym, refl, rules}
 use Rattle.boot_machine.proofs.Reading.{reads_none, reads_on}
-use Rattle.command_reads.proofs.Each.{each_none, one_over}
+use Rattle.command_plans.proofs.Each.{each_none, one_over}
 use Rattle.image_commands.proofs.Parts.{file_more, size_more, file_refused}
 use Rattle.image_commands.proofs.calculate.part_files.Goals as goal
 

@@ -2,13 +2,13 @@ use Rattle.std.proofs.Common.{ap, sym, subst, ◌∙◌}
 use Rattle.boot_machine.specs.Disk.{State}
 use Rattle.boot_machine.specs.Rows.{contents}
 use Rattle.boot_machine.specs.Sent.{seen}
-use Rattle.boot_phases.specs.Lines.{HasDistinctBanks}
-use Rattle.boot_phases.proofs.Distinct.{distinct_registers}
+use Rattle.pcr_values.specs.ValueLines.{HasDistinctBanks}
+use Rattle.pcr_values.proofs.Distinct.{distinct_registers}
 use Rattle.pe_reader.specs.Reads.{headers_of}
 use Rattle.boot_machine.proofs.Reading.{reads_on}
 use Rattle.image_commands.proofs.Registers.{values_are}
 use Rattle.image_commands.proofs.Taking.{image_taken}
-use Rattle.command_reads.proofs.Unsaying.{says_unsaid, unrefused}
+use Rattle.command_plans.proofs.Unsaying.{says_unsaid, unrefused}
 use Rattle.image_commands.proofs.image.values.Goals as goal
 
 pub returns-in_err-registers-clause-says : goal.returns-in_err-registers-clause-says

@@ -1,7 +1,7 @@
 use Rattle.std.proofs.Common.{◌≤◌, Ok, length, drop, ap, sym, subst, ◌∙◌, rules}
 use Rattle.boot_machine.specs.Rows.{contents}
 use Rattle.pe_reader.specs.declared.section.LoadedRange.{LoadedRange}
-use Rattle.pcr_fold.specs.Values.{bytes_of_digest}
+use Rattle.pcr_values.specs.Values.{bytes_of_digest}
 use Rattle.image_commands.proofs.Inspecting.{section_done}
 use Rattle.image_commands.proofs.inspect.append_section.Goals as goal
 

@@ -5,7 +5,7 @@ use Rattle.pe_reader.specs.Reads.{headers_of}
 use Rattle.boot_machine.proofs.Reading.{reads_none, reads_on}
 use Rattle.image_commands.proofs.Inspecting.{item_inside, lines_more, unwrapped}
 use Rattle.image_commands.proofs.Taking.{all_sections_taken, sections_taken}
-use Rattle.command_reads.proofs.Unsaying.{says_unsaid, unrefused}
+use Rattle.command_plans.proofs.Unsaying.{says_unsaid, unrefused}
 use Rattle.image_commands.proofs.inspect.append_sections.Goals as goal
 
 pub loop-section-init : goal.loop-section-init

@@ -1,4 +1,4 @@
-use Rattle.command_reads.proofs.Freeing.{path_under-free}
+use Rattle.command_plans.proofs.Freeing.{path_under-free}
 use Rattle.loader_commands.specs.Places.{conf_below}
 use Rattle.loader_commands.proofs.places.conf_path.Goals as goal
 

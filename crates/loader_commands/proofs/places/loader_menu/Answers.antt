@@ -1,6 +1,6 @@
 use Rattle.std.proofs.Common.{sym, subst}
 use Rattle.boot_machine.specs.Sent.{seen}
-use Rattle.command_reads.specs.Saying.{UnsaidFor}
+use Rattle.command_plans.specs.Unsaying.{UnsaidFor}
 use Rattle.loader_commands.specs.Places.{loader_menu}
 use Rattle.loader_commands.proofs.Menus.{few_said, unsaid_menu}
 use Rattle.loader_commands.proofs.places.loader_menu.Goals as goal

@@ -1,7 +1,7 @@
 use Rattle.std.proofs.Common.{◌∙◌}
 use Rattle.std.specs.Prelude.{codes}
-use Rattle.command_reads.specs.Refusing.{path_under}
-use Rattle.command_reads.proofs.Declining.{declined_first, declined_next, done_next, means_declined}
+use Rattle.command_plans.specs.Declining.{path_under}
+use Rattle.command_plans.proofs.Declining.{declined_first, declined_next, done_next, means_declined}
 use Rattle.loader_commands.specs.Places.{conf_below}
 use Rattle.loader_commands.proofs.places.loader_paths.Goals as goal
 

@@ -1,6 +1,6 @@
 use Rattle.command_plans.proofs.Worded.{answered_words}
 use Rattle.loader_commands.specs.Setting.{conf_words}
-use Rattle.loader_conf.specs.declared.change.ConfKey.TheVariants.{Default}
+use Rattle.boot_texts.specs.declared.conf_change.ConfKey.TheVariants.{Default}
 use Rattle.loader_commands.proofs.set.plan_default.Goals as goal
 
 pub returns-clause-words : goal.returns-clause-words

@@ -2,7 +2,7 @@ use Rattle.std.proofs.Common.{◌≡◌, List, ℕ, Ok, subst}
 use Rattle.boot_machine.specs.Disk.{State}
 use Rattle.boot_machine.specs.Sent.{seen}
 use Rattle.boot_machine.proofs.Reading.{reads_none, reads_on}
-use Rattle.command_reads.specs.Saying.{Says}
+use Rattle.command_plans.specs.Unsaying.{Says}
 use Rattle.loader_commands.specs.Places.{loader_menu}
 use Rattle.loader_commands.specs.Showing.{menu_shown}
 use Rattle.loader_commands.proofs.Told.{shown_by}

@@ -1,6 +1,6 @@
 use Rattle.std.proofs.Common.{◌≡◌}
-use Rattle.pcr_fold.specs.Banks.{fold_of}
-use Rattle.pcr_fold.specs.Values.{pcr_bank, pcr_bytes}
+use Rattle.pcr_values.specs.Banks.{fold_of}
+use Rattle.pcr_values.specs.Values.{pcr_bank, pcr_bytes}
 use Rattle.stub_replay.proofs.Turns.{items_until}
 use Rattle.stub_replay.proofs.bytes.replay_bytes.Given as goal
 

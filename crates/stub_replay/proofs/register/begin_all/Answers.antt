@@ -1,5 +1,5 @@
 use Rattle.std.proofs.Common.{[], arith, subst, sym, List}
-use Rattle.pcr_fold.specs.declared.bank.Bank.{Bank}
+use Rattle.pcr_values.specs.declared.bank.Bank.{Bank}
 use Rattle.stub_replay.specs.declared.register.Register.{Register}
 use Rattle.stub_replay.specs.Registers.{AllHold, Holds}
 use Rattle.std.specs.Prelude.{take, ◌+◌}

@@ -1,5 +1,5 @@
 use Rattle.std.proofs.Common.{IsTrue, List, ℕ, refl}
-use Rattle.range_stream.proofs.Pieces.{after_error}
+use Rattle.boot_machine.proofs.Pieces.{after_error}
 use Rattle.install_steps.specs.Appends.{GrowsAlone}
 use Rattle.install_steps.specs.GrowingLaws.{grows_some}
 use Rattle.install_steps.proofs.appends.GrowingByteSink.take.Goals as goal

@@ -1,4 +1,0 @@
-pub mod Words
-pub mod Distinct
-pub mod ItemLines
-pub mod ReadBack

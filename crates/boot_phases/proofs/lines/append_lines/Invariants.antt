@@ -1,8 +1,0 @@
-use Rattle.std.proofs.Common.{◌≡◌, ◌++◌, take}
-use Rattle.std.specs.List.{flat_map}
-use Rattle.boot_phases.specs.Lines.{heading_of}
-use Rattle.boot_phases.proofs.ItemLines.{line_after}
-use Rattle.boot_phases.proofs.lines.append_lines.Given as goal
-
-abbrev pub invariant-loop-start : goal.invariant-loop-start
-invariant-loop-start l = l.out.items ≡ l.fn.out.items ++ (heading_of l.path ++ flat_map (line_after l.path) (take l.start-index l.starts))

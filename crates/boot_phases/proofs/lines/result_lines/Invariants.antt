@@ -1,7 +1,0 @@
-use Rattle.std.proofs.Common.{◌≡◌, take}
-use Rattle.std.specs.List.{flat_map}
-use Rattle.boot_phases.proofs.ItemLines.{lines_of}
-use Rattle.boot_phases.proofs.lines.result_lines.Given as goal
-
-abbrev pub invariant-loop-path : goal.invariant-loop-path
-invariant-loop-path l = l.out.items ≡ flat_map (lines_of l.starts) (take l.path-index l.paths)

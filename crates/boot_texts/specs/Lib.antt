@@ -1,0 +1,15 @@
+pub mod TextLines
+pub mod TextRuns
+pub mod KeyValues
+pub mod EntryLines
+pub mod OsLines
+pub mod OsRelease
+pub mod BootEntries
+pub mod Patterns
+pub mod PatternLaws
+pub mod PatternItems
+pub mod PatternSteps
+pub mod PatternDecisions
+pub mod FileLines
+pub mod Conf
+pub mod ConfChoice

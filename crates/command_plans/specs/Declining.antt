@@ -1,0 +1,39 @@
+-- What a command's words are refused for, before the boot files are looked at.
+use Rattle.std.specs.Prelude.{◌≡◌, ℕ, List, ◌∷◌, Option, Some, None, Result, Ok, Err, MatchResult}
+use Rattle.boot_base.specs.Paths.{Path, path_of, path_below, under}
+use Rattle.boot_base.specs.declared.refusal.Refusal.{Refusal}
+use Rattle.boot_base.specs.declared.refusal.Refusal.TheVariants as refusals
+use Rattle.command_plans.specs.declared.declined.Declined.{Declined}
+use Rattle.command_plans.specs.declared.declined.Declined.TheVariants as declines
+
+-- what comes next, or the first refusal
+infixl 10 ◌>>=◌
+abbrev pub ◌>>=◌ : {A B : Type 0} → Result A Refusal → (A → Result B Refusal) → Result B Refusal
+(Ok x) >>= f = f x
+(Err why) >>= f = Err why
+
+-- a path as it is printed, with a leading slash
+abbrev pub printed_path : Path → List ℕ
+printed_path path = 47 ∷ path
+
+-- the path that was read, or the refusal of this text
+abbrev pub path_or : List ℕ → Option Path → Result Path Refusal
+path_or text None = Err (refusals.BadPath text)
+path_or text (Some path) = Ok path
+
+-- the path of a word
+abbrev pub path_in : List ℕ → Result Path Refusal
+path_in word = path_or word (path_of word)
+
+-- the path of what is below a folder
+abbrev pub path_under : Path → List ℕ → Result Path Refusal
+path_under folder below = path_or (under folder below) (path_below folder below)
+
+-- the words are declined for this refusal, unless memory ran out
+abbrev pub DeclinedFor : {X : Type 0} → Declined → Result X Refusal → Type 0
+DeclinedFor declines.Memory meant = Unit {0}
+DeclinedFor (declines.Refused why) meant = meant ≡ Err why
+
+-- what was made, seen by view, is what is meant, or the refusal is
+abbrev pub Means : {X Y : Type 0} → (X → Y) → Result X Declined → Result Y Refusal → Type 0
+Means view result meant = MatchResult result (λ x. meant ≡ Ok (view x)) (λ declined. DeclinedFor declined meant)

@@ -1,0 +1,76 @@
+//! Words that are refused, and what refusals say of paths.
+ghost use Rattle.std.specs.Prelude.{◌≡◌, IfOk};
+ghost use Rattle.command_plans.specs.Declining.{Means, path_in, path_under, printed_path};
+
+use boot_base::{BootPath, PathFault, Refusal, Text};
+use std::alloc::{AllocError, Global};
+
+/// Why a command's words are declined before the boot files are looked at.
+#[derive(Debug, Drop)]
+pub enum Declined {
+    /// There was no memory.
+    Memory,
+    /// They are refused.
+    Refused(Refusal),
+}
+
+impl From<AllocError> for Declined {
+    ghost use Rattle.std.specs.Prelude.{◌≡◌};
+    ghost use Rattle.command_plans.specs.declared.declined.Declined.TheVariants as declines;
+
+    ghost from_gives = { λ _ declined. declined ≡ declines.Memory };
+
+    fn from(_: AllocError) -> Declined {
+        Declined::Memory
+    }
+}
+
+/// The path of a word, or the refusal of the word.
+pub fn path_in(alloc: Global, word: &str) -> Result<BootPath, Declined>
+    ensures { Means (λ path. path) result (path_in word.now) }
+{
+    match BootPath::read(alloc, word) {
+        Ok(path) => Ok(path),
+        Err(PathFault::Memory) => Err(Declined::Memory),
+        Err(PathFault::BadPath) => Err(bad_path(alloc, word)?),
+    }
+}
+
+fn bad_path(alloc: Global, text: &str) -> Result<Declined, AllocError>
+    ensures { IfOk result (λ declined. declined ≡ Declined.Refused (Refusal.BadPath text.now)) }
+{
+    let text = Text::of(alloc, text)?;
+    Ok(Declined::Refused(Refusal::BadPath { text }))
+}
+
+/// The path of what is below a folder, or the refusal of the joined text.
+pub fn path_under(alloc: Global, folder: &BootPath, below: &str) -> Result<BootPath, Declined>
+    ensures { Means (λ path. path) result (path_under folder.now below.now) }
+{
+    match BootPath::under(alloc, folder, below) {
+        Ok(path) => Ok(path),
+        Err(PathFault::Memory) => Err(Declined::Memory),
+        Err(PathFault::BadPath) => {
+            let folder = folder.as_str();
+            let joined = format!(in alloc; "{folder}/{below}")?;
+            Err(Declined::Refused(Refusal::BadPath {
+                text: Text::from(joined),
+            }))
+        }
+    }
+}
+
+/// A path's text as it is printed, with a leading `/`.
+pub fn printed(alloc: Global, path: &BootPath) -> Result<Text, AllocError>
+    ensures { IfOk result (λ text. text ≡ printed_path path.now) }
+{
+    Ok(Text::from(path.to_string(alloc)?))
+}
+
+/// The refusal of a path at which no file is there.
+pub fn not_there(alloc: Global, path: &BootPath) -> Result<Refusal, AllocError>
+    ensures { IfOk result (λ why. why ≡ Refusal.NotFound (printed_path path.now)) }
+{
+    let path = printed(alloc, path)?;
+    Ok(Refusal::NotFound { path })
+}

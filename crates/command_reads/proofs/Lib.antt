@@ -1,8 +1,0 @@
-pub mod Declining
-pub mod Each
-pub mod Freeing
-mod Known
-mod Once
-pub mod Registers
-pub mod Sizes
-pub mod Unsaying

@@ -1,7 +1,0 @@
-use Rattle.std.proofs.Common.{◌≡◌, take}
-use Rattle.std.specs.List.{filter_map}
-use Rattle.pcr_fold.specs.Banks.{bank_named}
-use Rattle.command_reads.proofs.choices.banks_named.Given as goal
-
-abbrev pub invariant-loop-name : goal.invariant-loop-name
-invariant-loop-name l = l.banks.items ≡ filter_map bank_named (take l.name-index l.names)

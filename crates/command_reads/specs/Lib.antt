@@ -1,5 +1,0 @@
-pub mod Files
-pub mod Names
-pub mod Refusing
-pub mod Saying
-pub mod Values

@@ -1,3 +1,0 @@
-mod Doubles
-mod Values
-mod Reading

@@ -1,2 +1,0 @@
-pub mod OsLines
-pub mod OsRelease

@@ -1,3 +1,0 @@
-pub mod Banks
-pub mod Values
-pub mod Hashes

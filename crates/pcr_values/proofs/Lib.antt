@@ -1,0 +1,4 @@
+pub mod PhaseWords
+pub mod Distinct
+pub mod ItemLines
+pub mod ReadBack

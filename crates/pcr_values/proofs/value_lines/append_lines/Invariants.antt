@@ -1,0 +1,8 @@
+use Rattle.std.proofs.Common.{◌≡◌, ◌++◌, take}
+use Rattle.std.specs.List.{flat_map}
+use Rattle.pcr_values.specs.ValueLines.{heading_of}
+use Rattle.pcr_values.proofs.ItemLines.{line_after}
+use Rattle.pcr_values.proofs.value_lines.append_lines.Given as goal
+
+abbrev pub invariant-loop-start : goal.invariant-loop-start
+invariant-loop-start l = l.out.items ≡ l.fn.out.items ++ (heading_of l.path ++ flat_map (line_after l.path) (take l.start-index l.starts))

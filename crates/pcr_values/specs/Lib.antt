@@ -1,0 +1,5 @@
+pub mod Banks
+pub mod Values
+pub mod Hashes
+pub mod Phases
+pub mod ValueLines

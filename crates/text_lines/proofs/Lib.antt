@@ -1,4 +1,0 @@
-mod Pieces
-pub mod LastValue
-pub mod Fronts
-pub mod Reading

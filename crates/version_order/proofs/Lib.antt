@@ -1,4 +1,0 @@
-mod Fronts
-mod Runs
-mod Numbers
-pub mod Ties

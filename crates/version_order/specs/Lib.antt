@@ -1,4 +1,0 @@
-pub mod Tokens
-pub mod Order
-pub mod Laws
-pub mod Lexemes
