@@ -1,27 +1,23 @@
 -- How many bytes of files the planning of a build reads.
-use Rattle.std.proofs.Common.{◌≡◌, ◌≤◌, ℕ, ◌+◌, List, [], ◌∷◌, ◌++◌, Bool, Option, None, Some, Ok, Result, Bor, length, take, get_or, refl, sym, ap, subst, ◌∙◌, arith, length-append}
-use Rattle.std.specs.Prelude.{All, IfSome, sum_by}
+use Rattle.std.proofs.Common.{◌≡◌, ◌≤◌, ℕ, ◌+◌, List, [], ◌∷◌, ◌++◌, Bool, Option, None, Some, Ok, Bor, length, take, get_or, refl, sym, ap, subst, ◌∙◌, arith}
+use Rattle.std.specs.Prelude.{IfSome, sum_by}
 use Rattle.std.specs.List.{AllByRecursion}
 use Rattle.std.proofs.lemmas.List.{take_more}
-use Rattle.std.proofs.lemmas.List.Elements.{All-head, All-tail}
 use Rattle.std.proofs.lemmas.List.Sums.{sum_by-append, sum_by-cons}
 use Rattle.boot_machine.specs.Disk.{State}
 use Rattle.boot_machine.specs.Rows.{contents}
 use Rattle.boot_machine.specs.Sent.{seen}
 use Rattle.image_writer.specs.Sourced.{planned_image}
-use Rattle.pe_reader.specs.Loaded.{loaded}
-use Rattle.pe_reader.proofs.Ranges.{length-bytes_in}
+use Rattle.stub_replay.proofs.Fitting.{content_fits}
 use Rattle.stub_replay.proofs.Turns.{IsName}
 use Rattle.stub_replay.specs.Measured.{measured_names}
-use Rattle.stub_replay.specs.Parts.{IsWhole, content_bytes, content_or, file_length, files_length, given_part, read_length}
+use Rattle.stub_replay.specs.Parts.{IsWhole, content_or, files_length, given_part, read_length}
 use Rattle.stub_replay.specs.declared.measurable.Content.{Content}
 use Rattle.stub_replay.specs.declared.measurable.Content.TheVariants as sources
 use Rattle.stub_replay.specs.declared.measurable.Measurable.{Measurable}
-use Rattle.uki_parts.specs.declared.piece.Piece.{Piece}
-use Rattle.uki_parts.specs.declared.piece.Piece.TheVariants as pieces
 use Rattle.boot_machine.specs.Reading.{TakesAtMost}
-use Rattle.uki_parts.specs.Pieces.{HasSizes, Reading, bytes_of, piece_bytes, piece_length}
-use Rattle.image_build.specs.Building.{Built, build_named, named_as}
+use Rattle.uki_parts.specs.Pieces.{Reading}
+use Rattle.image_build.specs.Building.{build_named, named_as}
 use Rattle.image_build.specs.Planning.{IsPlannedOn, built_as, built_measuring, measuring_length, planning_length}
 use Rattle.image_build.specs.declared.planned.PlannedBuild.{PlannedBuild}
 use Rattle.image_build.specs.Reads.{FilesFrom, loaded_sbat_length, reading_length, source_file_length}
@@ -35,29 +31,6 @@ pub reading : (files : Reading) (sources : BuildSources) (found : BuildFiles) (b
     → TakesAtMost (reading_length files (named_as sources)) before after
 reading files sources found before given headed after from first second third =
     omega (arith, first, second, third, ap (loaded_sbat_length files) from.stub, ap (loaded_sbat_length files) from.linux)
-
--- what is read of a piece is no more than it has, and so of a content
-piece_fits : (files : Reading) (piece : Piece) → length (piece_bytes files piece) ≡ piece_length piece → file_length piece ≤ length (piece_bytes files piece)
-piece_fits files (pieces.Bytes bytes) same = omega arith
-piece_fits files (pieces.File path size) same = omega (arith, same)
-piece_fits files (pieces.Zeros count) same = omega arith
-
-pieces_fit : (files : Reading) (list : List Piece) → HasSizes files list → sum_by file_length list ≤ length (bytes_of files list)
-pieces_fit files [] sized = omega arith
-pieces_fit files (piece ∷ list) sized =
-    let P = λ (p : Piece). length (piece_bytes files p) ≡ piece_length p in
-    omega (
-      arith,
-      sum_by-cons file_length piece list,
-      piece_fits files piece (All-head P piece list sized),
-      pieces_fit files list (All-tail P piece list sized),
-      length-append (piece_bytes files piece) (bytes_of files list),
-    )
-
-content_fits : (files : Reading) (content : Content) → IsWhole files content → read_length content ≤ length (content_bytes files content)
-content_fits files (sources.Pieces list) whole = pieces_fit files list.now whole
-content_fits files (sources.Bytes bytes) whole = omega arith
-content_fits files (sources.Loaded path range) whole = omega (arith, length-bytes_in (files path.now) range whole)
 
 given_fits : (files : Reading) (name : Bor (List ℕ)) (content : Option Content) (bytes : List ℕ) → content_or files content ≡ bytes → IfSome content (IsWhole files)
     → files_length (given_part name content) ≤ length bytes

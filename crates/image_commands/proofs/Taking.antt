@@ -3,7 +3,6 @@ use Rattle.std.proofs.Common.{◌≡◌, ◌<◌, ◌≤◌, ◌+◌, ℕ, List,
 use Rattle.std.specs.Prelude.{sum_by}
 use Rattle.std.proofs.lemmas.List.Elements.{All-head, All-tail}
 use Rattle.std.proofs.lemmas.List.Sums.{sum_by-cons, sum_by-take-le, sum_by_more}
-use Rattle.std.proofs.lemmas.List.{length-append}
 use Rattle.boot_base.specs.Paths.{Path}
 use Rattle.boot_base.specs.declared.refusal.Refusal.{Refusal}
 use Rattle.boot_machine.specs.Disk.{Files}
@@ -11,14 +10,10 @@ use Rattle.pe_reader.specs.Grammar.{Headers, pe_of}
 use Rattle.pe_reader.specs.declared.fault.FailedCheck.{FailedCheck}
 use Rattle.pe_reader.specs.declared.section.Section.{Section}
 use Rattle.stub_replay.specs.Measured.{measured_length}
-use Rattle.stub_replay.specs.Parts.{HaveSizes, IsWhole, content_bytes, file_length, files_length, named_bytes, read_length}
-use Rattle.stub_replay.specs.declared.measurable.Content.{Content}
-use Rattle.stub_replay.specs.declared.measurable.Content.TheVariants as sources
+use Rattle.stub_replay.specs.Parts.{HaveSizes, IsWhole, files_length, named_bytes, read_length}
 use Rattle.stub_replay.specs.declared.measurable.Measurable.{Measurable}
-use Rattle.pe_reader.proofs.Ranges.{length-bytes_in}
-use Rattle.uki_parts.specs.Pieces.{HasSizes, Reading, bytes_of, piece_bytes, piece_length}
-use Rattle.uki_parts.specs.declared.piece.Piece.{Piece}
-use Rattle.uki_parts.specs.declared.piece.Piece.TheVariants as pieces
+use Rattle.stub_replay.proofs.Fitting.{content_fits}
+use Rattle.uki_parts.specs.Pieces.{Reading}
 use Rattle.command_plans.proofs.Each.{bind_ok, each_cut, none_made}
 use Rattle.command_plans.specs.Files.{bytes_at, each, headers_or, image_at}
 use Rattle.command_plans.specs.Declining.{◌>>=◌, path_in}
@@ -101,29 +96,6 @@ lengths_made view (word ∷ words) paths parts paths_are parts_are =
     ∙ ap (λ (n : ℕ). length next.0.1 + n) rest
     ∙ ap (λ (bytes : List ℕ). length bytes + sum_by named words) (sym read)
     ∙ sym (sum_by-cons named word words)
-
--- what is read of a piece is no more than it has
-piece_fits : (files : Reading) (piece : Piece) → length (piece_bytes files piece) ≡ piece_length piece → file_length piece ≤ length (piece_bytes files piece)
-piece_fits files (pieces.Bytes bytes) same = omega arith
-piece_fits files (pieces.File path size) same = omega (arith, same)
-piece_fits files (pieces.Zeros count) same = omega arith
-
-pieces_fit : (files : Reading) (list : List Piece) → HasSizes files list → sum_by file_length list ≤ length (bytes_of files list)
-pieces_fit files [] sized = omega arith
-pieces_fit files (piece ∷ list) sized =
-    let P = λ (p : Piece). length (piece_bytes files p) ≡ piece_length p in
-    omega (
-      arith,
-      sum_by-cons file_length piece list,
-      piece_fits files piece (All-head P piece list sized),
-      pieces_fit files list (All-tail P piece list sized),
-      length-append (piece_bytes files piece) (bytes_of files list),
-    )
-
-content_fits : (files : Reading) (content : Content) → IsWhole files content → read_length content ≤ length (content_bytes files content)
-content_fits files (sources.Pieces list) whole = pieces_fit files list.now whole
-content_fits files (sources.Bytes bytes) whole = omega arith
-content_fits files (sources.Loaded path range) whole = omega (arith, length-bytes_in (files path.now) range whole)
 
 pub parts_fit : (files : Reading) (parts : List Measurable) → HaveSizes files parts → files_length parts ≤ sum_by (λ part. length part.1) (map (named_bytes files) parts)
 parts_fit files [] sized = omega arith

@@ -1,3 +1,4 @@
+pub mod Fitting
 pub mod GivenParts
 pub mod Measuring
 pub mod Ordered
