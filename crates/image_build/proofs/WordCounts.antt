@@ -55,9 +55,9 @@ SaysShort (Whole text value) = length value ≤ 1048576
 SaysShort (Open option) = Unit {0}
 
 -- of two cases either
-by_test : (b : Bool) (yes no : Result Said UsageReason) (s : Said) → (yes ≡ Ok s → SaysShort s) → (no ≡ Ok s → SaysShort s) → (if b then yes else no) ≡ Ok s → SaysShort s
-by_test true yes no s first second is = first is
-by_test false yes no s first second is = second is
+by_test : (b : Bool) (one other : Result Said UsageReason) (s : Said) → (one ≡ Ok s → SaysShort s) → (other ≡ Ok s → SaysShort s) → (if b then one else other) ≡ Ok s → SaysShort s
+by_test true one other s first second is = first is
+by_test false one other s first second is = second is
 
 valued_same : (b : Bool) (why : UsageReason) (value taken : Word) → (let r : Result Word UsageReason = if b then Err why else Ok value in r) ≡ Ok taken → value ≡ taken
 valued_same true why value taken is = cc
@@ -97,7 +97,7 @@ said_short c word s short =
     (by_test _ _ _ s (none_short _ s) (ok_short Plain s tt)))
 
 few_last : (word : Word) (s : Said) (found : List Item) → IsShort word → SaysShort s → last_items word s ≡ Ok found → AreFew 1 found
-few_last word Ends found short says is = subst (AreFew 1) (cc is) (record { few = omega arith; short = tt })
+few_last word Ends found short says is = let same : [] ≡ found = cc is in subst (AreFew 1) same (record { few = omega arith; short = tt })
 few_last word Plain found short says is = few_one (Operand word) found short (cc is)
 few_last word (Whole text value) found short says is = few_one (Value text value) found says (cc is)
 few_last word (Open option) found short says is = cc
@@ -120,7 +120,7 @@ few_items_more word next words (Open option) later latest found short says first
 -- no more items than words, and no longer ones
 pub few_items : (c : CommandName) (words : List Word) (found : List Item) → AllByRecursion IsShort words → items c words ≡ Ok found → AreFew (length words) found
 unfolding items
-few_items c [] found short is = subst (AreFew 0) (cc is) (record { few = omega arith; short = tt })
+few_items c [] found short is = let same : [] ≡ found = cc is in subst (AreFew 0) same (record { few = omega arith; short = tt })
 few_items c (word ∷ []) found short is =
     let s = bound (said c word) _ found is in
     few_last word s.0 found short.0 (said_short c word s.0 short.0 s.1) s.2
