@@ -66,8 +66,8 @@ CanMake s (Put target bytes) = Unit {0}
 CanMake s (Copy from target gone) = CanCopy s from
 CanMake s (Move from to intent gone exists) = (has (seen s) from ≡ true) × (has (seen s) to ≡ false)
 
--- how many bytes of files are read to make a change, at most: those that an image is written of, and those of a file that is
--- copied
+-- how many bytes of files are read to make a change, at most: those that an image is written of, or those of a copied
+-- file
 abbrev pub making_length : Files → Change → ℕ
 making_length view Nothing = 0
 making_length view (Remove path gone) = 0

@@ -1,5 +1,5 @@
--- The printed values of PCR 11 are what a stub comes to that measures an image (systemd's TPM2 PCR document, PCR 11). And what
--- words can mean has a plan.
+-- The printed values of PCR 11 are what a stub comes to that measures an image (systemd's TPM2 PCR document, PCR 11).
+-- And what is read of words is not too much for an image.
 use Rattle.std.specs.Prelude.{◌≡◌, ◌++◌, List, true, length, Ok}
 use Rattle.boot_machine.specs.Disk.{Files}
 use Rattle.boot_machine.specs.Rows.{contents}
@@ -23,9 +23,10 @@ ValuesOfBuilds = (view : Files) (words : BuildWords) (built : Built) → words.m
     (build_answer view words).text ≡ built_line built.output (length built.image)
     ++ value_lines (stub_pcr (contents (build_answer view words).after built.output)) all_banks default_phase_paths
 
--- An image's numbers hold what is read of the words of a build, if they are within the limits of words: `ukify build` is two of
--- at most 16,777,216 words, each other one adds at most one file or text, and no file or text has more than 256 MiB.
+-- An image's numbers hold what is read of the words of a build, whatever the files hold: `ukify build` is two of at most
+-- 16,777,216 words, each other one adds at most one file or text, and no file or text has more than 256 MiB.
 abbrev pub BuildsAreCountable : Type 0
-BuildsAreCountable = (words : List Word) (build : BuildWords) (from : BuildSources) (built : BuildParts) (view : Files) → meaning words ≡ Ok (Build build)
-    → named_of build ≡ Ok (named_as from) → BuiltFrom from built → material_of view (named_as from) ≡ Ok (material_as (contents view) built)
+BuildsAreCountable = (words : List Word) (build : BuildWords) (from : BuildSources) (built : BuildParts) (view : Files)
+    → meaning words ≡ Ok (Build build) → named_of build ≡ Ok (named_as from)
+    → BuiltFrom from built → material_of view (named_as from) ≡ Ok (material_as (contents view) built)
     → IsCountable built.parts.items built.sbat.items

@@ -231,8 +231,8 @@ fn plan_sources<M: Machine>(
 }
 
 /// What a build is going to do and to say: the image of what its words mean comes to stand at the output. Files are
-/// found and headers read; other bytes are read for the SBAT text alone, and once each where the image is measured. To write the
-/// image then, no more bytes of files are read than it has.
+/// found and headers read; other bytes are read for the SBAT text alone, and once each where the image is measured. To
+/// write the image then, no more bytes of files are read than it has.
 /// Words that name no section or no path are refused whatever the machine tells.
 pub fn plan_build<M: Machine>(
     alloc: Global,

@@ -7,8 +7,8 @@ pub fn built_values_are_the_stubs()
     ensures { ValuesOfBuilds }
 {}
 
-/// What is read of the words of a build is no more than an image's numbers hold: so many parts with bytes, so many bytes, and
-/// an SBAT text of that length.
+/// What is read of the words of a build is no more than an image's numbers hold: so many parts with bytes, so many
+/// bytes, and an SBAT text of that length. So `plan_image_of` is out of memory only where there is none.
 pub fn builds_are_countable()
     ensures { BuildsAreCountable }
 {}

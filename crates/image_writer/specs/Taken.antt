@@ -28,7 +28,8 @@ abbrev pub kept_length : Plan → ℕ
 kept_length plan =
     chunks_length (number_chunks (planned_before plan) (planned_after plan))
     + (chunks_length (table_chunks (planned_before plan) (planned_sbat plan))
-    + chunks_length (rest_chunks ((planned_before plan).table_place + 40 * (planned_after plan).section_count) (planned_stub_length plan) (planned_sbat plan)))
+    + chunks_length (rest_chunks
+    ((planned_before plan).table_place + 40 * (planned_after plan).section_count) (planned_stub_length plan) (planned_sbat plan)))
 
 -- how many bytes of a file a piece has; bytes at hand and zeros have none
 abbrev pub piece_reading : Piece → ℕ
