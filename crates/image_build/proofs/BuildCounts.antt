@@ -1,12 +1,11 @@
 -- The parts that words of a build name can be counted.
-use Rattle.std.proofs.Common.{◌≡◌, ◌≤◌, ◌+◌, ◌*◌, ℕ, List, [], ◌∷◌, ◌++◌, length, refl, sym, ap, ◌∙◌, subst, true, false, arith, Result, Ok, Err}
-use Rattle.std.specs.Prelude.{Bool, Option, Some, None, map, sum_by, option_map, codes, is_some, find, if◌then◌else◌, ◌||◌, ◌==◌, nat_lt}
+use Rattle.std.proofs.Common.{◌≡◌, ◌≤◌, ◌+◌, ℕ, List, [], ◌∷◌, length, refl, sym, ap, ◌∙◌, subst, true, false, arith, Result, Ok, Err}
+use Rattle.std.specs.Prelude.{Bool, Option, Some, None, map, sum_by, option_map, codes, is_some, if◌then◌else◌, ◌||◌, ◌==◌, nat_lt}
 use Rattle.std.specs.List.{AllByRecursion, last_or, list_any}
 use Rattle.std.proofs.lemmas.Bool.{ltb-false}
 use Rattle.command_reads.specs.Files.{each, if_given}
 use Rattle.command_reads.specs.Refusing.{path_in}
 use Rattle.command_reads.proofs.Each.{bind_ok, each_length}
-use Rattle.boot_base.specs.declared.refusal.Refusal.{Refusal}
 use Rattle.tool_words.specs.declared.command.BuildWords.{BuildWords}
 use Rattle.tool_words.specs.declared.command.Command.{Command}
 use Rattle.tool_words.specs.declared.command.Command.TheVariants as command
@@ -15,20 +14,19 @@ use Rattle.tool_words.specs.declared.command.Given.TheVariants.{Inline, File}
 use Rattle.tool_words.specs.declared.fault.UsageReason.{UsageReason}
 use Rattle.tool_words.specs.declared.fault.UsageReason.TheVariants as reason
 use Rattle.tool_words.specs.Items.{Item, all_values, items, last_value, operands}
-use Rattle.tool_words.specs.Meaning.{Gathered, all_required, are_too_long, build_words, command_of, command_with, counted, filled, found_name, found_verb, gathered, given, is_long, meaning, meant, read_words, repeats, with_verb}
-use Rattle.uki_parts.specs.Cmdlines.{cleaned}
+use Rattle.tool_words.specs.Meaning.{Gathered, all_required, are_too_long, build_words, command_of, command_with, counted, filled, found_name, found_verb, gathered, given, is_long, meaning, read_words, repeats, with_verb}
 use Rattle.uki_parts.specs.declared.kind.PartKind.TheVariants as kinds
 use Rattle.uki_parts.specs.declared.name.SectionName.{SectionName}
 use Rattle.word_grammar.specs.declared.grammar.CommandName.{CommandName}
 use Rattle.word_grammar.specs.declared.grammar.CommandName.TheVariants as name
-use Rattle.word_grammar.specs.Grammar.{Word, commands, is_named, is_verbed, row}
+use Rattle.word_grammar.specs.Grammar.{Word, row}
 use Rattle.image_build.specs.declared.source.Source.{Source}
 use Rattle.image_build.specs.declared.source.Source.TheVariants as sources
 use Rattle.image_build.specs.Building.{Named, clean, extra, given_once, named_of, section_of, source_of, sources_of, wanted_parts}
 use Rattle.image_build.proofs.Countable.{AreBounded, AreLight, bounded, light_more, light_sections, light_wanted, sections_short}
 use Rattle.image_build.proofs.OptionCounts.{AreApart, AreShort, IsShortGiven, given_of, given_short, once_short, short_map, values_count, values_few, values_short}
 use Rattle.image_build.proofs.Lines.{cleaned_short}
-use Rattle.image_build.proofs.WordCounts.{AreFew, GivesShort, IsShort, bound, few_items}
+use Rattle.image_build.proofs.WordCounts.{GivesShort, IsShort, bound, few_items}
 
 -- words within their limits are short
 long_cases : (word : Word) → is_long word ≡ false → IsShort word

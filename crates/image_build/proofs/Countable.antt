@@ -1,14 +1,12 @@
 -- How many parts and bytes the words of a build name.
-use Rattle.std.proofs.Common.{◌≡◌, ◌≤◌, ◌+◌, ◌*◌, ◌^◌, ℕ, List, [], ◌∷◌, ◌++◌, length, drop, take, refl, sym, ap, ◌∙◌, subst, true, false, arith, length-append, length-drop, Result, Ok, Err}
-use Rattle.std.specs.Prelude.{Bool, Option, Some, None, map, sum_by, count_by, option_map, codes, position, min, is_some, find, if◌then◌else◌, ◌==◌, ◌||◌, nat_lt}
-use Rattle.std.specs.List.{AllByRecursion, AllZip, last_or, list_any}
+use Rattle.std.proofs.Common.{◌≡◌, ◌≤◌, ◌+◌, ◌*◌, ◌^◌, ℕ, List, [], ◌∷◌, ◌++◌, length, drop, take, refl, sym, ap, subst, arith, length-append, length-drop, Ok}
+use Rattle.std.specs.Prelude.{Option, Some, None, map, sum_by, count_by, position, ◌==◌}
+use Rattle.std.specs.List.{AllByRecursion, AllZip}
 use Rattle.std.proofs.lemmas.List.{length-map}
 use Rattle.std.proofs.lemmas.List.Sums.{count_by-le-length, sum_by-append, sum_by-cons}
-use Rattle.boot_base.specs.declared.refusal.Refusal.{Refusal}
-use Rattle.command_reads.specs.Files.{each, if_given}
-use Rattle.command_reads.specs.Refusing.{◌>>=◌, path_in}
+use Rattle.command_reads.specs.Files.{each}
+use Rattle.command_reads.specs.Refusing.{path_in}
 use Rattle.command_reads.proofs.Each.{bind_ok, each_cut, each_length, none_made}
-use Rattle.tool_words.specs.declared.command.BuildWords.{BuildWords}
 use Rattle.tool_words.specs.declared.command.Given.{Given}
 use Rattle.tool_words.specs.declared.command.Given.TheVariants.{Inline, File}
 use Rattle.tool_words.specs.Meaning.{given}
@@ -20,7 +18,7 @@ use Rattle.word_grammar.specs.Grammar.{Word}
 use Rattle.image_build.specs.declared.source.PartSources.{PartSources}
 use Rattle.image_build.specs.declared.source.Source.{Source}
 use Rattle.image_build.specs.declared.source.Source.TheVariants as sources
-use Rattle.image_build.specs.Building.{Named, NamedPart, Wanted, extra, named_of, named_part, part_named, section_cut, section_name, section_of, source_of, sources_of, wanted, wanted_parts}
+use Rattle.image_build.specs.Building.{NamedPart, Wanted, extra, named_part, part_named, section_cut, section_name, section_of, source_of, sources_of, wanted}
 use Rattle.image_build.specs.Imaged.{is_filled}
 use Rattle.image_build.specs.Reads.{PartFrom, source_limit, sources_limit}
 use Rattle.image_build.proofs.OptionCounts.{AreShort, IsShortGiven, given_short}

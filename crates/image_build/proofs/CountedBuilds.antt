@@ -1,6 +1,6 @@
 -- An image that words of a build mean can be counted.
-use Rattle.std.proofs.Common.{◌≡◌, ◌≤◌, ◌<◌, ◌+◌, ◌^◌, ℕ, List, [], ◌++◌, length, drop, take, refl, sym, ap, ◌∙◌, subst, true, false, arith, Result, Ok, Err}
-use Rattle.std.specs.Prelude.{Bool, Option, Some, None, sum_by, find, replicate, nat_lt, ◌==◌, if◌then◌else◌}
+use Rattle.std.proofs.Common.{◌≡◌, ◌≤◌, ◌<◌, ◌+◌, ◌^◌, ℕ, List, [], length, drop, refl, ap, ◌∙◌, subst, true, false, arith, Result, Ok, Err}
+use Rattle.std.specs.Prelude.{Bool, Option, Some, None, sum_by, find, nat_lt, ◌==◌, if◌then◌else◌}
 use Rattle.std.specs.List.{position_or_len}
 use Rattle.std.specs.FinMap.{get}
 use Rattle.std.proofs.lemmas.Bool.{ltb-false}
@@ -18,12 +18,10 @@ use Rattle.pe_reader.specs.Grammar.{Headers, pe_of}
 use Rattle.pe_reader.specs.Loaded.{loaded, loaded_in, loaded_of, range_of, is_named}
 use Rattle.pe_reader.specs.declared.fault.FailedCheck.{FailedCheck}
 use Rattle.pe_reader.specs.declared.section.Section.{Section}
-use Rattle.tool_words.specs.declared.command.Command.TheVariants as command
 use Rattle.uki_parts.specs.Sbat.{sbat_entries}
-use Rattle.image_build.specs.Building.{Contents, Material, contents_of, given_sbat, material, material_of, named_as, part_bytes, sbat_of, source_bytes}
+use Rattle.image_build.specs.Building.{Contents, Material, contents_of, given_sbat, material, named_as, part_bytes, sbat_of}
 use Rattle.image_build.specs.declared.source.Source.{Source}
 use Rattle.image_build.specs.declared.source.Source.TheVariants as sources
-use Rattle.image_build.specs.Imaged.{IsCountable}
 use Rattle.image_build.specs.Laws.{BuildsAreCountable}
 use Rattle.image_build.specs.Reads.{material_as}
 use Rattle.image_build.proofs.BuildCounts.{SourceIsShort, build_bounded}

@@ -1,11 +1,11 @@
 -- How many bytes the pieces of a text have.
-use Rattle.std.proofs.Common.{◌≡◌, ◌≤◌, ◌<◌, ◌+◌, ◌-◌, ◌*◌, ◌^◌, ℕ, List, [], ◌∷◌, ◌++◌, length, suc, zero, take, drop, refl, sym, ap, ◌∙◌, subst, true, false, arith, cond, length-append}
+use Rattle.std.proofs.Common.{◌≡◌, ◌≤◌, ◌<◌, ◌+◌, ℕ, List, [], ◌∷◌, ◌++◌, length, suc, zero, refl, true, false, arith, cond, length-append}
 use Rattle.std.specs.Prelude.{Bool, not, codes, filter, replicate, sum_by, nat_eq, if◌then◌else◌, ◌==◌}
-use Rattle.std.specs.List.{before_first, flat_map, join_with_byte, onto_first, position_or_len, slice_split, starts_with}
-use Rattle.std.proofs.lemmas.List.{length-drop, length-replicate, length-take}
+use Rattle.std.specs.List.{before_first, join_with_byte, onto_first, position_or_len, slice_split, starts_with}
+use Rattle.std.proofs.lemmas.List.{length-take}
 use Rattle.std.proofs.lemmas.List.Sums.{sum_by-append, sum_by-cons}
 use Rattle.uki_parts.specs.Cmdlines.{cleaned, is_whitespace, words_of}
-use Rattle.uki_parts.specs.Sbat.{entries_of, is_newline, lines_text, merged_sbat, sbat_entries, sbat_lines, sbat_text, with_first_line}
+use Rattle.uki_parts.specs.Sbat.{entries_of, is_newline, lines_text, merged_sbat, sbat_entries, sbat_lines, sbat_text}
 use Rattle.uki_parts.specs.Texts.{has_bytes}
 
 -- a piece, with the byte that ends it

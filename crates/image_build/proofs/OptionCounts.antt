@@ -1,13 +1,13 @@
 -- How many values of options the items of a command have, and how long they are.
-use Rattle.std.proofs.Common.{◌≡◌, ◌≤◌, ◌+◌, ◌*◌, ℕ, List, [], ◌∷◌, ◌++◌, length, refl, sym, ap, ◌∙◌, subst, true, false, arith, length-append}
-use Rattle.std.specs.Prelude.{Bool, Option, Some, None, map, sum_by, option_map, bytes_eq, codes, if◌then◌else◌, ◌==◌, ◌||◌}
+use Rattle.std.proofs.Common.{◌≡◌, ◌≤◌, ◌+◌, ℕ, List, [], ◌∷◌, length, refl, sym, subst, true, false, arith}
+use Rattle.std.specs.Prelude.{Bool, Option, Some, None, map, sum_by, bytes_eq, if◌then◌else◌, ◌==◌, ◌||◌}
 use Rattle.std.specs.List.{list_any, AllByRecursion, last_or, cons_option}
-use Rattle.std.proofs.lemmas.List.Sums.{sum_by-append, sum_by-cons}
+use Rattle.std.proofs.lemmas.List.Sums.{sum_by-cons}
 use Rattle.boot_machine.proofs.Listing.{bytes-true}
 use Rattle.word_grammar.specs.Grammar.{Word}
 use Rattle.tool_words.specs.declared.command.Given.{Given}
 use Rattle.tool_words.specs.declared.command.Given.TheVariants.{Inline, File}
-use Rattle.tool_words.specs.Items.{Item, Value, Operand, all_values, last_value, value_in}
+use Rattle.tool_words.specs.Items.{Item, Value, Operand, all_values, value_in}
 use Rattle.tool_words.specs.Meaning.{given}
 use Rattle.image_build.proofs.WordCounts.{GivesShort, IsShort}
 

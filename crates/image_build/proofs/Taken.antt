@@ -1,6 +1,6 @@
 -- How many bytes of files the planning of a build reads.
-use Rattle.std.proofs.Common.{◌≡◌, ◌≤◌, ℕ, ◌+◌, List, [], ◌∷◌, ◌++◌, Bool, Option, None, Some, Ok, Result, Bor, length, take, get_or, refl, sym, ap, subst, ◌∙◌, arith, length-append}
-use Rattle.std.specs.Prelude.{All, IfSome, sum_by}
+use Rattle.std.proofs.Common.{◌≡◌, ◌≤◌, ℕ, ◌+◌, List, [], ◌∷◌, ◌++◌, Bool, Option, None, Some, Ok, Bor, length, take, get_or, refl, sym, ap, subst, ◌∙◌, arith, length-append}
+use Rattle.std.specs.Prelude.{IfSome, sum_by}
 use Rattle.std.specs.List.{AllByRecursion}
 use Rattle.std.proofs.lemmas.List.{take_more}
 use Rattle.std.proofs.lemmas.List.Elements.{All-head, All-tail}
@@ -13,7 +13,6 @@ use Rattle.command_plans.specs.declared.plan.Change.{Change}
 use Rattle.command_plans.specs.declared.plan.Change.TheVariants as changes
 use Rattle.image_writer.specs.Sourced.{IsSourced, planned_image}
 use Rattle.tool_words.specs.declared.command.BuildWords.{BuildWords}
-use Rattle.pe_reader.specs.Loaded.{loaded}
 use Rattle.stub_replay.proofs.Ranges.{length-bytes_in}
 use Rattle.stub_replay.proofs.Turns.{IsName}
 use Rattle.stub_replay.specs.Measured.{measured_names}
@@ -25,7 +24,7 @@ use Rattle.uki_parts.specs.declared.piece.Piece.{Piece}
 use Rattle.uki_parts.specs.declared.piece.Piece.TheVariants as pieces
 use Rattle.boot_machine.specs.Reading.{TakesAtMost}
 use Rattle.uki_parts.specs.Pieces.{HasSizes, Reading, bytes_of, piece_bytes, piece_length}
-use Rattle.image_build.specs.Building.{Built, build_named, build_of, named_as}
+use Rattle.image_build.specs.Building.{build_named, build_of, named_as}
 use Rattle.image_build.specs.Planning.{IsPlannedOn, built_as, built_length, built_measuring, measuring_length, planning_length}
 use Rattle.image_build.specs.declared.planned.PlannedBuild.{PlannedBuild}
 use Rattle.image_build.specs.Reads.{FilesFrom, loaded_sbat_length, reading_length, source_file_length}

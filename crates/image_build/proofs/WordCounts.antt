@@ -1,13 +1,12 @@
 -- How many values the words of a command give, and how long they are.
-use Rattle.std.proofs.Common.{◌≡◌, ◌≤◌, ◌<◌, ◌+◌, ℕ, List, [], ◌∷◌, length, drop, take, refl, sym, ap, ◌∙◌, subst, true, false, arith, Result, Ok, Err}
-use Rattle.std.specs.Prelude.{Bool, Option, Some, None, ◌||◌, ◌&&◌, map, sum_by, count_by, nat_lt, find, is_some, codes, filter_map, if◌then◌else◌, bytes_eq}
-use Rattle.std.specs.List.{list_any, AllByRecursion, after_first, position_or_len, last_or}
+use Rattle.std.proofs.Common.{◌≡◌, ◌≤◌, ◌+◌, ℕ, List, [], ◌∷◌, length, refl, subst, true, false, arith, Result, Ok, Err}
+use Rattle.std.specs.Prelude.{Bool, map, if◌then◌else◌}
+use Rattle.std.specs.List.{AllByRecursion, after_first, position_or_len}
 use Rattle.std.proofs.lemmas.List.{length-drop}
 use Rattle.word_grammar.specs.declared.grammar.CommandName.{CommandName}
 use Rattle.word_grammar.specs.Grammar.{Word, OptionRule}
 use Rattle.tool_words.specs.declared.fault.UsageReason.{UsageReason}
-use Rattle.tool_words.specs.declared.fault.UsageReason.TheVariants as reason
-use Rattle.tool_words.specs.Items.{◌>>=◌, Item, Value, Operand, Said, Ends, Plain, Whole, Open, all_values, last_items, last_value, more_items, items, onto, said, option_said, option_of, with_value, without_value, valued, value_in, has_equals, is_equals_sign, is_flag}
+use Rattle.tool_words.specs.Items.{◌>>=◌, Item, Value, Operand, Said, Ends, Plain, Whole, Open, last_items, more_items, items, onto, said, option_said, option_of, with_value, without_value, valued, has_equals, is_equals_sign, is_flag}
 
 pub bound : {A B : Type 0} (r : Result A UsageReason) (f : A → Result B UsageReason) (b : B) → (r >>= f) ≡ Ok b → (a : A) × (r ≡ Ok a) × (f a ≡ Ok b)
 bound (Ok a) f b is = (a, refl, is)
