@@ -1,7 +1,12 @@
+mod BuildCounts
 mod Built
+mod Countable
+mod CountedBuilds
 mod Imaged
+mod Lines
 mod Listed
 mod Material
+mod OptionCounts
 mod Ordered
 pub mod Outputs
 mod Pieced
@@ -10,3 +15,4 @@ mod Printed
 mod Taken
 mod Values
 mod Wants
+mod WordCounts

@@ -4,10 +4,14 @@ use Rattle.std.specs.Prelude.{IfSome, sum_by}
 use Rattle.std.specs.List.{AllByRecursion}
 use Rattle.std.proofs.lemmas.List.{take_more}
 use Rattle.std.proofs.lemmas.List.Sums.{sum_by-append, sum_by-cons}
-use Rattle.boot_machine.specs.Disk.{State}
+use Rattle.boot_machine.specs.Disk.{Files, State}
 use Rattle.boot_machine.specs.Rows.{contents}
 use Rattle.boot_machine.specs.Sent.{seen}
-use Rattle.image_writer.specs.Sourced.{planned_image}
+use Rattle.command_plans.specs.Plans.{making_length}
+use Rattle.command_plans.specs.declared.plan.Change.{Change}
+use Rattle.command_plans.specs.declared.plan.Change.TheVariants as changes
+use Rattle.image_writer.specs.Sourced.{IsSourced, planned_image}
+use Rattle.tool_words.specs.declared.command.BuildWords.{BuildWords}
 use Rattle.stub_replay.proofs.Fitting.{content_fits}
 use Rattle.stub_replay.proofs.Turns.{IsName}
 use Rattle.stub_replay.specs.Measured.{measured_names}
@@ -17,8 +21,8 @@ use Rattle.stub_replay.specs.declared.measurable.Content.TheVariants as sources
 use Rattle.stub_replay.specs.declared.measurable.Measurable.{Measurable}
 use Rattle.boot_machine.specs.Reading.{TakesAtMost}
 use Rattle.uki_parts.specs.Pieces.{Reading}
-use Rattle.image_build.specs.Building.{build_named, named_as}
-use Rattle.image_build.specs.Planning.{IsPlannedOn, built_as, built_measuring, measuring_length, planning_length}
+use Rattle.image_build.specs.Building.{build_named, build_of, named_as}
+use Rattle.image_build.specs.Planning.{IsPlannedOn, built_as, built_length, built_measuring, measuring_length, planning_length}
 use Rattle.image_build.specs.declared.planned.PlannedBuild.{PlannedBuild}
 use Rattle.image_build.specs.Reads.{FilesFrom, loaded_sbat_length, reading_length, source_file_length}
 use Rattle.image_build.specs.declared.build_reads.BuildFiles.{BuildFiles}
@@ -77,3 +81,13 @@ planning s now measure found build before between after same meant on first seco
     let measured =
     subst (λ (t : State). IsPlannedOn (seen t) build → TakesAtMost (measuring_length measure (planned_image build.image.plan build.image.sources (seen t))) between after) same second on in
     omega (arith, first, measured, ap (built_measuring measure) meant)
+
+-- the image is written of at most as many bytes as what the words mean has
+pub written_of : (s now : State) (words : BuildWords) (build : PlannedBuild) (change : Change) → build_of (seen s) words ≡ Ok (built_as (seen s) build) → IsPlannedOn (seen s) build
+    → ((view : Files) → IsSourced build.image.plan build.image.sources view → making_length view change ≤ length (planned_image build.image.plan build.image.sources view))
+    → making_length (seen s) change ≤ built_length (build_of (seen s) words)
+written_of s now words build change meant on writes = omega (arith, ap built_length meant, writes (seen s) on.sourced)
+
+-- what changes nothing reads nothing more
+pub idle_none : (view : Files) (change : Change) (n : ℕ) → change ≡ changes.Nothing → making_length view change ≤ n
+idle_none view change n is = omega (arith, ap (making_length view) is)

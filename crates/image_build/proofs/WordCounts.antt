@@ -1,13 +1,12 @@
 -- How many values the words of a command give, and how long they are.
-use Rattle.std.proofs.Common.{◌≡◌, ◌≤◌, ◌<◌, ◌+◌, ℕ, List, [], ◌∷◌, length, drop, take, refl, sym, ap, ◌∙◌, subst, true, false, arith, Result, Ok, Err}
-use Rattle.std.specs.Prelude.{Bool, Option, Some, None, ◌||◌, ◌&&◌, map, sum_by, count_by, nat_lt, find, is_some, codes, filter_map, if◌then◌else◌, bytes_eq}
-use Rattle.std.specs.List.{list_any, AllByRecursion, after_first, position_or_len, last_or}
+use Rattle.std.proofs.Common.{◌≡◌, ◌≤◌, ◌+◌, ℕ, List, [], ◌∷◌, length, refl, subst, true, false, arith, Result, Ok, Err}
+use Rattle.std.specs.Prelude.{Bool, map, if◌then◌else◌}
+use Rattle.std.specs.List.{AllByRecursion, after_first, position_or_len}
 use Rattle.std.proofs.lemmas.List.{length-drop}
 use Rattle.word_grammar.specs.declared.grammar.CommandName.{CommandName}
 use Rattle.word_grammar.specs.Grammar.{Word, OptionRule}
 use Rattle.tool_words.specs.declared.fault.UsageReason.{UsageReason}
-use Rattle.tool_words.specs.declared.fault.UsageReason.TheVariants as reason
-use Rattle.tool_words.specs.Items.{◌>>=◌, Item, Value, Operand, Said, Ends, Plain, Whole, Open, all_values, last_items, last_option_value, more_items, items, onto, word_meaning, option_said, option_of, with_value, without_value, valued, item_value, has_equals, is_equals_sign, is_flag}
+use Rattle.tool_words.specs.Items.{◌>>=◌, Item, Value, Operand, Said, Ends, Plain, Whole, Open, last_items, more_items, items, onto, word_meaning, option_said, option_of, with_value, without_value, valued, has_equals, is_equals_sign, is_flag}
 
 pub bound : {A B : Type 0} (r : Result A UsageReason) (f : A → Result B UsageReason) (b : B) → (r >>= f) ≡ Ok b → (a : A) × (r ≡ Ok a) × (f a ≡ Ok b)
 bound (Ok a) f b is = (a, refl, is)
@@ -55,9 +54,9 @@ SaysShort (Whole text value) = length value ≤ 1048576
 SaysShort (Open option) = Unit {0}
 
 -- of two cases either
-by_test : (b : Bool) (yes no : Result Said UsageReason) (s : Said) → (yes ≡ Ok s → SaysShort s) → (no ≡ Ok s → SaysShort s) → (if b then yes else no) ≡ Ok s → SaysShort s
-by_test true yes no s first second is = first is
-by_test false yes no s first second is = second is
+by_test : (b : Bool) (one other : Result Said UsageReason) (s : Said) → (one ≡ Ok s → SaysShort s) → (other ≡ Ok s → SaysShort s) → (if b then one else other) ≡ Ok s → SaysShort s
+by_test true one other s first second is = first is
+by_test false one other s first second is = second is
 
 valued_same : (b : Bool) (why : UsageReason) (value taken : Word) → (let r : Result Word UsageReason = if b then Err why else Ok value in r) ≡ Ok taken → value ≡ taken
 valued_same true why value taken is = cc
@@ -97,7 +96,7 @@ said_short c word s short =
     (by_test _ _ _ s (none_short _ s) (ok_short Plain s tt)))
 
 few_last : (word : Word) (s : Said) (found : List Item) → IsShort word → SaysShort s → last_items word s ≡ Ok found → AreFew 1 found
-few_last word Ends found short says is = subst (AreFew 1) (cc is) (record { few = omega arith; short = tt })
+few_last word Ends found short says is = let same : [] ≡ found = cc is in subst (AreFew 1) same (record { few = omega arith; short = tt })
 few_last word Plain found short says is = few_one (Operand word) found short (cc is)
 few_last word (Whole text value) found short says is = few_one (Value text value) found says (cc is)
 few_last word (Open option) found short says is = cc
@@ -120,7 +119,7 @@ few_items_more word next words (Open option) later latest found short says first
 -- no more items than words, and no longer ones
 pub few_items : (c : CommandName) (words : List Word) (found : List Item) → AllByRecursion IsShort words → items c words ≡ Ok found → AreFew (length words) found
 unfolding items
-few_items c [] found short is = subst (AreFew 0) (cc is) (record { few = omega arith; short = tt })
+few_items c [] found short is = let same : [] ≡ found = cc is in subst (AreFew 0) same (record { few = omega arith; short = tt })
 few_items c (word ∷ []) found short is =
     let s = bound (word_meaning c word) _ found is in
     few_last word s.0 found short.0 (said_short c word s.0 short.0 s.1) s.2

@@ -81,3 +81,8 @@ abbrev pub planning_length : Files → Bool → Result Named Refusal → ℕ
 planning_length view measure (Err why) = 0
 planning_length view measure (Ok named) =
     reading_length (contents view) named + built_measuring measure (build_named view named)
+
+-- how many bytes of files are read to write what was built, at most: as many as it has
+abbrev pub built_length : Result Built Refusal → ℕ
+built_length (Err why) = 0
+built_length (Ok built) = length built.image

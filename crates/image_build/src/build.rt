@@ -1,5 +1,5 @@
 //! `ukify build`: the plan of what its words mean.
-ghost use Rattle.std.specs.Prelude.{◌≡◌, Bool, Err, IfErr, IfOk, IsTrue, Ok, Result, Some};
+ghost use Rattle.std.specs.Prelude.{◌≡◌, ◌≤◌, length, Bool, Err, IfErr, IfOk, IsTrue, Ok, Result, Some};
 ghost use Rattle.std.specs.List.{flat_map};
 ghost use Rattle.boot_base.specs.Paths.{IsFree, Path};
 ghost use Rattle.boot_base.specs.declared.refusal.Refusal.{Refusal};
@@ -9,16 +9,16 @@ ghost use Rattle.boot_machine.specs.Reading.{OnlyReads, TakesAtMost};
 ghost use Rattle.boot_machine.specs.Rows.{contents};
 ghost use Rattle.boot_machine.specs.Sent.{seen};
 ghost use Rattle.command_plans.specs.Performs.{CountsStop};
-ghost use Rattle.command_plans.specs.Plans.{IsIdleIfRefused, IsMakeable, Plans};
+ghost use Rattle.command_plans.specs.Plans.{IsIdleIfRefused, IsMakeable, Plans, making_length};
 ghost use Rattle.command_plans.specs.Refusing.{PlansDeclined};
 ghost use Rattle.command_plans.specs.Declining.{printed_path};
 ghost use Rattle.image_writer.specs.Sourced.{IsSourced, planned_image};
 ghost use Rattle.command_plans.specs.Names.{shown_byte};
 ghost use Rattle.command_plans.specs.declared.declined.Declined.TheVariants as declines;
 ghost use Rattle.command_plans.specs.Unsaying.{CountsUnsaid, Says, UnsaidFor};
-ghost use Rattle.image_build.specs.Building.{AreNamed, Built, build_answer, build_named, builder_refusal, named_as, named_of, built_answer, built_line, built_text, image_of};
+ghost use Rattle.image_build.specs.Building.{AreNamed, Built, build_answer, build_named, build_of, builder_refusal, named_as, named_of, built_answer, built_line, built_text, image_of};
 ghost use Rattle.image_build.specs.Imaged.{Images};
-ghost use Rattle.image_build.specs.Planning.{built_as, IsPlannable, IsPlannedOn, measuring_length, planning_length};
+ghost use Rattle.image_build.specs.Planning.{built_as, built_length, IsPlannable, IsPlannedOn, measuring_length, planning_length};
 ghost use Rattle.image_build.specs.Reads.{BuiltHasSizes, material_as, reading_length};
 ghost use Rattle.pe_reader.specs.Grammar.{pe_of};
 ghost use Rattle.pe_reader.specs.Reads.{headers_of};
@@ -167,6 +167,8 @@ fn writing(alloc: Global, build: PlannedBuild, text: Vec<u8>) -> Result<Plan, Al
         → text.items ≡ built_text measure (built_as (seen s) build)
         → Plans s plan (built_answer (seen s) measure (Ok (built_as (seen s) build)))) }
     ensures makeable { IfOk result (λ plan. IsMakeable plan.change) }
+    ensures writes { IfOk result (λ plan. (view : Files) → IsSourced build.image.plan build.image.sources view
+        → making_length view plan.change ≤ length (planned_image build.image.plan build.image.sources view)) }
     ensures idle { IfOk result IsIdleIfRefused }
 {
     let PlannedBuild { image, output, .. } = build;
@@ -195,6 +197,8 @@ fn building<M: Machine>(
     ensures unsaid { IfErr result (λ unsaid. IsTrue M.tells
         → UnsaidFor unsaid (build_named (seen (M.state machine.old)) (named_as sources))) }
     ensures makeable { IfOk result (λ plan. IsMakeable plan.change) }
+    ensures writes { IfOk result (λ plan. IsTrue M.tells → making_length (seen (M.state machine.old)) plan.change
+        ≤ built_length (build_of (seen (M.state machine.old)) words.now)) }
     ensures idle { IfOk result IsIdleIfRefused }
     ensures reads { IsTrue M.tells → OnlyReads M.clock M.since M.state machine.old machine.new }
     ensures counts { CountsUnsaid result (M.counts machine.old) (M.counts machine.new) }
@@ -219,6 +223,8 @@ fn plan_sources<M: Machine>(
     ensures plans { IfOk result (λ plan. IsTrue M.tells → Plans (M.state machine.old) plan
         (build_answer (seen (M.state machine.old)) words.now)) }
     ensures makeable { IfOk result (λ plan. IsMakeable plan.change) }
+    ensures writes { IfOk result (λ plan. IsTrue M.tells → making_length (seen (M.state machine.old)) plan.change
+        ≤ built_length (build_of (seen (M.state machine.old)) words.now)) }
     ensures idle { IfOk result IsIdleIfRefused }
     ensures reads { IsTrue M.tells → OnlyReads M.clock M.since M.state machine.old machine.new }
     ensures counts { CountsStop result (M.counts machine.old) (M.counts machine.new) }
@@ -233,7 +239,8 @@ fn plan_sources<M: Machine>(
 }
 
 /// What a build is going to do and to say: the image of what its words mean comes to stand at the output. Files are
-/// found and headers read; other bytes are read for the SBAT text alone, and once each where the image is measured.
+/// found and headers read; other bytes are read for the SBAT text alone, and once each where the image is measured. To
+/// write the image then, no more bytes of files are read than it has.
 /// Words that name no section or no path are refused whatever the machine tells.
 pub fn plan_build<M: Machine>(
     alloc: Global,
@@ -245,6 +252,8 @@ pub fn plan_build<M: Machine>(
     ensures declined { (why : Refusal) → named_of words.now ≡ Err why
         → IfOk result (PlansDeclined (declines.Refused why)) }
     ensures makeable { IfOk result (λ plan. IsMakeable plan.change) }
+    ensures writes { IfOk result (λ plan. IsTrue M.tells → making_length (seen (M.state machine.old)) plan.change
+        ≤ built_length (build_of (seen (M.state machine.old)) words.now)) }
     ensures idle { IfOk result IsIdleIfRefused }
     ensures reads { IsTrue M.tells → OnlyReads M.clock M.since M.state machine.old machine.new }
     ensures counts { CountsStop result (M.counts machine.old) (M.counts machine.new) }

@@ -121,8 +121,8 @@ fn total_bytes(parts: &[Part]) -> u64
     total
 }
 
-// Whether the numbers of an image hold so many parts and bytes. They hold those of every command: it has at most
-// 16,777,211 words that add a part, and its files and words together have fewer bytes.
+// Whether the numbers of an image hold so many parts and bytes. They hold those of every command, as the law
+// `builds_are_countable` says.
 fn is_countable(parts: &[Part], sbat: &[u8]) -> bool
     ensures { (result ≡ true) ↔ IsCountable parts.now sbat.now }
 {
@@ -169,7 +169,7 @@ fn counted_plan(
 ///
 /// The first refusal of the builder, as `plan_refusal` has it, exactly where there is one; `Memory` where there is no
 /// memory for the plan, or where there are more parts with bytes than 16,777,214, more bytes than 2^61, or an SBAT text
-/// of 4 GiB, which no command's words and files reach.
+/// of 4 GiB, which no command's words and files reach (`builds_are_countable`).
 pub fn plan_image_of(
     alloc: Global,
     head: &Pe,

@@ -18,5 +18,5 @@ pub use build::plan_build;
 pub use build_plan::{ImagePlan, plan_image_of};
 pub use build_reads::{BuildParts, read_build};
 pub use build_words::build_sources;
-pub use laws::built_values_are_the_stubs;
+pub use laws::{builds_are_countable, built_values_are_the_stubs};
 pub use source::{BuildSources, PartSources, Source};

@@ -2,7 +2,7 @@ use Rattle.boot_machine.proofs.Reading.{reads_on}
 use Rattle.std.proofs.Common.{◌∙◌}
 use Rattle.boot_machine.specs.Sent.{seen}
 use Rattle.image_build.proofs.Planning.{build_by_name, meant_plan}
-use Rattle.image_build.proofs.Taken.{planning}
+use Rattle.image_build.proofs.Taken.{planning, written_of}
 use Rattle.image_build.proofs.build.building.Goals as goal
 
 pub returns-in_err-text-clause-reads : goal.returns-in_err-text-clause-reads
@@ -39,3 +39,8 @@ pub returns-clause-taken : goal.returns-clause-taken
 returns-clause-taken g c told =
     planning (g.M.Machine.state c.args.machine.now) (g.M.Machine.state c.planned.new.machine) c.args.words.now.measure c.args.sources c.in_ok-build.build _ _ _ (c.planned.ensures.reads told).same
     (c.in_ok-build.ensures.says told) (c.in_ok-build.ensures.planned told) (c.planned.ensures.taken told) (c.reply.ensures.taken told)
+
+pub returns-clause-writes : goal.returns-clause-writes
+returns-clause-writes g c told =
+    written_of (g.M.Machine.state c.args.machine.now) (g.M.Machine.state c.planned.new.machine) c.args.words.now c.in_ok-build.build c.in_ok-writing.field-0.change
+    (build_by_name (seen (g.M.Machine.state c.args.machine.now)) c.args.words.now c.args.sources c.requires.named ∙ c.in_ok-build.ensures.says told) (c.in_ok-build.ensures.planned told) c.in_ok-writing.ensures.writes

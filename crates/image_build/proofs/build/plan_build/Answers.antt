@@ -6,6 +6,7 @@ use Rattle.image_build.specs.Building.{Named}
 use Rattle.image_build.specs.Planning.{planning_length}
 use Rattle.boot_machine.proofs.Reading.{reads_none}
 use Rattle.image_build.proofs.Planning.{declined_as, declined_plan, not_declined}
+use Rattle.image_build.proofs.Taken.{idle_none}
 use Rattle.image_build.proofs.build.plan_build.Goals as goal
 
 pub returns-in-Ok-clause-declined : goal.returns-in-Ok-clause-declined
@@ -31,3 +32,7 @@ pub returns-in-Ok-clause-taken : goal.returns-in-Ok-clause-taken
 returns-in-Ok-clause-taken g c told =
     subst (λ (r : Result Named Refusal). TakesAtMost (planning_length (seen (g.M.Machine.state c.args.machine.now)) c.args.words.now.measure r) (g.M.Machine.taken c.args.machine.now) (g.M.Machine.taken c.plan_sources.new.machine))
     (sym c.in-Ok.ensures.means) (c.plan_sources.ensures.taken told)
+
+pub returns-in_ok-plan_declined-in-Err-clause-writes : goal.returns-in_ok-plan_declined-in-Err-clause-writes
+returns-in_ok-plan_declined-in-Err-clause-writes g c told =
+    idle_none (seen (g.M.Machine.state c.args.machine.now)) c.in_ok-plan_declined-in-Err.field-0.change _ c.in_ok-plan_declined-in-Err.ensures.idle

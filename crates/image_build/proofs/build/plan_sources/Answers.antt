@@ -1,4 +1,6 @@
+use Rattle.boot_machine.specs.Sent.{seen}
 use Rattle.image_build.proofs.Planning.{ok_weaker, unsaid_plan}
+use Rattle.image_build.proofs.Taken.{idle_none}
 use Rattle.image_build.proofs.build.plan_sources.Goals as goal
 
 pub returns-in-Err-clause-plans : goal.returns-in-Err-clause-plans
@@ -9,3 +11,6 @@ returns-in-Err-clause-plans g c =
 
 pub returns-in-Err-clause-idle : goal.returns-in-Err-clause-idle
 returns-in-Err-clause-idle g c = ok_weaker c.plan_unsaid.result (λ plan idle is. idle) c.plan_unsaid.ensures.idle
+
+pub returns-in-Err-clause-writes : goal.returns-in-Err-clause-writes
+returns-in-Err-clause-writes g c = ok_weaker c.plan_unsaid.result (λ plan idle told. idle_none (seen (g.M.Machine.state c.args.machine.now)) plan.change _ idle) c.plan_unsaid.ensures.idle
