@@ -228,10 +228,6 @@ module _ (front last : List ℕ) (one : list_any is_slash last ≡ false)
 normal_whole : (name : List ℕ) → is_kept name ≡ true → list_any is_slash name ≡ false → normal_of name ≡ name
 normal_whole name kept one = ap (joined 47 is_kept) (one_component name one) ∙ rw kept refl
 
-kept_long : (name : List ℕ) → is_kept name ≡ true → 0 < length name
-kept_long [] kept = cc
-kept_long (b ∷ name) kept = omega arith
-
 -- ---- paths in the same folder
 
 -- what a text takes, besides being its own normal form, to be the path of a boot file
@@ -264,7 +260,7 @@ module _ (name : List ℕ) (may : MayEnd name) where
       path_from name (normal_whole name may.kept may.one) (record {
         no_nul = may.no_nul;
         allowed = ap (list_any is_refused) (one_component name may.one) ∙ refused_none;
-        some = kept_long name may.kept;
+        some = is_kept-long name may.kept;
         short = short;
         shown = shown;
         free = free;
