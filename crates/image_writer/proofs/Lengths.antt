@@ -10,12 +10,12 @@ use Rattle.boot_machine.specs.Rows.{contents}
 use Rattle.uki_parts.specs.declared.part.Part.{Part}
 use Rattle.uki_parts.specs.declared.piece.Piece.{Piece}
 use Rattle.uki_parts.specs.declared.piece.Piece.TheVariants as pieces
-use Rattle.uki_parts.specs.Pieces.{Reading}
+use Rattle.uki_parts.specs.Pieces.{Reading, file_length}
 use Rattle.pe_builder.specs.declared.plan.Plan.{Plan}
 use Rattle.pe_builder.specs.Known.{planned_before, planned_stub_length}
 use Rattle.image_writer.specs.Chunks.{behind_stub, gap, given_bytes, padded_part, new_stub_bytes}
 use Rattle.image_writer.specs.Sourced.{IsSourced, new_sbat, part_list, planned_image, stub_path}
-use Rattle.image_writer.specs.Taken.{part_reading, piece_reading, writing_length}
+use Rattle.image_writer.specs.Taken.{part_reading, writing_length}
 use Rattle.image_writer.specs.declared.sources.Sources.{Sources}
 use Rattle.image_writer.proofs.Assembled.{finished_bytes, stub_kept}
 use Rattle.image_writer.proofs.PlannedImages.{planned_image-one}
@@ -23,17 +23,17 @@ use Rattle.image_writer.proofs.PlannedImages.{planned_image-one}
 filled_long : (bytes : List ℕ) (count : ℕ) → count ≤ length (zero_filled bytes count)
 filled_long bytes count = omega (arith, length-append (take count bytes) (replicate (count - length bytes) 0), length-take count bytes, length-replicate {A = ℕ} (count - length bytes) 0)
 
-piece_long : (files : Reading) (piece : Piece) → piece_reading piece ≤ length (given_bytes files piece)
+piece_long : (files : Reading) (piece : Piece) → file_length piece ≤ length (given_bytes files piece)
 piece_long files (pieces.Bytes bytes) = omega arith
 piece_long files (pieces.File path size) = omega (arith, filled_long (files path) (size - 0))
 piece_long files (pieces.Zeros count) = omega arith
 
-pieces_long : (files : Reading) (list : List Piece) → sum_by piece_reading list ≤ length (flat_map (given_bytes files) list)
+pieces_long : (files : Reading) (list : List Piece) → sum_by file_length list ≤ length (flat_map (given_bytes files) list)
 pieces_long files [] = omega arith
 pieces_long files (piece ∷ list) =
     omega (
       arith,
-      sum_by-cons piece_reading piece list,
+      sum_by-cons file_length piece list,
       piece_long files piece,
       pieces_long files list,
       length-append (given_bytes files piece) (flat_map (given_bytes files) list),

@@ -1,8 +1,7 @@
 -- How many bytes of files are read to write an image.
 use Rattle.std.specs.Prelude.{ℕ, ◌+◌, ◌*◌, ◌-◌, List, sum_by}
 use Rattle.uki_parts.specs.declared.part.Part.{Part}
-use Rattle.uki_parts.specs.declared.piece.Piece.{Piece}
-use Rattle.uki_parts.specs.declared.piece.Piece.TheVariants as pieces
+use Rattle.uki_parts.specs.Pieces.{file_length}
 use Rattle.pe_builder.specs.declared.plan.Plan.{Plan}
 use Rattle.pe_builder.specs.Known.{planned_stub_length, planned_before, planned_after, planned_sbat}
 use Rattle.image_writer.specs.declared.chunk.Chunk.{Chunk}
@@ -31,15 +30,9 @@ kept_length plan =
     + chunks_length (rest_chunks ((planned_before plan).table_place + 40 * (planned_after plan).section_count)
     (planned_stub_length plan) (planned_sbat plan)))
 
--- how many bytes of a file a piece has; bytes at hand and zeros have none
-abbrev pub piece_reading : Piece → ℕ
-piece_reading (pieces.Bytes bytes) = 0
-piece_reading (pieces.File path size) = size
-piece_reading (pieces.Zeros count) = 0
-
 -- how many bytes of files the pieces of a part have
 abbrev pub part_reading : Part → ℕ
-part_reading part = sum_by piece_reading part.pieces.items
+part_reading part = sum_by file_length part.pieces.items
 
 -- how many bytes of files are read to write the image by a plan of these sources, at most: the stub's and those of each
 -- part, each once

@@ -5,10 +5,10 @@ ghost use Rattle.std.specs.List.{flat_map};
 ghost use Rattle.boot_machine.specs.Counts.{CountsDisk};
 ghost use Rattle.boot_machine.specs.Disk.{has};
 ghost use Rattle.boot_machine.specs.Reading.{TakesAtMost};
-ghost use Rattle.uki_parts.specs.Pieces.{Reading};
+ghost use Rattle.uki_parts.specs.Pieces.{Reading, file_length};
 ghost use Rattle.install_steps.specs.Appends.{AppendsOnly, Grown};
 ghost use Rattle.image_writer.specs.Chunks.{Agrees, behind_stub, gap, given_bytes, padded_part};
-ghost use Rattle.image_writer.specs.Taken.{part_reading, piece_reading};
+ghost use Rattle.image_writer.specs.Taken.{part_reading};
 
 use crate::append::write_zeros;
 use boot_base::TempPath;
@@ -106,7 +106,7 @@ fn write_pieces<M: Machine>(
     ensures grows { OnOk result (IsTrue M.tells → (files : Reading) → Agrees files (M.state machine.old).files
         → Grown temp.now (flat_map (given_bytes files) pieces.now) (M.state machine.old) (M.state machine.new)) }
     ensures counts { CountsDisk result (M.counts machine.old) (M.counts machine.new) }
-    ensures taken { IsTrue M.tells → TakesAtMost (sum_by piece_reading pieces.now)
+    ensures taken { IsTrue M.tells → TakesAtMost (sum_by file_length pieces.now)
         (M.taken machine.old) (M.taken machine.new) }
 {
     temp.know();
@@ -130,7 +130,7 @@ fn write_piece<M: Machine>(
     ensures grows { OnOk result (IsTrue M.tells → (files : Reading) → Agrees files (M.state machine.old).files
         → Grown temp.now (given_bytes files piece.now) (M.state machine.old) (M.state machine.new)) }
     ensures counts { CountsDisk result (M.counts machine.old) (M.counts machine.new) }
-    ensures taken { IsTrue M.tells → TakesAtMost (piece_reading piece.now) (M.taken machine.old) (M.taken machine.new) }
+    ensures taken { IsTrue M.tells → TakesAtMost (file_length piece.now) (M.taken machine.old) (M.taken machine.new) }
 {
     match piece {
         Piece::Bytes(bytes) => append(machine, temp, bytes.as_slice()),

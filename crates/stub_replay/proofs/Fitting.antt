@@ -4,10 +4,10 @@ use Rattle.std.specs.Prelude.{sum_by}
 use Rattle.std.proofs.lemmas.List.Elements.{All-head, All-tail}
 use Rattle.std.proofs.lemmas.List.Sums.{sum_by-cons}
 use Rattle.pe_reader.proofs.Ranges.{length-bytes_in}
-use Rattle.uki_parts.specs.Pieces.{HasSizes, Reading, bytes_of, piece_bytes, piece_length}
+use Rattle.uki_parts.specs.Pieces.{HasSizes, Reading, bytes_of, file_length, piece_bytes, piece_length}
 use Rattle.uki_parts.specs.declared.piece.Piece.{Piece}
 use Rattle.uki_parts.specs.declared.piece.Piece.TheVariants as pieces
-use Rattle.stub_replay.specs.Parts.{IsWhole, content_bytes, file_length, read_length}
+use Rattle.stub_replay.specs.Parts.{IsWhole, content_bytes, read_length}
 use Rattle.stub_replay.specs.declared.measurable.Content.{Content}
 use Rattle.stub_replay.specs.declared.measurable.Content.TheVariants as sources
 

@@ -5,7 +5,7 @@ use Rattle.std.specs.List.{All, flat_map}
 use Rattle.pe_reader.specs.Loaded.{bytes_in}
 use Rattle.uki_parts.specs.declared.piece.Piece.{Piece}
 use Rattle.uki_parts.specs.declared.piece.Piece.TheVariants as pieces
-use Rattle.uki_parts.specs.Pieces.{Reading, HasSizes, total_length, bytes_of}
+use Rattle.uki_parts.specs.Pieces.{Reading, HasSizes, total_length, bytes_of, file_length}
 use Rattle.stub_replay.specs.Measured.{section_items}
 use Rattle.stub_replay.specs.declared.measurable.Content.{Content}
 use Rattle.stub_replay.specs.declared.measurable.Content.TheVariants as contents
@@ -56,12 +56,6 @@ items_of parts = flat_map (λ part. section_items part.0 part.1) parts
 -- each part is whole in these files
 abbrev pub HaveSizes : Reading → List Measurable → Type 0
 HaveSizes files parts = All (λ part. IsWhole files part.content) parts
-
--- how many bytes of a file the piece stands for
-abbrev pub file_length : Piece → ℕ
-file_length (pieces.Bytes bytes) = 0
-file_length (pieces.File path size) = size
-file_length (pieces.Zeros count) = 0
 
 -- how many bytes of files a content stands for
 abbrev pub read_length : Content → ℕ

@@ -15,6 +15,12 @@ piece_length (pieces.Zeros count) = count
 abbrev pub total_length : List Piece → ℕ
 total_length pieces = sum_by piece_length pieces
 
+-- how many bytes of a file a piece has; bytes at hand and zeros have none
+abbrev pub file_length : Piece → ℕ
+file_length (pieces.Bytes bytes) = 0
+file_length (pieces.File path size) = size
+file_length (pieces.Zeros count) = 0
+
 -- the bytes of the file at each path
 abbrev pub Reading : Type 0
 Reading = Path → List ℕ

@@ -2,7 +2,7 @@ use Rattle.std.proofs.Common.{refl, sym, ◌∙◌, rules, ap, arith}
 use Rattle.std.proofs.lemmas.List.Sums.{sum_by_more}
 use Rattle.boot_base.specs.Paths.{Path}
 use Rattle.install_steps.specs.AppendLaws.{appends_none, appends_on, appends-there, appends-source, grown_none, grown_on, grown_as}
-use Rattle.image_writer.specs.Taken.{piece_reading}
+use Rattle.uki_parts.specs.Pieces.{file_length}
 use Rattle.image_writer.proofs.Filled.{flat_map-more, flat_map-all}
 use Rattle.image_writer.specs.Chunks.{given_bytes}
 use Rattle.image_writer.proofs.part.write_pieces.Goals as goal
@@ -38,8 +38,8 @@ loop-piece-preserved g c = record {
         arith,
         c.loop-piece.invariant.taken told,
         c.in_ok-write_piece.ensures.taken told,
-        ap piece_reading c.piece-item.is,
-        sum_by_more piece_reading c.args.pieces.now c.loop-piece.piece-index c.piece-item.result (omega arith),
+        ap file_length c.piece-item.is,
+        sum_by_more file_length c.args.pieces.now c.loop-piece.piece-index c.piece-item.result (omega arith),
       );
   counts = search rules;
 }
