@@ -1,9 +1,10 @@
 -- A command that is carried out after its reads.
-use Rattle.std.proofs.Common.{◌≡◌, ℕ, Result, sym, ap, ◌∙◌, subst}
+use Rattle.std.proofs.Common.{◌≡◌, Result, sym, ap, ◌∙◌, subst}
 use Rattle.boot_machine.specs.Disk.{Files, IsIn, State, recovered_view}
 use Rattle.boot_machine.specs.Images.{IsImage, IsFirm}
+use Rattle.boot_machine.specs.Moments.{Timeline}
 use Rattle.boot_machine.specs.Reading.{OnlyReads}
-use Rattle.boot_machine.specs.Sent.{Sent, recovered_views, seen}
+use Rattle.boot_machine.specs.Sent.{recovered_views, seen}
 use Rattle.command_plans.specs.Answers.{Answer}
 use Rattle.command_plans.specs.Deeds.{made}
 use Rattle.command_plans.specs.Performs.{Performs, Syncs, end_of}
@@ -16,21 +17,21 @@ use Rattle.command_plans.proofs.Syncing.{syncs_after_reads}
 use Rattle.boot_commands.specs.Commands.{Tidied, TidiesTo}
 use Rattle.tool_words.specs.declared.command.Command.{Command}
 
-module _ {D : Type 0} (clock : D → ℕ) (since : D → ℕ → Files → Sent → Type 0) (state : D → State) (old mid new : D) (plan : Plan) (answer : Answer) (result : Result Outcome Stop) where
-  same_deed : OnlyReads clock since state old mid → planned (seen (state old)) plan ≡ answer → made (planned (seen (state mid)) plan) ≡ made answer
+module _ {D : Type 0} (time : Timeline D) (state : D → State) (old mid new : D) (plan : Plan) (answer : Answer) (result : Result Outcome Stop) where
+  same_deed : OnlyReads time state old mid → planned (seen (state old)) plan ≡ answer → made (planned (seen (state mid)) plan) ≡ made answer
   same_deed reads is = ap (λ (s : State). made (planned (seen s) plan)) reads.same ∙ ap made is
 
-  pub performs_after : ((m : Files) → IsImage (state old) m → IsIn (recovered_view m) (recovered_views (state old))) → OnlyReads clock since state old mid → planned (seen (state old)) plan ≡ answer → IsFirm (state old)
-      → (IsFirm (state mid) → Performs clock since state end_of mid new (made (planned (seen (state mid)) plan)) result) → Performs clock since state end_of old new (made answer) result
+  pub performs_after : ((m : Files) → IsImage (state old) m → IsIn (recovered_view m) (recovered_views (state old))) → OnlyReads time state old mid → planned (seen (state old)) plan ≡ answer → IsFirm (state old)
+      → (IsFirm (state mid) → Performs time state end_of mid new (made (planned (seen (state mid)) plan)) result) → Performs time state end_of old new (made answer) result
   performs_after sees reads is firm performs =
-      after_reads clock since state old (made answer) mid new result sees reads
-      (subst (λ d. Performs clock since state end_of mid new d result) (same_deed reads is) (performs (subst IsFirm (sym reads.same) firm)))
+      after_reads time state old (made answer) mid new result sees reads
+      (subst (λ d. Performs time state end_of mid new d result) (same_deed reads is) (performs (subst IsFirm (sym reads.same) firm)))
 
-  pub syncs_after : OnlyReads clock since state old mid → planned (seen (state old)) plan ≡ answer → IsFirm (state old)
-      → (IsFirm (state mid) → Syncs clock since state mid new (made (planned (seen (state mid)) plan)) result) → Syncs clock since state old new (made answer) result
+  pub syncs_after : OnlyReads time state old mid → planned (seen (state old)) plan ≡ answer → IsFirm (state old)
+      → (IsFirm (state mid) → Syncs time state mid new (made (planned (seen (state mid)) plan)) result) → Syncs time state old new (made answer) result
   syncs_after reads is firm syncs =
-      syncs_after_reads clock since state old (made answer) mid new result reads
-      (subst (λ d. Syncs clock since state mid new d result) (same_deed reads is) (syncs (subst IsFirm (sym reads.same) firm)))
+      syncs_after_reads time state old (made answer) mid new result reads
+      (subst (λ d. Syncs time state mid new d result) (same_deed reads is) (syncs (subst IsFirm (sym reads.same) firm)))
 
 pub tidies_after : (result : Result Outcome Stop) (c : Command) (old mid new : State) → mid ≡ old → TidiesTo result c mid new → TidiesTo result c old new
 tidies_after result c old mid new same tidies = subst (λ (s : State). TidiesTo result c s new) same tidies

@@ -18,10 +18,10 @@ pub(crate) fn carry_out<M: Machine>(plan: &Plan, machine: &mut M) -> Result<Outc
     requires makeable { IsMakeable plan.now.change }
     requires there { IsTrue M.tells → CanMake (M.state machine.old) plan.now.change }
     ensures performs { IsTrue M.tells → IsFirm (M.state machine.old)
-        → Performs M.clock M.since M.state end_of machine.old machine.new
+        → Performs M.time M.state end_of machine.old machine.new
         (made (planned (seen (M.state machine.old)) plan.now)) result }
     ensures syncs { IsTrue M.tells → IsFirm (M.state machine.old)
-        → Syncs M.clock M.since M.state machine.old machine.new
+        → Syncs M.time M.state machine.old machine.new
         (made (planned (seen (M.state machine.old)) plan.now)) result }
     ensures tidies { IsTrue M.tells → (c : Command)
         → ((files : Files) → Drops plan.now.change (M.state machine.old).files files → Tidied c files)

@@ -26,7 +26,7 @@ fn plan_of<M: Machine>(alloc: Global, command: &Command, machine: &mut M) -> Res
     ensures makeable { IfOk result (λ plan. IsMakeable plan.change) }
     ensures tidies { IfOk result (λ plan. IsTrue M.tells
         → (files : Files) → Drops plan.change (M.state machine.old).files files → Tidied command.now files) }
-    ensures reads { IsTrue M.tells → OnlyReads M.clock M.since M.state machine.old machine.new }
+    ensures reads { IsTrue M.tells → OnlyReads M.time M.state machine.old machine.new }
     ensures counts { CountsStop result (M.counts machine.old) (M.counts machine.new) }
 {
     match command {
@@ -49,11 +49,11 @@ pub fn step<M: Machine>(alloc: Global, command: &Command, machine: &mut M) -> Re
     requires step { is_script command.now ≡ false }
     requires rested { IsTrue M.tells → IsRested (M.state machine.old) }
     ensures performs { IsTrue M.tells → IsFirm (M.state machine.old)
-        → Performs M.clock M.since M.state end_of machine.old machine.new
+        → Performs M.time M.state end_of machine.old machine.new
         (deed_of (seen (M.state machine.old)) command.now) result }
     // Once the names are synced, what a stop leaves began with the files as they were.
     ensures syncs { IsTrue M.tells → IsFirm (M.state machine.old)
-        → Syncs M.clock M.since M.state machine.old machine.new
+        → Syncs M.time M.state machine.old machine.new
         (deed_of (seen (M.state machine.old)) command.now) result }
     ensures tidies { IsTrue M.tells
         → TidiesTo result command.now (M.state machine.old) (M.state machine.new) }

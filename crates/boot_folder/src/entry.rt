@@ -37,7 +37,7 @@ fn size_within<M: Machine>(
     ensures size { IfOk result (λ size. IsTrue M.tells
         → size ≡ size_within limit (get (M.state machine.old).files path.now)) }
     ensures limit { IfOk result (λ size. IfSome size (λ n. n ≤ limit)) }
-    ensures reads { IsTrue M.tells → OnlyReads M.clock M.since M.state machine.old machine.new }
+    ensures reads { IsTrue M.tells → OnlyReads M.time M.state machine.old machine.new }
     ensures counts { CountsDisk result (M.counts machine.old) (M.counts machine.new) }
     ensures taken { IsTrue M.tells → M.taken machine.new ≡ M.taken machine.old }
 {
@@ -58,7 +58,7 @@ fn file_bytes<M: Machine>(
     ensures bytes { IfOk result (λ bytes. IsTrue M.tells
         → size ≡ length (contents (M.state machine.old).files path.now)
         → bytes.items ≡ contents (M.state machine.old).files path.now) }
-    ensures reads { IsTrue M.tells → OnlyReads M.clock M.since M.state machine.old machine.new }
+    ensures reads { IsTrue M.tells → OnlyReads M.time M.state machine.old machine.new }
     ensures counts { CountsRead result (M.counts machine.old) (M.counts machine.new) }
     ensures taken { IsTrue M.tells → TakesAtMost 65536 (M.taken machine.old) (M.taken machine.new) }
 {
@@ -106,7 +106,7 @@ fn text_at<M: Machine>(
     path: BootPath,
 ) -> Result<Option<MenuItem>, ReadFault>
     ensures exact { IfOk result (λ item. IsTrue M.tells → item ≡ entry_at Conf (M.state machine.old).files path) }
-    ensures reads { IsTrue M.tells → OnlyReads M.clock M.since M.state machine.old machine.new }
+    ensures reads { IsTrue M.tells → OnlyReads M.time M.state machine.old machine.new }
     ensures counts { CountsRead result (M.counts machine.old) (M.counts machine.new) }
     ensures taken { IsTrue M.tells → TakesAtMost 65536 (M.taken machine.old) (M.taken machine.new) }
 {
@@ -138,7 +138,7 @@ fn image_at<M: Machine>(
 ) -> Result<Option<MenuItem>, ReadFault>
     requires { has_suffix Efi (file_name_of path) ≡ true }
     ensures exact { IfOk result (λ item. IsTrue M.tells → item ≡ entry_at Efi (M.state machine.old).files path) }
-    ensures reads { IsTrue M.tells → OnlyReads M.clock M.since M.state machine.old machine.new }
+    ensures reads { IsTrue M.tells → OnlyReads M.time M.state machine.old machine.new }
     ensures counts { CountsRead result (M.counts machine.old) (M.counts machine.new) }
     ensures taken { IsTrue M.tells → TakesAtMost 134999 (M.taken machine.old) (M.taken machine.new) }
 {
@@ -177,7 +177,7 @@ pub(crate) fn entry_named<M: Machine>(
     requires { has_suffix suffix name.now ≡ true }
     ensures exact { IfOk result (λ item. IsTrue M.tells
         → item ≡ entry_if suffix (M.state machine.old).files (under folder.now name.now)) }
-    ensures reads { IsTrue M.tells → OnlyReads M.clock M.since M.state machine.old machine.new }
+    ensures reads { IsTrue M.tells → OnlyReads M.time M.state machine.old machine.new }
     ensures counts { CountsRead result (M.counts machine.old) (M.counts machine.new) }
     ensures taken { IsTrue M.tells → TakesAtMost (read_limit suffix) (M.taken machine.old) (M.taken machine.new) }
 {

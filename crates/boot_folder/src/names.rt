@@ -42,7 +42,7 @@ fn names_with<M: Machine>(
     ensures names { IfOk result (λ names. IsTrue M.tells
         → AreEntryNames (M.state machine.old).files folder.now suffix names.items) }
     ensures suffix { IfOk result (λ names. All (λ name. has_suffix suffix name ≡ true) names.items) }
-    ensures reads { IsTrue M.tells → OnlyReads M.clock M.since M.state machine.old machine.new }
+    ensures reads { IsTrue M.tells → OnlyReads M.time M.state machine.old machine.new }
     ensures counts { CountsRead result (M.counts machine.old) (M.counts machine.new) }
     ensures taken { IsTrue M.tells → M.taken machine.new ≡ M.taken machine.old }
 {
@@ -67,7 +67,7 @@ pub(crate) fn entry_names<M: Machine>(
     ensures many { IfErr result (λ fault. fault_many fault (λ count.
         (4096 < count) × (IsTrue M.tells → entry_count (M.state machine.old).files folders.now ≡ count))) }
     ensures folders { FindsFolders result (Some folders.now) }
-    ensures reads { IsTrue M.tells → OnlyReads M.clock M.since M.state machine.old machine.new }
+    ensures reads { IsTrue M.tells → OnlyReads M.time M.state machine.old machine.new }
     ensures counts { CountsScan result (M.counts machine.old) (M.counts machine.new) }
     ensures taken { IsTrue M.tells → M.taken machine.new ≡ M.taken machine.old }
 {

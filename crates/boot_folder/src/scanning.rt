@@ -46,7 +46,7 @@ pub fn scan<M: Machine>(
     ensures own_paths { IfOk result (λ menu. HaveOwnPaths menu.items) }
     ensures unread { IfErr result (λ fault. fault_many fault (λ _. IsTrue M.tells
         → M.taken machine.new ≡ M.taken machine.old)) }
-    ensures reads { IsTrue M.tells → OnlyReads M.clock M.since M.state machine.old machine.new }
+    ensures reads { IsTrue M.tells → OnlyReads M.time M.state machine.old machine.new }
     ensures counts { CountsScan result (M.counts machine.old) (M.counts machine.new) }
     ensures taken { IsTrue M.tells → TakesAtMost
         (scan_limit (M.state machine.old).files (esp_folders esp.now)) (M.taken machine.old) (M.taken machine.new) }
@@ -76,7 +76,7 @@ pub fn scan_folders<M: Machine>(
     ensures own_paths { IfOk result (λ menu. HaveOwnPaths menu.items) }
     ensures unread { IfErr result (λ fault. fault_many fault (λ _. IsTrue M.tells
         → M.taken machine.new ≡ M.taken machine.old)) }
-    ensures reads { IsTrue M.tells → OnlyReads M.clock M.since M.state machine.old machine.new }
+    ensures reads { IsTrue M.tells → OnlyReads M.time M.state machine.old machine.new }
     ensures counts { CountsScan result (M.counts machine.old) (M.counts machine.new) }
     ensures taken { IsTrue M.tells → TakesAtMost
         (scan_limit (M.state machine.old).files (Some folders.now)) (M.taken machine.old) (M.taken machine.new) }
@@ -99,7 +99,7 @@ fn entries<M: Machine>(
         → AreEntryNames (M.state machine.old).files folders.now.entries Conf names.now.texts.items
         → AreEntryNames (M.state machine.old).files folders.now.images Efi names.now.images.items
         → (item : MenuItem) → Contains items.items item ↔ IsEntry (M.state machine.old).files folders.now item) }
-    ensures reads { IsTrue M.tells → OnlyReads M.clock M.since M.state machine.old machine.new }
+    ensures reads { IsTrue M.tells → OnlyReads M.time M.state machine.old machine.new }
     ensures counts { CountsRead result (M.counts machine.old) (M.counts machine.new) }
     ensures taken { IsTrue M.tells
         → AreEntryNames (M.state machine.old).files folders.now.entries Conf names.now.texts.items
@@ -140,7 +140,7 @@ fn append_entries<M: Machine>(
     requires { All (λ name. has_suffix suffix name ≡ true) names.now }
     ensures entries { OnOk result (IsTrue M.tells
         → items.new.items ≡ items.old.items ++ entries_named suffix (M.state machine.old).files folder.now names.now) }
-    ensures reads { IsTrue M.tells → OnlyReads M.clock M.since M.state machine.old machine.new }
+    ensures reads { IsTrue M.tells → OnlyReads M.time M.state machine.old machine.new }
     ensures counts { CountsRead result (M.counts machine.old) (M.counts machine.new) }
     ensures taken { IsTrue M.tells
         → TakesAtMost (read_limit suffix * length names.now) (M.taken machine.old) (M.taken machine.new) }
@@ -163,7 +163,7 @@ fn append_entry<M: Machine>(
     requires { has_suffix suffix name.now ≡ true }
     ensures entry { OnOk result (IsTrue M.tells → items.new.items
         ≡ items.old.items ++ option_to_list (entry_if suffix (M.state machine.old).files (under folder.now name.now))) }
-    ensures reads { IsTrue M.tells → OnlyReads M.clock M.since M.state machine.old machine.new }
+    ensures reads { IsTrue M.tells → OnlyReads M.time M.state machine.old machine.new }
     ensures counts { CountsRead result (M.counts machine.old) (M.counts machine.new) }
     ensures taken { IsTrue M.tells → TakesAtMost (read_limit suffix) (M.taken machine.old) (M.taken machine.new) }
 {

@@ -43,7 +43,7 @@ pub fn uki_item<M: Machine>(
     requires small { IsTrue M.tells → length (contents (M.state machine.old).files file.now) ≤ 268435456 }
     requires name { has_suffix Suffix.Efi (file_name_of path) ≡ true }
     ensures exact { IsTrue M.tells → GivesItem result (uki_of path (contents (M.state machine.old).files file.now)) }
-    ensures reads { IsTrue M.tells → OnlyReads M.clock M.since M.state machine.old machine.new }
+    ensures reads { IsTrue M.tells → OnlyReads M.time M.state machine.old machine.new }
     ensures counts { CountsItem result (M.counts machine.old) (M.counts machine.new) }
     ensures taken { IsTrue M.tells → TakesAtMost 134999 (M.taken machine.old) (M.taken machine.new) }
 {
@@ -158,7 +158,7 @@ pub(crate) fn range_bytes<M: Machine>(
         → range.length ≤ length (drop range.place (contents (M.state machine.old).files file.now))
         → bytes.items ≡ bytes_in (contents (M.state machine.old).files file.now) range) }
     ensures unread { IfErr result IsUnread }
-    ensures reads { IsTrue M.tells → OnlyReads M.clock M.since M.state machine.old machine.new }
+    ensures reads { IsTrue M.tells → OnlyReads M.time M.state machine.old machine.new }
     ensures counts { CountsItem result (M.counts machine.old) (M.counts machine.new) }
     ensures taken { IsTrue M.tells → TakesAtMost 65536 (M.taken machine.old) (M.taken machine.new) }
 {

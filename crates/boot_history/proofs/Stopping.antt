@@ -6,11 +6,11 @@ use Rattle.boot_machine.specs.Disk.{Files, State, recovered_view}
 use Rattle.boot_machine.specs.Images.{IsImage, IsFirm}
 use Rattle.boot_machine.specs.Moments.{EachSince}
 use Rattle.boot_machine.specs.Sent.{Sent, Adds, recovered_views}
-use Rattle.machine_fuse.specs.Fuse.{fuse_by, inner_of}
+use Rattle.machine_fuse.specs.Fuse.{fuse_time, inner_of}
 use Rattle.machine_fuse.specs.declared.fuse.Fuse.{Fuse}
 use Rattle.memory_machine.specs.EventLaws.{image_input, now_counts}
 use Rattle.memory_machine.specs.Events.{stopped}
-use Rattle.memory_machine.specs.Memory.{mem_clock, mem_events, mem_input, mem_since, mem_start, mem_state}
+use Rattle.memory_machine.specs.Memory.{mem_clock, mem_events, mem_input, mem_since, mem_start, mem_state, mem_time}
 use Rattle.memory_machine.specs.declared.memory.MemMachine.{MemMachine}
 use Rattle.command_plans.specs.Deeds.{Stopped}
 use Rattle.boot_run.specs.Asked.{asked_of}
@@ -51,7 +51,7 @@ stop_at words machine inner left t each image is =
 pub stop_run : (words : List Word) (machine inner left : MemMachine) (old new : Fuse MemMachine)
     → inner_of old ≡ machine
     → inner ≡ inner_of new
-    → (IsFirm (mem_state (inner_of old)) → EachSince (fuse_by mem_clock) (fuse_by mem_since) old new
+    → (IsFirm (mem_state (inner_of old)) → EachSince (fuse_time mem_time) old new
     (λ image printed. LeadsToStop words (inner_of old) (recovered_view image ∷ []) printed))
     → IsImage (mem_state inner) (mem_state left).files
     → mem_state left ≡ stopped (mem_state left).files (mem_state inner)

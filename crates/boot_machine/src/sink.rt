@@ -29,7 +29,7 @@ pub trait ByteSink<M: Machine> {
         ensures taken { IsTrue M.tells → TakesNone (M.taken machine.old) (M.taken machine.new) };
 
     /// While a machine only reads, nothing is taken.
-    ghost reads: { (s : Self) (m n : M) → (IsTrue M.tells → OnlyReads M.clock M.since M.state m n) → took [] s m s n };
+    ghost reads: { (s : Self) (m n : M) → (IsTrue M.tells → OnlyReads M.time M.state m n) → took [] s m s n };
 
     /// Bytes that are taken one behind the other are the bytes together.
     ghost more: { (a b : List ℕ) (s t u : Self) (m n o : M) → took a s m t n → took b t n u o → took (a ++ b) s m u o };

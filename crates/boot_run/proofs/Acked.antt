@@ -3,6 +3,7 @@ use Rattle.std.proofs.Common.{◌≡◌, ◌≢◌, inl, inr, ℕ, zero, suc, �
 use Rattle.std.proofs.lemmas.List.{length-append, take-take}
 use Rattle.std.proofs.lemmas.List.Elements.{All-nil, All-take}
 use Rattle.boot_machine.specs.Disk.{Files, IsRested, State}
+use Rattle.boot_machine.specs.Moments.{Timeline}
 use Rattle.boot_machine.specs.Sent.{Sent, Adds, SameButInput, latest, recovered_now, recovered_views}
 use Rattle.boot_machine.proofs.Seeing.{latest-recovered_views}
 use Rattle.command_plans.specs.Deeds.{Deed, NoMemory}
@@ -116,10 +117,10 @@ no_part deed old new part (inr recovers) = recovers.0
 no_part deed old new part (inl (inl stays)) = stays.0
 no_part deed old new part (inl (inr acts)) = absurd acts
 
-module _ {D : Type 0} (clock : D → ℕ) (since : D → ℕ → Files → Sent → Type 0) (state : D → State) where
+module _ {D : Type 0} (time : Timeline D) (state : D → State) where
   -- the run ends in a line
-  pub clean_broken : (old mid new : D) (lines : List Line) (i : ℕ) (refused : Bool) (line : Line) → i < length lines → get_or lines i line ≡ line → SoFar clock since state old mid lines i refused
-      → (stop : Stop) → PerformsBehind clock since state mid new (line_deed (recovered_now (state mid)) line) (Err stop) → (stop ≢ DiskStop → LeavesClean (take i lines) (state new))
+  pub clean_broken : (old mid new : D) (lines : List Line) (i : ℕ) (refused : Bool) (line : Line) → i < length lines → get_or lines i line ≡ line → SoFar time state old mid lines i refused
+      → (stop : Stop) → PerformsBehind time state mid new (line_deed (recovered_now (state mid)) line) (Err stop) → (stop ≢ DiskStop → LeavesClean (take i lines) (state new))
       → at_part stop (state mid) (state new) (LeavesClean (take (i + 1) lines) (state new)) → CleanBehind (state old) (state new) lines (ended_by (Err stop))
   clean_broken old mid new lines i refused line within line_is so_far stop performs clean one_more = by_stop stop performs clean one_more
     where
@@ -151,7 +152,7 @@ module _ {D : Type 0} (clock : D → ℕ) (since : D → ℕ → Files → Sent 
           (acked_most (state old) lines (i + 1) k adds.0 adds.2 (omega (arith, in_all adds.0 (x ∷ part) is adds.1, short, more, said_length (state old) lines (i + 1))))
           (one_more (λ same. absurd (omega (arith, ap length is, ap length same, length-append (state mid).printed (x ∷ part)))))
 
-      by_stop : (stop : Stop) → PerformsBehind clock since state mid new (line_deed (recovered_now (state mid)) line) (Err stop) → (stop ≢ DiskStop → LeavesClean (take i lines) (state new))
+      by_stop : (stop : Stop) → PerformsBehind time state mid new (line_deed (recovered_now (state mid)) line) (Err stop) → (stop ≢ DiskStop → LeavesClean (take i lines) (state new))
           → at_part stop (state mid) (state new) (LeavesClean (take (i + 1) lines) (state new)) → CleanBehind (state old) (state new) lines (ended_by (Err stop))
       by_stop DiskStop performs clean one_more = tt
       by_stop PipeStop performs clean one_more = at_pipe performs.err.0 performs.err.1 (part_short deed _ _ performs.err.0 PipeStop performs.err.2) (clean (λ is. cc)) one_more

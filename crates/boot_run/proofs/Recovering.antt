@@ -1,10 +1,10 @@
 -- A recovery before a command.
-use Rattle.std.proofs.Common.{◌≡◌, ◌⊎◌, inl, inr, ⊎_elim, ℕ, true, List, [], ◌∷◌, ◌++◌, refl, sym, ap, ◌∙◌, subst, Result, Ok, Err}
+use Rattle.std.proofs.Common.{◌≡◌, ◌⊎◌, inl, inr, ⊎_elim, true, List, [], ◌∷◌, ◌++◌, refl, sym, ap, ◌∙◌, subst, Result, Ok, Err}
 use Rattle.std.proofs.lemmas.List.{append-nil}
 use Rattle.std.specs.Prelude.{IsErr}
 use Rattle.boot_machine.specs.Disk.{Files, State, HasOneCandidate, IsIn, IsRested, IsSound, candidates, recovered_view}
 use Rattle.boot_machine.specs.Images.{IsFirm, IsSettled}
-use Rattle.boot_machine.specs.Moments.{EachSince}
+use Rattle.boot_machine.specs.Moments.{Timeline, EachSince}
 use Rattle.boot_machine.specs.Reading.{OnlyReads}
 use Rattle.boot_machine.specs.Sent.{Sent, Adds, latest, recovered_now, recovered_views, seen}
 use Rattle.boot_machine.proofs.Elapsing.{weaken, joined}
@@ -54,7 +54,7 @@ module _ (v : Files) (old : List Files) (last : latest old ≡ v) (inside : IsIn
   pub stopped_after : (new : List Files) (part : Sent) → Breaks deed (v ∷ []) new part Stopped → Breaks deed old new part Stopped
   stopped_after new part breaks = ⊎_elim (λ broke. broke) (λ none. absurd none.1) (broken_after new part Stopped breaks)
 
-module _ {D : Type 0} (clock : D → ℕ) (since : D → ℕ → Files → Sent → Type 0) (state : D → State) where
+module _ {D : Type 0} (time : Timeline D) (state : D → State) where
   abbrev StopIn : D → Deed → Files → Sent → Type 0
   StopIn old deed image sent = Adds (state old).printed sent (λ part. Breaks deed (recovered_views (state old)) (recovered_view image ∷ []) part Stopped)
 
@@ -73,7 +73,7 @@ module _ {D : Type 0} (clock : D → ℕ) (since : D → ℕ → Files → Sent 
     inl (refl, (recovered_view m, refl, ⊎_elim (sees (state old) sound firm m) (λ same. subst (λ x. IsIn x (recovered_views (state old))) (sym same) (recovered_now_in (state old))) stays.0)),
   )
 
-  module _ (old mid new : D) (deed : Deed) (settles : deed.settles ≡ true) (sound : IsSound (state old)) (firm : IsFirm (state old)) (recovers : RecoversTo clock since state old mid) (one : HasOneCandidate (state mid))
+  module _ (old mid new : D) (deed : Deed) (settles : deed.settles ≡ true) (sound : IsSound (state old)) (firm : IsFirm (state old)) (recovers : RecoversTo time state old mid) (one : HasOneCandidate (state mid))
       (printed : (state mid).printed ≡ (state old).printed) where
     same_last : latest (recovered_views (state old)) ≡ recovered_now (state mid)
     same_last = latest-recovered_views (state old) ∙ sym recovers.files
@@ -88,13 +88,13 @@ module _ {D : Type 0} (clock : D → ℕ) (since : D → ℕ → Files → Sent 
       stopped_after (recovered_now (state mid)) (recovered_views (state old)) same_last inside deed settles (recovered_view m ∷ []) adds.0 (subst (λ (s : List Files). Breaks deed s (recovered_view m ∷ []) adds.0 Stopped) (one_view (state mid) one) adds.2),
     )
 
-    moments_after : EachSince clock since mid new (StopIn mid deed) → EachSince clock since old new (StopIn old deed)
-    moments_after moments = joined clock since state (StopIn old deed) old mid new
-        (weaken clock since state (StaysOrSame (state old)) (StopIn old deed) old mid (stop_before old deed sound firm) recovers.moments)
-        (weaken clock since state (StopIn mid deed) (StopIn old deed) mid new stopped moments)
+    moments_after : EachSince time mid new (StopIn mid deed) → EachSince time old new (StopIn old deed)
+    moments_after moments = joined time state (StopIn old deed) old mid new
+        (weaken time state (StaysOrSame (state old)) (StopIn old deed) old mid (stop_before old deed sound firm) recovers.moments)
+        (weaken time state (StopIn mid deed) (StopIn old deed) mid new stopped moments)
 
     -- the deed behind it
-    pub performed_after : (result : Result Outcome Stop) → Performs clock since state end_of mid new deed result → PerformsBehind clock since state old new deed result
+    pub performed_after : (result : Result Outcome Stop) → Performs time state end_of mid new deed result → PerformsBehind time state old new deed result
     performed_after (Ok outcome) performs = record {
       firm = performs.firm;
       ok = (performs.ok.0, performs.ok.1 ∙ left_settles (recovered_views (state mid)) (recovered_views (state old)) deed settles, performs.ok.2 ∙ ap (λ (l : Sent). l ++ deed.sent) printed);
@@ -114,14 +114,14 @@ module _ {D : Type 0} (clock : D → ℕ) (since : D → ℕ → Files → Sent 
     }
 
     -- from the sync of the names on, what a stop leaves began with the files as they were
-    pub late_after : SameFrom clock since state old mid → EachSince clock since mid new (StopIn mid deed) → SyncsBefore clock since state old new deed
+    pub late_after : SameFrom time state old mid → EachSince time mid new (StopIn mid deed) → SyncsBefore time state old new deed
     late_after from moments = record {
       synced = from.synced;
       one = from.one;
       before = from.until;
-      after = joined clock since state (StopAfresh old deed) from.synced mid new
-          (weaken clock since state (SeesSame (state old)) (StopAfresh old deed) from.synced mid (afresh old deed) from.from)
-          (weaken clock since state (StopIn mid deed) (StopAfresh old deed) mid new behind moments);
+      after = joined time state (StopAfresh old deed) from.synced mid new
+          (weaken time state (SeesSame (state old)) (StopAfresh old deed) from.synced mid (afresh old deed) from.from)
+          (weaken time state (StopIn mid deed) (StopAfresh old deed) mid new behind moments);
     }
       where
         behind : (m : Files) (o : Sent) → StopIn mid deed m o → StopAfresh old deed m o
@@ -132,17 +132,17 @@ module _ {D : Type 0} (clock : D → ℕ) (since : D → ℕ → Files → Sent 
         )
 
     -- whatever the deed's answer
-    pub synced_after : (result : Result Outcome Stop) → SameFrom clock since state old mid → EachSince clock since mid new (StopIn mid deed) → SyncsFirst clock since state old new deed result
+    pub synced_after : (result : Result Outcome Stop) → SameFrom time state old mid → EachSince time mid new (StopIn mid deed) → SyncsFirst time state old new deed result
     synced_after (Ok outcome) from moments = record { ok = late_after from moments; err = tt }
     synced_after (Err stop) from moments = record { ok = tt; err = inr (late_after from moments) }
 
   -- a recovery that is given up
-  pub performed_not : (old new : D) (deed : Deed) (stop : Stop) → IsSound (state old) → IsFirm (state old) → RecoversTo clock since state old new → (state new).printed ≡ (state old).printed → PerformsBehind clock since state old new deed (Err stop)
+  pub performed_not : (old new : D) (deed : Deed) (stop : Stop) → IsSound (state old) → IsFirm (state old) → RecoversTo time state old new → (state new).printed ≡ (state old).printed → PerformsBehind time state old new deed (Err stop)
   performed_not old new deed stop sound firm recovers printed = record {
     firm = recovers.firm;
     ok = tt;
     err = ([], printed ∙ sym (append-nil (state old).printed), given_up stop recovers.synced);
-    moments = weaken clock since state (StaysOrSame (state old)) (StopIn old deed) old new (stop_before old deed sound firm) recovers.moments;
+    moments = weaken time state (StaysOrSame (state old)) (StopIn old deed) old new (stop_before old deed sound firm) recovers.moments;
   }
     where
       all_same : IsSettled (state new) → AllAre (latest (recovered_views (state old))) (recovered_views (state new))
@@ -153,7 +153,7 @@ module _ {D : Type 0} (clock : D → ℕ) (since : D → ℕ → Files → Sent 
       none : Sent
       none = []
 
-      given_up : (stop : Stop) → OnlyReads clock since state old new ⊎ (IsSettled (state new) × SameFrom clock since state old new) → BreaksBehind deed (recovered_views (state old)) (recovered_views (state new)) none (end_of stop)
+      given_up : (stop : Stop) → OnlyReads time state old new ⊎ (IsSettled (state new) × SameFrom time state old new) → BreaksBehind deed (recovered_views (state old)) (recovered_views (state new)) none (end_of stop)
       given_up Disk (inl reads) = inl (inl (refl, ap recovered_views reads.same))
       given_up Pipe (inl reads) = inl (inl (refl, ap recovered_views reads.same))
       given_up Memory (inl reads) = inl (inl (refl, ap recovered_views reads.same))
@@ -162,31 +162,31 @@ module _ {D : Type 0} (clock : D → ℕ) (since : D → ℕ → Files → Sent 
       given_up Memory (inr synced) = inr (refl, all_same synced.0)
 
   -- where a call was given up
-  pub performed_failed : (old new : D) (deed : Deed) (result : Result Outcome Stop) → IsErr result → IsSound (state old) → IsFirm (state old) → RecoversTo clock since state old new → (state new).printed ≡ (state old).printed → PerformsBehind clock since state old new deed result
+  pub performed_failed : (old new : D) (deed : Deed) (result : Result Outcome Stop) → IsErr result → IsSound (state old) → IsFirm (state old) → RecoversTo time state old new → (state new).printed ≡ (state old).printed → PerformsBehind time state old new deed result
   performed_failed old new deed (Ok outcome) failed sound firm recovers printed = cc
   performed_failed old new deed (Err stop) failed sound firm recovers printed = performed_not old new deed stop sound firm recovers printed
 
   -- and so much is synced then
-  pub synced_failed : (old new : D) (deed : Deed) (result : Result Outcome Stop) → IsErr result → RecoversTo clock since state old new → SyncsFirst clock since state old new deed result
+  pub synced_failed : (old new : D) (deed : Deed) (result : Result Outcome Stop) → IsErr result → RecoversTo time state old new → SyncsFirst time state old new deed result
   synced_failed old new deed result failed recovers = record {
     ok = not_ok result _ failed;
     err = on_err result _ (⊎_elim (λ reads. inl reads) (λ synced. inr (late_alone synced.1)) recovers.synced);
   }
     where
-      late_alone : SameFrom clock since state old new → SyncsBefore clock since state old new deed
+      late_alone : SameFrom time state old new → SyncsBefore time state old new deed
       late_alone from = record {
         synced = from.synced;
         one = from.one;
         before = from.until;
-        after = weaken clock since state (SeesSame (state old)) (StopAfresh old deed) from.synced new (afresh old deed) from.from;
+        after = weaken time state (SeesSame (state old)) (StopAfresh old deed) from.synced new (afresh old deed) from.from;
       }
 
   -- no recovery is needed
-  pub performed_plain : (old new : D) (deed : Deed) (result : Result Outcome Stop) → Performs clock since state end_of old new deed result → PerformsBehind clock since state old new deed result
+  pub performed_plain : (old new : D) (deed : Deed) (result : Result Outcome Stop) → Performs time state end_of old new deed result → PerformsBehind time state old new deed result
   performed_plain old new deed (Ok outcome) performs = record { firm = performs.firm; ok = performs.ok; err = tt; moments = performs.moments }
   performed_plain old new deed (Err stop) performs = record { firm = performs.firm; ok = tt; err = (performs.err.0, performs.err.1, inl performs.err.2); moments = performs.moments }
 
   -- on a machine that is rested every command reads what boot sees once a recovery has run
-  pub performed_rested : (old new : D) (line : Line) (result : Result Outcome Stop) → IsRested (state old) → Performs clock since state end_of old new (line_deed (seen (state old)) line) result
-      → Performs clock since state end_of old new (line_deed (recovered_now (state old)) line) result
-  performed_rested old new line result rested performs = subst (λ (v : Files). Performs clock since state end_of old new (line_deed v line) result) (sym (recovered_view-calm (state old).files rested)) performs
+  pub performed_rested : (old new : D) (line : Line) (result : Result Outcome Stop) → IsRested (state old) → Performs time state end_of old new (line_deed (seen (state old)) line) result
+      → Performs time state end_of old new (line_deed (recovered_now (state old)) line) result
+  performed_rested old new line result rested performs = subst (λ (v : Files). Performs time state end_of old new (line_deed v line) result) (sym (recovered_view-calm (state old).files rested)) performs

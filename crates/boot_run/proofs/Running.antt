@@ -4,7 +4,7 @@ use Rattle.std.specs.Prelude.{IsErr, IsErrAnd}
 use Rattle.std.proofs.lemmas.List.{append-nil, take_more, drop_more, take_all}
 use Rattle.boot_machine.specs.Disk.{Files, State, IsIn, recovered_view}
 use Rattle.boot_machine.specs.Images.{IsFirm}
-use Rattle.boot_machine.specs.Moments.{EachSince}
+use Rattle.boot_machine.specs.Moments.{Timeline, EachSince}
 use Rattle.boot_machine.specs.Sent.{Sent, Adds, latest, recovered_views, recovered_now}
 use Rattle.boot_machine.proofs.Elapsing.{weaken, joined, at_once}
 use Rattle.boot_machine.proofs.Seeing.{latest-recovered_views}
@@ -91,7 +91,7 @@ pub runs_none : (state : List Files) (lines : List Line) (v : Files) → IsIn v 
 runs_none state [] v is = record { whole = 0; within = omega arith; part = []; printed = refl; ends = (refl, (v, refl, is)) }
 runs_none state (line ∷ lines) v is = record { whole = 0; within = omega arith; part = []; printed = refl; ends = inl (inl (refl, (v, refl, is))) }
 
-module _ {D : Type 0} (clock : D → ℕ) (since : D → ℕ → Files → Sent → Type 0) (state : D → State) where
+module _ {D : Type 0} (time : Timeline D) (state : D → State) where
   abbrev RunAt : D → List Line → Files → Sent → Type 0
   RunAt old lines image printed = Adds (state old).printed printed (λ sent. Runs (recovered_views (state old)) lines (recovered_view image ∷ []) sent Stopped)
 
@@ -99,13 +99,13 @@ module _ {D : Type 0} (clock : D → ℕ) (since : D → ℕ → Files → Sent 
   pub record SoFar (old now : D) (lines : List Line) (i : ℕ) (refused : Bool) : Type 0 where
     pub firm : IsFirm (state now)
     pub all : AllDone (state old) (state now) (take i lines) refused
-    pub moments : EachSince clock since old now (RunAt old lines)
+    pub moments : EachSince time old now (RunAt old lines)
 
-  pub started : (old : D) (lines : List Line) → IsFirm (state old) → ((m : Files) (o : Sent) → since old (clock old) m o → IsIn (recovered_view m) (recovered_views (state old)) × (o ≡ (state old).printed)) → SoFar old old lines 0 false
+  pub started : (old : D) (lines : List Line) → IsFirm (state old) → ((m : Files) (o : Sent) → time.since old (time.clock old) m o → IsIn (recovered_view m) (recovered_views (state old)) × (o ≡ (state old).printed)) → SoFar old old lines 0 false
   started old lines firm at_start = record {
     firm = firm;
     all = record { state = refl; printed = sym (append-nil (state old).printed); answer = refl };
-    moments = at_once clock since state (RunAt old lines) old (λ m o left. let now = at_start m o left in ([], now.1 ∙ sym (append-nil (state old).printed), runs_none (recovered_views (state old)) lines (recovered_view m) now.0));
+    moments = at_once time state (RunAt old lines) old (λ m o left. let now = at_start m o left in ([], now.1 ∙ sym (append-nil (state old).printed), runs_none (recovered_views (state old)) lines (recovered_view m) now.0));
   }
 
   module _ (old mid new : D) (lines : List Line) (i : ℕ) (refused : Bool) (line : Line) (within : i < length lines) (line_is : get_or lines i line ≡ line) (so_far : SoFar old mid lines i refused) where
@@ -137,12 +137,12 @@ module _ {D : Type 0} (clock : D → ℕ) (since : D → ℕ → Files → Sent 
       runs_end first lines i line within line_is left part end (inr (recovers.0, subst (λ (s : List Files). Recovers s left end) so_far.all.state recovers.1)),
     )
 
-    moments_too : (result : Result Outcome Stop) → PerformsBehind clock since state mid new deed_here result → EachSince clock since old new (RunAt old lines)
-    moments_too result performs = joined clock since state (RunAt old lines) old mid new so_far.moments
-        (weaken clock since state _ (RunAt old lines) mid new (λ m o adds. breaks (recovered_view m ∷ []) o adds.0 Stopped adds.1 adds.2) performs.moments)
+    moments_too : (result : Result Outcome Stop) → PerformsBehind time state mid new deed_here result → EachSince time old new (RunAt old lines)
+    moments_too result performs = joined time state (RunAt old lines) old mid new so_far.moments
+        (weaken time state _ (RunAt old lines) mid new (λ m o adds. breaks (recovered_view m ∷ []) o adds.0 Stopped adds.1 adds.2) performs.moments)
 
     -- the line is done
-    pub goes_on : (outcome : Outcome) → PerformsBehind clock since state mid new deed_here (Ok outcome) → SoFar old new lines (i + 1) (refused || is_refusal outcome)
+    pub goes_on : (outcome : Outcome) → PerformsBehind time state mid new deed_here (Ok outcome) → SoFar old new lines (i + 1) (refused || is_refusal outcome)
     goes_on outcome performs = record {
       firm = performs.firm;
       all = record {
@@ -156,7 +156,7 @@ module _ {D : Type 0} (clock : D → ℕ) (since : D → ℕ → Files → Sent 
     }
 
     -- the run ends in the line
-    pub gives_up : (stop : Stop) (result : Result Bool Stop) → IsErr result → IsErrAnd result (λ e. e ≡ stop) → PerformsBehind clock since state mid new deed_here (Err stop) → RunsTo clock since state old new lines result
+    pub gives_up : (stop : Stop) (result : Result Bool Stop) → IsErr result → IsErrAnd result (λ e. e ≡ stop) → PerformsBehind time state mid new deed_here (Err stop) → RunsTo time state old new lines result
     gives_up stop result failed is performs = record {
       firm = performs.firm;
       ok = if_ok result _ failed;
@@ -165,7 +165,7 @@ module _ {D : Type 0} (clock : D → ℕ) (since : D → ℕ → Files → Sent 
     }
 
   -- all lines are done
-  pub finished : (old new : D) (lines : List Line) (i : ℕ) (refused : Bool) → length lines ≤ i → SoFar old new lines i refused → RunsTo clock since state old new lines (Ok refused)
+  pub finished : (old new : D) (lines : List Line) (i : ℕ) (refused : Bool) → length lines ≤ i → SoFar old new lines i refused → RunsTo time state old new lines (Ok refused)
   finished old new lines i refused all so_far = record {
     firm = so_far.firm;
     ok = subst (λ (ls : List Line). AllDone (state old) (state new) ls refused) (take_all i lines all) so_far.all;

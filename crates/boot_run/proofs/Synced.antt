@@ -3,7 +3,7 @@ use Rattle.std.proofs.Common.{◌⊎◌, inl, inr, ◌≡◌, ℕ, ◌+◌, ◌<
 use Rattle.std.proofs.lemmas.List.{append-nil, take_more}
 use Rattle.boot_machine.specs.Disk.{Files, State, recovered_view}
 use Rattle.boot_machine.specs.Images.{IsImage}
-use Rattle.boot_machine.specs.Moments.{EachSince}
+use Rattle.boot_machine.specs.Moments.{Timeline, EachSince}
 use Rattle.boot_machine.specs.Reading.{IsIdleMoment, OnlyReads}
 use Rattle.boot_machine.specs.Sent.{Sent, Adds, IsPrefix, PrintsPart, latest, recovered_views, recovered_now}
 use Rattle.boot_machine.proofs.Elapsing.{weaken, joined}
@@ -69,40 +69,40 @@ left_settles a b deed settles = rw settles refl
 pub unsynced_yet : (s : State) (lines : List Line) (m : Files) (o : Sent) → IsImage s m × (o ≡ s.printed) → IsUnsynced s lines m o
 unsynced_yet s lines m o now = record { stands = now.0; part = ([], now.1 ∙ sym (append-nil s.printed), record { leading = 0; unread = tt; front = ([], refl) }) }
 
-module _ {D : Type 0} (clock : D → ℕ) (since : D → ℕ → Files → Sent → Type 0) (state : D → State) where
+module _ {D : Type 0} (time : Timeline D) (state : D → State) where
   -- a later part of a run behind the sync
-  after_sync : (Before After : Files → Sent → Type 0) (old mid new : D) → FromSync clock since state old mid Before After → EachSince clock since mid new After → FromSync clock since state old new Before After
+  after_sync : (Before After : Files → Sent → Type 0) (old mid new : D) → FromSync time state old mid Before After → EachSince time mid new After → FromSync time state old new Before After
   after_sync Before After old mid new from moments = record {
     synced = from.synced;
     one = from.one;
     before = from.before;
-    after = joined clock since state After from.synced mid new from.after moments;
+    after = joined time state After from.synced mid new from.after moments;
   }
 
   -- more is known of the moments behind the sync
-  pub weaken_after : (Before P Q : Files → Sent → Type 0) (old new : D) → ((m : Files) (o : Sent) → P m o → Q m o) → FromSync clock since state old new Before P → FromSync clock since state old new Before Q
+  pub weaken_after : (Before P Q : Files → Sent → Type 0) (old new : D) → ((m : Files) (o : Sent) → P m o → Q m o) → FromSync time state old new Before P → FromSync time state old new Before Q
   weaken_after Before P Q old new so from = record {
     synced = from.synced;
     one = from.one;
     before = from.before;
-    after = weaken clock since state P Q from.synced new so from.after;
+    after = weaken time state P Q from.synced new so from.after;
   }
 
   -- no line so far is a command
   pub record UnreadRun (old now : D) (lines : List Line) (i : ℕ) : Type 0 where
     pub unread : AllUnread (take i lines)
     pub same : Prints (state old) (state now)
-    pub moments : EachSince clock since old now (IsUnsynced (state old) lines)
+    pub moments : EachSince time old now (IsUnsynced (state old) lines)
 
   -- the names were synced before the first command
   pub record LateRun (old now : D) (lines : List Line) (i : ℕ) : Type 0 where
     pub same : states (latest (recovered_views (state old)) ∷ []) (take i lines) ≡ states (recovered_views (state old)) (take i lines)
-    pub from : FromSync clock since state old now (IsUnsynced (state old) lines) (RunsAfresh (state old) lines)
+    pub from : FromSync time state old now (IsUnsynced (state old) lines) (RunsAfresh (state old) lines)
 
   abbrev pub Synced : D → D → List Line → ℕ → Type 0
   Synced old now lines i = UnreadRun old now lines i ⊎ LateRun old now lines i
 
-  module _ (old mid new : D) (lines : List Line) (i : ℕ) (refused : Bool) (line : Line) (within : i < length lines) (line_is : get_or lines i line ≡ line) (so_far : SoFar clock since state old mid lines i refused) where
+  module _ (old mid new : D) (lines : List Line) (i : ℕ) (refused : Bool) (line : Line) (within : i < length lines) (line_is : get_or lines i line ≡ line) (so_far : SoFar time state old mid lines i refused) where
     abbrev start : List Files
     start = latest (recovered_views (state old)) ∷ []
 
@@ -152,11 +152,11 @@ module _ {D : Type 0} (clock : D → ℕ) (since : D → ℕ → Files → Sent 
             ∙ printed_by-is (recovered_views (state old)) (take (i + 1) lines) ∙ ap (λ v. end_to_end (replies v (take (i + 1) lines))) (latest-recovered_views (state old))
 
     -- one more line that is no command
-    pub unread_moments : UnreadRun old mid lines i → is_unread line ≡ true → OnlyPrints clock since state mid new (line_deed (recovered_now (state mid)) line).sent → EachSince clock since old new (IsUnsynced (state old) lines)
-    unread_moments run is prints = joined clock since state (IsUnsynced (state old) lines) old mid new run.moments
-        (weaken clock since state _ (IsUnsynced (state old) lines) mid new (unsynced_more run is) prints.moments)
+    pub unread_moments : UnreadRun old mid lines i → is_unread line ≡ true → OnlyPrints time state mid new (line_deed (recovered_now (state mid)) line).sent → EachSince time old new (IsUnsynced (state old) lines)
+    unread_moments run is prints = joined time state (IsUnsynced (state old) lines) old mid new run.moments
+        (weaken time state _ (IsUnsynced (state old) lines) mid new (unsynced_more run is) prints.moments)
 
-    pub unread_more : UnreadRun old mid lines i → is_unread line ≡ true → OnlyPrints clock since state mid new (line_deed (recovered_now (state mid)) line).sent → UnreadRun old new lines (i + 1)
+    pub unread_more : UnreadRun old mid lines i → is_unread line ≡ true → OnlyPrints time state mid new (line_deed (recovered_now (state mid)) line).sent → UnreadRun old new lines (i + 1)
     unread_more run is prints = record {
       unread = subst AllUnread (sym one_more_line) (unread_push (take i lines) line run.unread is);
       same = record { stays = prints.same.stays ∙ ap (λ (x : State). record x { printed = (state new).printed }) run.same.stays };
@@ -173,15 +173,15 @@ module _ {D : Type 0} (clock : D → ℕ) (since : D → ℕ → Files → Sent 
     )
 
     -- a line where the run is late already
-    pub late_moments : LateRun old mid lines i → EachSince clock since mid new (λ image sent. Adds (state mid).printed sent (λ part. Breaks (line_deed (recovered_now (state mid)) line) (recovered_views (state mid)) (recovered_view image ∷ []) part Stopped))
-        → FromSync clock since state old new (IsUnsynced (state old) lines) (RunsAfresh (state old) lines)
+    pub late_moments : LateRun old mid lines i → EachSince time mid new (λ image sent. Adds (state mid).printed sent (λ part. Breaks (line_deed (recovered_now (state mid)) line) (recovered_views (state mid)) (recovered_view image ∷ []) part Stopped))
+        → FromSync time state old new (IsUnsynced (state old) lines) (RunsAfresh (state old) lines)
     late_moments late moments = after_sync (IsUnsynced (state old) lines) (RunsAfresh (state old) lines) old mid new late.from
-        (weaken clock since state _ (RunsAfresh (state old) lines) mid new
+        (weaken time state _ (RunsAfresh (state old) lines) mid new
         (λ m o adds. late_breaks (recovered_views (state mid)) (late.same ∙ sym so_far.all.state) m o adds.0 adds.1
         (subst (λ v. Breaks (line_deed v line) (recovered_views (state mid)) (recovered_view m ∷ []) adds.0 Stopped) (sym mid_latest) adds.2))
         moments)
 
-    pub late_more : LateRun old mid lines i → EachSince clock since mid new (λ image sent. Adds (state mid).printed sent (λ part. Breaks (line_deed (recovered_now (state mid)) line) (recovered_views (state mid)) (recovered_view image ∷ []) part Stopped))
+    pub late_more : LateRun old mid lines i → EachSince time mid new (λ image sent. Adds (state mid).printed sent (λ part. Breaks (line_deed (recovered_now (state mid)) line) (recovered_views (state mid)) (recovered_view image ∷ []) part Stopped))
         → LateRun old new lines (i + 1)
     late_more late moments = record {
       same = ap (states start) one_more_line ∙ states-append start (take i lines) (line ∷ []) ∙ ap (λ s. states s (line ∷ [])) late.same ∙ sym (states-append (recovered_views (state old)) (take i lines) (line ∷ [])) ∙ ap (states (recovered_views (state old))) (sym one_more_line);
@@ -189,20 +189,20 @@ module _ {D : Type 0} (clock : D → ℕ) (since : D → ℕ → Files → Sent 
     }
 
     -- the first command, before which the names are synced
-    pub first_moments : UnreadRun old mid lines i → SyncsBefore clock since state mid new (line_deed (recovered_now (state mid)) line) → FromSync clock since state old new (IsUnsynced (state old) lines) (RunsAfresh (state old) lines)
+    pub first_moments : UnreadRun old mid lines i → SyncsBefore time state mid new (line_deed (recovered_now (state mid)) line) → FromSync time state old new (IsUnsynced (state old) lines) (RunsAfresh (state old) lines)
     first_moments run syncs = record {
       synced = syncs.synced;
       one = syncs.one;
-      before = joined clock since state (IsUnsynced (state old) lines) old mid syncs.synced run.moments
-          (weaken clock since state (IsIdleMoment (state mid)) (IsUnsynced (state old) lines) mid syncs.synced (unsynced_so_far run) syncs.before);
-      after = weaken clock since state _ (RunsAfresh (state old) lines) syncs.synced new
+      before = joined time state (IsUnsynced (state old) lines) old mid syncs.synced run.moments
+          (weaken time state (IsIdleMoment (state mid)) (IsUnsynced (state old) lines) mid syncs.synced (unsynced_so_far run) syncs.before);
+      after = weaken time state _ (RunsAfresh (state old) lines) syncs.synced new
           (λ m o adds. late_breaks start (unread_states start (take i lines) run.unread) m o adds.0 adds.1
           (subst (λ (s : List Files). Breaks (line_deed (latest s) line) (latest s ∷ []) (recovered_view m ∷ []) adds.0 Stopped) (ap recovered_views run.same.stays)
           (subst (λ v. Breaks (line_deed v line) (latest (recovered_views (state mid)) ∷ []) (recovered_view m ∷ []) adds.0 Stopped) (sym mid_latest) adds.2)))
           syncs.after;
     }
 
-    pub first_more : UnreadRun old mid lines i → is_unread line ≡ false → SyncsBefore clock since state mid new (line_deed (recovered_now (state mid)) line) → LateRun old new lines (i + 1)
+    pub first_more : UnreadRun old mid lines i → is_unread line ≡ false → SyncsBefore time state mid new (line_deed (recovered_now (state mid)) line) → LateRun old new lines (i + 1)
     first_more run is syncs = record {
       same =
           ap (states start) one_more_line ∙ states-append start (take i lines) (line ∷ [])
@@ -214,10 +214,10 @@ module _ {D : Type 0} (clock : D → ℕ) (since : D → ℕ → Files → Sent 
     }
 
     -- the first command is given up with nothing done
-    pub first_not : UnreadRun old mid lines i → OnlyReads clock since state mid new → EachSince clock since old new (IsUnsynced (state old) lines)
-    first_not run reads = joined clock since state (IsUnsynced (state old) lines) old mid new run.moments
-        (weaken clock since state (IsIdleMoment (state mid)) (IsUnsynced (state old) lines) mid new (unsynced_so_far run) reads.moments)
+    pub first_not : UnreadRun old mid lines i → OnlyReads time state mid new → EachSince time old new (IsUnsynced (state old) lines)
+    first_not run reads = joined time state (IsUnsynced (state old) lines) old mid new run.moments
+        (weaken time state (IsIdleMoment (state mid)) (IsUnsynced (state old) lines) mid new (unsynced_so_far run) reads.moments)
 
-  pub synced_done : (old new : D) (lines : List Line) (i : ℕ) → Synced old new lines i → IsSyncedBy clock since state old new lines
+  pub synced_done : (old new : D) (lines : List Line) (i : ℕ) → Synced old new lines i → IsSyncedBy time state old new lines
   synced_done old new lines i (inl run) = inl run.moments
   synced_done old new lines i (inr late) = inr late.from

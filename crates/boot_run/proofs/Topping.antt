@@ -4,7 +4,7 @@ use Rattle.std.specs.Prelude.{IfOk, IfErr, IsErr, IsErrAnd, ◌||◌}
 use Rattle.std.proofs.lemmas.List.{append-nil, take_all, drop_all}
 use Rattle.boot_machine.specs.Disk.{Files, State, IsIn, IsSound, candidates, recovered_view}
 use Rattle.boot_machine.specs.Images.{IsImage, IsFirm, IsSettled}
-use Rattle.boot_machine.specs.Moments.{EachSince}
+use Rattle.boot_machine.specs.Moments.{Timeline, EachSince}
 use Rattle.boot_machine.specs.Rows.{tagged, with_printed}
 use Rattle.boot_machine.specs.Sent.{Sent, Adds, PrintsPart, SameButInput, latest, recovered_views, recovered_now}
 use Rattle.boot_machine.specs.declared.machine.Channel.TheVariants.{Err as ErrChannel}
@@ -97,8 +97,8 @@ one_view_of_settled s settled v is =
     let from = from_views (candidates s) v is in
     from.2 ∙ settled.images from.0 (candidate_image s from.0 from.1) ∙ sym (latest-recovered_views s)
 
-module _ {D : Type 0} (clock : D → ℕ) (since : D → ℕ → Files → Sent → Type 0) (state : D → State) where
-  at_end : (old new : D) (lines : List Line) (result : Result Bool Stop) → RunsTo clock since state old new lines result
+module _ {D : Type 0} (time : Timeline D) (state : D → State) where
+  at_end : (old new : D) (lines : List Line) (result : Result Bool Stop) → RunsTo time state old new lines result
       → Adds (state old).printed (state new).printed (λ sent. Step (recovered_views (state old)) lines (recovered_views (state new)) sent (end_at (ended_by result)))
   at_end old new lines (Ok false) runs = (printed_by (recovered_views (state old)) lines, runs.ok.printed, step _ lines _ _ Finished (all_runs _ lines _ runs.ok.state))
   at_end old new lines (Ok true) runs = (printed_by (recovered_views (state old)) lines, runs.ok.printed, step _ lines _ _ Finished (all_runs _ lines _ runs.ok.state))
@@ -106,7 +106,7 @@ module _ {D : Type 0} (clock : D → ℕ) (since : D → ℕ → Files → Sent 
   at_end old new lines (Err PipeStop) runs = (runs.err.0, runs.err.1, step _ lines _ _ PipeFails runs.err.2)
   at_end old new lines (Err MemoryStop) runs = (runs.err.0, runs.err.1, step _ lines _ _ NoMemory runs.err.2)
 
-  refusals : (old new : D) (lines : List Line) (result : Result Bool Stop) → RunsTo clock since state old new lines result → AnswersRefusals (any_refused (recovered_views (state old)) lines) (ended_by result)
+  refusals : (old new : D) (lines : List Line) (result : Result Bool Stop) → RunsTo time state old new lines result → AnswersRefusals (any_refused (recovered_views (state old)) lines) (ended_by result)
   refusals old new lines (Ok false) runs = sym runs.ok.answer
   refusals old new lines (Ok true) runs = sym runs.ok.answer
   refusals old new lines (Err DiskStop) runs = tt
@@ -119,16 +119,16 @@ module _ {D : Type 0} (clock : D → ℕ) (since : D → ℕ → Files → Sent 
     sym (latest-recovered_views (state new)) ∙ ap latest all.state ∙ states-is (recovered_views (state old)) lines ∙ ap (λ v. view_after v lines) (latest-recovered_views (state old)),
   )
 
-  finished : (old new : D) (lines : List Line) (result : Result Bool Stop) → RunsTo clock since state old new lines result → AtEnd (ended_by result) (AllPrinted (state old) (state new) lines)
+  finished : (old new : D) (lines : List Line) (result : Result Bool Stop) → RunsTo time state old new lines result → AtEnd (ended_by result) (AllPrinted (state old) (state new) lines)
   finished old new lines (Ok false) runs = all_printed old new lines false runs.ok
   finished old new lines (Ok true) runs = all_printed old new lines true runs.ok
   finished old new lines (Err DiskStop) runs = tt
   finished old new lines (Err PipeStop) runs = tt
   finished old new lines (Err MemoryStop) runs = tt
 
-  from_sync_of : (old new : D) (lines : List Line) → IsSyncedBy clock since state old new lines → LeavesFromSync clock since state old new lines
+  from_sync_of : (old new : D) (lines : List Line) → IsSyncedBy time state old new lines → LeavesFromSync time state old new lines
   from_sync_of old new lines (inl unsynced) = inl unsynced
-  from_sync_of old new lines (inr late) = inr (weaken_after clock since state (IsUnsynced (state old) lines) (RunsAfresh (state old) lines) _ old new
+  from_sync_of old new lines (inr late) = inr (weaken_after time state (IsUnsynced (state old) lines) (RunsAfresh (state old) lines) _ old new
       (λ m o adds. (
         adds.0,
         adds.1,
@@ -137,43 +137,43 @@ module _ {D : Type 0} (clock : D → ℕ) (since : D → ℕ → Files → Sent 
       ))
       late)
 
-  pub runs_lines : (old new : D) (lines : List Line) (result : Result Bool Stop) → IsSound (state new) → IsSyncedBy clock since state old new lines → RunsTo clock since state old new lines result → RunsLines clock since state old new lines (ended_by result)
+  pub runs_lines : (old new : D) (lines : List Line) (result : Result Bool Stop) → IsSound (state new) → IsSyncedBy time state old new lines → RunsTo time state old new lines result → RunsLines time state old new lines (ended_by result)
   runs_lines old new lines result sound synced runs = record {
     firm = runs.firm;
     settled = unless_disk (ended_by result) _ (λ not_disk settled. settled_after (state new) sound runs.firm (one_view_after _ lines _ _ (end_at (ended_by result)) (one_view_of_settled (state old) settled) (not_disk_at (ended_by result) not_disk) (not_stopped_at (ended_by result)) (at_end old new lines result runs).2));
     refusals = subst (λ any. AnswersRefusals any (ended_by result)) (refused-is (recovered_views (state old)) lines ∙ ap (λ v. some_refused v lines) (latest-recovered_views (state old))) (refusals old new lines result runs);
     finished = finished old new lines result runs;
     at_end = at_end old new lines result runs;
-    at_each_moment = weaken clock since state _ _ old new (λ m o adds. (adds.0, adds.1, stops _ lines _ adds.0 adds.2)) runs.moments;
+    at_each_moment = weaken time state _ _ old new (λ m o adds. (adds.0, adds.1, stops _ lines _ adds.0 adds.2)) runs.moments;
     from_sync = from_sync_of old new lines synced;
   }
 
   -- no memory for the usage line
-  pub usage_unsaid : (old : D) (line : Sent) → ((m : Files) (o : Sent) → since old (clock old) m o → IsImage (state old) m × (o ≡ (state old).printed)) → RunsUsage clock since state old old line Memory
+  pub usage_unsaid : (old : D) (line : Sent) → ((m : Files) (o : Sent) → time.since old (time.clock old) m o → IsImage (state old) m × (o ≡ (state old).printed)) → RunsUsage time state old old line Memory
   usage_unsaid old line at_start = record {
     unchanged = refl;
     at_end = ([], sym (append-nil _), refl);
-    at_each_moment = at_once clock since state _ old (λ m o left. let now = at_start m o left in (now.0, ([], now.1 ∙ sym (append-nil _), (line, refl))));
+    at_each_moment = at_once time state _ old (λ m o left. let now = at_start m o left in (now.0, ([], now.1 ∙ sym (append-nil _), (line, refl))));
   }
 
   -- there was no memory to read the words
-  pub runs_nothing : (asks : Result (List Line) UsageReason) (old : D) → ((m : Files) (o : Sent) → since old (clock old) m o → IsImage (state old) m × (o ≡ (state old).printed))
-      → (IsFirm (state old) → (m : Files) → IsImage (state old) m → IsIn (recovered_view m) (recovered_views (state old))) → RunsBy clock since state asks old old Memory
+  pub runs_nothing : (asks : Result (List Line) UsageReason) (old : D) → ((m : Files) (o : Sent) → time.since old (time.clock old) m o → IsImage (state old) m × (o ≡ (state old).printed))
+      → (IsFirm (state old) → (m : Files) → IsImage (state old) m → IsIn (recovered_view m) (recovered_views (state old))) → RunsBy time state asks old old Memory
   runs_nothing (Ok lines) old at_start sees_each = λ firm. record {
     firm = firm;
     settled = λ settled. settled;
     refusals = tt;
     finished = tt;
     at_end = ([], sym (append-nil _), step _ _ _ [] NoMemory (stays_runs _ _ _ NoMemory (λ is. cc) refl));
-    at_each_moment = at_once clock since state _ old (λ m o left. let now = at_start m o left in ([], now.1 ∙ sym (append-nil _), stops _ _ _ [] (stays_runs _ _ _ Stopped (λ is. cc) (recovered_view m, refl, sees_each firm m now.0))));
-    from_sync = inl (at_once clock since state _ old (λ m o left. let now = at_start m o left in unsynced_yet (state old) lines m o now));
+    at_each_moment = at_once time state _ old (λ m o left. let now = at_start m o left in ([], now.1 ∙ sym (append-nil _), stops _ _ _ [] (stays_runs _ _ _ Stopped (λ is. cc) (recovered_view m, refl, sees_each firm m now.0))));
+    from_sync = inl (at_once time state _ old (λ m o left. let now = at_start m o left in unsynced_yet (state old) lines m o now));
   }
   runs_nothing (Err reason) old at_start sees_each = usage_unsaid old (tagged ErrChannel (usage_line reason)) at_start
 
   -- the input is read, and then nothing more, or a run over lines
-  read_moments : (old mid : D) (lines : List Line) → ((m : Files) → IsImage (state old) m → IsIn (recovered_view m) (recovered_views (state old))) → EachSince clock since old mid (λ m o. IsImage (state old) m × (o ≡ (state old).printed))
-      → EachSince clock since old mid (λ image printed. Adds (state old).printed printed (λ sent. Runs (recovered_views (state old)) lines (recovered_view image ∷ []) sent Stopped))
-  read_moments old mid lines sees moments = weaken clock since state _ _ old mid (λ m o now. ([], now.1 ∙ sym (append-nil _), stays_runs _ lines _ Stopped (λ is. cc) (recovered_view m, refl, sees m now.0))) moments
+  read_moments : (old mid : D) (lines : List Line) → ((m : Files) → IsImage (state old) m → IsIn (recovered_view m) (recovered_views (state old))) → EachSince time old mid (λ m o. IsImage (state old) m × (o ≡ (state old).printed))
+      → EachSince time old mid (λ image printed. Adds (state old).printed printed (λ sent. Runs (recovered_views (state old)) lines (recovered_view image ∷ []) sent Stopped))
+  read_moments old mid lines sees moments = weaken time state _ _ old mid (λ m o now. ([], now.1 ∙ sym (append-nil _), stays_runs _ lines _ Stopped (λ is. cc) (recovered_view m, refl, sees m now.0))) moments
 
   pub same_firm : (s now : State) → SameButInput s now → IsFirm s → IsFirm now
   same_firm s now same firm = subst IsFirm (sym same) (record { unseen = firm.unseen; intent = firm.intent; unnamed = firm.unnamed })
@@ -190,7 +190,7 @@ module _ {D : Type 0} (clock : D → ℕ) (since : D → ℕ → Files → Sent 
 
   -- no script was read
   pub no_script : (old mid : D) (lines : List Line) (stop : Stop) (result : Result Bool Stop) → IsErr result → IsErrAnd result (λ e. e ≡ stop) → ((m : Files) → IsImage (state old) m → IsIn (recovered_view m) (recovered_views (state old)))
-      → IsFirm (state old) → SameButInput (state old) (state mid) → EachSince clock since old mid (λ m o. IsImage (state old) m × (o ≡ (state old).printed)) → RunsTo clock since state old mid lines result
+      → IsFirm (state old) → SameButInput (state old) (state mid) → EachSince time old mid (λ m o. IsImage (state old) m × (o ≡ (state old).printed)) → RunsTo time state old mid lines result
   no_script old mid lines stop result failed is sees firm same moments = record {
     firm = same_firm _ _ same firm;
     ok = if_ok result _ failed;
@@ -200,33 +200,33 @@ module _ {D : Type 0} (clock : D → ℕ) (since : D → ℕ → Files → Sent 
 
   -- a run over the lines of a script
   pub script_runs : (old mid new : D) (lines : List Line) (result : Result Bool Stop) → ((m : Files) → IsImage (state old) m → IsIn (recovered_view m) (recovered_views (state old)))
-      → SameButInput (state old) (state mid) → EachSince clock since old mid (λ m o. IsImage (state old) m × (o ≡ (state old).printed)) → RunsTo clock since state mid new lines result → RunsTo clock since state old new lines result
+      → SameButInput (state old) (state mid) → EachSince time old mid (λ m o. IsImage (state old) m × (o ≡ (state old).printed)) → RunsTo time state mid new lines result → RunsTo time state old new lines result
   script_runs old mid new lines result sees same moments runs = record {
     firm = runs.firm;
     ok = if_ok_by result (AllDone (record (state old) { input = (state mid).input }) (state new) lines) (AllDone (state old) (state new) lines)
         (λ refused all. record { state = all.state; printed = all.printed; answer = all.answer })
         (subst (λ (s : State). IfOk result (AllDone s (state new) lines)) same_ok runs.ok);
     err = subst (λ (s : State). IfErr result (λ stop. Adds s.printed (state new).printed (λ sent. Runs (recovered_views s) lines (recovered_views (state new)) sent (end_of stop)))) same_ok runs.err;
-    moments = joined clock since state _ old mid new (read_moments old mid lines sees moments)
-        (subst (λ (s : State). EachSince clock since mid new (λ image printed. Adds s.printed printed (λ sent. Runs (recovered_views s) lines (recovered_view image ∷ []) sent Stopped))) same_ok runs.moments);
+    moments = joined time state _ old mid new (read_moments old mid lines sees moments)
+        (subst (λ (s : State). EachSince time mid new (λ image printed. Adds s.printed printed (λ sent. Runs (recovered_views s) lines (recovered_view image ∷ []) sent Stopped))) same_ok runs.moments);
   }
     where
       same_ok : state mid ≡ record (state old) { input = (state mid).input }
       same_ok = same
 
   -- a run over the lines of a script goes on from the sync as well
-  pub script_synced : (old mid new : D) (lines : List Line) → SameButInput (state old) (state mid) → EachSince clock since old mid (λ m o. IsImage (state old) m × (o ≡ (state old).printed))
-      → IsSyncedBy clock since state mid new lines → IsSyncedBy clock since state old new lines
+  pub script_synced : (old mid new : D) (lines : List Line) → SameButInput (state old) (state mid) → EachSince time old mid (λ m o. IsImage (state old) m × (o ≡ (state old).printed))
+      → IsSyncedBy time state mid new lines → IsSyncedBy time state old new lines
   script_synced old mid new lines same moments synced =
       ⊎_elim
-      (λ unsynced. inl (joined clock since state (IsUnsynced (state old) lines) old mid new read
-      (weaken clock since state (IsUnsynced (state mid) lines) (IsUnsynced (state old) lines) mid new as_before unsynced)))
+      (λ unsynced. inl (joined time state (IsUnsynced (state old) lines) old mid new read
+      (weaken time state (IsUnsynced (state mid) lines) (IsUnsynced (state old) lines) mid new as_before unsynced)))
       (λ late. inr (record {
         synced = late.synced;
         one = late.one;
-        before = joined clock since state (IsUnsynced (state old) lines) old mid late.synced read
-            (weaken clock since state (IsUnsynced (state mid) lines) (IsUnsynced (state old) lines) mid late.synced as_before late.before);
-        after = weaken clock since state (RunsAfresh (state mid) lines) (RunsAfresh (state old) lines) late.synced new
+        before = joined time state (IsUnsynced (state old) lines) old mid late.synced read
+            (weaken time state (IsUnsynced (state mid) lines) (IsUnsynced (state old) lines) mid late.synced as_before late.before);
+        after = weaken time state (RunsAfresh (state mid) lines) (RunsAfresh (state old) lines) late.synced new
             (λ m o afresh. subst (λ (s : State). RunsAfresh s lines m o) same_ok afresh) late.after;
       }))
       synced
@@ -234,8 +234,8 @@ module _ {D : Type 0} (clock : D → ℕ) (since : D → ℕ → Files → Sent 
       same_ok : state mid ≡ record (state old) { input = (state mid).input }
       same_ok = same
 
-      read : EachSince clock since old mid (IsUnsynced (state old) lines)
-      read = weaken clock since state _ (IsUnsynced (state old) lines) old mid (unsynced_yet (state old) lines) moments
+      read : EachSince time old mid (IsUnsynced (state old) lines)
+      read = weaken time state _ (IsUnsynced (state old) lines) old mid (unsynced_yet (state old) lines) moments
 
       as_before : (m : Files) (o : Sent) → IsUnsynced (state mid) lines m o → IsUnsynced (state old) lines m o
       as_before m o unsynced =
@@ -243,50 +243,50 @@ module _ {D : Type 0} (clock : D → ℕ) (since : D → ℕ → Files → Sent 
           record { stands = record { of = moved.stands.of; candidate = moved.stands.candidate; image = moved.stands.image }; part = moved.part }
 
   -- no script was read, so nothing is synced
-  pub script_unsynced : (old mid : D) (lines : List Line) → EachSince clock since old mid (λ m o. IsImage (state old) m × (o ≡ (state old).printed)) → IsSyncedBy clock since state old mid lines
-  script_unsynced old mid lines moments = inl (weaken clock since state _ (IsUnsynced (state old) lines) old mid (unsynced_yet (state old) lines) moments)
+  pub script_unsynced : (old mid : D) (lines : List Line) → EachSince time old mid (λ m o. IsImage (state old) m × (o ≡ (state old).printed)) → IsSyncedBy time state old mid lines
+  script_unsynced old mid lines moments = inl (weaken time state _ (IsUnsynced (state old) lines) old mid (unsynced_yet (state old) lines) moments)
 
   -- the line of usage
-  pub usage_done : (old new : D) (text : List ℕ) → state new ≡ with_printed ErrChannel text (state old) → EachSince clock since old new (PrintsPart (state old) (tagged ErrChannel text)) → RunsUsage clock since state old new (tagged ErrChannel text) Usage
+  pub usage_done : (old new : D) (text : List ℕ) → state new ≡ with_printed ErrChannel text (state old) → EachSince time old new (PrintsPart (state old) (tagged ErrChannel text)) → RunsUsage time state old new (tagged ErrChannel text) Usage
   usage_done old new text shown moments = record {
     unchanged = shown ∙ ap (λ (s : State). record (state old) { printed = s.printed }) (sym shown);
     at_end = (tagged ErrChannel text, ap (λ (s : State). s.printed) shown, refl);
-    at_each_moment = weaken clock since state _ _ old new (λ m o prints. (prints.stands, prints.part)) moments;
+    at_each_moment = weaken time state _ _ old new (λ m o prints. (prints.stands, prints.part)) moments;
   }
 
-  pub usage_failed : (old new : D) (text : List ℕ) → (k : ℕ) × (state new ≡ with_printed ErrChannel (take k text) (state old)) → EachSince clock since old new (PrintsPart (state old) (tagged ErrChannel text)) → RunsUsage clock since state old new (tagged ErrChannel text) Pipe
+  pub usage_failed : (old new : D) (text : List ℕ) → (k : ℕ) × (state new ≡ with_printed ErrChannel (take k text) (state old)) → EachSince time old new (PrintsPart (state old) (tagged ErrChannel text)) → RunsUsage time state old new (tagged ErrChannel text) Pipe
   usage_failed old new text shown moments = record {
     unchanged = shown.1 ∙ ap (λ (s : State). record (state old) { printed = s.printed }) (sym shown.1);
     at_end = (tagged ErrChannel (take shown.0 text), ap (λ (s : State). s.printed) shown.1, tagged_part ErrChannel shown.0 text);
-    at_each_moment = weaken clock since state _ _ old new (λ m o prints. (prints.stands, prints.part)) moments;
+    at_each_moment = weaken time state _ _ old new (λ m o prints. (prints.stands, prints.part)) moments;
   }
 
   -- the headline
-  pub headline : (old new : D) (lines : List Line) (ended : Ended) → IsSettled (state old) → RunsLines clock since state old new lines ended
-      → EachSince clock since old new (λ image printed. Adds (state old).printed printed (Leaves (recovered_now (state old)) lines (recovered_view image)))
-  headline old new lines ended settled runs = weaken clock since state _ _ old new (λ m o adds. (
+  pub headline : (old new : D) (lines : List Line) (ended : Ended) → IsSettled (state old) → RunsLines time state old new lines ended
+      → EachSince time old new (λ image printed. Adds (state old).printed printed (Leaves (recovered_now (state old)) lines (recovered_view image)))
+  headline old new lines ended settled runs = weaken time state _ _ old new (λ m o adds. (
     adds.0,
     adds.1,
     subst (λ first. Leaves first lines (recovered_view m) adds.0) (latest-recovered_views (state old)) (adds.2.1 (one_view_of_settled (state old) settled)),
   )) runs.at_each_moment
 
   -- what a moment of the headline shows of replies and their changes
-  pub after_change : (old new : D) (lines : List Line) → EachSince clock since old new (λ image printed. Adds (state old).printed printed (Leaves (recovered_now (state old)) lines (recovered_view image)))
-      → EachSince clock since old new (λ image printed. Adds (state old).printed printed (SeesBegun (recovered_now (state old)) lines (recovered_view image)))
-  after_change old new lines moments = weaken clock since state _ _ old new (λ m o adds. (adds.0, adds.1, adds.2.begun)) moments
+  pub after_change : (old new : D) (lines : List Line) → EachSince time old new (λ image printed. Adds (state old).printed printed (Leaves (recovered_now (state old)) lines (recovered_view image)))
+      → EachSince time old new (λ image printed. Adds (state old).printed printed (SeesBegun (recovered_now (state old)) lines (recovered_view image)))
+  after_change old new lines moments = weaken time state _ _ old new (λ m o adds. (adds.0, adds.1, adds.2.begun)) moments
 
   -- a run by what its words ask for
-  pub lines_run : (asks : Result (List Line) UsageReason) (lines : List Line) (old new : D) (ended : Ended) → asks ≡ Ok lines → RunsBy clock since state asks old new ended → IsFirm (state old) → RunsLines clock since state old new lines ended
-  lines_run asks lines old new ended is runs = subst (λ r. RunsBy clock since state r old new ended) is runs
+  pub lines_run : (asks : Result (List Line) UsageReason) (lines : List Line) (old new : D) (ended : Ended) → asks ≡ Ok lines → RunsBy time state asks old new ended → IsFirm (state old) → RunsLines time state old new lines ended
+  lines_run asks lines old new ended is runs = subst (λ r. RunsBy time state r old new ended) is runs
 
-  pub firm_by : (asks : Result (List Line) UsageReason) (old new : D) (ended : Ended) → RunsBy clock since state asks old new ended → IsFirm (state old) → IsFirm (state new)
+  pub firm_by : (asks : Result (List Line) UsageReason) (old new : D) (ended : Ended) → RunsBy time state asks old new ended → IsFirm (state old) → IsFirm (state new)
   firm_by (Ok lines) old new ended runs firm = (runs firm).firm
   firm_by (Err reason) old new ended runs firm = subst IsFirm (sym runs.unchanged) (record { unseen = firm.unseen; intent = firm.intent; unnamed = firm.unnamed })
 
   still_settled : (s now : State) → now ≡ record s { printed = now.printed } → IsSettled s → IsSettled now
   still_settled s now same settled = subst IsSettled (sym same) (record { firm = record { unseen = settled.firm.unseen; intent = settled.firm.intent; unnamed = settled.firm.unnamed }; images = λ m image. settled.images m (record { of = image.of; candidate = image.candidate; image = image.image }) })
 
-  pub settled_by : (asks : Result (List Line) UsageReason) (old new : D) (ended : Ended) → RunsBy clock since state asks old new ended → UnlessDisk ended (IsSettled (state old) → IsSettled (state new))
+  pub settled_by : (asks : Result (List Line) UsageReason) (old new : D) (ended : Ended) → RunsBy time state asks old new ended → UnlessDisk ended (IsSettled (state old) → IsSettled (state new))
   settled_by (Ok lines) old new ended runs = unless_disk ended _ (λ other settled. but_disk ended _ other (runs (firm_of_settled (state old) settled)).settled settled)
   settled_by (Err reason) old new ended runs = unless_disk ended _ (λ other settled. still_settled (state old) (state new) runs.unchanged settled)
 
@@ -303,7 +303,7 @@ module _ {D : Type 0} (clock : D → ℕ) (since : D → ℕ → Files → Sent 
   usage_step Memory line part before after same prints = record { front = (line, ap (λ (l : Sent). l ++ line) prints); finished = λ is. cc; no_memory = λ is. prints; kept = same }
 
   -- whatever the words, the run leads from the views at its start to those at its end
-  pub leads_by : (asks : Result (List Line) UsageReason) (old new : D) (ended : Ended) → RunsBy clock since state asks old new ended → IsFirm (state old)
+  pub leads_by : (asks : Result (List Line) UsageReason) (old new : D) (ended : Ended) → RunsBy time state asks old new ended → IsFirm (state old)
       → Adds (state old).printed (state new).printed (λ sent. Leads (recovered_views (state old)) asks (recovered_views (state new)) sent (end_at ended))
   leads_by (Ok lines) old new ended runs firm = let adds = (runs firm).at_end in (adds.0, adds.1, record { some = some_views (state new); step = adds.2 })
   leads_by (Err reason) old new ended runs firm = (
@@ -313,10 +313,10 @@ module _ {D : Type 0} (clock : D → ℕ) (since : D → ℕ → Files → Sent 
   )
 
   -- and a stop at each moment leads to one view
-  pub stops_by : (asks : Result (List Line) UsageReason) (old new : D) (ended : Ended) → IsSound (state old) → RunsBy clock since state asks old new ended → IsFirm (state old)
-      → EachSince clock since old new (λ image printed. Adds (state old).printed printed (λ sent. Leads (recovered_views (state old)) asks (recovered_view image ∷ []) sent Stopped))
-  stops_by (Ok lines) old new ended sound runs firm = weaken clock since state _ _ old new (λ m o adds. (adds.0, adds.1, record { some = λ is. cc; step = adds.2.0 })) (runs firm).at_each_moment
-  stops_by (Err reason) old new ended sound runs firm = weaken clock since state _ _ old new
+  pub stops_by : (asks : Result (List Line) UsageReason) (old new : D) (ended : Ended) → IsSound (state old) → RunsBy time state asks old new ended → IsFirm (state old)
+      → EachSince time old new (λ image printed. Adds (state old).printed printed (λ sent. Leads (recovered_views (state old)) asks (recovered_view image ∷ []) sent Stopped))
+  stops_by (Ok lines) old new ended sound runs firm = weaken time state _ _ old new (λ m o adds. (adds.0, adds.1, record { some = λ is. cc; step = adds.2.0 })) (runs firm).at_each_moment
+  stops_by (Err reason) old new ended sound runs firm = weaken time state _ _ old new
       (λ m o now. (
         now.1.0,
         now.1.1,

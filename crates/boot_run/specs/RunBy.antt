@@ -1,8 +1,8 @@
 -- The clauses of the top call.
 use Rattle.std.specs.Prelude.{◌≡◌, ◌⊎◌, true, ℕ, List, ◌++◌, take, Result, Ok, Err}
-use Rattle.boot_machine.specs.Disk.{Files, IsRested, State, recovered_view}
+use Rattle.boot_machine.specs.Disk.{IsRested, State, recovered_view}
 use Rattle.boot_machine.specs.Images.{IsImage, IsFirm, IsSettled}
-use Rattle.boot_machine.specs.Moments.{EachSince}
+use Rattle.boot_machine.specs.Moments.{Timeline, EachSince}
 use Rattle.boot_machine.specs.Rows.{tagged}
 use Rattle.boot_machine.specs.Sent.{Sent, Adds, IsPrefix, recovered_now, recovered_views}
 use Rattle.boot_machine.specs.declared.machine.Channel.TheVariants.{Err as ErrChannel}
@@ -44,16 +44,15 @@ CleanBehind old new lines Memory = CleanBy old new lines
 
 -- Each moment of a run on a machine that is only firm: no names were synced by then, and a stop leaves what it would
 -- have left at the start, or from their sync on the machine is as good as a settled one.
-abbrev pub LeavesFromSync : {M : Type 0} → (M → ℕ) → (M → ℕ → Files → Sent → Type 0) → (M → State) → M → M → List Line
-    → Type 0
-LeavesFromSync clock since state old new lines =
-    EachSince clock since old new (IsUnsynced (state old) lines)
-    ⊎ FromSync clock since state old new (IsUnsynced (state old) lines)
+abbrev pub LeavesFromSync : {M : Type 0} → Timeline M → (M → State) → M → M → List Line → Type 0
+LeavesFromSync time state old new lines =
+    EachSince time old new (IsUnsynced (state old) lines)
+    ⊎ FromSync time state old new (IsUnsynced (state old) lines)
     (λ image printed. Adds (state old).printed printed
     (Leaves (recovered_now (state old)) lines (recovered_view image)))
 
 -- A run over these lines on a firm machine: a step of the reference at its end, and at a stop at every moment.
-pub record RunsLines {M : Type 0} (clock : M → ℕ) (since : M → ℕ → Files → Sent → Type 0) (state : M → State)
+pub record RunsLines {M : Type 0} (time : Timeline M) (state : M → State)
     (old new : M) (lines : List Line) (ended : Ended) : Type 0 where
   pub firm : IsFirm (state new)
   -- a settled machine stays settled, but where the disk failed
@@ -62,22 +61,21 @@ pub record RunsLines {M : Type 0} (clock : M → ℕ) (since : M → ℕ → Fil
   pub finished : AtEnd ended (AllPrinted (state old) (state new) lines)
   pub at_end : Adds (state old).printed (state new).printed
       (λ sent. Step (recovered_views (state old)) lines (recovered_views (state new)) sent (end_at ended))
-  pub at_each_moment : EachSince clock since old new
+  pub at_each_moment : EachSince time old new
       (λ image printed. Adds (state old).printed printed
       (StopsIn (recovered_views (state old)) lines (recovered_view image)))
-  pub from_sync : LeavesFromSync clock since state old new lines
+  pub from_sync : LeavesFromSync time state old new lines
 
 -- A run with words that are no command: nothing changes but what is printed of the usage line.
-pub record RunsUsage {M : Type 0} (clock : M → ℕ) (since : M → ℕ → Files → Sent → Type 0) (state : M → State)
+pub record RunsUsage {M : Type 0} (time : Timeline M) (state : M → State)
     (old new : M) (line : Sent) (ended : Ended) : Type 0 where
   pub unchanged : state new ≡ record (state old) { printed = (state new).printed }
   pub at_end : Adds (state old).printed (state new).printed (PrintsUsage ended line)
-  pub at_each_moment : EachSince clock since old new
+  pub at_each_moment : EachSince time old new
       (λ image printed. IsImage (state old) image × Adds (state old).printed printed (λ part. IsPrefix part line))
 
 -- a run by what its words ask for
-abbrev pub RunsBy : {M : Type 0} → (M → ℕ) → (M → ℕ → Files → Sent → Type 0) → (M → State)
-    → Result (List Line) UsageReason → M → M → Ended → Type 0
-RunsBy clock since state (Ok lines) old new ended = IsFirm (state old) → RunsLines clock since state old new lines ended
-RunsBy clock since state (Err reason) old new ended =
-    RunsUsage clock since state old new (tagged ErrChannel (usage_line reason)) ended
+abbrev pub RunsBy : {M : Type 0} → Timeline M → (M → State) → Result (List Line) UsageReason → M → M → Ended → Type 0
+RunsBy time state (Ok lines) old new ended = IsFirm (state old) → RunsLines time state old new lines ended
+RunsBy time state (Err reason) old new ended =
+    RunsUsage time state old new (tagged ErrChannel (usage_line reason)) ended

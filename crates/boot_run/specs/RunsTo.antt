@@ -1,8 +1,8 @@
 -- The clauses of a run over a list of lines.
-use Rattle.std.specs.Prelude.{◌≡◌, ◌≢◌, ◌⊎◌, ℕ, Bool, List, [], ◌∷◌, ◌++◌, Result, MatchResult, IfOk, IfErr, OnOk, OnErr}
+use Rattle.std.specs.Prelude.{◌≡◌, ◌≢◌, ◌⊎◌, Bool, List, [], ◌∷◌, ◌++◌, Result, MatchResult, IfOk, IfErr, OnOk, OnErr}
 use Rattle.boot_machine.specs.Disk.{Files, HasOneCandidate, State, recovered_view}
 use Rattle.boot_machine.specs.Images.{IsImage, IsFirm}
-use Rattle.boot_machine.specs.Moments.{EachSince}
+use Rattle.boot_machine.specs.Moments.{Timeline, EachSince}
 use Rattle.boot_machine.specs.Reading.{IsIdleMoment, OnlyReads}
 use Rattle.boot_machine.specs.Sent.{Sent, Adds, PrintsPart, latest, recovered_now, recovered_views}
 use Rattle.command_plans.specs.Deeds.{Breaks, Deed, Stopped}
@@ -25,45 +25,44 @@ abbrev pub WherePrinted : {T : Type 0} → Result T Stop → State → State →
 WherePrinted result old new P = MatchResult result (λ _. P) (λ stop. at_part stop old new P)
 
 -- At some time the names were all synced. Each moment up to it has one property, and each from it on the other.
-pub record FromSync {M : Type 0} (clock : M → ℕ) (since : M → ℕ → Files → Sent → Type 0) (state : M → State)
+pub record FromSync {M : Type 0} (time : Timeline M) (state : M → State)
     (old new : M)
     (Before After : Files → Sent → Type 0) : Type 0 where
   pub synced : M
   pub one : HasOneCandidate (state synced)
-  pub before : EachSince clock since old synced Before
-  pub after : EachSince clock since synced new After
+  pub before : EachSince time old synced Before
+  pub after : EachSince time synced new After
 
 -- What is printed of this is all that changes, and at each moment it was so.
-pub record OnlyPrints {M : Type 0} (clock : M → ℕ) (since : M → ℕ → Files → Sent → Type 0) (state : M → State)
-    (old new : M) (text : Sent) : Type 0 where
+pub record OnlyPrints {M : Type 0} (time : Timeline M) (state : M → State) (old new : M) (text : Sent) : Type 0 where
   pub same : Prints (state old) (state new)
-  pub moments : EachSince clock since old new (PrintsPart (state old) text)
+  pub moments : EachSince time old new (PrintsPart (state old) text)
 
 -- One line on a firm machine, with a recovery before it or none: as a deed is performed, but that at a fault or want of
 -- memory the recovery may be all that was done.
-pub record PerformsBehind {M : Type 0} (clock : M → ℕ) (since : M → ℕ → Files → Sent → Type 0) (state : M → State)
+pub record PerformsBehind {M : Type 0} (time : Timeline M) (state : M → State)
     (old new : M) (deed : Deed)
     (result : Result Outcome Stop) : Type 0 where
   pub firm : IsFirm (state new)
   pub ok : IfOk result (DoesDeed deed (state old) (state new))
   pub err : IfErr result (λ stop. Adds (state old).printed (state new).printed
       (λ part. BreaksBehind deed (recovered_views (state old)) (recovered_views (state new)) part (end_of stop)))
-  pub moments : EachSince clock since old new (λ image sent. Adds (state old).printed sent
+  pub moments : EachSince time old new (λ image sent. Adds (state old).printed sent
       (λ part. Breaks deed (recovered_views (state old)) (recovered_view image ∷ []) part Stopped))
 
 -- The names are synced before the deed: until then a stop leaves what it would have left, and from then on the deed
 -- began with the files as they were.
-abbrev pub SyncsBefore : {M : Type 0} → (M → ℕ) → (M → ℕ → Files → Sent → Type 0) → (M → State) → M → M → Deed → Type 0
-SyncsBefore clock since state old new deed =
-    FromSync clock since state old new (IsIdleMoment (state old)) (λ image sent. Adds (state old).printed sent
+abbrev pub SyncsBefore : {M : Type 0} → Timeline M → (M → State) → M → M → Deed → Type 0
+SyncsBefore time state old new deed =
+    FromSync time state old new (IsIdleMoment (state old)) (λ image sent. Adds (state old).printed sent
     (λ part. Breaks deed (latest (recovered_views (state old)) ∷ []) (recovered_view image ∷ []) part Stopped))
 
 -- the same of the first command of a run, by its answer: it may be given up with nothing done
-pub record SyncsFirst {M : Type 0} (clock : M → ℕ) (since : M → ℕ → Files → Sent → Type 0) (state : M → State)
+pub record SyncsFirst {M : Type 0} (time : Timeline M) (state : M → State)
     (old new : M) (deed : Deed)
     (result : Result Outcome Stop) : Type 0 where
-  pub ok : OnOk result (SyncsBefore clock since state old new deed)
-  pub err : OnErr result (OnlyReads clock since state old new ⊎ SyncsBefore clock since state old new deed)
+  pub ok : OnOk result (SyncsBefore time state old new deed)
+  pub err : OnErr result (OnlyReads time state old new ⊎ SyncsBefore time state old new deed)
 
 -- A stop leaves what it would have left at the start, and no more is printed than replies to leading lines that are no
 -- command.
@@ -78,14 +77,14 @@ pub record AllDone (s now : State) (lines : List Line) (refused : Bool) : Type 0
   pub answer : refused ≡ any_refused (recovered_views s) lines
 
 -- Over these lines, from old to new, at every moment.
-pub record RunsTo {M : Type 0} (clock : M → ℕ) (since : M → ℕ → Files → Sent → Type 0) (state : M → State)
+pub record RunsTo {M : Type 0} (time : Timeline M) (state : M → State)
     (old new : M) (lines : List Line)
     (result : Result Bool Stop) : Type 0 where
   pub firm : IsFirm (state new)
   pub ok : IfOk result (AllDone (state old) (state new) lines)
   pub err : IfErr result (λ stop. Adds (state old).printed (state new).printed
       (λ sent. Runs (recovered_views (state old)) lines (recovered_views (state new)) sent (end_of stop)))
-  pub moments : EachSince clock since old new (λ image printed. Adds (state old).printed printed
+  pub moments : EachSince time old new (λ image printed. Adds (state old).printed printed
       (λ sent. Runs (recovered_views (state old)) lines (recovered_view image ∷ []) sent Stopped))
 
 -- a stop of a run that began with the files as they were
@@ -95,8 +94,7 @@ RunsAfresh s lines image printed =
     (recovered_view image ∷ []) sent Stopped)
 
 -- no names were synced, or from their sync on the run is one that began with the files as they were
-abbrev pub IsSyncedBy : {M : Type 0} → (M → ℕ) → (M → ℕ → Files → Sent → Type 0) → (M → State) → M → M → List Line
-    → Type 0
-IsSyncedBy clock since state old new lines =
-    EachSince clock since old new (IsUnsynced (state old) lines)
-    ⊎ FromSync clock since state old new (IsUnsynced (state old) lines) (RunsAfresh (state old) lines)
+abbrev pub IsSyncedBy : {M : Type 0} → Timeline M → (M → State) → M → M → List Line → Type 0
+IsSyncedBy time state old new lines =
+    EachSince time old new (IsUnsynced (state old) lines)
+    ⊎ FromSync time state old new (IsUnsynced (state old) lines) (RunsAfresh (state old) lines)

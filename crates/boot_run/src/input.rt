@@ -25,7 +25,7 @@ pub fn read_all<M: Machine>(alloc: Global, machine: &mut M) -> Result<Vec<u8>, S
     ensures taken { IsTrue M.tells
         → (k : ℕ) × (k ≤ script_limit + 1) × ((M.state machine.new).input ≡ drop k (M.state machine.old).input) }
     ensures same { IsTrue M.tells → SameButInput (M.state machine.old) (M.state machine.new) }
-    ensures moments { IsTrue M.tells → EachSince M.clock M.since machine.old machine.new
+    ensures moments { IsTrue M.tells → EachSince M.time machine.old machine.new
         (λ m o. IsImage (M.state machine.old) m × (o ≡ (M.state machine.old).printed)) }
     ensures no_disk { IsErrOf result Stop.Disk → ⊥ }
     ensures counts { CountsStop result (M.counts machine.old) (M.counts machine.new) }

@@ -61,7 +61,7 @@ fn acknowledge<M: Machine>(
         → (k : ℕ) × (M.state machine.new
         ≡ with_printed Out (take k (acknowledgement_in texts.now outcome)) (M.state machine.old))) }
     ensures moments { IsTrue M.tells
-        → EachSince M.clock M.since machine.old machine.new
+        → EachSince M.time machine.old machine.new
         (PrintsPart (M.state machine.old) (tagged Out (acknowledgement_in texts.now outcome))) }
     ensures stays { IsTrue M.tells → Prints (M.state machine.old) (M.state machine.new) }
     ensures counts { CountsPipe result (M.counts machine.old) (M.counts machine.new) }
@@ -75,9 +75,9 @@ fn acknowledge<M: Machine>(
 // Prints the refusal of what is no command.
 fn refuse_unread<M: Machine>(number: u8, text: &Bytes, machine: &mut M) -> Result<Outcome, Stop>
     ensures performs { IsTrue M.tells → IsFirm (M.state machine.old)
-        → Performs M.clock M.since M.state end_of machine.old machine.new
+        → Performs M.time M.state end_of machine.old machine.new
         (unread number text.now (recovered_now (M.state machine.old))) result }
-    ensures moments { IsTrue M.tells → EachSince M.clock M.since machine.old machine.new
+    ensures moments { IsTrue M.tells → EachSince M.time machine.old machine.new
         (PrintsPart (M.state machine.old) (tagged Err text.now)) }
     ensures stays { IsTrue M.tells → Prints (M.state machine.old) (M.state machine.new) }
     ensures counts { CountsStop result (M.counts machine.old) (M.counts machine.new) }
@@ -96,7 +96,7 @@ fn numbered<M: Machine>(
     requires step { is_script command.now ≡ false }
     requires rested { IsTrue M.tells → IsRested (M.state machine.old) }
     ensures performs { IsTrue M.tells → IsFirm (M.state machine.old)
-        → Performs M.clock M.since M.state end_of machine.old machine.new
+        → Performs M.time M.state end_of machine.old machine.new
         (acknowledged number (deed_of (seen (M.state machine.old)) command.now)) result }
     ensures tidies { IsTrue M.tells → WherePrinted result (M.state machine.old) (M.state machine.new)
         (Tidied command.now (M.state machine.new).files) }
@@ -120,10 +120,10 @@ fn no_command(alloc: Global, number: u64) -> Result<Bytes, AllocError>
 // A line of a script that is no command.
 fn unread_line<M: Machine>(alloc: Global, number: u64, machine: &mut M) -> Result<Outcome, Stop>
     ensures performs { IsTrue M.tells → IsFirm (M.state machine.old)
-        → Performs M.clock M.since M.state end_of machine.old machine.new
+        → Performs M.time M.state end_of machine.old machine.new
         (acknowledged number (unread 17 (no_command_text number) (recovered_now (M.state machine.old)))) result }
     ensures moments { IsTrue M.tells → IsFirm (M.state machine.old)
-        → EachSince M.clock M.since machine.old machine.new
+        → EachSince M.time machine.old machine.new
         (PrintsPart (M.state machine.old)
         (acknowledged number (unread 17 (no_command_text number) (recovered_now (M.state machine.old)))).sent) }
     ensures stays { IsTrue M.tells → Prints (M.state machine.old) (M.state machine.new) }
@@ -147,9 +147,9 @@ fn too_long_refusal(alloc: Global) -> Result<Bytes, AllocError>
 // A script that is too long.
 fn too_long<M: Machine>(alloc: Global, machine: &mut M) -> Result<Outcome, Stop>
     ensures performs { IsTrue M.tells → IsFirm (M.state machine.old)
-        → Performs M.clock M.since M.state end_of machine.old machine.new
+        → Performs M.time M.state end_of machine.old machine.new
         (unread 3 too_long_text (recovered_now (M.state machine.old))) result }
-    ensures moments { IsTrue M.tells → EachSince M.clock M.since machine.old machine.new
+    ensures moments { IsTrue M.tells → EachSince M.time machine.old machine.new
         (PrintsPart (M.state machine.old) (tagged Err too_long_text)) }
     ensures stays { IsTrue M.tells → Prints (M.state machine.old) (M.state machine.new) }
     ensures counts { CountsStop result (M.counts machine.old) (M.counts machine.new) }
@@ -163,10 +163,10 @@ fn run_line<M: Machine>(alloc: Global, line: &Line, machine: &mut M) -> Result<O
     requires step { IsStep line.now }
     requires rested { IsTrue M.tells → is_unread line.now ≡ false → IsRested (M.state machine.old) }
     ensures performs { IsTrue M.tells → IsFirm (M.state machine.old)
-        → Performs M.clock M.since M.state end_of machine.old machine.new
+        → Performs M.time M.state end_of machine.old machine.new
         (line_deed (recovered_now (M.state machine.old)) line.now) result }
     ensures only_prints { IsTrue M.tells → IsFirm (M.state machine.old) → is_unread line.now ≡ true
-        → OnlyPrints M.clock M.since M.state machine.old machine.new
+        → OnlyPrints M.time M.state machine.old machine.new
         (line_deed (recovered_now (M.state machine.old)) line.now).sent }
     ensures tidies { IsTrue M.tells → WherePrinted result (M.state machine.old) (M.state machine.new)
         (TidiedBy (M.state machine.new).files line.now) }
@@ -188,10 +188,10 @@ fn first_command<M: Machine>(alloc: Global, line: &Line, machine: &mut M) -> Res
     requires step { IsStep line.now }
     requires command { is_unread line.now ≡ false }
     ensures performs { IsTrue M.tells → IsFirm (M.state machine.old)
-        → PerformsBehind M.clock M.since M.state machine.old machine.new
+        → PerformsBehind M.time M.state machine.old machine.new
         (line_deed (recovered_now (M.state machine.old)) line.now) result }
     ensures syncs { IsTrue M.tells → IsFirm (M.state machine.old)
-        → SyncsFirst M.clock M.since M.state machine.old machine.new
+        → SyncsFirst M.time M.state machine.old machine.new
         (line_deed (recovered_now (M.state machine.old)) line.now) result }
     ensures tidies { IsTrue M.tells → WherePrinted result (M.state machine.old) (M.state machine.new)
         (TidiedBy (M.state machine.new).files line.now) }
@@ -215,13 +215,13 @@ fn next_line<M: Machine>(
     requires step { IsStep line.now }
     requires rested { IsTrue M.tells → rested ≡ true → IsRested (M.state machine.old) }
     ensures performs { IsTrue M.tells → IsFirm (M.state machine.old)
-        → PerformsBehind M.clock M.since M.state machine.old machine.new
+        → PerformsBehind M.time M.state machine.old machine.new
         (line_deed (recovered_now (M.state machine.old)) line.now) result }
     ensures only_prints { IsTrue M.tells → IsFirm (M.state machine.old) → is_unread line.now ≡ true
-        → OnlyPrints M.clock M.since M.state machine.old machine.new
+        → OnlyPrints M.time M.state machine.old machine.new
         (line_deed (recovered_now (M.state machine.old)) line.now).sent }
     ensures syncs { IsTrue M.tells → IsFirm (M.state machine.old) → rested ≡ false → is_unread line.now ≡ false
-        → SyncsFirst M.clock M.since M.state machine.old machine.new
+        → SyncsFirst M.time M.state machine.old machine.new
         (line_deed (recovered_now (M.state machine.old)) line.now) result }
     ensures tidies { IsTrue M.tells → WherePrinted result (M.state machine.old) (M.state machine.new)
         (TidiedBy (M.state machine.new).files line.now) }
@@ -260,9 +260,9 @@ fn some_refused(refused: bool, outcome: Outcome) -> bool
 pub fn run_lines<M: Machine>(alloc: Global, lines: &[Line], machine: &mut M) -> Result<bool, Stop>
     requires steps { All IsStep lines.now }
     ensures runs { IsTrue M.tells → IsFirm (M.state machine.old)
-        → RunsTo M.clock M.since M.state machine.old machine.new lines.now result }
+        → RunsTo M.time M.state machine.old machine.new lines.now result }
     ensures synced { IsTrue M.tells → IsFirm (M.state machine.old)
-        → IsSyncedBy M.clock M.since M.state machine.old machine.new lines.now }
+        → IsSyncedBy M.time M.state machine.old machine.new lines.now }
     ensures tidies { OnOk result (IsTrue M.tells → AllTidied lines.now (M.state machine.new)) }
     ensures input { IsTrue M.tells → (M.state machine.new).input ≡ (M.state machine.old).input }
     ensures rests { OnOk result (IsTrue M.tells → has_command lines.now ≡ true → IsRested (M.state machine.new)) }

@@ -16,9 +16,9 @@ use std::alloc::Global;
 /// nothing has changed.
 pub fn recovered<M: Machine>(alloc: Global, machine: &mut M) -> Result<(), Stop>
     ensures recovers { IsTrue M.tells → IsFirm (M.state machine.old)
-        → RecoversTo M.clock M.since M.state machine.old machine.new }
+        → RecoversTo M.time M.state machine.old machine.new }
     ensures synced { OnOk result (IsTrue M.tells → IsFirm (M.state machine.old)
-        → SameFrom M.clock M.since M.state machine.old machine.new) }
+        → SameFrom M.time M.state machine.old machine.new) }
     ensures one { OnOk result (IsTrue M.tells → HasOneCandidate (M.state machine.new)) }
     ensures rests { OnOk result (IsTrue M.tells → IsRested (M.state machine.new)) }
     ensures keeps { IsTrue M.tells → Keeps (M.state machine.old) (M.state machine.new) }

@@ -40,7 +40,7 @@ fn read_script<M: Machine>(alloc: Global, machine: &mut M) -> Result<Vec<Line>, 
     ensures taken { IsTrue M.tells
         → (k : ℕ) × (k ≤ script_limit + 1) × ((M.state machine.new).input ≡ drop k (M.state machine.old).input) }
     ensures same { IsTrue M.tells → SameButInput (M.state machine.old) (M.state machine.new) }
-    ensures moments { IsTrue M.tells → EachSince M.clock M.since machine.old machine.new
+    ensures moments { IsTrue M.tells → EachSince M.time machine.old machine.new
         (λ m o. IsImage (M.state machine.old) m × (o ≡ (M.state machine.old).printed)) }
     ensures no_disk { IsErrOf result Stop.Disk → ⊥ }
     ensures counts { CountsStop result (M.counts machine.old) (M.counts machine.new) }
@@ -52,10 +52,10 @@ fn read_script<M: Machine>(alloc: Global, machine: &mut M) -> Result<Vec<Line>, 
 // What a command comes to: its own line, or those of the script.
 fn run_command<M: Machine>(alloc: Global, command: Command, machine: &mut M) -> Result<bool, Stop>
     ensures runs { IsTrue M.tells → IsFirm (M.state machine.old)
-        → RunsTo M.clock M.since M.state machine.old machine.new
+        → RunsTo M.time M.state machine.old machine.new
         (lines_for (M.state machine.old).input command) result }
     ensures synced { IsTrue M.tells → IsFirm (M.state machine.old)
-        → IsSyncedBy M.clock M.since M.state machine.old machine.new
+        → IsSyncedBy M.time M.state machine.old machine.new
         (lines_for (M.state machine.old).input command) }
     ensures tidies { OnOk result (IsTrue M.tells
         → AllTidied (lines_for (M.state machine.old).input command) (M.state machine.new)) }
@@ -86,7 +86,7 @@ fn usage_line(alloc: Global, reason: &UsageReason) -> Result<Text, AllocError>
 fn print_usage<M: Machine>(alloc: Global, reason: &UsageReason, machine: &mut M) -> Ended
     ensures status { AnswersUsage result }
     ensures runs { IsTrue M.tells
-        → RunsUsage M.clock M.since M.state machine.old machine.new (tagged ErrChannel (usage_line reason.now)) result }
+        → RunsUsage M.time M.state machine.old machine.new (tagged ErrChannel (usage_line reason.now)) result }
     ensures causes { HasCause result (M.counts machine.old) (M.counts machine.new) }
 {
     let Ok(line) = usage_line(alloc, reason) else {
@@ -101,7 +101,7 @@ fn print_usage<M: Machine>(alloc: Global, reason: &UsageReason, machine: &mut M)
 // A run, by how it ends.
 fn run_to_end<M: Machine>(alloc: Global, words: &Vec<String>, machine: &mut M) -> Ended
     ensures fits { FitsWords (meaning (map string_bytes words.now.items)) result }
-    ensures runs { IsTrue M.tells → RunsBy M.clock M.since M.state
+    ensures runs { IsTrue M.tells → RunsBy M.time M.state
         (asked_of (map string_bytes words.now.items) (M.state machine.old)) machine.old machine.new result }
     ensures tidies { IsTrue M.tells → (lines : List Line)
         → asked_of (map string_bytes words.now.items) (M.state machine.old) ≡ Ok lines
@@ -140,19 +140,19 @@ pub fn run<M: Machine>(alloc: Global, words: &Vec<String>, machine: &mut M) -> u
     // files after the acknowledged commands or one more.
     ensures headline { IsTrue M.tells → IsSettled (M.state machine.old)
         → (lines : List Line) → asked_of (map string_bytes words.now.items) (M.state machine.old) ≡ Ok lines
-        → EachSince M.clock M.since machine.old machine.new (λ image printed. Adds (M.state machine.old).printed printed
+        → EachSince M.time machine.old machine.new (λ image printed. Adds (M.state machine.old).printed printed
         (Leaves (recovered_now (M.state machine.old)) lines (recovered_view image))) }
     // No part of a reply is printed before its change.
     ensures after_change { IsTrue M.tells → IsSettled (M.state machine.old)
         → (lines : List Line) → asked_of (map string_bytes words.now.items) (M.state machine.old) ≡ Ok lines
-        → EachSince M.clock M.since machine.old machine.new (λ image printed. Adds (M.state machine.old).printed printed
+        → EachSince M.time machine.old machine.new (λ image printed. Adds (M.state machine.old).printed printed
         (SeesBegun (recovered_now (M.state machine.old)) lines (recovered_view image))) }
     // On a machine that is only firm, each moment is one up to the sync of the names, at which a stop leaves what it
     // would have left at the start and no more is printed than replies to leading lines that are no command, or one
     // from that sync on, at which all is as on a settled machine.
     ensures from_sync { IsTrue M.tells → IsFirm (M.state machine.old)
         → (lines : List Line) → asked_of (map string_bytes words.now.items) (M.state machine.old) ≡ Ok lines
-        → LeavesFromSync M.clock M.since M.state machine.old machine.new lines }
+        → LeavesFromSync M.time M.state machine.old machine.new lines }
     // Whatever the words, the run leads from the views at its start to those at its end, and a stop at any moment to
     // one view. These are the steps of a history.
     ensures leads { IsTrue M.tells → IsFirm (M.state machine.old)
@@ -160,7 +160,7 @@ pub fn run<M: Machine>(alloc: Global, words: &Vec<String>, machine: &mut M) -> u
         (recovered_views (M.state machine.old)) (asked_of (map string_bytes words.now.items) (M.state machine.old))
         (recovered_views (M.state machine.new)) sent (end_at (ended_of result))) }
     ensures stops { IsTrue M.tells → IsFirm (M.state machine.old)
-        → EachSince M.clock M.since machine.old machine.new (λ image printed. Adds (M.state machine.old).printed printed
+        → EachSince M.time machine.old machine.new (λ image printed. Adds (M.state machine.old).printed printed
         (λ sent. Leads (recovered_views (M.state machine.old))
         (asked_of (map string_bytes words.now.items) (M.state machine.old)) (recovered_view image ∷ []) sent Stopped)) }
     // At 0 and 1 all replies are printed, and boot sees the files after all lines.
@@ -174,7 +174,7 @@ pub fn run<M: Machine>(alloc: Global, words: &Vec<String>, machine: &mut M) -> u
     // 2 exactly where the words are no command, unless a pipe failed or memory was wanting.
     ensures fits { FitsWords (meaning (map string_bytes words.now.items)) (ended_of result) }
     ensures usage { IsTrue M.tells → (reason : UsageReason) → meaning (map string_bytes words.now.items) ≡ Err reason
-        → RunsUsage M.clock M.since M.state machine.old machine.new
+        → RunsUsage M.time M.state machine.old machine.new
         (tagged ErrChannel (usage_line reason)) (ended_of result) }
     // 3 and 4 only where that count rose, and every other status leaves both.
     ensures causes { HasCause (ended_of result) (M.counts machine.old) (M.counts machine.new) }

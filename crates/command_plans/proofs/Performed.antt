@@ -4,7 +4,7 @@ use Rattle.std.specs.Prelude.{IsErr, IsErrAnd, IfOk, IfErr}
 use Rattle.std.proofs.lemmas.List.{append-nil}
 use Rattle.boot_machine.specs.Disk.{Files, State, IsIn, candidates, recovered_view}
 use Rattle.boot_machine.specs.Images.{IsImage, IsFirm}
-use Rattle.boot_machine.specs.Moments.{EachSince}
+use Rattle.boot_machine.specs.Moments.{Timeline, EachSince}
 use Rattle.boot_machine.specs.Rows.{tagged, with_printed}
 use Rattle.boot_machine.specs.Sent.{Sent, Adds, PrintsPart, latest, recovered_views}
 use Rattle.boot_machine.specs.declared.machine.Channel.{Channel}
@@ -22,7 +22,7 @@ use Rattle.command_plans.specs.declared.outcome.MachineFault.{MachineFault}
 use Rattle.command_plans.specs.declared.outcome.MachineFault.TheVariants.{Disk, Pipe}
 use Rattle.command_plans.proofs.Exits.{if_ok, if_err}
 
-module _ {D : Type 0} (clock : D → ℕ) (since : D → ℕ → Files → Sent → Type 0) (state : D → State) (old : D) (outcome : Outcome) (after : Files) (to : Channel) (bytes : (List ℕ)) where
+module _ {D : Type 0} (time : Timeline D) (state : D → State) (old : D) (outcome : Outcome) (after : Files) (to : Channel) (bytes : (List ℕ)) where
   abbrev deed : Deed
   deed = record { settles = true; outcome = outcome; after = after; sent = tagged to bytes }
 
@@ -33,11 +33,11 @@ module _ {D : Type 0} (clock : D → ℕ) (since : D → ℕ → Files → Sent 
   nothing_more sent is = is ∙ sym (append-nil (state old).printed)
 
   settle_moments : (mid : D) → ((m : Files) → IsImage (state old) m → IsIn (recovered_view m) (recovered_views (state old)))
-      → EachSince clock since old mid (λ m o. IsImage (state old) m × (o ≡ (state old).printed)) → EachSince clock since old mid At
-  settle_moments mid sees moments = weaken clock since state _ At old mid (λ m o here. ([], nothing_more o here.1, inl (refl, (recovered_view m, refl, sees m here.0)))) moments
+      → EachSince time old mid (λ m o. IsImage (state old) m × (o ≡ (state old).printed)) → EachSince time old mid At
+  settle_moments mid sees moments = weaken time state _ At old mid (λ m o here. ([], nothing_more o here.1, inl (refl, (recovered_view m, refl, sees m here.0)))) moments
 
-  apply_moments : (mid new : D) → Keeps (state old) (state mid) → (state mid).files ≡ (state old).files → EachSince clock since mid new (Sees (state mid) after) → EachSince clock since mid new At
-  apply_moments mid new keeps files moments = weaken clock since state _ At mid new (λ m o sees. (
+  apply_moments : (mid new : D) → Keeps (state old) (state mid) → (state mid).files ≡ (state old).files → EachSince time mid new (Sees (state mid) after) → EachSince time mid new At
+  apply_moments mid new keeps files moments = weaken time state _ At mid new (λ m o sees. (
     [],
     nothing_more o (sees.1 ∙ keeps.printed),
     ⊎_elim
@@ -46,14 +46,14 @@ module _ {D : Type 0} (clock : D → ℕ) (since : D → ℕ → Files → Sent 
         sees.0,
   )) moments
 
-  reply_moments : (mid new : D) → (state mid).printed ≡ (state old).printed → IsInstalled (state mid) after → EachSince clock since mid new (PrintsPart (state mid) (tagged to bytes)) → EachSince clock since mid new At
-  reply_moments mid new printed installed moments = weaken clock since state _ At mid new (λ m o prints.
+  reply_moments : (mid new : D) → (state mid).printed ≡ (state old).printed → IsInstalled (state mid) after → EachSince time mid new (PrintsPart (state mid) (tagged to bytes)) → EachSince time mid new At
+  reply_moments mid new printed installed moments = weaken time state _ At mid new (λ m o prints.
       (prints.part.0, prints.part.1 ∙ ap (λ (l : Sent). l ++ prints.part.0) printed, inr (prints.part.2, (recovered_view m, refl, inl (installed.images m prints.stands))))) moments
 
   -- the names couldn't be synced
   pub settle_failed : (new : D) (result : Result Outcome MachineFault) → IsErr result → IsErrAnd result (λ stop. stop ≡ Disk) → ((m : Files) → IsImage (state old) m → IsIn (recovered_view m) (recovered_views (state old)))
-      → state new ≡ state old → IsFirm (state new) → EachSince clock since old new (λ m o. IsImage (state old) m × (o ≡ (state old).printed))
-      → Performs clock since state end_by old new deed result
+      → state new ≡ state old → IsFirm (state new) → EachSince time old new (λ m o. IsImage (state old) m × (o ≡ (state old).printed))
+      → Performs time state end_by old new deed result
   settle_failed new result failed is sees same firm moments = record {
     firm = firm;
     ok = if_ok result _ failed;
@@ -63,15 +63,15 @@ module _ {D : Type 0} (clock : D → ℕ) (since : D → ℕ → Files → Sent 
 
   -- the change failed
   pub change_failed : (mid new : D) (result : Result Outcome MachineFault) → IsErr result → IsErrAnd result (λ stop. stop ≡ Disk) → ((m : Files) → IsImage (state old) m → IsIn (recovered_view m) (recovered_views (state old)))
-      → ((m : Files) → IsImage (state new) m → since new (clock mid) m (state new).printed)
-      → Keeps (state old) (state mid) → (state mid).files ≡ (state old).files → EachSince clock since old mid (λ m o. IsImage (state old) m × (o ≡ (state old).printed))
-      → Keeps (state mid) (state new) → IsFirm (state new) → EachSince clock since mid new (Sees (state mid) after)
-      → Performs clock since state end_by old new deed result
+      → ((m : Files) → IsImage (state new) m → time.since new (time.clock mid) m (state new).printed)
+      → Keeps (state old) (state mid) → (state mid).files ≡ (state old).files → EachSince time old mid (λ m o. IsImage (state old) m × (o ≡ (state old).printed))
+      → Keeps (state mid) (state new) → IsFirm (state new) → EachSince time mid new (Sees (state mid) after)
+      → Performs time state end_by old new deed result
   change_failed mid new result failed is sees counts_now keeps files settling keeps_too firm moments = record {
     firm = firm;
     ok = if_ok result _ failed;
     err = if_err result Disk _ is ([], nothing_more _ (keeps_too.printed ∙ keeps.printed), inr (refl, one_of_two));
-    moments = joined clock since state At old mid new (settle_moments mid sees settling) (apply_moments mid new keeps files moments);
+    moments = joined time state At old mid new (settle_moments mid sees settling) (apply_moments mid new keeps files moments);
   }
     where
       one_of_two : (v : Files) → IsIn v (recovered_views (state new)) → (v ≡ latest (recovered_views (state old))) ⊎ (v ≡ after)
@@ -82,12 +82,12 @@ module _ {D : Type 0} (clock : D → ℕ) (since : D → ℕ → Files → Sent 
 
   -- up to the reply, all is done
   until_reply : (mid done new : D) → ((m : Files) → IsImage (state old) m → IsIn (recovered_view m) (recovered_views (state old)))
-      → Keeps (state old) (state mid) → (state mid).files ≡ (state old).files → EachSince clock since old mid (λ m o. IsImage (state old) m × (o ≡ (state old).printed))
-      → Keeps (state mid) (state done) → IsInstalled (state done) after → EachSince clock since mid done (Sees (state mid) after)
-      → EachSince clock since done new (PrintsPart (state done) (tagged to bytes)) → EachSince clock since old new At
+      → Keeps (state old) (state mid) → (state mid).files ≡ (state old).files → EachSince time old mid (λ m o. IsImage (state old) m × (o ≡ (state old).printed))
+      → Keeps (state mid) (state done) → IsInstalled (state done) after → EachSince time mid done (Sees (state mid) after)
+      → EachSince time done new (PrintsPart (state done) (tagged to bytes)) → EachSince time old new At
   until_reply mid done new sees keeps files settling keeps_too installed moments printing =
-      joined clock since state At old done new
-      (joined clock since state At old mid done (settle_moments mid sees settling) (apply_moments mid done keeps files moments))
+      joined time state At old done new
+      (joined time state At old mid done (settle_moments mid sees settling) (apply_moments mid done keeps files moments))
       (reply_moments done new (keeps_too.printed ∙ keeps.printed) installed printing)
 
   one_left : (done new : D) (shown : (List ℕ)) → IsInstalled (state done) after → state new ≡ with_printed to shown (state done) → recovered_views (state new) ≡ after ∷ []
@@ -98,10 +98,10 @@ module _ {D : Type 0} (clock : D → ℕ) (since : D → ℕ → Files → Sent 
 
   -- the reply couldn't be printed
   pub reply_failed : (mid done new : D) (result : Result Outcome MachineFault) → IsErr result → IsErrAnd result (λ stop. stop ≡ Pipe) → ((m : Files) → IsImage (state old) m → IsIn (recovered_view m) (recovered_views (state old)))
-      → Keeps (state old) (state mid) → (state mid).files ≡ (state old).files → EachSince clock since old mid (λ m o. IsImage (state old) m × (o ≡ (state old).printed))
-      → Keeps (state mid) (state done) → IsInstalled (state done) after → EachSince clock since mid done (Sees (state mid) after)
-      → EachSince clock since done new (PrintsPart (state done) (tagged to bytes)) → (k : ℕ) × (state new ≡ with_printed to (take k bytes) (state done))
-      → Performs clock since state end_by old new deed result
+      → Keeps (state old) (state mid) → (state mid).files ≡ (state old).files → EachSince time old mid (λ m o. IsImage (state old) m × (o ≡ (state old).printed))
+      → Keeps (state mid) (state done) → IsInstalled (state done) after → EachSince time mid done (Sees (state mid) after)
+      → EachSince time done new (PrintsPart (state done) (tagged to bytes)) → (k : ℕ) × (state new ≡ with_printed to (take k bytes) (state done))
+      → Performs time state end_by old new deed result
   reply_failed mid done new result failed is sees keeps files settling keeps_too installed moments printing shown = record {
     firm = subst IsFirm (sym shown.1) (same_firm (state done) (take shown.0 bytes) installed.firm);
     ok = if_ok result _ failed;
@@ -115,10 +115,10 @@ module _ {D : Type 0} (clock : D → ℕ) (since : D → ℕ → Files → Sent 
 
   -- the command is done
   pub all_done : (mid done new : D) → ((m : Files) → IsImage (state old) m → IsIn (recovered_view m) (recovered_views (state old)))
-      → Keeps (state old) (state mid) → (state mid).files ≡ (state old).files → EachSince clock since old mid (λ m o. IsImage (state old) m × (o ≡ (state old).printed))
-      → Keeps (state mid) (state done) → IsInstalled (state done) after → EachSince clock since mid done (Sees (state mid) after)
-      → EachSince clock since done new (PrintsPart (state done) (tagged to bytes)) → state new ≡ with_printed to bytes (state done)
-      → Performs clock since state end_by old new deed (Ok outcome)
+      → Keeps (state old) (state mid) → (state mid).files ≡ (state old).files → EachSince time old mid (λ m o. IsImage (state old) m × (o ≡ (state old).printed))
+      → Keeps (state mid) (state done) → IsInstalled (state done) after → EachSince time mid done (Sees (state mid) after)
+      → EachSince time done new (PrintsPart (state done) (tagged to bytes)) → state new ≡ with_printed to bytes (state done)
+      → Performs time state end_by old new deed (Ok outcome)
   all_done mid done new sees keeps files settling keeps_too installed moments printing shown = record {
     firm = subst IsFirm (sym shown) (same_firm (state done) bytes installed.firm);
     ok = (refl, one_left done new bytes installed shown, ap (λ (s : State). s.printed) shown ∙ ap (λ (l : Sent). l ++ tagged to bytes) (keeps_too.printed ∙ keeps.printed));
@@ -126,12 +126,12 @@ module _ {D : Type 0} (clock : D → ℕ) (since : D → ℕ → Files → Sent 
     moments = until_reply mid done new sees keeps files settling keeps_too installed moments printing;
   }
 
-module _ {D : Type 0} (clock : D → ℕ) (since : D → ℕ → Files → Sent → Type 0) (state : D → State) (old : D) (deed : Deed) where
+module _ {D : Type 0} (time : Timeline D) (state : D → State) (old : D) (deed : Deed) where
   abbrev Within : State → Files → Sent → Type 0
   Within s image sent = Adds s.printed sent (λ part. Breaks deed (recovered_views s) (recovered_view image ∷ []) part Stopped)
 
-  read_moments : (mid : D) → ((m : Files) → IsImage (state old) m → IsIn (recovered_view m) (recovered_views (state old))) → EachSince clock since old mid (λ m o. IsImage (state old) m × (o ≡ (state old).printed)) → EachSince clock since old mid (Within (state old))
-  read_moments mid sees moments = weaken clock since state _ (Within (state old)) old mid (λ m o here. ([], here.1 ∙ sym (append-nil (state old).printed), inl (refl, (recovered_view m, refl, sees m here.0)))) moments
+  read_moments : (mid : D) → ((m : Files) → IsImage (state old) m → IsIn (recovered_view m) (recovered_views (state old))) → EachSince time old mid (λ m o. IsImage (state old) m × (o ≡ (state old).printed)) → EachSince time old mid (Within (state old))
+  read_moments mid sees moments = weaken time state _ (Within (state old)) old mid (λ m o here. ([], here.1 ∙ sym (append-nil (state old).printed), inl (refl, (recovered_view m, refl, sees m here.0)))) moments
 
   stays : (stop : Stop) (new : List Files) → new ≡ recovered_views (state old) → Stays (recovered_views (state old)) new (end_of stop)
   stays stops.Memory new same = same
@@ -140,7 +140,7 @@ module _ {D : Type 0} (clock : D → ℕ) (since : D → ℕ → Files → Sent 
 
   -- no plan was made
   pub plan_failed : (new : D) (stop : Stop) (result : Result Outcome Stop) → IsErr result → IsErrAnd result (λ e. e ≡ stop) → ((m : Files) → IsImage (state old) m → IsIn (recovered_view m) (recovered_views (state old)))
-      → IsFirm (state old) → OnlyReads clock since state old new → Performs clock since state end_of old new deed result
+      → IsFirm (state old) → OnlyReads time state old new → Performs time state end_of old new deed result
   plan_failed new stop result failed is sees firm reads = record {
     firm = subst IsFirm (sym reads.same) firm;
     ok = if_ok result _ failed;
@@ -150,24 +150,24 @@ module _ {D : Type 0} (clock : D → ℕ) (since : D → ℕ → Files → Sent 
 
   -- what is performed after the reads
   pub after_reads : (mid new : D) (result : Result Outcome Stop) → ((m : Files) → IsImage (state old) m → IsIn (recovered_view m) (recovered_views (state old)))
-      → OnlyReads clock since state old mid → Performs clock since state end_of mid new deed result → Performs clock since state end_of old new deed result
+      → OnlyReads time state old mid → Performs time state end_of mid new deed result → Performs time state end_of old new deed result
   after_reads mid new result sees reads performs = record {
     firm = performs.firm;
     ok = subst (λ (s : State). IfOk result (DoesDeed deed s (state new))) reads.same performs.ok;
     err = subst (λ (s : State). IfErr result (λ stop. Adds s.printed (state new).printed (λ part. Breaks deed (recovered_views s) (recovered_views (state new)) part (end_of stop)))) reads.same performs.err;
-    moments = joined clock since state (Within (state old)) old mid new (read_moments mid sees reads.moments) (subst (λ (s : State). EachSince clock since mid new (Within s)) reads.same performs.moments);
+    moments = joined time state (Within (state old)) old mid new (read_moments mid sees reads.moments) (subst (λ (s : State). EachSince time mid new (Within s)) reads.same performs.moments);
   }
 
 -- the machine's fault as a stop
-pub stopped_by : {D : Type 0} (clock : D → ℕ) (since : D → ℕ → Files → Sent → Type 0) (state : D → State) (old new : D) (deed : Deed) (fault : MachineFault) (result : Result Outcome Stop)
-    → IsErr result → IsErrAnd result (λ stop. stop ≡ stop_of fault) → Performs clock since state end_by old new deed (Err fault) → Performs clock since state end_of old new deed result
-stopped_by clock since state old new what fault result failed is performs = record {
+pub stopped_by : {D : Type 0} (time : Timeline D) (state : D → State) (old new : D) (deed : Deed) (fault : MachineFault) (result : Result Outcome Stop)
+    → IsErr result → IsErrAnd result (λ stop. stop ≡ stop_of fault) → Performs time state end_by old new deed (Err fault) → Performs time state end_of old new deed result
+stopped_by time state old new what fault result failed is performs = record {
   firm = performs.firm;
   ok = if_ok result _ failed;
   err = if_err result (stop_of fault) _ is performs.err;
   moments = performs.moments;
 }
 
-pub done_by : {D : Type 0} (clock : D → ℕ) (since : D → ℕ → Files → Sent → Type 0) (state : D → State) (old new : D) (deed : Deed) (outcome : Outcome)
-    → Performs clock since state end_by old new deed (Ok outcome) → Performs clock since state end_of old new deed (Ok outcome)
-done_by clock since state old new what outcome performs = record { firm = performs.firm; ok = performs.ok; err = tt; moments = performs.moments }
+pub done_by : {D : Type 0} (time : Timeline D) (state : D → State) (old new : D) (deed : Deed) (outcome : Outcome)
+    → Performs time state end_by old new deed (Ok outcome) → Performs time state end_of old new deed (Ok outcome)
+done_by time state old new what outcome performs = record { firm = performs.firm; ok = performs.ok; err = tt; moments = performs.moments }

@@ -3,7 +3,7 @@ use Rattle.std.proofs.Common.{◌≡◌, inl, inr, ⊎_elim, ℕ, ◌≤◌, tru
 use Rattle.std.proofs.lemmas.List.{append-nil}
 use Rattle.std.specs.Prelude.{IsErr}
 use Rattle.boot_machine.specs.Disk.{Files, State, recovered_view}
-use Rattle.boot_machine.specs.Moments.{EachSince}
+use Rattle.boot_machine.specs.Moments.{Timeline, EachSince}
 use Rattle.boot_machine.specs.Rows.{tagged}
 use Rattle.boot_machine.specs.Sent.{Sent, Adds, PrintsPart, latest, recovered_views}
 use Rattle.boot_machine.specs.declared.machine.Channel.{Channel}
@@ -15,7 +15,7 @@ use Rattle.command_plans.specs.Performs.{LateFrom, Syncs}
 use Rattle.command_plans.specs.declared.outcome.Outcome.{Outcome}
 use Rattle.command_plans.proofs.Exits.{not_ok, on_err}
 
-module _ {D : Type 0} (clock : D → ℕ) (since : D → ℕ → Files → Sent → Type 0) (state : D → State) (old : D) (outcome : Outcome) (after : Files) (to : Channel) (bytes : (List ℕ)) where
+module _ {D : Type 0} (time : Timeline D) (state : D → State) (old : D) (outcome : Outcome) (after : Files) (to : Channel) (bytes : (List ℕ)) where
   abbrev deed : Deed
   deed = record { settles = true; outcome = outcome; after = after; sent = tagged to bytes }
 
@@ -36,33 +36,33 @@ module _ {D : Type 0} (clock : D → ℕ) (since : D → ℕ → Files → Sent 
   prints_late done m o printed installed prints =
       (prints.part.0, prints.part.1 ∙ ap (λ (l : Sent). l ++ prints.part.0) printed, inr (prints.part.2, (recovered_view m, refl, inl (installed.images m prints.stands))))
 
-  pub change_late : (mid new : D) → Keeps (state old) (state mid) → (state mid).files ≡ (state old).files → clock old ≤ clock mid
-      → EachSince clock since mid new (Sees (state mid) after) → LateFrom clock since state old new deed
-  change_late mid new keeps files later moments = (clock mid, later, moments.later, λ m o left. sees_late mid m o keeps files (moments.each m o left))
+  pub change_late : (mid new : D) → Keeps (state old) (state mid) → (state mid).files ≡ (state old).files → time.clock old ≤ time.clock mid
+      → EachSince time mid new (Sees (state mid) after) → LateFrom time state old new deed
+  change_late mid new keeps files later moments = (time.clock mid, later, moments.later, λ m o left. sees_late mid m o keeps files (moments.each m o left))
 
-  pub reply_late : (mid done new : D) → Keeps (state old) (state mid) → (state mid).files ≡ (state old).files → clock old ≤ clock mid
-      → Keeps (state mid) (state done) → IsInstalled (state done) after → EachSince clock since mid done (Sees (state mid) after) → EachSince clock since done new (PrintsPart (state done) (tagged to bytes))
-      → LateFrom clock since state old new deed
+  pub reply_late : (mid done new : D) → Keeps (state old) (state mid) → (state mid).files ≡ (state old).files → time.clock old ≤ time.clock mid
+      → Keeps (state mid) (state done) → IsInstalled (state done) after → EachSince time mid done (Sees (state mid) after) → EachSince time done new (PrintsPart (state done) (tagged to bytes))
+      → LateFrom time state old new deed
   reply_late mid done new keeps files later keeps_too installed moments printing = (
-    clock mid,
+    time.clock mid,
     later,
     omega (arith, moments.later, printing.later),
     λ m o left. ⊎_elim
         (λ was. sees_late mid m o keeps files (moments.each m o was))
         (λ now. prints_late done m o (keeps_too.printed ∙ keeps.printed) installed now)
-        (printing.before (clock mid) m o moments.later left),
+        (printing.before (time.clock mid) m o moments.later left),
   )
 
-module _ {D : Type 0} (clock : D → ℕ) (since : D → ℕ → Files → Sent → Type 0) (state : D → State) (old : D) (deed : Deed) where
-  late_after_reads : (mid new : D) → OnlyReads clock since state old mid → LateFrom clock since state mid new deed → LateFrom clock since state old new deed
+module _ {D : Type 0} (time : Timeline D) (state : D → State) (old : D) (deed : Deed) where
+  late_after_reads : (mid new : D) → OnlyReads time state old mid → LateFrom time state mid new deed → LateFrom time state old new deed
   late_after_reads mid new reads late = (
     late.0,
     omega (arith, reads.moments.later, late.1),
     late.2,
-    subst (λ (s : State). (m : Files) (o : Sent) → since new late.0 m o → Adds s.printed o (λ part. Breaks deed (latest (recovered_views s) ∷ []) (recovered_view m ∷ []) part Stopped)) reads.same late.3,
+    subst (λ (s : State). (m : Files) (o : Sent) → time.since new late.0 m o → Adds s.printed o (λ part. Breaks deed (latest (recovered_views s) ∷ []) (recovered_view m ∷ []) part Stopped)) reads.same late.3,
   )
 
-  pub syncs_after_reads : {E : Type 0} (mid new : D) (result : Result Outcome E) → OnlyReads clock since state old mid → Syncs clock since state mid new deed result → Syncs clock since state old new deed result
+  pub syncs_after_reads : {E : Type 0} (mid new : D) (result : Result Outcome E) → OnlyReads time state old mid → Syncs time state mid new deed result → Syncs time state old new deed result
   syncs_after_reads mid new (Ok outcome) reads syncs = record { ok = λ settles. late_after_reads mid new reads (syncs.ok settles); err = tt }
   syncs_after_reads mid new (Err stop) reads syncs = record { ok = tt; err = ⊎_elim (λ same. inl (same ∙ ap recovered_views reads.same)) (λ late. inr (late_after_reads mid new reads late)) syncs.err }
 
@@ -70,13 +70,13 @@ module _ {D : Type 0} (clock : D → ℕ) (since : D → ℕ → Files → Sent 
 abbrev given : {E : Type 0} → E → Result Outcome E
 given fault = Err fault
 
-pub syncs_stopped : {D E F : Type 0} (clock : D → ℕ) (since : D → ℕ → Files → Sent → Type 0) (state : D → State) (old new : D) (deed : Deed) (fault : E) (result : Result Outcome F)
-    → IsErr result → Syncs clock since state old new deed (given fault) → Syncs clock since state old new deed result
-syncs_stopped clock since state old new what fault result failed syncs = record { ok = not_ok result _ failed; err = on_err result _ syncs.err }
+pub syncs_stopped : {D E F : Type 0} (time : Timeline D) (state : D → State) (old new : D) (deed : Deed) (fault : E) (result : Result Outcome F)
+    → IsErr result → Syncs time state old new deed (given fault) → Syncs time state old new deed result
+syncs_stopped time state old new what fault result failed syncs = record { ok = not_ok result _ failed; err = on_err result _ syncs.err }
 
 abbrev answered : (E : Type 0) → Outcome → Result Outcome E
 answered E outcome = Ok outcome
 
-pub syncs_done : {D E F : Type 0} (clock : D → ℕ) (since : D → ℕ → Files → Sent → Type 0) (state : D → State) (old new : D) (deed : Deed) (outcome : Outcome)
-    → Syncs clock since state old new deed (answered E outcome) → Syncs clock since state old new deed (answered F outcome)
-syncs_done clock since state old new what outcome syncs = record { ok = syncs.ok; err = tt }
+pub syncs_done : {D E F : Type 0} (time : Timeline D) (state : D → State) (old new : D) (deed : Deed) (outcome : Outcome)
+    → Syncs time state old new deed (answered E outcome) → Syncs time state old new deed (answered F outcome)
+syncs_done time state old new what outcome syncs = record { ok = syncs.ok; err = tt }

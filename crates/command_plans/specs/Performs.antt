@@ -2,7 +2,7 @@
 use Rattle.std.specs.Prelude.{◌≡◌, ◌⊎◌, ◌≤◌, ℕ, true, [], ◌∷◌, ◌++◌, Result, MatchResult, IfOk, IfErr, OnOk, OnErr}
 use Rattle.boot_machine.specs.Disk.{Files, IsRested, State, recovered_view}
 use Rattle.boot_machine.specs.Images.{IsFirm}
-use Rattle.boot_machine.specs.Moments.{EachSince}
+use Rattle.boot_machine.specs.Moments.{Timeline, EachSince}
 use Rattle.boot_machine.specs.Counts.{Counts, DiskFailed, PipeFailed}
 use Rattle.boot_machine.specs.Sent.{Sent, Adds, latest, recovered_views}
 use Rattle.boot_machine.specs.declared.machine.NamesFault.{NamesFault}
@@ -41,30 +41,30 @@ DoesDeed deed s now outcome =
     × (now.printed ≡ s.printed ++ deed.sent)
 
 -- One deed on a firm machine, from old to new: what stands after each answer, and at every moment.
-pub record Performs {M E : Type 0} (clock : M → ℕ) (since : M → ℕ → Files → Sent → Type 0) (state : M → State)
+pub record Performs {M E : Type 0} (time : Timeline M) (state : M → State)
     (ends : E → End) (old new : M) (deed : Deed) (result : Result Outcome E) : Type 0 where
   pub firm : IsFirm (state new)
   pub ok : IfOk result (DoesDeed deed (state old) (state new))
   pub err : IfErr result (λ fault. Adds (state old).printed (state new).printed
       (λ part. Breaks deed (recovered_views (state old)) (recovered_views (state new)) part (ends fault)))
-  pub moments : EachSince clock since old new
+  pub moments : EachSince time old new
       (λ image sent. Adds (state old).printed sent
       (λ part. Breaks deed (recovered_views (state old)) (recovered_view image ∷ []) part Stopped))
 
 -- From some moment on, the images are those after a sync of the names as they were at the start.
-abbrev pub LateFrom : {M : Type 0} → (M → ℕ) → (M → ℕ → Files → Sent → Type 0) → (M → State) → M → M → Deed → Type 0
-LateFrom clock since state old new deed =
-    (t : ℕ) × (clock old ≤ t) × (t ≤ clock new)
-    × ((image : Files) (sent : Sent) → since new t image sent
+abbrev pub LateFrom : {M : Type 0} → Timeline M → (M → State) → M → M → Deed → Type 0
+LateFrom time state old new deed =
+    (t : ℕ) × (time.clock old ≤ t) × (t ≤ time.clock new)
+    × ((image : Files) (sent : Sent) → time.since new t image sent
     → Adds (state old).printed sent (λ part. Breaks deed (latest (recovered_views (state old)) ∷ [])
     (recovered_view image ∷ []) part Stopped))
 
 -- a deed that settles is late from some moment on, unless it was given up with nothing changed
-pub record Syncs {M E : Type 0} (clock : M → ℕ) (since : M → ℕ → Files → Sent → Type 0) (state : M → State)
+pub record Syncs {M E : Type 0} (time : Timeline M) (state : M → State)
     (old new : M) (deed : Deed) (result : Result Outcome E) : Type 0 where
-  pub ok : OnOk result (deed.settles ≡ true → LateFrom clock since state old new deed)
+  pub ok : OnOk result (deed.settles ≡ true → LateFrom time state old new deed)
   pub err : OnErr result ((recovered_views (state new) ≡ recovered_views (state old))
-      ⊎ LateFrom clock since state old new deed)
+      ⊎ LateFrom time state old new deed)
 
 -- the counts at each stop
 abbrev pub stop_counts : Stop → Counts → Counts → Type 0

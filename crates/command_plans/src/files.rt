@@ -41,7 +41,7 @@ pub fn readable<M: Machine>(alloc: Global, path: &BootPath, machine: &mut M) -> 
     ensures limit { IfOk result (λ size. size ≤ file_limit) }
     ensures held { OnOk result (IsTrue M.tells
         → contents (seen (M.state machine.old)) path.now ≡ contents (M.state machine.old).files path.now) }
-    ensures reads { IsTrue M.tells → OnlyReads M.clock M.since M.state machine.old machine.new }
+    ensures reads { IsTrue M.tells → OnlyReads M.time M.state machine.old machine.new }
     ensures counts { CountsUnsaid result (M.counts machine.old) (M.counts machine.new) }
     ensures taken { IsTrue M.tells → TakesAtMost 0 (M.taken machine.old) (M.taken machine.new) }
 {
@@ -83,7 +83,7 @@ pub fn image_head<M: Machine>(alloc: Global, path: &BootPath, machine: &mut M) -
         (image_at (seen (M.state machine.old)) path.now) }
     ensures head { IfOk result (λ head. IsTrue M.tells
         → pe_of (contents (M.state machine.old).files path.now) ≡ Ok (headers_of head)) }
-    ensures reads { IsTrue M.tells → OnlyReads M.clock M.since M.state machine.old machine.new }
+    ensures reads { IsTrue M.tells → OnlyReads M.time M.state machine.old machine.new }
     ensures counts { CountsUnsaid result (M.counts machine.old) (M.counts machine.new) }
     ensures taken { IsTrue M.tells → TakesAtMost 69463 (M.taken machine.old) (M.taken machine.new) }
 {
@@ -106,7 +106,7 @@ pub fn head_of_size<M: Machine>(
     ensures exact { IsTrue M.tells → GivesFrom headers_of result
         (pe_of (contents (seen (M.state machine.old)) path.now)) }
     ensures read { IfOk result (λ head. ReadFrom head size) }
-    ensures reads { IsTrue M.tells → OnlyReads M.clock M.since M.state machine.old machine.new }
+    ensures reads { IsTrue M.tells → OnlyReads M.time M.state machine.old machine.new }
     ensures counts { CountsHead result (M.counts machine.old) (M.counts machine.new) }
     ensures taken { IsTrue M.tells → TakesAtMost 69463 (M.taken machine.old) (M.taken machine.new) }
 {
@@ -128,7 +128,7 @@ pub fn sized_head<M: Machine>(
     ensures head { IfOk result (λ head. IsTrue M.tells
         → pe_of (contents (seen (M.state machine.old)) path.now) ≡ Ok (headers_of head)) }
     ensures read { IfOk result (λ head. ReadFrom head size) }
-    ensures reads { IsTrue M.tells → OnlyReads M.clock M.since M.state machine.old machine.new }
+    ensures reads { IsTrue M.tells → OnlyReads M.time M.state machine.old machine.new }
     ensures counts { CountsUnsaid result (M.counts machine.old) (M.counts machine.new) }
     ensures taken { IsTrue M.tells → TakesAtMost 69463 (M.taken machine.old) (M.taken machine.new) }
 {
@@ -156,7 +156,7 @@ pub fn file_part<M: Machine>(
     requires { place + count < 2 ^ 64 }
     ensures says { IsTrue M.tells → Says (λ bytes. bytes.items) result
         (Ok (zero_filled (drop place (contents (seen (M.state machine.old)) path.now)) count)) }
-    ensures reads { IsTrue M.tells → OnlyReads M.clock M.since M.state machine.old machine.new }
+    ensures reads { IsTrue M.tells → OnlyReads M.time M.state machine.old machine.new }
     ensures counts { CountsUnsaid result (M.counts machine.old) (M.counts machine.new) }
     ensures taken { IsTrue M.tells → TakesAtMost count (M.taken machine.old) (M.taken machine.new) }
 {
@@ -174,7 +174,7 @@ pub fn file_bytes<M: Machine>(
 ) -> Result<Vec<u8>, Unsaid>
     ensures says { IsTrue M.tells → Says (λ bytes. bytes.items) result
         (bytes_at (seen (M.state machine.old)) path.now) }
-    ensures reads { IsTrue M.tells → OnlyReads M.clock M.since M.state machine.old machine.new }
+    ensures reads { IsTrue M.tells → OnlyReads M.time M.state machine.old machine.new }
     ensures counts { CountsUnsaid result (M.counts machine.old) (M.counts machine.new) }
     ensures taken { IsTrue M.tells
         → TakesAtMost (length (contents (seen (M.state machine.old)) path.now)) (M.taken machine.old)

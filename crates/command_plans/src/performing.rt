@@ -42,7 +42,7 @@ fn write<M: Machine>(
     ensures done { OnOk result (IsTrue M.tells → IsFirm (M.state machine.old)
         → IsDone (M.state machine.new)
         (view_with_image image.now sources.now target.now.path (seen (M.state machine.old)))) }
-    ensures step { IsTrue M.tells → IsFirm (M.state machine.old) → StepsTo M.clock M.since M.state
+    ensures step { IsTrue M.tells → IsFirm (M.state machine.old) → StepsTo M.time M.state
         (view_with_image image.now sources.now target.now.path (seen (M.state machine.old))) machine.old machine.new }
     ensures keeps { IsTrue M.tells → Keeps (M.state machine.old) (M.state machine.new) }
     ensures rests { OnOk result (IsTrue M.tells → IsRested (M.state machine.new)) }
@@ -62,7 +62,7 @@ fn put<M: Machine>(bytes: &[u8], target: &Target, machine: &mut M) -> Result<(),
     requires rested { IsTrue M.tells → IsRested (M.state machine.old) }
     ensures done { OnOk result (IsTrue M.tells → IsFirm (M.state machine.old)
         → IsDone (M.state machine.new) (insert (seen (M.state machine.old)) target.now.path bytes.now)) }
-    ensures step { IsTrue M.tells → IsFirm (M.state machine.old) → StepsTo M.clock M.since M.state
+    ensures step { IsTrue M.tells → IsFirm (M.state machine.old) → StepsTo M.time M.state
         (insert (seen (M.state machine.old)) target.now.path bytes.now) machine.old machine.new }
     ensures keeps { IsTrue M.tells → Keeps (M.state machine.old) (M.state machine.new) }
     ensures rests { OnOk result (IsTrue M.tells → IsRested (M.state machine.new)) }
@@ -83,7 +83,7 @@ fn copy<M: Machine>(from: &BootPath, target: &Target, machine: &mut M) -> Result
     requires small { IsTrue M.tells → length (contents (seen (M.state machine.old)) from.now) ≤ file_limit }
     ensures done { OnOk result (IsTrue M.tells → IsFirm (M.state machine.old)
         → IsDone (M.state machine.new) (duplicated from.now target.now.path (seen (M.state machine.old)))) }
-    ensures step { IsTrue M.tells → IsFirm (M.state machine.old) → StepsTo M.clock M.since M.state
+    ensures step { IsTrue M.tells → IsFirm (M.state machine.old) → StepsTo M.time M.state
         (duplicated from.now target.now.path (seen (M.state machine.old))) machine.old machine.new }
     ensures found { IsErrOf result StepFault.NotFound → IsTrue M.tells → ⊥ }
     ensures keeps { IsTrue M.tells → Keeps (M.state machine.old) (M.state machine.new) }
@@ -117,7 +117,7 @@ fn apply<'a, M: Machine>(change: &'a Change, machine: &mut M) -> Result<Applied<
     ensures done { OnOk result (IsTrue M.tells → IsFirm (M.state machine.old)
         → IsDone (M.state machine.new) (effect (seen (M.state machine.old)) change.now)) }
     ensures made { IfOk result (λ applied. IsTrue M.tells → applied ≡ Applied.Done) }
-    ensures step { IsTrue M.tells → IsFirm (M.state machine.old) → StepsTo M.clock M.since M.state
+    ensures step { IsTrue M.tells → IsFirm (M.state machine.old) → StepsTo M.time M.state
         (effect (seen (M.state machine.old)) change.now) machine.old machine.new }
     ensures drops { OnOk result (IsTrue M.tells
         → Drops change.now (M.state machine.old).files (M.state machine.new).files) }
@@ -177,10 +177,10 @@ pub fn perform<M: Machine>(plan: &Plan, machine: &mut M) -> Result<Outcome, Mach
     requires makeable { IsMakeable plan.now.change }
     requires there { IsTrue M.tells → CanMake (M.state machine.old) plan.now.change }
     ensures performs { IsTrue M.tells → IsFirm (M.state machine.old)
-        → Performs M.clock M.since M.state end_by machine.old machine.new
+        → Performs M.time M.state end_by machine.old machine.new
         (made (planned (seen (M.state machine.old)) plan.now)) result }
     ensures syncs { IsTrue M.tells → IsFirm (M.state machine.old)
-        → Syncs M.clock M.since M.state machine.old machine.new
+        → Syncs M.time M.state machine.old machine.new
         (made (planned (seen (M.state machine.old)) plan.now)) result }
     ensures drops { IsTrue M.tells → DropsBy result plan.now.change (M.state machine.old).files
         (M.state machine.new).files }

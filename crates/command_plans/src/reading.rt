@@ -13,7 +13,7 @@ use boot_machine::{DiskFault, Machine};
 pub fn seen_size<M: Machine>(path: &BootPath, machine: &mut M) -> Result<Option<u64>, DiskFault>
     ensures size { IfOk result (λ size. IsTrue M.tells
         → option_map length (get (seen (M.state machine.old)) path.now) ≡ size) }
-    ensures reads { IsTrue M.tells → OnlyReads M.clock M.since M.state machine.old machine.new }
+    ensures reads { IsTrue M.tells → OnlyReads M.time M.state machine.old machine.new }
     ensures counts { CountsDisk result (M.counts machine.old) (M.counts machine.new) }
     ensures taken { IsTrue M.tells → TakesAtMost 0 (M.taken machine.old) (M.taken machine.new) }
 {

@@ -189,7 +189,7 @@ fn check_entry<M: Machine>(
     requires image { has_suffix Efi (file_name_of words.now.target) ≡ true }
     ensures says { IsTrue M.tells → ShowsEntry result
         (entry_or (uki_of words.now.target (contents (M.state machine.old).files words.now.from))) }
-    ensures reads { IsTrue M.tells → OnlyReads M.clock M.since M.state machine.old machine.new }
+    ensures reads { IsTrue M.tells → OnlyReads M.time M.state machine.old machine.new }
     ensures counts { CountsUnsaid result (M.counts machine.old) (M.counts machine.new) }
     ensures taken { IsTrue M.tells → TakesAtMost 134999 (M.taken machine.old) (M.taken machine.new) }
 {
@@ -210,7 +210,7 @@ fn check_image<M: Machine>(
     ensures says { IsTrue M.tells → Says (λ _. contents (seen (M.state machine.old)) words.now.from) result
         (installed_image (seen (M.state machine.old)) words.now) }
     ensures can { OnOk result (IsTrue M.tells → CanCopy (M.state machine.old) words.now.from) }
-    ensures reads { IsTrue M.tells → OnlyReads M.clock M.since M.state machine.old machine.new }
+    ensures reads { IsTrue M.tells → OnlyReads M.time M.state machine.old machine.new }
     ensures counts { CountsUnsaid result (M.counts machine.old) (M.counts machine.new) }
     ensures taken { IsTrue M.tells → TakesAtMost 134999 (M.taken machine.old) (M.taken machine.new) }
 {
@@ -266,7 +266,7 @@ fn install<M: Machine>(
         (option_map (λ text. text.now) tries.entry) esp.now) }
     ensures makeable { IfOk result (λ plan. IsMakeable plan.change) }
     ensures idle { IfOk result IsIdleIfRefused }
-    ensures reads { IsTrue M.tells → OnlyReads M.clock M.since M.state machine.old machine.new }
+    ensures reads { IsTrue M.tells → OnlyReads M.time M.state machine.old machine.new }
     ensures counts { CountsUnsaid result (M.counts machine.old) (M.counts machine.new) }
     ensures taken { IsTrue M.tells → TakesAtMost 134999 (M.taken machine.old) (M.taken machine.new) }
     ensures words { DeclinesWords
@@ -293,7 +293,7 @@ pub fn plan_install<M: Machine>(
         (option_map (λ text. text.now) tries.entry) esp.now)) }
     ensures makeable { IfOk result (λ plan. IsMakeable plan.change) }
     ensures idle { IfOk result IsIdleIfRefused }
-    ensures reads { IsTrue M.tells → OnlyReads M.clock M.since M.state machine.old machine.new }
+    ensures reads { IsTrue M.tells → OnlyReads M.time M.state machine.old machine.new }
     ensures counts { CountsStop result (M.counts machine.old) (M.counts machine.new) }
     ensures taken { IsTrue M.tells → TakesAtMost 134999 (M.taken machine.old) (M.taken machine.new) }
     ensures words { RefusesWords

@@ -35,7 +35,7 @@ fn menu_text(alloc: Global, menu: &[MenuItem]) -> Result<Vec<u8>, Unsaid>
 
 fn listed<M: Machine>(alloc: Global, esp: &str, machine: &mut M) -> Result<Vec<u8>, Unsaid>
     ensures says { IsTrue M.tells → Says (λ text. text.items) result (list_said (seen (M.state machine.old)) esp.now) }
-    ensures reads { IsTrue M.tells → OnlyReads M.clock M.since M.state machine.old machine.new }
+    ensures reads { IsTrue M.tells → OnlyReads M.time M.state machine.old machine.new }
     ensures counts { CountsUnsaid result (M.counts machine.old) (M.counts machine.new) }
     ensures taken { IsTrue M.tells
         → TakesAtMost (menu_limit (M.state machine.old).files (folders_of esp.now)) (M.taken machine.old)
@@ -54,7 +54,7 @@ pub fn plan_list<M: Machine>(alloc: Global, esp: &str, machine: &mut M) -> Resul
         (answer_of_read (seen (M.state machine.old)) (list_said (seen (M.state machine.old)) esp.now))) }
     ensures makeable { IfOk result (λ plan. IsMakeable plan.change) }
     ensures idle { IfOk result (λ plan. plan.change ≡ Nothing) }
-    ensures reads { IsTrue M.tells → OnlyReads M.clock M.since M.state machine.old machine.new }
+    ensures reads { IsTrue M.tells → OnlyReads M.time M.state machine.old machine.new }
     ensures counts { CountsStop result (M.counts machine.old) (M.counts machine.new) }
     ensures taken { IsTrue M.tells
         → TakesAtMost (menu_limit (M.state machine.old).files (folders_of esp.now)) (M.taken machine.old)

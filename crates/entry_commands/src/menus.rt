@@ -40,7 +40,7 @@ pub(crate) fn menu_at<M: Machine>(
         → Says (λ menu. menu.items) result (menu_at (seen (M.state machine.old)) folders.now) }
     ensures menu { IfOk result (λ menu. IsTrue M.tells
         → IsMenu (IsEntry (M.state machine.old).files folders.now) menu.items) }
-    ensures reads { IsTrue M.tells → OnlyReads M.clock M.since M.state machine.old machine.new }
+    ensures reads { IsTrue M.tells → OnlyReads M.time M.state machine.old machine.new }
     ensures counts { CountsUnsaid result (M.counts machine.old) (M.counts machine.new) }
     ensures taken { IsTrue M.tells → TakesAtMost
         (scan_limit (M.state machine.old).files (Some folders.now)) (M.taken machine.old) (M.taken machine.new) }

@@ -20,7 +20,7 @@ use std::alloc::{AllocError, Global};
 /// Whether a boot file stands at a path.
 pub(crate) fn is_there<M: Machine>(path: &BootPath, machine: &mut M) -> Result<bool, DiskFault>
     ensures there { IfOk result (λ is. IsTrue M.tells → is ≡ has (seen (M.state machine.old)) path.now) }
-    ensures reads { IsTrue M.tells → OnlyReads M.clock M.since M.state machine.old machine.new }
+    ensures reads { IsTrue M.tells → OnlyReads M.time M.state machine.old machine.new }
     ensures counts { CountsDisk result (M.counts machine.old) (M.counts machine.new) }
     ensures taken { IsTrue M.tells → TakesAtMost 0 (M.taken machine.old) (M.taken machine.new) }
 {

@@ -45,7 +45,7 @@ fn leftovers_in<M: Machine>(
         → All (λ temp. has (M.state machine.old).files temp ≡ true) temps.items) }
     ensures all { IfOk result (λ temps. IsTrue M.tells
         → HasLeftovers (M.state machine.old).files folder.now temps.items) }
-    ensures reads { IsTrue M.tells → OnlyReads M.clock M.since M.state machine.old machine.new }
+    ensures reads { IsTrue M.tells → OnlyReads M.time M.state machine.old machine.new }
     ensures counts { CountsStop result (M.counts machine.old) (M.counts machine.new) }
     ensures taken { IsTrue M.tells → TakesAtMost 0 (M.taken machine.old) (M.taken machine.new) }
 {
@@ -77,7 +77,7 @@ fn leftovers<M: Machine>(
         → HasLeftovers (M.state machine.old).files folders.now.entries temps.items) }
     ensures images { IfOk result (λ temps. IsTrue M.tells
         → HasLeftovers (M.state machine.old).files folders.now.images temps.items) }
-    ensures reads { IsTrue M.tells → OnlyReads M.clock M.since M.state machine.old machine.new }
+    ensures reads { IsTrue M.tells → OnlyReads M.time M.state machine.old machine.new }
     ensures counts { CountsStop result (M.counts machine.old) (M.counts machine.new) }
     ensures taken { IsTrue M.tells → TakesAtMost 0 (M.taken machine.old) (M.taken machine.new) }
 {
@@ -107,7 +107,7 @@ fn tidy<M: Machine>(alloc: Global, folders: &Folders, machine: &mut M) -> Result
     ensures idle { IfOk result IsIdleIfRefused }
     ensures tidies { IfOk result (λ plan. IsTrue M.tells
         → (files : Files) → Drops plan.change (M.state machine.old).files files → AreClean files folders.now) }
-    ensures reads { IsTrue M.tells → OnlyReads M.clock M.since M.state machine.old machine.new }
+    ensures reads { IsTrue M.tells → OnlyReads M.time M.state machine.old machine.new }
     ensures counts { CountsStop result (M.counts machine.old) (M.counts machine.new) }
     ensures taken { IsTrue M.tells → TakesAtMost 0 (M.taken machine.old) (M.taken machine.new) }
 {
@@ -123,7 +123,7 @@ pub fn plan_tidy<M: Machine>(alloc: Global, esp: &str, machine: &mut M) -> Resul
     ensures idle { IfOk result IsIdleIfRefused }
     ensures tidies { IfOk result (λ plan. IsTrue M.tells → (files : Files)
         → Drops plan.change (M.state machine.old).files files → IsTidied esp.now files) }
-    ensures reads { IsTrue M.tells → OnlyReads M.clock M.since M.state machine.old machine.new }
+    ensures reads { IsTrue M.tells → OnlyReads M.time M.state machine.old machine.new }
     ensures counts { CountsStop result (M.counts machine.old) (M.counts machine.new) }
     ensures taken { IsTrue M.tells → TakesAtMost 0 (M.taken machine.old) (M.taken machine.new) }
     ensures words { RefusesWords (folders_of esp.now) result }

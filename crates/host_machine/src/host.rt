@@ -94,15 +94,14 @@ impl<R: Runtime<File = File> + AllocGlobal, E: Print + Drop> HostMachine<R, E> {
 impl<R: Runtime<File = File> + AllocGlobal, E: Print + Drop> Machine for HostMachine<R, E> {
     ghost use Rattle.std.specs.Prelude.{◌≤◌, false, length};
     ghost use Rattle.boot_machine.specs.Counts.{CountsDisk, CountsNames, CountsPipe};
+    ghost use Rattle.boot_machine.specs.Moments.{Timeline};
     ghost use Rattle.host_machine.specs.Hosts.{counts_of, no_state, silent, CountsDiskOnce, CountsPipeOnce, CountsNamesOnce};
 
     ghost tells = { false };
 
     ghost state = { λ _. no_state };
 
-    ghost clock = { λ _. 0 };
-
-    ghost since = { λ _ _ _ _. ⊥ };
+    ghost time = { record { clock = λ _. 0; since = λ _ _ _ _. ⊥ } };
 
     ghost counts = { λ m. counts_of m.faults };
 

@@ -116,7 +116,7 @@ fn planned<M: Machine>(
         (build_named (seen (M.state machine.old)) (named_as sources)) }
     ensures planned { IfOk result (λ plan. IsTrue M.tells → IsPlannedOn (seen (M.state machine.old)) plan) }
     ensures free { IfOk result (λ plan. IsFree plan.output) }
-    ensures reads { IsTrue M.tells → OnlyReads M.clock M.since M.state machine.old machine.new }
+    ensures reads { IsTrue M.tells → OnlyReads M.time M.state machine.old machine.new }
     ensures counts { CountsUnsaid result (M.counts machine.old) (M.counts machine.new) }
     ensures taken { IsTrue M.tells → TakesAtMost
         (reading_length (contents (seen (M.state machine.old))) (named_as sources))
@@ -143,7 +143,7 @@ fn reply<M: Machine>(
     ensures says { IsTrue M.tells → IsPlannedOn (seen (M.state machine.old)) build.now
         → Says (λ text. text.items) result
         (Ok (built_text measure (built_as (seen (M.state machine.old)) build.now))) }
-    ensures reads { IsTrue M.tells → OnlyReads M.clock M.since M.state machine.old machine.new }
+    ensures reads { IsTrue M.tells → OnlyReads M.time M.state machine.old machine.new }
     ensures counts { CountsUnsaid result (M.counts machine.old) (M.counts machine.new) }
     ensures taken { IsTrue M.tells → IsPlannedOn (seen (M.state machine.old)) build.now → TakesAtMost
         (measuring_length measure (planned_image build.now.image.plan build.now.image.sources
@@ -200,7 +200,7 @@ fn building<M: Machine>(
     ensures writes { IfOk result (λ plan. IsTrue M.tells → making_length (seen (M.state machine.old)) plan.change
         ≤ built_length (build_of (seen (M.state machine.old)) words.now)) }
     ensures idle { IfOk result IsIdleIfRefused }
-    ensures reads { IsTrue M.tells → OnlyReads M.clock M.since M.state machine.old machine.new }
+    ensures reads { IsTrue M.tells → OnlyReads M.time M.state machine.old machine.new }
     ensures counts { CountsUnsaid result (M.counts machine.old) (M.counts machine.new) }
     ensures taken { IsTrue M.tells → TakesAtMost
         (planning_length (seen (M.state machine.old)) words.now.measure (Ok (named_as sources)))
@@ -226,7 +226,7 @@ fn plan_sources<M: Machine>(
     ensures writes { IfOk result (λ plan. IsTrue M.tells → making_length (seen (M.state machine.old)) plan.change
         ≤ built_length (build_of (seen (M.state machine.old)) words.now)) }
     ensures idle { IfOk result IsIdleIfRefused }
-    ensures reads { IsTrue M.tells → OnlyReads M.clock M.since M.state machine.old machine.new }
+    ensures reads { IsTrue M.tells → OnlyReads M.time M.state machine.old machine.new }
     ensures counts { CountsStop result (M.counts machine.old) (M.counts machine.new) }
     ensures taken { IsTrue M.tells → TakesAtMost
         (planning_length (seen (M.state machine.old)) words.now.measure (Ok (named_as sources)))
@@ -255,7 +255,7 @@ pub fn plan_build<M: Machine>(
     ensures writes { IfOk result (λ plan. IsTrue M.tells → making_length (seen (M.state machine.old)) plan.change
         ≤ built_length (build_of (seen (M.state machine.old)) words.now)) }
     ensures idle { IfOk result IsIdleIfRefused }
-    ensures reads { IsTrue M.tells → OnlyReads M.clock M.since M.state machine.old machine.new }
+    ensures reads { IsTrue M.tells → OnlyReads M.time M.state machine.old machine.new }
     ensures counts { CountsStop result (M.counts machine.old) (M.counts machine.new) }
     ensures taken { IsTrue M.tells → TakesAtMost
         (planning_length (seen (M.state machine.old)) words.now.measure (named_of words.now))

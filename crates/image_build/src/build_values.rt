@@ -108,7 +108,7 @@ fn registers<M: Machine>(
         (Ok (map (folded
         (measured_list (planned_image plan.now.image.plan plan.now.image.sources (seen (M.state machine.old)))))
         banks.now)) }
-    ensures reads { IsTrue M.tells → OnlyReads M.clock M.since M.state machine.old machine.new }
+    ensures reads { IsTrue M.tells → OnlyReads M.time M.state machine.old machine.new }
     ensures counts { CountsUnsaid result (M.counts machine.old) (M.counts machine.new) }
     ensures taken { IsTrue M.tells → IsPlannedOn (seen (M.state machine.old)) plan.now → TakesAtMost
         (measured_length (planned_image plan.now.image.plan plan.now.image.sources (seen (M.state machine.old))))
@@ -134,7 +134,7 @@ pub(crate) fn planned_values<M: Machine>(
         (Ok (value_lines
         (stub_pcr (planned_image plan.now.image.plan plan.now.image.sources (seen (M.state machine.old))))
         all_banks default_phase_paths)) }
-    ensures reads { IsTrue M.tells → OnlyReads M.clock M.since M.state machine.old machine.new }
+    ensures reads { IsTrue M.tells → OnlyReads M.time M.state machine.old machine.new }
     ensures counts { CountsUnsaid result (M.counts machine.old) (M.counts machine.new) }
     ensures taken { IsTrue M.tells → IsPlannedOn (seen (M.state machine.old)) plan.now → TakesAtMost
         (measured_length (planned_image plan.now.image.plan plan.now.image.sources (seen (M.state machine.old))))

@@ -93,7 +93,7 @@ fn part_file<M: Machine>(alloc: Global, path: BootPath, machine: &mut M) -> Resu
         (bytes_at (seen (M.state machine.old)) path) }
     ensures size { IfOk result (λ file. IsTrue M.tells
         → length (piece_bytes (contents (seen (M.state machine.old))) file) ≡ piece_length file) }
-    ensures reads { IsTrue M.tells → OnlyReads M.clock M.since M.state machine.old machine.new }
+    ensures reads { IsTrue M.tells → OnlyReads M.time M.state machine.old machine.new }
     ensures counts { CountsUnsaid result (M.counts machine.old) (M.counts machine.new) }
     ensures taken { IsTrue M.tells → TakesAtMost 0 (M.taken machine.old) (M.taken machine.new) }
 {
@@ -112,7 +112,7 @@ fn part_files<M: Machine>(
         (each (under_name (bytes_at (seen (M.state machine.old)))) (map named_path paths.entry.items)) }
     ensures sizes { IfOk result (λ files. IsTrue M.tells
         → All (HasItsSize (contents (seen (M.state machine.old)))) files.items) }
-    ensures reads { IsTrue M.tells → OnlyReads M.clock M.since M.state machine.old machine.new }
+    ensures reads { IsTrue M.tells → OnlyReads M.time M.state machine.old machine.new }
     ensures counts { CountsUnsaid result (M.counts machine.old) (M.counts machine.new) }
     ensures taken { IsTrue M.tells → TakesAtMost 0 (M.taken machine.old) (M.taken machine.new) }
 {
@@ -154,7 +154,7 @@ fn registers<M: Machine>(
     ensures says { IsTrue M.tells → All (HasItsSize (contents (seen (M.state machine.old)))) files.now
         → Says (λ registers. map shown registers.items) result
         (Ok (map (folded (items_of (map (named_file (contents (seen (M.state machine.old)))) files.now))) banks.now)) }
-    ensures reads { IsTrue M.tells → OnlyReads M.clock M.since M.state machine.old machine.new }
+    ensures reads { IsTrue M.tells → OnlyReads M.time M.state machine.old machine.new }
     ensures counts { CountsUnsaid result (M.counts machine.old) (M.counts machine.new) }
     ensures taken { IsTrue M.tells → All (HasItsSize (contents (seen (M.state machine.old)))) files.now
         → TakesAtMost (sum_by (λ part. length part.1)
@@ -178,7 +178,7 @@ fn calculated<M: Machine>(
 ) -> Result<Vec<u8>, Unsaid>
     ensures says { IsTrue M.tells → Says (λ text. text.items) result
         (calculate_said (seen (M.state machine.old)) words.now) }
-    ensures reads { IsTrue M.tells → OnlyReads M.clock M.since M.state machine.old machine.new }
+    ensures reads { IsTrue M.tells → OnlyReads M.time M.state machine.old machine.new }
     ensures counts { CountsUnsaid result (M.counts machine.old) (M.counts machine.new) }
     ensures words { DeclinesWords (each (under_name path_in) (given_words words.now)) result }
     ensures taken { IsTrue M.tells
@@ -204,7 +204,7 @@ pub fn plan_calculate<M: Machine>(
         (answer_of_read (seen (M.state machine.old)) (calculate_said (seen (M.state machine.old)) words.now))) }
     ensures makeable { IfOk result (λ plan. IsMakeable plan.change) }
     ensures idle { IfOk result (λ plan. plan.change ≡ Nothing) }
-    ensures reads { IsTrue M.tells → OnlyReads M.clock M.since M.state machine.old machine.new }
+    ensures reads { IsTrue M.tells → OnlyReads M.time M.state machine.old machine.new }
     ensures counts { CountsStop result (M.counts machine.old) (M.counts machine.new) }
     ensures words { RefusesWords (each (under_name path_in) (given_words words.now)) result }
     ensures taken { IsTrue M.tells

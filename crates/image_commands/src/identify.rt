@@ -45,7 +45,7 @@ fn pe_kind(head: &Pe) -> &'static str
 // What the file at a path is told to be.
 fn kind<M: Machine>(alloc: Global, path: &BootPath, machine: &mut M) -> Result<&'static str, Unsaid>
     ensures kind { IsTrue M.tells → Says (λ text. text.now) result (kind_at (seen (M.state machine.old)) path.now) }
-    ensures reads { IsTrue M.tells → OnlyReads M.clock M.since M.state machine.old machine.new }
+    ensures reads { IsTrue M.tells → OnlyReads M.time M.state machine.old machine.new }
     ensures counts { CountsUnsaid result (M.counts machine.old) (M.counts machine.new) }
     ensures taken { IsTrue M.tells → TakesAtMost 69463 (M.taken machine.old) (M.taken machine.new) }
 {
@@ -62,7 +62,7 @@ fn kind<M: Machine>(alloc: Global, path: &BootPath, machine: &mut M) -> Result<&
 fn identified<M: Machine>(alloc: Global, file: &str, machine: &mut M) -> Result<Vec<u8>, Unsaid>
     ensures says { IsTrue M.tells → Says (λ text. text.items) result
         (identify_said (seen (M.state machine.old)) file.now) }
-    ensures reads { IsTrue M.tells → OnlyReads M.clock M.since M.state machine.old machine.new }
+    ensures reads { IsTrue M.tells → OnlyReads M.time M.state machine.old machine.new }
     ensures counts { CountsUnsaid result (M.counts machine.old) (M.counts machine.new) }
     ensures words { DeclinesWords (path_in file.now) result }
     ensures taken { IsTrue M.tells → TakesAtMost 69463 (M.taken machine.old) (M.taken machine.new) }
@@ -79,7 +79,7 @@ pub fn plan_identify<M: Machine>(alloc: Global, file: &str, machine: &mut M) -> 
         (answer_of_read (seen (M.state machine.old)) (identify_said (seen (M.state machine.old)) file.now))) }
     ensures makeable { IfOk result (λ plan. IsMakeable plan.change) }
     ensures idle { IfOk result (λ plan. plan.change ≡ Nothing) }
-    ensures reads { IsTrue M.tells → OnlyReads M.clock M.since M.state machine.old machine.new }
+    ensures reads { IsTrue M.tells → OnlyReads M.time M.state machine.old machine.new }
     ensures counts { CountsStop result (M.counts machine.old) (M.counts machine.new) }
     ensures words { RefusesWords (path_in file.now) result }
     ensures taken { IsTrue M.tells → TakesAtMost 69463 (M.taken machine.old) (M.taken machine.new) }

@@ -54,7 +54,7 @@ fn append_section<M: Machine>(
         ≤ length (drop (range_of section.now).place (contents (M.state machine.old).files path.now))
         → Says (λ _. out.new.items) result
         (Ok (out.old.items ++ section_lines (contents (M.state machine.old).files path.now) section.now)) }
-    ensures reads { IsTrue M.tells → OnlyReads M.clock M.since M.state machine.old machine.new }
+    ensures reads { IsTrue M.tells → OnlyReads M.time M.state machine.old machine.new }
     ensures counts { CountsUnsaid result (M.counts machine.old) (M.counts machine.new) }
     ensures taken { IsTrue M.tells → TakesAtMost (raw_length section.now) (M.taken machine.old) (M.taken machine.new) }
 {
@@ -81,7 +81,7 @@ fn append_sections<M: Machine>(
     ensures says { IsTrue M.tells → Says (λ _. out.new.items) result
         (Ok (out.old.items
         ++ flat_map (section_lines (contents (M.state machine.old).files path.now)) (headers_of head.now).sections)) }
-    ensures reads { IsTrue M.tells → OnlyReads M.clock M.since M.state machine.old machine.new }
+    ensures reads { IsTrue M.tells → OnlyReads M.time M.state machine.old machine.new }
     ensures counts { CountsUnsaid result (M.counts machine.old) (M.counts machine.new) }
     ensures taken { IsTrue M.tells
         → TakesAtMost (sum_by raw_length (headers_of head.now).sections) (M.taken machine.old) (M.taken machine.new) }
@@ -108,7 +108,7 @@ fn inspection<M: Machine>(
 ) -> Result<Vec<u8>, Unsaid>
     ensures says { IsTrue M.tells → Says (λ text. text.items) result
         (inspection_at (seen (M.state machine.old)) path.now) }
-    ensures reads { IsTrue M.tells → OnlyReads M.clock M.since M.state machine.old machine.new }
+    ensures reads { IsTrue M.tells → OnlyReads M.time M.state machine.old machine.new }
     ensures counts { CountsUnsaid result (M.counts machine.old) (M.counts machine.new) }
     ensures taken { IsTrue M.tells → TakesAtMost
         (69463 + all_raw_length (pe_of (found_bytes (bytes_at (seen (M.state machine.old)) path.now))))
@@ -125,7 +125,7 @@ fn inspection<M: Machine>(
 fn inspected<M: Machine>(alloc: Global, file: &str, machine: &mut M) -> Result<Vec<u8>, Unsaid>
     ensures says { IsTrue M.tells → Says (λ text. text.items) result
         (inspect_said (seen (M.state machine.old)) file.now) }
-    ensures reads { IsTrue M.tells → OnlyReads M.clock M.since M.state machine.old machine.new }
+    ensures reads { IsTrue M.tells → OnlyReads M.time M.state machine.old machine.new }
     ensures counts { CountsUnsaid result (M.counts machine.old) (M.counts machine.new) }
     ensures words { DeclinesWords (path_in file.now) result }
     ensures taken { IsTrue M.tells → TakesAtMost
@@ -143,7 +143,7 @@ pub fn plan_inspect<M: Machine>(alloc: Global, file: &str, machine: &mut M) -> R
         (answer_of_read (seen (M.state machine.old)) (inspect_said (seen (M.state machine.old)) file.now))) }
     ensures makeable { IfOk result (λ plan. IsMakeable plan.change) }
     ensures idle { IfOk result (λ plan. plan.change ≡ Nothing) }
-    ensures reads { IsTrue M.tells → OnlyReads M.clock M.since M.state machine.old machine.new }
+    ensures reads { IsTrue M.tells → OnlyReads M.time M.state machine.old machine.new }
     ensures counts { CountsStop result (M.counts machine.old) (M.counts machine.new) }
     ensures words { RefusesWords (path_in file.now) result }
     ensures taken { IsTrue M.tells → TakesAtMost

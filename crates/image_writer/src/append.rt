@@ -20,7 +20,7 @@ pub fn write_zeros<M: Machine>(
     requires there { IsTrue M.tells → has (M.state machine.old).files temp.now ≡ true }
     requires room { 0 < length buffer.old }
     ensures length { length buffer.new ≡ length buffer.old }
-    ensures appends { IsTrue M.tells → AppendsOnly M.clock M.since M.state temp.now machine.old machine.new }
+    ensures appends { IsTrue M.tells → AppendsOnly M.time M.state temp.now machine.old machine.new }
     ensures grows { OnOk result (IsTrue M.tells
         → Grown temp.now (replicate count 0) (M.state machine.old) (M.state machine.new)) }
     ensures counts { CountsDisk result (M.counts machine.old) (M.counts machine.new) }
@@ -40,7 +40,7 @@ fn append_zeros<M: Machine>(
     requires there { IsTrue M.tells → has (M.state machine.old).files temp.now ≡ true }
     requires room { 0 < length zeros.now }
     requires zeros { zeros.now ≡ replicate (length zeros.now) 0 }
-    ensures appends { IsTrue M.tells → AppendsOnly M.clock M.since M.state temp.now machine.old machine.new }
+    ensures appends { IsTrue M.tells → AppendsOnly M.time M.state temp.now machine.old machine.new }
     ensures grows { OnOk result (IsTrue M.tells
         → Grown temp.now (replicate count 0) (M.state machine.old) (M.state machine.new)) }
     ensures counts { CountsDisk result (M.counts machine.old) (M.counts machine.new) }

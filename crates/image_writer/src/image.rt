@@ -41,7 +41,7 @@ pub fn write_image<M: Machine>(
     ensures image { OnOk result (IsTrue M.tells
         → IsPlannedImage plan.now sources.now (view (M.state machine.old).files)
         (contents (M.state machine.new).files temp.now)) }
-    ensures appends { IsTrue M.tells → AppendsOnly M.clock M.since M.state temp.now machine.old machine.new }
+    ensures appends { IsTrue M.tells → AppendsOnly M.time M.state temp.now machine.old machine.new }
     ensures counts { CountsDisk result (M.counts machine.old) (M.counts machine.new) }
     ensures taken { IsTrue M.tells → TakesAtMost (writing_length plan.now sources.now)
         (M.taken machine.old) (M.taken machine.new) }
@@ -72,7 +72,7 @@ fn write_stub<M: Machine>(
     requires there { IsTrue M.tells → has (M.state machine.old).files temp.now ≡ true }
     requires room { 0 < length buffer.old }
     ensures length { length buffer.new ≡ length buffer.old }
-    ensures appends { IsTrue M.tells → AppendsOnly M.clock M.since M.state temp.now machine.old machine.new }
+    ensures appends { IsTrue M.tells → AppendsOnly M.time M.state temp.now machine.old machine.new }
     ensures grows { OnOk result (IsTrue M.tells → Grown temp.now
         (new_stub_bytes plan.now (contents (M.state machine.old).files (stub_path sources.now)) (new_sbat sources.now))
         (M.state machine.old) (M.state machine.new)) }
@@ -98,7 +98,7 @@ fn write_headers<M: Machine>(
     requires there { IsTrue M.tells → has (M.state machine.old).files temp.now ≡ true }
     requires room { 0 < length buffer.old }
     ensures length { length buffer.new ≡ length buffer.old }
-    ensures appends { IsTrue M.tells → AppendsOnly M.clock M.since M.state temp.now machine.old machine.new }
+    ensures appends { IsTrue M.tells → AppendsOnly M.time M.state temp.now machine.old machine.new }
     ensures grows { OnOk result (IsTrue M.tells → Grown temp.now
         (headers_bytes (contents (M.state machine.old).files (stub_path sources.now))
         (new_sbat sources.now) sections.now)
@@ -125,7 +125,7 @@ fn write_chunks<M: Machine>(
     requires there { IsTrue M.tells → has (M.state machine.old).files temp.now ≡ true }
     requires room { 0 < length buffer.old }
     ensures length { length buffer.new ≡ length buffer.old }
-    ensures appends { IsTrue M.tells → AppendsOnly M.clock M.since M.state temp.now machine.old machine.new }
+    ensures appends { IsTrue M.tells → AppendsOnly M.time M.state temp.now machine.old machine.new }
     ensures grows { OnOk result (IsTrue M.tells → Grown temp.now
         (chunks_bytes (contents (M.state machine.old).files (stub_path sources.now)) (new_sbat sources.now) chunks.now)
         (M.state machine.old) (M.state machine.new)) }
@@ -152,7 +152,7 @@ fn write_chunk<M: Machine>(
     requires there { IsTrue M.tells → has (M.state machine.old).files temp.now ≡ true }
     requires room { 0 < length buffer.old }
     ensures length { length buffer.new ≡ length buffer.old }
-    ensures appends { IsTrue M.tells → AppendsOnly M.clock M.since M.state temp.now machine.old machine.new }
+    ensures appends { IsTrue M.tells → AppendsOnly M.time M.state temp.now machine.old machine.new }
     ensures grows { OnOk result (IsTrue M.tells → Grown temp.now
         (chunk_bytes (contents (M.state machine.old).files (stub_path sources.now)) (new_sbat sources.now) chunk)
         (M.state machine.old) (M.state machine.new)) }

@@ -28,7 +28,7 @@ pub fn write_parts<M: Machine>(
     requires there { IsTrue M.tells → has (M.state machine.old).files temp.now ≡ true }
     requires room { 0 < length buffer.old }
     ensures length { length buffer.new ≡ length buffer.old }
-    ensures appends { IsTrue M.tells → AppendsOnly M.clock M.since M.state temp.now machine.old machine.new }
+    ensures appends { IsTrue M.tells → AppendsOnly M.time M.state temp.now machine.old machine.new }
     ensures grows { OnOk result (IsTrue M.tells → 0 < unit → (files : Reading)
         → Agrees files (M.state machine.old).files
         → Grown temp.now (behind_stub files unit stub_length parts.now) (M.state machine.old) (M.state machine.new)) }
@@ -55,7 +55,7 @@ fn write_each_part<M: Machine>(
     requires there { IsTrue M.tells → has (M.state machine.old).files temp.now ≡ true }
     requires room { 0 < length buffer.old }
     ensures length { length buffer.new ≡ length buffer.old }
-    ensures appends { IsTrue M.tells → AppendsOnly M.clock M.since M.state temp.now machine.old machine.new }
+    ensures appends { IsTrue M.tells → AppendsOnly M.time M.state temp.now machine.old machine.new }
     ensures grows { OnOk result (IsTrue M.tells → 0 < unit → (files : Reading)
         → Agrees files (M.state machine.old).files
         → Grown temp.now (flat_map (padded_part files unit) parts.now) (M.state machine.old) (M.state machine.new)) }
@@ -81,7 +81,7 @@ fn write_part<M: Machine>(
     requires there { IsTrue M.tells → has (M.state machine.old).files temp.now ≡ true }
     requires room { 0 < length buffer.old }
     ensures length { length buffer.new ≡ length buffer.old }
-    ensures appends { IsTrue M.tells → AppendsOnly M.clock M.since M.state temp.now machine.old machine.new }
+    ensures appends { IsTrue M.tells → AppendsOnly M.time M.state temp.now machine.old machine.new }
     ensures grows { OnOk result (IsTrue M.tells → 0 < unit → (files : Reading)
         → Agrees files (M.state machine.old).files
         → Grown temp.now (padded_part files unit part.now) (M.state machine.old) (M.state machine.new)) }
@@ -102,7 +102,7 @@ fn write_pieces<M: Machine>(
     requires there { IsTrue M.tells → has (M.state machine.old).files temp.now ≡ true }
     requires room { 0 < length buffer.old }
     ensures length { length buffer.new ≡ length buffer.old }
-    ensures appends { IsTrue M.tells → AppendsOnly M.clock M.since M.state temp.now machine.old machine.new }
+    ensures appends { IsTrue M.tells → AppendsOnly M.time M.state temp.now machine.old machine.new }
     ensures grows { OnOk result (IsTrue M.tells → (files : Reading) → Agrees files (M.state machine.old).files
         → Grown temp.now (flat_map (given_bytes files) pieces.now) (M.state machine.old) (M.state machine.new)) }
     ensures counts { CountsDisk result (M.counts machine.old) (M.counts machine.new) }
@@ -126,7 +126,7 @@ fn write_piece<M: Machine>(
     requires there { IsTrue M.tells → has (M.state machine.old).files temp.now ≡ true }
     requires room { 0 < length buffer.old }
     ensures length { length buffer.new ≡ length buffer.old }
-    ensures appends { IsTrue M.tells → AppendsOnly M.clock M.since M.state temp.now machine.old machine.new }
+    ensures appends { IsTrue M.tells → AppendsOnly M.time M.state temp.now machine.old machine.new }
     ensures grows { OnOk result (IsTrue M.tells → (files : Reading) → Agrees files (M.state machine.old).files
         → Grown temp.now (given_bytes files piece.now) (M.state machine.old) (M.state machine.new)) }
     ensures counts { CountsDisk result (M.counts machine.old) (M.counts machine.new) }

@@ -40,10 +40,10 @@ pub fn write_planned<M: Machine>(
         (map.insert (recovered_view (M.state machine.old).files) target.now.path image)) }
     ensures step { IsTrue M.tells → IsFirm (M.state machine.old)
         → (image : List ℕ) → IsPlannedImage plan.now sources.now (view (M.state machine.old).files) image
-        → StepsTo M.clock M.since M.state
+        → StepsTo M.time M.state
         (map.insert (recovered_view (M.state machine.old).files) target.now.path image) machine.old machine.new }
     ensures keeps { IsTrue M.tells → Keeps (M.state machine.old) (M.state machine.new) }
-    ensures quiet { IsTrue M.tells → PrintsNothing M.clock M.since M.state machine.old machine.new }
+    ensures quiet { IsTrue M.tells → PrintsNothing M.time M.state machine.old machine.new }
     ensures rests { OnOk result (IsTrue M.tells → IsRested (M.state machine.new)) }
     ensures temps { OnOk result (IsTrue M.tells → NoNewTemp (M.state machine.old) (M.state machine.new)) }
     ensures counts { CountsDisk result (M.counts machine.old) (M.counts machine.new) }

@@ -4,9 +4,9 @@ use Rattle.std.specs.FinMap as map
 use Rattle.boot_base.specs.Paths.{Path, intent, is_temp}
 use Rattle.boot_machine.specs.Disk.{Files, State, has, same, recovered_view}
 use Rattle.boot_machine.specs.Maps.{get-insert_here}
+use Rattle.boot_machine.specs.Moments.{Timeline}
 use Rattle.boot_machine.specs.Reading.{IsIdleMoment, between}
 use Rattle.boot_machine.specs.Rows.{contents, append_to, move_in}
-use Rattle.boot_machine.specs.declared.machine.Printed.{Printed}
 use Rattle.boot_machine.proofs.Elapsing.{joined, weaken}
 use Rattle.boot_machine.proofs.Going.{During, Seen, image_sees}
 use Rattle.boot_machine.proofs.Ranges.{between_whole}
@@ -31,11 +31,11 @@ stands-more old P s t so_far p temp (inl is) = subst (λ (v : State). Stands old
 stands-more old P s t so_far p temp (inr more) = subst (λ (v : State). Stands old P v) (sym more.1) (stands-appended old P s so_far p more.0 temp)
 
 -- a temporary file is appended to
-pub goes-appends : {D : Type 0} (clock : D → ℕ) (since : D → ℕ → Files → List Printed → Type 0) (state : D → State) (P : Files → Type 0) (old mid new : D)
-    → During clock since state P old mid → (p : Path) → is_temp p ≡ true → AppendsOnly clock since state p mid new → During clock since state P old new
-goes-appends clock since state P old mid new so_far p temp appends = record {
-  moments = joined clock since state (Seen (state old) P) old mid new so_far.moments
-      (weaken clock since state (IsIdleMoment (softened p (state mid))) (Seen (state old) P) mid new
+pub goes-appends : {D : Type 0} (time : Timeline D) (state : D → State) (P : Files → Type 0) (old mid new : D)
+    → During time state P old mid → (p : Path) → is_temp p ≡ true → AppendsOnly time state p mid new → During time state P old new
+goes-appends time state P old mid new so_far p temp appends = record {
+  moments = joined time state (Seen (state old) P) old mid new so_far.moments
+      (weaken time state (IsIdleMoment (softened p (state mid))) (Seen (state old) P) mid new
       (λ m o stays. (image_sees (state old) P (softened p (state mid)) (stands-softened (state old) P (state mid) so_far.stands p temp) m stays.0, stays.1 ∙ so_far.stands.printed)) appends.moments);
   stands = stands-more (state old) P (state mid) (state new) so_far.stands p temp appends.left;
 }

@@ -8,7 +8,7 @@ use Rattle.boot_base.specs.Paths.{Path, intent, read_intent}
 use Rattle.boot_base.proofs.Intent.{read-long}
 use Rattle.boot_machine.specs.Disk.{Files, State, HasOneCandidate, has, intended, recovered_view}
 use Rattle.boot_machine.specs.Images.{IsImage, IsFirm, IsSettled}
-use Rattle.boot_machine.specs.Moments.{EachSince}
+use Rattle.boot_machine.specs.Moments.{Timeline, EachSince}
 use Rattle.boot_machine.specs.Reading.{zero_filled}
 use Rattle.boot_machine.specs.Rows.{contents}
 use Rattle.boot_machine.specs.declared.machine.Printed.{Printed}
@@ -41,13 +41,13 @@ size_there m q found size row is = by_cases (map.get m q) (sym row ∙ is)
     by_cases None e = cc
     by_cases (Some bytes) e = (refl, cc)
 
-module _ {D : Type 0} (clock : D → ℕ) (since : D → ℕ → Files → List Printed → Type 0) (state : D → State) (old mid new : D) where
+module _ {D : Type 0} (time : Timeline D) (state : D → State) (old mid new : D) where
   either : (v w : Files) (m : Files) → (recovered_view m ≡ v) ⊎ (recovered_view m ≡ w) → w ≡ v → recovered_view m ≡ v
   either v w m sees is = ⊎_elim (λ one. one) (λ two. two ∙ is) sees
 
   -- the names were synced, and the rest is a step that boot doesn't see
-  module _ (stays : EachSince clock since old mid (λ m o. IsImage (state old) m × (o ≡ (state old).printed))) (files : (state mid).files ≡ (state old).files) (printed : (state mid).printed ≡ (state old).printed)
-      (step : StepsTo clock since state (recovered_view (state mid).files) mid new) where
+  module _ (stays : EachSince time old mid (λ m o. IsImage (state old) m × (o ≡ (state old).printed))) (files : (state mid).files ≡ (state old).files) (printed : (state mid).printed ≡ (state old).printed)
+      (step : StepsTo time state (recovered_view (state mid).files) mid new) where
     seen : recovered_view (state mid).files ≡ recovered_view (state old).files
     seen = ap recovered_view files
 
@@ -57,46 +57,46 @@ module _ {D : Type 0} (clock : D → ℕ) (since : D → ℕ → Files → List 
     now : recovered_view (state new).files ≡ recovered_view (state mid).files
     now = either (recovered_view (state mid).files) _ (state new).files step.files refl
 
-    pub settled_now : ((t : ℕ) (m : Files) → t ≤ clock new → IsImage (state new) m → since new t m (state new).printed) → IsSettled (state new)
+    pub settled_now : ((t : ℕ) (m : Files) → t ≤ time.clock new → IsImage (state new) m → time.since new t m (state new).printed) → IsSettled (state new)
     settled_now counts_now = record {
       firm = step.firm;
-      images = λ m image. either (recovered_view (state mid).files) _ m (step.moments.each m (state new).printed (counts_now (clock mid) m step.moments.later image)).0 refl ∙ sym now;
+      images = λ m image. either (recovered_view (state mid).files) _ m (step.moments.each m (state new).printed (counts_now (time.clock mid) m step.moments.later image)).0 refl ∙ sym now;
     }
 
-    pub same_from : HasOneCandidate (state mid) → SameFrom clock since state old new
+    pub same_from : HasOneCandidate (state mid) → SameFrom time state old new
     same_from one = record {
       synced = mid;
       until = stays;
       one = one;
       files = files;
-      from = weaken clock since state _ (SeesSame (state old)) mid new same step.moments;
+      from = weaken time state _ (SeesSame (state old)) mid new same step.moments;
     }
 
-    pub recovers_on : HasOneCandidate (state mid) → ((t : ℕ) (m : Files) → t ≤ clock new → IsImage (state new) m → since new t m (state new).printed) → RecoversTo clock since state old new
+    pub recovers_on : HasOneCandidate (state mid) → ((t : ℕ) (m : Files) → t ≤ time.clock new → IsImage (state new) m → time.since new t m (state new).printed) → RecoversTo time state old new
     recovers_on one counts_now = record {
-      moments = joined clock since state (StaysOrSame (state old)) old mid new
-          (weaken clock since state _ (StaysOrSame (state old)) old mid (λ m o was. (inl was.0, was.1)) stays)
-          (weaken clock since state _ (StaysOrSame (state old)) mid new (λ m o sees. let one = same m o sees in (inr one.0, one.1)) step.moments);
+      moments = joined time state (StaysOrSame (state old)) old mid new
+          (weaken time state _ (StaysOrSame (state old)) old mid (λ m o was. (inl was.0, was.1)) stays)
+          (weaken time state _ (StaysOrSame (state old)) mid new (λ m o sees. let one = same m o sees in (inr one.0, one.1)) step.moments);
       firm = step.firm;
       files = now ∙ seen;
       synced = inr (settled_now counts_now, same_from one);
     }
 
   -- the names weren't synced
-  pub recovers_not : EachSince clock since old new (λ m o. IsImage (state old) m × (o ≡ (state old).printed)) → IsFirm (state old) → state new ≡ state old → RecoversTo clock since state old new
+  pub recovers_not : EachSince time old new (λ m o. IsImage (state old) m × (o ≡ (state old).printed)) → IsFirm (state old) → state new ≡ state old → RecoversTo time state old new
   recovers_not stays firm is = record {
-    moments = weaken clock since state _ (StaysOrSame (state old)) old new (λ m o was. (inl was.0, was.1)) stays;
+    moments = weaken time state _ (StaysOrSame (state old)) old new (λ m o was. (inl was.0, was.1)) stays;
     firm = subst IsFirm (sym is) firm;
     files = ap (λ (s : State). recovered_view s.files) is;
     synced = inl (record { same = is; moments = stays });
   }
 
   -- of a settled machine
-  pub same_all : IsSettled (state old) → EachSince clock since old new (StaysOrSame (state old)) → EachSince clock since old new (SeesSame (state old))
-  same_all settled moments = weaken clock since state (StaysOrSame (state old)) (SeesSame (state old)) old new
+  pub same_all : IsSettled (state old) → EachSince time old new (StaysOrSame (state old)) → EachSince time old new (SeesSame (state old))
+  same_all settled moments = weaken time state (StaysOrSame (state old)) (SeesSame (state old)) old new
       (λ m o either. (⊎_elim (λ image. settled.images m image) (λ one. one) either.0, either.1)) moments
 
 -- the moment from which on boot sees the same
-pub same_from_time : {D : Type 0} (clock : D → ℕ) (since : D → ℕ → Files → List Printed → Type 0) (state : D → State) (old new : D) → SameFrom clock since state old new
-    → (t : ℕ) × (clock old ≤ t) × (t ≤ clock new) × ((m : Files) (o : List Printed) → since new t m o → SeesSame (state old) m o)
-same_from_time clock since state old new same = (clock same.synced, same.until.later, same.from.later, same.from.each)
+pub same_from_time : {D : Type 0} (time : Timeline D) (state : D → State) (old new : D) → SameFrom time state old new
+    → (t : ℕ) × (time.clock old ≤ t) × (t ≤ time.clock new) × ((m : Files) (o : List Printed) → time.since new t m o → SeesSame (state old) m o)
+same_from_time time state old new same = (time.clock same.synced, same.until.later, same.from.later, same.from.each)

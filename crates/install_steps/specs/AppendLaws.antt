@@ -10,7 +10,7 @@ use Rattle.boot_base.specs.Paths.{Path, is_temp}
 use Rattle.boot_machine.specs.Disk.{Files, Paths, State, has, same, view}
 use Rattle.boot_machine.specs.Images.{IsImage}
 use Rattle.boot_machine.specs.Maps.{same_self, same-true, cases_same, same_files, contains-insert, path_antisym}
-use Rattle.boot_machine.specs.Moments.{IsMoment, Elapses}
+use Rattle.boot_machine.specs.Moments.{IsMoment, Timeline, Elapses}
 use Rattle.boot_machine.specs.Reading.{IsIdleMoment, OnlyReads}
 use Rattle.boot_machine.specs.Rows.{contents, append_to, appended, AppendRow}
 use Rattle.boot_machine.specs.declared.machine.Printed.{Printed}
@@ -179,63 +179,62 @@ moment_stays p s t m o left moment = (
   not_printed s.printed o t.printed (appended-printed p s t left) moment.printed,
 )
 
-module _ {D : Type 0} (clock : D → ℕ) (since : D → ℕ → Files → List Printed → Type 0) (state : D → State)
-    (p : Path) where
+module _ {D : Type 0} (time : Timeline D) (state : D → State) (p : Path) where
   -- no call is made
-  pub appends_none : (old : D) → ((m : Files) (o : List Printed) → since old (clock old) m o
-      → IsIdleMoment (state old) m o) → AppendsOnly clock since state p old old
+  pub appends_none : (old : D) → ((m : Files) (o : List Printed) → time.since old (time.clock old) m o
+      → IsIdleMoment (state old) m o) → AppendsOnly time state p old old
   appends_none old only_now = record {
     left = inl refl;
     moments =
-        at_once clock since state (IsIdleMoment (softened p (state old))) old
+        at_once time state (IsIdleMoment (softened p (state old))) old
         (λ m o left. let now = only_now m o left in (soften p (state old) m now.0, now.1));
   }
 
   -- reads are made
-  pub appends_reads : (old new : D) → OnlyReads clock since state old new → AppendsOnly clock since state p old new
+  pub appends_reads : (old new : D) → OnlyReads time state old new → AppendsOnly time state p old new
   appends_reads old new reads = record {
     left = inl reads.same;
     moments =
-        weaken clock since state (IsIdleMoment (state old)) (IsIdleMoment (softened p (state old))) old new
+        weaken time state (IsIdleMoment (state old)) (IsIdleMoment (softened p (state old))) old new
         (λ m o stays. (soften p (state old) m stays.0, stays.1)) reads.moments;
   }
 
   -- one append, whatever its answer
   pub appends_once : {E : Type 0} (old new : D) (bytes : List ℕ) (r : Result Unit E)
-      → ((m : Files) (o : List Printed) → since old (clock old) m o → IsIdleMoment (state old) m o)
-      → Elapses clock since state old new → AppendRow (state old) (state new) p bytes r
-      → AppendsOnly clock since state p old new
-  appends_once old new bytes r only_now time row =
+      → ((m : Files) (o : List Printed) → time.since old (time.clock old) m o → IsIdleMoment (state old) m o)
+      → Elapses time state old new → AppendRow (state old) (state new) p bytes r
+      → AppendsOnly time state p old new
+  appends_once old new bytes r only_now elapsed row =
       let left : HasAppended p (state old) (state new) =
       by_append (λ (t : State). HasAppended p (state old) t) (state old) (state new) p bytes r (inl refl)
       (λ b. inr (b, refl)) row in
       record {
         left = left;
         moments =
-            one_call clock since state (IsIdleMoment (softened p (state old))) old new
-            (λ m o now. let is = only_now m o now in (soften p (state old) m is.0, is.1)) time
+            one_call time state (IsIdleMoment (softened p (state old))) old new
+            (λ m o now. let is = only_now m o now in (soften p (state old) m is.0, is.1)) elapsed
             (λ m o moment. moment_stays p (state old) (state new) m o left moment);
       }
 
   -- two parts of a run
-  pub appends_on : (old mid new : D) → AppendsOnly clock since state p old mid
-      → AppendsOnly clock since state p mid new → AppendsOnly clock since state p old new
+  pub appends_on : (old mid new : D) → AppendsOnly time state p old mid
+      → AppendsOnly time state p mid new → AppendsOnly time state p old new
   appends_on old mid new first second = record {
     left = has_appended_on p (state old) (state mid) (state new) first.left second.left;
-    moments = joined clock since state (IsIdleMoment (softened p (state old))) old mid new first.moments
-        (weaken clock since state (IsIdleMoment (softened p (state mid)))
+    moments = joined time state (IsIdleMoment (softened p (state old))) old mid new first.moments
+        (weaken time state (IsIdleMoment (softened p (state mid)))
         (IsIdleMoment (softened p (state old))) mid new
         (λ m o stays. stays_back p (state old) (state mid) m o first.left stays) second.moments);
   }
 
   -- the path is there still
-  pub appends-there : (old new : D) → AppendsOnly clock since state p old new → has (state old).files p ≡ true
+  pub appends-there : (old new : D) → AppendsOnly time state p old new → has (state old).files p ≡ true
       → has (state new).files p ≡ true
   appends-there old new appends there = appended-there p (state old) (state new) p appends.left ∙ there
 
   -- a boot file is as it was
   pub appends-source : (old new : D) (q : Path) → is_temp p ≡ true → is_temp q ≡ false
-      → AppendsOnly clock since state p old new
+      → AppendsOnly time state p old new
       → contents (state new).files q ≡ contents (state old).files q
   appends-source old new q temp shown appends = appended-source p (state old) (state new) q temp shown appends.left
 

@@ -1,10 +1,10 @@
 -- What the steps of an installation do to what boot sees.
-use Rattle.std.specs.Prelude.{if◌then◌else◌, None, ◌≡◌, ◌≢◌, ◌⊎◌, ◌&&◌, not, ℕ, true, false, List, Some, Result, MatchResult}
+use Rattle.std.specs.Prelude.{if◌then◌else◌, None, ◌≡◌, ◌≢◌, ◌⊎◌, ◌&&◌, not, true, false, List, Some, Result, MatchResult}
 use Rattle.std.specs.FinMap as map
 use Rattle.boot_base.specs.Paths.{Path, intent, is_temp}
 use Rattle.boot_machine.specs.Disk.{Files, State, HasOneCandidate, IsRested, has, intended, same, recovered_view}
 use Rattle.boot_machine.specs.Images.{IsImage, IsFirm}
-use Rattle.boot_machine.specs.Moments.{EachSince}
+use Rattle.boot_machine.specs.Moments.{Timeline, EachSince}
 use Rattle.boot_machine.specs.Listed.{is_listed}
 use Rattle.boot_machine.specs.Rows.{contents, move_in}
 use Rattle.boot_machine.specs.Counts.{Counts, DiskFailed}
@@ -33,9 +33,8 @@ pub record IsDone (new : State) (next : Files) : Type 0 where
   pub files : recovered_view new.files ≡ next
 
 -- Each moment of a step and what it leaves, whatever its answer.
-pub record StepsTo {D : Type 0} (clock : D → ℕ) (since : D → ℕ → Files → List Printed → Type 0) (state : D → State)
-    (next : Files) (old new : D) : Type 0 where
-  pub moments : EachSince clock since old new (Sees (state old) next)
+pub record StepsTo {D : Type 0} (time : Timeline D) (state : D → State) (next : Files) (old new : D) : Type 0 where
+  pub moments : EachSince time old new (Sees (state old) next)
   pub firm : IsFirm (state new)
   pub files : (recovered_view (state new).files ≡ recovered_view (state old).files)
       ⊎ (recovered_view (state new).files ≡ next)
@@ -49,9 +48,8 @@ abbrev pub moved : Path → Path → Files → Files
 moved from to files = if has files from && not (has files to) then move_in from to files else files
 
 -- no moment since old has anything printed that wasn't printed then
-abbrev pub PrintsNothing : {D : Type 0} → (D → ℕ) → (D → ℕ → Files → List Printed → Type 0) → (D → State) → D → D
-    → Type 0
-PrintsNothing clock since state old new = EachSince clock since old new (λ m o. o ≡ (state old).printed)
+abbrev pub PrintsNothing : {D : Type 0} → Timeline D → (D → State) → D → D → Type 0
+PrintsNothing time state old new = EachSince time old new (λ m o. o ≡ (state old).printed)
 
 -- the machine is rested after every answer but this fault
 abbrev pub RestsUnless : {T E : Type 0} → E → Result T E → State → Type 0

@@ -22,18 +22,18 @@ impl<M: Machine> ByteSink<M> for Growing<'_> {
 
     ghost can_take = { λ s m. CanGrow M.tells M.state s.temp.now m };
 
-    ghost took = { λ bytes s m t n. GrowsAlone M.tells M.clock M.since M.state bytes s.temp.now m t.temp.now n };
+    ghost took = { λ bytes s m t n. GrowsAlone M.tells M.time M.state bytes s.temp.now m t.temp.now n };
 
-    ghost reads = { λ s m n reads. grows_reads M.tells M.clock M.since M.state s.temp.now m n reads };
+    ghost reads = { λ s m n reads. grows_reads M.tells M.time M.state s.temp.now m n reads };
 
     ghost more = { λ a b s t u m n o first second.
-        grows_more M.tells M.clock M.since M.state a b s.temp.now t.temp.now u.temp.now m n o first second };
+        grows_more M.tells M.time M.state a b s.temp.now t.temp.now u.temp.now m n o first second };
 
-    ghost goes_on = { λ bytes s t m n can took. grows_on M.tells M.clock M.since M.state bytes s.temp.now t.temp.now m
+    ghost goes_on = { λ bytes s t m n can took. grows_on M.tells M.time M.state bytes s.temp.now t.temp.now m
         n can took };
 
     ghost keeps = { λ bytes s t m n path can took told shown.
-        grows_source M.tells M.clock M.since M.state bytes s.temp.now t.temp.now m n path can took told shown };
+        grows_source M.tells M.time M.state bytes s.temp.now t.temp.now m n path can took told shown };
 
     fn take(&mut self, piece: &[u8], machine: &mut M) -> Result<(), DiskFault> {
         append(machine, self.temp, piece)?;
@@ -44,7 +44,7 @@ impl<M: Machine> ByteSink<M> for Growing<'_> {
 /// Appends these bytes.
 pub fn append<M: Machine>(machine: &mut M, temp: &TempPath, bytes: &[u8]) -> Result<(), DiskFault>
     requires there { IsTrue M.tells → has (M.state machine.old).files temp.now ≡ true }
-    ensures appends { IsTrue M.tells → AppendsOnly M.clock M.since M.state temp.now machine.old machine.new }
+    ensures appends { IsTrue M.tells → AppendsOnly M.time M.state temp.now machine.old machine.new }
     ensures grows { OnOk result (IsTrue M.tells
         → Grown temp.now bytes.now (M.state machine.old) (M.state machine.new)) }
     ensures counts { CountsDisk result (M.counts machine.old) (M.counts machine.new) }
@@ -67,7 +67,7 @@ pub fn copy_part<M: Machine>(
     requires there { IsTrue M.tells → has (M.state machine.old).files temp.now ≡ true }
     requires room { 0 < length buffer.old }
     ensures length { length buffer.new ≡ length buffer.old }
-    ensures appends { IsTrue M.tells → AppendsOnly M.clock M.since M.state temp.now machine.old machine.new }
+    ensures appends { IsTrue M.tells → AppendsOnly M.time M.state temp.now machine.old machine.new }
     ensures grows { OnOk result (IsTrue M.tells
         → Grown temp.now (between (contents (M.state machine.old).files file.now) from to) (M.state machine.old)
         (M.state machine.new)) }

@@ -22,7 +22,7 @@ fn append_name<M: Machine>(
     name: &BootPath,
 ) -> Result<(), DiskFault>
     requires there { IsTrue M.tells → has (M.state machine.old).files temp.now ≡ true }
-    ensures appends { IsTrue M.tells → AppendsOnly M.clock M.since M.state temp.now machine.old machine.new }
+    ensures appends { IsTrue M.tells → AppendsOnly M.time M.state temp.now machine.old machine.new }
     ensures grown { OnOk result (IsTrue M.tells
         → Grown temp.now (name.now ++ 0 ∷ []) (M.state machine.old) (M.state machine.new)) }
     ensures counts { CountsDisk result (M.counts machine.old) (M.counts machine.new) }
@@ -46,14 +46,14 @@ fn put_intent<M: Machine>(
     requires one { IsTrue M.tells → HasOneCandidate (M.state machine.old) }
     requires rested { IsTrue M.tells → IsRested (M.state machine.old) }
     requires none { IsTrue M.tells → has (M.state machine.old).files to.now ≡ false }
-    ensures step { IsTrue M.tells → IsFirm (M.state machine.old) → StepsTo M.clock M.since M.state
+    ensures step { IsTrue M.tells → IsFirm (M.state machine.old) → StepsTo M.time M.state
         (recovered_view (M.state machine.old).files) machine.old machine.new }
     ensures intends { OnOk result (IsTrue M.tells
         → Intends from.now to.now (M.state machine.old).files (M.state machine.new).files) }
     ensures one { OnOk result (IsTrue M.tells → HasOneCandidate (M.state machine.new)) }
     ensures temps { OnOk result (IsTrue M.tells → NoNewTemp (M.state machine.old) (M.state machine.new)) }
     ensures keeps { IsTrue M.tells → Keeps (M.state machine.old) (M.state machine.new) }
-    ensures quiet { IsTrue M.tells → PrintsNothing M.clock M.since M.state machine.old machine.new }
+    ensures quiet { IsTrue M.tells → PrintsNothing M.time M.state machine.old machine.new }
     ensures counts { CountsDisk result (M.counts machine.old) (M.counts machine.new) }
     ensures taken { IsTrue M.tells → TakesNone (M.taken machine.old) (M.taken machine.new) }
 {
@@ -75,13 +75,13 @@ fn rename_synced<M: Machine>(
     requires one { IsTrue M.tells → HasOneCandidate (M.state machine.old) }
     requires there { IsTrue M.tells → has (M.state machine.old).files from.now ≡ true }
     requires named { IsTrue M.tells → intended (M.state machine.old).files ≡ Some (from.now, to.now) }
-    ensures step { IsTrue M.tells → IsFirm (M.state machine.old) → StepsTo M.clock M.since M.state
+    ensures step { IsTrue M.tells → IsFirm (M.state machine.old) → StepsTo M.time M.state
         (recovered_view (move_in from.now to.now (M.state machine.old).files)) machine.old machine.new }
     ensures files { OnOk result (IsTrue M.tells
         → (M.state machine.new).files ≡ move_in from.now to.now (M.state machine.old).files) }
     ensures one { OnOk result (IsTrue M.tells → HasOneCandidate (M.state machine.new)) }
     ensures keeps { IsTrue M.tells → Keeps (M.state machine.old) (M.state machine.new) }
-    ensures quiet { IsTrue M.tells → PrintsNothing M.clock M.since M.state machine.old machine.new }
+    ensures quiet { IsTrue M.tells → PrintsNothing M.time M.state machine.old machine.new }
     ensures counts { CountsDisk result (M.counts machine.old) (M.counts machine.new) }
     ensures taken { IsTrue M.tells → TakesNone (M.taken machine.old) (M.taken machine.new) }
 {
@@ -106,10 +106,10 @@ fn move_intended<M: Machine>(
     requires none { IsTrue M.tells → has (M.state machine.old).files to.now ≡ false }
     ensures done { OnOk result (IsTrue M.tells → IsFirm (M.state machine.old)
         → IsDone (M.state machine.new) (move_in from.now to.now (recovered_view (M.state machine.old).files))) }
-    ensures step { IsTrue M.tells → IsFirm (M.state machine.old) → StepsTo M.clock M.since M.state
+    ensures step { IsTrue M.tells → IsFirm (M.state machine.old) → StepsTo M.time M.state
         (move_in from.now to.now (recovered_view (M.state machine.old).files)) machine.old machine.new }
     ensures keeps { IsTrue M.tells → Keeps (M.state machine.old) (M.state machine.new) }
-    ensures quiet { IsTrue M.tells → PrintsNothing M.clock M.since M.state machine.old machine.new }
+    ensures quiet { IsTrue M.tells → PrintsNothing M.time M.state machine.old machine.new }
     ensures rests { OnOk result (IsTrue M.tells → IsRested (M.state machine.new)) }
     ensures temps { OnOk result (IsTrue M.tells → NoNewTemp (M.state machine.old) (M.state machine.new)) }
     ensures counts { CountsDisk result (M.counts machine.old) (M.counts machine.new) }
@@ -139,7 +139,7 @@ pub fn move_name<M: Machine>(
     requires rested { IsTrue M.tells → IsRested (M.state machine.old) }
     ensures done { OnOk result (IsTrue M.tells → IsFirm (M.state machine.old)
         → IsDone (M.state machine.new) (moved from.now to.now (recovered_view (M.state machine.old).files))) }
-    ensures step { IsTrue M.tells → IsFirm (M.state machine.old) → StepsTo M.clock M.since M.state
+    ensures step { IsTrue M.tells → IsFirm (M.state machine.old) → StepsTo M.time M.state
         (moved from.now to.now (recovered_view (M.state machine.old).files)) machine.old machine.new }
     ensures found { OnOk result (IsTrue M.tells → (has (recovered_view (M.state machine.old).files) from.now ≡ true)
         × (has (recovered_view (M.state machine.old).files) to.now ≡ false)) }
@@ -151,7 +151,7 @@ pub fn move_name<M: Machine>(
         × (has (recovered_view (M.state machine.old).files) to.now ≡ true)
         × (M.state machine.new ≡ M.state machine.old) }
     ensures keeps { IsTrue M.tells → Keeps (M.state machine.old) (M.state machine.new) }
-    ensures quiet { IsTrue M.tells → PrintsNothing M.clock M.since M.state machine.old machine.new }
+    ensures quiet { IsTrue M.tells → PrintsNothing M.time M.state machine.old machine.new }
     ensures rests { IsTrue M.tells → RestsUnless MoveFault.Disk result (M.state machine.new) }
     ensures temps { OnOk result (IsTrue M.tells → NoNewTemp (M.state machine.old) (M.state machine.new)) }
     ensures counts { CountsMove result (M.counts machine.old) (M.counts machine.new) }

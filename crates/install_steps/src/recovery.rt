@@ -42,7 +42,7 @@ fn left_names<M: Machine>(
     requires size { IsTrue M.tells → size ≡ length (contents (M.state machine.old).files intent_path) }
     ensures names { IfOk result (λ found. IsTrue M.tells
         → option_map names_of found ≡ intended (M.state machine.old).files) }
-    ensures reads { IsTrue M.tells → OnlyReads M.clock M.since M.state machine.old machine.new }
+    ensures reads { IsTrue M.tells → OnlyReads M.time M.state machine.old machine.new }
     ensures counts { CountsRecover result (M.counts machine.old) (M.counts machine.new) }
     ensures taken { IsTrue M.tells → TakesAtMost 2050 (M.taken machine.old) (M.taken machine.new) }
 {
@@ -58,13 +58,13 @@ fn left_names<M: Machine>(
 fn drop_left<M: Machine>(machine: &mut M, names: &Names) -> Result<(), DiskFault>
     requires named { IsTrue M.tells → intended (M.state machine.old).files ≡ Some (names_of names.now) }
     requires one { IsTrue M.tells → HasOneCandidate (M.state machine.old) }
-    ensures step { IsTrue M.tells → IsFirm (M.state machine.old) → StepsTo M.clock M.since M.state
+    ensures step { IsTrue M.tells → IsFirm (M.state machine.old) → StepsTo M.time M.state
         (recovered_view (M.state machine.old).files) machine.old machine.new }
     ensures whole { OnOk result (IsTrue M.tells → HasNoHalfRename (M.state machine.new).files) }
     ensures there { OnOk result (IsTrue M.tells → has (M.state machine.new).files intent_path ≡ true) }
     ensures one { OnOk result (IsTrue M.tells → HasOneCandidate (M.state machine.new)) }
     ensures keeps { IsTrue M.tells → Keeps (M.state machine.old) (M.state machine.new) }
-    ensures quiet { IsTrue M.tells → PrintsNothing M.clock M.since M.state machine.old machine.new }
+    ensures quiet { IsTrue M.tells → PrintsNothing M.time M.state machine.old machine.new }
     ensures temps { IsTrue M.tells → NoNewTemp (M.state machine.old) (M.state machine.new) }
     ensures counts { CountsDisk result (M.counts machine.old) (M.counts machine.new) }
     ensures taken { IsTrue M.tells → TakesNone (M.taken machine.old) (M.taken machine.new) }
@@ -84,12 +84,12 @@ fn drop_intent<M: Machine>(machine: &mut M, intent: &Target) -> Result<(), DiskF
     requires whole { IsTrue M.tells → HasNoHalfRename (M.state machine.old).files }
     requires there { IsTrue M.tells → has (M.state machine.old).files intent_path ≡ true }
     requires one { IsTrue M.tells → HasOneCandidate (M.state machine.old) }
-    ensures step { IsTrue M.tells → IsFirm (M.state machine.old) → StepsTo M.clock M.since M.state
+    ensures step { IsTrue M.tells → IsFirm (M.state machine.old) → StepsTo M.time M.state
         (recovered_view (M.state machine.old).files) machine.old machine.new }
     ensures rests { OnOk result (IsTrue M.tells → IsRested (M.state machine.new)) }
     ensures one { OnOk result (IsTrue M.tells → HasOneCandidate (M.state machine.new)) }
     ensures keeps { IsTrue M.tells → Keeps (M.state machine.old) (M.state machine.new) }
-    ensures quiet { IsTrue M.tells → PrintsNothing M.clock M.since M.state machine.old machine.new }
+    ensures quiet { IsTrue M.tells → PrintsNothing M.time M.state machine.old machine.new }
     ensures temps { IsTrue M.tells → NoNewTemp (M.state machine.old) (M.state machine.new) }
     ensures counts { CountsDisk result (M.counts machine.old) (M.counts machine.new) }
     ensures taken { IsTrue M.tells → TakesNone (M.taken machine.old) (M.taken machine.new) }
@@ -105,12 +105,12 @@ fn finish_left<M: Machine>(
 ) -> Result<(), RecoverFault>
     requires at_intent { intent.now.path ≡ intent_path }
     requires one { IsTrue M.tells → HasOneCandidate (M.state machine.old) }
-    ensures step { IsTrue M.tells → IsFirm (M.state machine.old) → StepsTo M.clock M.since M.state
+    ensures step { IsTrue M.tells → IsFirm (M.state machine.old) → StepsTo M.time M.state
         (recovered_view (M.state machine.old).files) machine.old machine.new }
     ensures rests { OnOk result (IsTrue M.tells → IsRested (M.state machine.new)) }
     ensures one { OnOk result (IsTrue M.tells → HasOneCandidate (M.state machine.new)) }
     ensures keeps { IsTrue M.tells → Keeps (M.state machine.old) (M.state machine.new) }
-    ensures quiet { IsTrue M.tells → PrintsNothing M.clock M.since M.state machine.old machine.new }
+    ensures quiet { IsTrue M.tells → PrintsNothing M.time M.state machine.old machine.new }
     ensures temps { IsTrue M.tells → NoNewTemp (M.state machine.old) (M.state machine.new) }
     ensures counts { CountsRecover result (M.counts machine.old) (M.counts machine.new) }
     ensures taken { IsTrue M.tells → TakesAtMost 2050 (M.taken machine.old) (M.taken machine.new) }
@@ -137,16 +137,16 @@ pub fn recover<M: Machine>(
 ) -> Result<(), RecoverFault>
     requires at_intent { intent.now.path ≡ intent_path }
     ensures recovers { IsTrue M.tells → IsFirm (M.state machine.old)
-        → RecoversTo M.clock M.since M.state machine.old machine.new }
+        → RecoversTo M.time M.state machine.old machine.new }
     ensures same { IsTrue M.tells → IsSettled (M.state machine.old)
-        → EachSince M.clock M.since machine.old machine.new (SeesSame (M.state machine.old)) }
+        → EachSince M.time machine.old machine.new (SeesSame (M.state machine.old)) }
     ensures synced { OnOk result (IsTrue M.tells → IsFirm (M.state machine.old)
-        → SameFrom M.clock M.since M.state machine.old machine.new) }
+        → SameFrom M.time M.state machine.old machine.new) }
     ensures settled { OnOk result (IsTrue M.tells → IsFirm (M.state machine.old) → IsSettled (M.state machine.new)) }
     ensures one { OnOk result (IsTrue M.tells → HasOneCandidate (M.state machine.new)) }
     ensures rests { OnOk result (IsTrue M.tells → IsRested (M.state machine.new)) }
     ensures keeps { IsTrue M.tells → Keeps (M.state machine.old) (M.state machine.new) }
-    ensures quiet { IsTrue M.tells → PrintsNothing M.clock M.since M.state machine.old machine.new }
+    ensures quiet { IsTrue M.tells → PrintsNothing M.time M.state machine.old machine.new }
     ensures temps { IsTrue M.tells → NoNewTemp (M.state machine.old) (M.state machine.new) }
     ensures counts { CountsRecover result (M.counts machine.old) (M.counts machine.new) }
     ensures taken { IsTrue M.tells → TakesAtMost 2050 (M.taken machine.old) (M.taken machine.new) }

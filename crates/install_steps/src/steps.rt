@@ -24,7 +24,7 @@ pub fn settle<M: Machine>(machine: &mut M) -> Result<(), DiskFault>
     ensures files { IsTrue M.tells → (M.state machine.new).files ≡ (M.state machine.old).files }
     ensures same { OnErr result (IsTrue M.tells → M.state machine.new ≡ M.state machine.old) }
     ensures keeps { IsTrue M.tells → Keeps (M.state machine.old) (M.state machine.new) }
-    ensures moments { IsTrue M.tells → EachSince M.clock M.since machine.old machine.new
+    ensures moments { IsTrue M.tells → EachSince M.time machine.old machine.new
         (λ m o. IsImage (M.state machine.old) m × (o ≡ (M.state machine.old).printed)) }
     ensures counts { CountsDisk result (M.counts machine.old) (M.counts machine.new) }
     ensures taken { IsTrue M.tells → TakesNone (M.taken machine.old) (M.taken machine.new) }
@@ -41,14 +41,14 @@ pub fn drop_name<M: Machine>(machine: &mut M, path: &BootPath) -> Result<(), Ste
     requires rested { IsTrue M.tells → IsRested (M.state machine.old) }
     ensures done { OnOk result (IsTrue M.tells → IsFirm (M.state machine.old)
         → IsDone (M.state machine.new) (map.remove (recovered_view (M.state machine.old).files) path.now)) }
-    ensures step { IsTrue M.tells → IsFirm (M.state machine.old) → StepsTo M.clock M.since M.state
+    ensures step { IsTrue M.tells → IsFirm (M.state machine.old) → StepsTo M.time M.state
         (map.remove (recovered_view (M.state machine.old).files) path.now) machine.old machine.new }
     ensures found { OnOk result (IsTrue M.tells → has (recovered_view (M.state machine.old).files) path.now ≡ true) }
     ensures not_found { IsErrOf result StepFault.NotFound → IsTrue M.tells
         → (has (recovered_view (M.state machine.old).files) path.now ≡ false)
         × (M.state machine.new ≡ M.state machine.old) }
     ensures keeps { IsTrue M.tells → Keeps (M.state machine.old) (M.state machine.new) }
-    ensures quiet { IsTrue M.tells → PrintsNothing M.clock M.since M.state machine.old machine.new }
+    ensures quiet { IsTrue M.tells → PrintsNothing M.time M.state machine.old machine.new }
     ensures rests { IsTrue M.tells → RestsUnless StepFault.Disk result (M.state machine.new) }
     ensures temps { OnOk result (IsTrue M.tells → NoNewTemp (M.state machine.old) (M.state machine.new)) }
     ensures counts { CountsStep result (M.counts machine.old) (M.counts machine.new) }
@@ -71,12 +71,12 @@ pub fn drop_leftovers<M: Machine>(machine: &mut M, paths: &[TempPath]) -> Result
     requires there { IsTrue M.tells → All (λ path. has (M.state machine.old).files path ≡ true) paths.now }
     ensures done { OnOk result (IsTrue M.tells → IsFirm (M.state machine.old)
         → IsDone (M.state machine.new) (recovered_view (M.state machine.old).files)) }
-    ensures step { IsTrue M.tells → IsFirm (M.state machine.old) → StepsTo M.clock M.since M.state
+    ensures step { IsTrue M.tells → IsFirm (M.state machine.old) → StepsTo M.time M.state
         (recovered_view (M.state machine.old).files) machine.old machine.new }
     ensures gone { OnOk result (IsTrue M.tells
         → Lacks paths.now (M.state machine.old).files (M.state machine.new).files) }
     ensures keeps { IsTrue M.tells → Keeps (M.state machine.old) (M.state machine.new) }
-    ensures quiet { IsTrue M.tells → PrintsNothing M.clock M.since M.state machine.old machine.new }
+    ensures quiet { IsTrue M.tells → PrintsNothing M.time M.state machine.old machine.new }
     ensures rests { OnOk result (IsTrue M.tells → IsRested (M.state machine.new)) }
     ensures temps { OnOk result (IsTrue M.tells → NoNewTemp (M.state machine.old) (M.state machine.new)) }
     ensures counts { CountsDisk result (M.counts machine.old) (M.counts machine.new) }
@@ -94,13 +94,13 @@ pub fn drop_leftovers<M: Machine>(machine: &mut M, paths: &[TempPath]) -> Result
 pub(crate) fn unlink_synced<M: Machine>(machine: &mut M, path: &BootPath) -> Result<(), DiskFault>
     requires one { IsTrue M.tells → HasOneCandidate (M.state machine.old) }
     requires there { IsTrue M.tells → has (M.state machine.old).files path.now ≡ true }
-    ensures step { IsTrue M.tells → IsFirm (M.state machine.old) → StepsTo M.clock M.since M.state
+    ensures step { IsTrue M.tells → IsFirm (M.state machine.old) → StepsTo M.time M.state
         (recovered_view (map.remove (M.state machine.old).files path.now)) machine.old machine.new }
     ensures files { OnOk result (IsTrue M.tells
         → (M.state machine.new).files ≡ map.remove (M.state machine.old).files path.now) }
     ensures one { OnOk result (IsTrue M.tells → HasOneCandidate (M.state machine.new)) }
     ensures keeps { IsTrue M.tells → Keeps (M.state machine.old) (M.state machine.new) }
-    ensures quiet { IsTrue M.tells → PrintsNothing M.clock M.since M.state machine.old machine.new }
+    ensures quiet { IsTrue M.tells → PrintsNothing M.time M.state machine.old machine.new }
     ensures temps { IsTrue M.tells → NoNewTemp (M.state machine.old) (M.state machine.new) }
     ensures counts { CountsDisk result (M.counts machine.old) (M.counts machine.new) }
     ensures taken { IsTrue M.tells → TakesNone (M.taken machine.old) (M.taken machine.new) }

@@ -29,10 +29,10 @@ pub fn write_bytes<M: Machine>(
     ensures done { OnOk result (IsTrue M.tells → IsFirm (M.state machine.old)
         → IsDone (M.state machine.new)
         (map.insert (recovered_view (M.state machine.old).files) target.now.path bytes.now)) }
-    ensures step { IsTrue M.tells → IsFirm (M.state machine.old) → StepsTo M.clock M.since M.state
+    ensures step { IsTrue M.tells → IsFirm (M.state machine.old) → StepsTo M.time M.state
         (map.insert (recovered_view (M.state machine.old).files) target.now.path bytes.now) machine.old machine.new }
     ensures keeps { IsTrue M.tells → Keeps (M.state machine.old) (M.state machine.new) }
-    ensures quiet { IsTrue M.tells → PrintsNothing M.clock M.since M.state machine.old machine.new }
+    ensures quiet { IsTrue M.tells → PrintsNothing M.time M.state machine.old machine.new }
     ensures rests { OnOk result (IsTrue M.tells → IsRested (M.state machine.new)) }
     ensures temps { OnOk result (IsTrue M.tells → NoNewTemp (M.state machine.old) (M.state machine.new)) }
     ensures counts { CountsDisk result (M.counts machine.old) (M.counts machine.new) }
@@ -63,14 +63,14 @@ pub fn write_whole<M: Machine>(
         → length (contents (recovered_view (M.state machine.old).files) from.now) ≤ 268435456 }
     ensures done { OnOk result (IsTrue M.tells → IsFirm (M.state machine.old)
         → IsDone (M.state machine.new) (copied from.now target.now.path (recovered_view (M.state machine.old).files))) }
-    ensures step { IsTrue M.tells → IsFirm (M.state machine.old) → StepsTo M.clock M.since M.state
+    ensures step { IsTrue M.tells → IsFirm (M.state machine.old) → StepsTo M.time M.state
         (copied from.now target.now.path (recovered_view (M.state machine.old).files)) machine.old machine.new }
     ensures found { OnOk result (IsTrue M.tells → has (recovered_view (M.state machine.old).files) from.now ≡ true) }
     ensures not_found { IsErrOf result StepFault.NotFound → IsTrue M.tells
         → (has (recovered_view (M.state machine.old).files) from.now ≡ false)
         × (M.state machine.new ≡ M.state machine.old) }
     ensures keeps { IsTrue M.tells → Keeps (M.state machine.old) (M.state machine.new) }
-    ensures quiet { IsTrue M.tells → PrintsNothing M.clock M.since M.state machine.old machine.new }
+    ensures quiet { IsTrue M.tells → PrintsNothing M.time M.state machine.old machine.new }
     ensures rests { IsTrue M.tells → RestsUnless StepFault.Disk result (M.state machine.new) }
     ensures temps { OnOk result (IsTrue M.tells → NoNewTemp (M.state machine.old) (M.state machine.new)) }
     ensures counts { CountsStep result (M.counts machine.old) (M.counts machine.new) }
@@ -99,13 +99,13 @@ pub fn put_in_place<M: Machine>(machine: &mut M, target: &Target) -> Result<(), 
         → IsDone (M.state machine.new)
         (recovered_view (move_in target.now.temp target.now.path (M.state machine.old).files))) }
     ensures step { IsTrue M.tells → IsFirm (M.state machine.old) → IsSettled (M.state machine.old)
-        → StepsTo M.clock M.since M.state
+        → StepsTo M.time M.state
         (recovered_view (move_in target.now.temp target.now.path (M.state machine.old).files)) machine.old machine.new }
     ensures files { OnOk result (IsTrue M.tells
         → (M.state machine.new).files ≡ move_in target.now.temp target.now.path (M.state machine.old).files) }
     ensures one { OnOk result (IsTrue M.tells → HasOneCandidate (M.state machine.new)) }
     ensures keeps { IsTrue M.tells → Keeps (M.state machine.old) (M.state machine.new) }
-    ensures quiet { IsTrue M.tells → PrintsNothing M.clock M.since M.state machine.old machine.new }
+    ensures quiet { IsTrue M.tells → PrintsNothing M.time M.state machine.old machine.new }
     ensures counts { CountsDisk result (M.counts machine.old) (M.counts machine.new) }
     ensures taken { IsTrue M.tells → TakesNone (M.taken machine.old) (M.taken machine.new) }
 {

@@ -68,7 +68,7 @@ pub(crate) fn conf_bytes<M: Machine>(
 ) -> Result<Vec<u8>, Unsaid>
     ensures says { IsTrue M.tells → Says (λ bytes. bytes.items) result
         (conf_bytes (seen (M.state machine.old)) path.now) }
-    ensures reads { IsTrue M.tells → OnlyReads M.clock M.since M.state machine.old machine.new }
+    ensures reads { IsTrue M.tells → OnlyReads M.time M.state machine.old machine.new }
     ensures counts { CountsUnsaid result (M.counts machine.old) (M.counts machine.new) }
     ensures taken { IsTrue M.tells → TakesAtMost 65536 (M.taken machine.old) (M.taken machine.new) }
 {
@@ -100,7 +100,7 @@ pub(crate) fn loader_menu<M: Machine>(
 ) -> Result<Vec<MenuItem>, Unsaid>
     ensures says { IsTrue M.tells
         → Says (λ menu. menu.items) result (loader_menu (seen (M.state machine.old)) folders.now) }
-    ensures reads { IsTrue M.tells → OnlyReads M.clock M.since M.state machine.old machine.new }
+    ensures reads { IsTrue M.tells → OnlyReads M.time M.state machine.old machine.new }
     ensures counts { CountsUnsaid result (M.counts machine.old) (M.counts machine.new) }
     ensures taken { IsTrue M.tells → TakesAtMost
         (scan_limit (M.state machine.old).files (Some folders.now)) (M.taken machine.old) (M.taken machine.new) }

@@ -74,7 +74,7 @@ fn text_set<M: Machine>(
     requires { IsConfValue key value.now }
     ensures says { IsTrue M.tells
         → Says (λ text. text.items) result (text_set (seen (M.state machine.old)) key value.now path.now) }
-    ensures reads { IsTrue M.tells → OnlyReads M.clock M.since M.state machine.old machine.new }
+    ensures reads { IsTrue M.tells → OnlyReads M.time M.state machine.old machine.new }
     ensures counts { CountsUnsaid result (M.counts machine.old) (M.counts machine.new) }
     ensures taken { IsTrue M.tells → TakesAtMost 65536 (M.taken machine.old) (M.taken machine.new) }
 {
@@ -122,7 +122,7 @@ fn conf_set<M: Machine>(
         (conf_set (seen (M.state machine.old)) key value.now esp.now) }
     ensures free { IfOk result (λ change. IsFree change.target.path) }
     ensures text { IfOk result (λ change. change.text ≡ set_text key value.now) }
-    ensures reads { IsTrue M.tells → OnlyReads M.clock M.since M.state machine.old machine.new }
+    ensures reads { IsTrue M.tells → OnlyReads M.time M.state machine.old machine.new }
     ensures counts { CountsUnsaid result (M.counts machine.old) (M.counts machine.new) }
     ensures taken { IsTrue M.tells → TakesAtMost 65536 (M.taken machine.old) (M.taken machine.new) }
     ensures words { DeclinesWords (conf_words key value.now esp.now) result }
@@ -161,7 +161,7 @@ fn planned<M: Machine>(
         (set_meant (seen (M.state machine.old)) key value.now esp.now) }
     ensures makeable { IfOk result (λ plan. IsMakeable plan.change) }
     ensures idle { IfOk result IsIdleIfRefused }
-    ensures reads { IsTrue M.tells → OnlyReads M.clock M.since M.state machine.old machine.new }
+    ensures reads { IsTrue M.tells → OnlyReads M.time M.state machine.old machine.new }
     ensures counts { CountsUnsaid result (M.counts machine.old) (M.counts machine.new) }
     ensures taken { IsTrue M.tells → TakesAtMost 65536 (M.taken machine.old) (M.taken machine.new) }
     ensures words { DeclinesWords (conf_words key value.now esp.now) result }
@@ -182,7 +182,7 @@ pub fn plan_default<M: Machine>(
         (set_answer (seen (M.state machine.old)) keys.Default pattern.now esp.now)) }
     ensures makeable { IfOk result (λ plan. IsMakeable plan.change) }
     ensures idle { IfOk result IsIdleIfRefused }
-    ensures reads { IsTrue M.tells → OnlyReads M.clock M.since M.state machine.old machine.new }
+    ensures reads { IsTrue M.tells → OnlyReads M.time M.state machine.old machine.new }
     ensures counts { CountsStop result (M.counts machine.old) (M.counts machine.new) }
     ensures taken { IsTrue M.tells → TakesAtMost 65536 (M.taken machine.old) (M.taken machine.new) }
     ensures words { RefusesWords (conf_words keys.Default pattern.now esp.now) result }
@@ -202,7 +202,7 @@ pub fn plan_timeout<M: Machine>(
         (set_answer (seen (M.state machine.old)) keys.Timeout value.now esp.now)) }
     ensures makeable { IfOk result (λ plan. IsMakeable plan.change) }
     ensures idle { IfOk result IsIdleIfRefused }
-    ensures reads { IsTrue M.tells → OnlyReads M.clock M.since M.state machine.old machine.new }
+    ensures reads { IsTrue M.tells → OnlyReads M.time M.state machine.old machine.new }
     ensures counts { CountsStop result (M.counts machine.old) (M.counts machine.new) }
     ensures taken { IsTrue M.tells → TakesAtMost 65536 (M.taken machine.old) (M.taken machine.new) }
     ensures words { RefusesWords (conf_words keys.Timeout value.now esp.now) result }

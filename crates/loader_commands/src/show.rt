@@ -94,7 +94,7 @@ fn menu_shown(alloc: Global, bytes: &[u8], menu: &[MenuItem]) -> Result<Vec<u8>,
 
 fn shown<M: Machine>(alloc: Global, esp: &str, machine: &mut M) -> Result<Vec<u8>, Unsaid>
     ensures says { IsTrue M.tells → Says (λ text. text.items) result (show_said (seen (M.state machine.old)) esp.now) }
-    ensures reads { IsTrue M.tells → OnlyReads M.clock M.since M.state machine.old machine.new }
+    ensures reads { IsTrue M.tells → OnlyReads M.time M.state machine.old machine.new }
     ensures counts { CountsUnsaid result (M.counts machine.old) (M.counts machine.new) }
     ensures taken { IsTrue M.tells
         → TakesAtMost (show_limit (M.state machine.old).files (loader_paths esp.now)) (M.taken machine.old)
@@ -114,7 +114,7 @@ pub fn plan_show<M: Machine>(alloc: Global, esp: &str, machine: &mut M) -> Resul
         (show_answer (seen (M.state machine.old)) esp.now)) }
     ensures makeable { IfOk result (λ plan. IsMakeable plan.change) }
     ensures idle { IfOk result (λ plan. plan.change ≡ Nothing) }
-    ensures reads { IsTrue M.tells → OnlyReads M.clock M.since M.state machine.old machine.new }
+    ensures reads { IsTrue M.tells → OnlyReads M.time M.state machine.old machine.new }
     ensures counts { CountsStop result (M.counts machine.old) (M.counts machine.new) }
     ensures taken { IsTrue M.tells
         → TakesAtMost (show_limit (M.state machine.old).files (loader_paths esp.now)) (M.taken machine.old)

@@ -139,7 +139,7 @@ fn mode_at(failures: &[Failure], call: u64) -> Option<FailMode>
 }
 
 impl MemMachine {
-    ghost use Rattle.memory_machine.specs.Memory.{mem_start, mem_events, mem_input, mem_state, mem_clock, mem_since, mem_counts, mem_reads, mem_starved, mem_calls, mem_plan, next_mode, SameOrders, TellsTheSame, TellsOneMore, IsNextCall, IsStarved, RecordsCall, AsTold, NamesAsTold};
+    ghost use Rattle.memory_machine.specs.Memory.{mem_start, mem_events, mem_input, mem_state, mem_clock, mem_time, mem_counts, mem_reads, mem_starved, mem_calls, mem_plan, next_mode, SameOrders, TellsTheSame, TellsOneMore, IsNextCall, IsStarved, RecordsCall, AsTold, NamesAsTold};
     ghost use Rattle.memory_machine.specs.Events.{step, say, start_state, stopped};
     ghost use Rattle.boot_machine.specs.Moments.{Elapses};
     ghost use Rattle.boot_machine.specs.Rows.{DoneOrNot, SizeRow, ReadRow, NamesRow, CreateRow, AppendRow, SyncFileRow, RenameRow, UnlinkRow, SyncNamesRow, PrintRow, InputRow, created, appended, file_synced, renamed, unlinked, names_synced, with_printed, input_taken};
@@ -181,7 +181,7 @@ impl MemMachine {
     /// From now on these bytes are its standard input.
     pub fn set_input(&mut self, bytes: Vec<u8>)
         ensures state { mem_state self.new ≡ record (mem_state self.old) { input = bytes.items } }
-        ensures moments { Elapses mem_clock mem_since mem_state self.old self.new }
+        ensures moments { Elapses mem_time mem_state self.old self.new }
         ensures counts { mem_counts self.new ≡ mem_counts self.old }
         ensures reads { mem_reads self.new ≡ mem_reads self.old }
         ensures told { SameOrders self.old self.new }
@@ -212,7 +212,7 @@ impl MemMachine {
         ensures others { (other : ℕ) → other ≢ call → mem_plan self.new other ≡ mem_plan self.old other }
         ensures err { OnErr result (mem_plan self.new ≡ mem_plan self.old) }
         ensures state { mem_state self.new ≡ mem_state self.old }
-        ensures moments { Elapses mem_clock mem_since mem_state self.old self.new }
+        ensures moments { Elapses mem_time mem_state self.old self.new }
         ensures counts { mem_counts self.new ≡ mem_counts self.old }
         ensures reads { mem_reads self.new ≡ mem_reads self.old }
         ensures calls { mem_calls self.new ≡ mem_calls self.old }
@@ -245,7 +245,7 @@ impl MemMachine {
             IsLeft (mem_state self) choice.now.candidate choice.now.fill.items (mem_state machine).files) }
         ensures image { IfOk result (λ machine. IsImage (mem_state self) (mem_state machine).files) }
         ensures settled { IfOk result (λ machine. IsSettled (mem_state machine)) }
-        ensures moments { IfOk result (λ machine. Elapses mem_clock mem_since mem_state self machine) }
+        ensures moments { IfOk result (λ machine. Elapses mem_time mem_state self machine) }
         ensures counts { IfOk result (λ machine. mem_counts machine ≡ mem_counts self) }
         ensures reads { IfOk result (λ machine. mem_reads machine ≡ mem_reads self) }
         ensures told { IfOk result (λ machine. SameOrders self machine) }
@@ -301,7 +301,7 @@ impl MemMachine {
     fn skip(&mut self)
         ensures state { mem_state self.new ≡ mem_state self.old }
         ensures plan { mem_plan self.new ≡ mem_plan self.old }
-        ensures moments { Elapses mem_clock mem_since mem_state self.old self.new }
+        ensures moments { Elapses mem_time mem_state self.old self.new }
         ensures records { RecordsCall self.old self.new }
         ensures counts { mem_counts self.new ≡ mem_counts self.old }
         ensures reads { mem_reads self.new ≡ mem_reads self.old }
@@ -365,7 +365,7 @@ impl MemMachine {
         ensures state { mem_state self.new ≡ mem_state self.old }
         ensures next { IsNextCall self.old self.new }
         ensures starved { IsStarved self.old self.new }
-        ensures moments { Elapses mem_clock mem_since mem_state self.old self.new }
+        ensures moments { Elapses mem_time mem_state self.old self.new }
         ensures counts { DiskFailed (mem_counts self.old) (mem_counts self.new) }
         ensures once { DiskFailsOnce (mem_counts self.old) (mem_counts self.new) }
         ensures records { RecordsCall self.old self.new }
@@ -381,7 +381,7 @@ impl MemMachine {
         ensures state { mem_state self.new ≡ mem_state self.old }
         ensures next { IsNextCall self.old self.new }
         ensures starved { IsStarved self.old self.new }
-        ensures moments { Elapses mem_clock mem_since mem_state self.old self.new }
+        ensures moments { Elapses mem_time mem_state self.old self.new }
         ensures counts { PipeFailed (mem_counts self.old) (mem_counts self.new) }
         ensures once { PipeFailsOnce (mem_counts self.old) (mem_counts self.new) }
         ensures records { RecordsCall self.old self.new }
@@ -399,7 +399,7 @@ impl MemMachine {
             × (mem_starved self.new ≡ mem_starved self.old))
             ⊎ ((mem_state self.new ≡ mem_state self.old) × IsStarved self.old self.new) }
         ensures plan { mem_plan self.new ≡ mem_plan self.old }
-        ensures moments { Elapses mem_clock mem_since mem_state self.old self.new }
+        ensures moments { Elapses mem_time mem_state self.old self.new }
         ensures records { RecordsCall self.old self.new }
         ensures counts { mem_counts self.new ≡ mem_counts self.old }
         ensures reads { mem_reads self.new ≡ mem_reads self.old }
@@ -413,7 +413,7 @@ impl MemMachine {
     fn run_disk(&mut self, event: Event) -> Result<(), DiskFault>
         ensures row { DoneOrNot (mem_state self.old) (step event (mem_state self.old)) (mem_state self.new) result }
         ensures told { AsTold self.old self.new (mem_state self.old) (step event (mem_state self.old)) result }
-        ensures moments { Elapses mem_clock mem_since mem_state self.old self.new }
+        ensures moments { Elapses mem_time mem_state self.old self.new }
         ensures counts { CountsDisk result (mem_counts self.old) (mem_counts self.new) }
         ensures once { OnErr result (DiskFailsOnce (mem_counts self.old) (mem_counts self.new)) }
         ensures records { RecordsCall self.old self.new }
@@ -440,7 +440,7 @@ impl MemMachine {
         ensures row { AppendRow (mem_state self.old) (mem_state self.new) path bytes.items result }
         ensures told { AsTold self.old self.new
             (appended path [] (mem_state self.old)) (appended path bytes.items (mem_state self.old)) result }
-        ensures moments { Elapses mem_clock mem_since mem_state self.old self.new }
+        ensures moments { Elapses mem_time mem_state self.old self.new }
         ensures counts { CountsDisk result (mem_counts self.old) (mem_counts self.new) }
         ensures once { OnErr result (DiskFailsOnce (mem_counts self.old) (mem_counts self.new)) }
         ensures records { RecordsCall self.old self.new }
@@ -464,7 +464,7 @@ impl MemMachine {
     fn run_print(&mut self, text: Vec<Printed>) -> Result<(), PipeFault>
         ensures row { DoneOrNot (mem_state self.old) (say text.items (mem_state self.old)) (mem_state self.new) result }
         ensures told { AsTold self.old self.new (mem_state self.old) (say text.items (mem_state self.old)) result }
-        ensures moments { Elapses mem_clock mem_since mem_state self.old self.new }
+        ensures moments { Elapses mem_time mem_state self.old self.new }
         ensures counts { CountsPipe result (mem_counts self.old) (mem_counts self.new) }
         ensures once { OnErr result (PipeFailsOnce (mem_counts self.old) (mem_counts self.new)) }
         ensures records { RecordsCall self.old self.new }
@@ -489,7 +489,7 @@ impl MemMachine {
         ensures ok { OnOk result (mem_state self.new ≡ step event (mem_state self.old)) }
         ensures err { OnErr result (mem_state self.new ≡ mem_state self.old) }
         ensures told { AsTold self.old self.new (mem_state self.old) (mem_state self.old) result }
-        ensures moments { Elapses mem_clock mem_since mem_state self.old self.new }
+        ensures moments { Elapses mem_time mem_state self.old self.new }
         ensures counts { CountsDisk result (mem_counts self.old) (mem_counts self.new) }
         ensures once { OnErr result (DiskFailsOnce (mem_counts self.old) (mem_counts self.new)) }
         ensures records { RecordsCall self.old self.new }
@@ -511,7 +511,7 @@ impl MemMachine {
         ensures state { mem_state self.new ≡ mem_state self.old }
         ensures noted { OnOk result (TellsOneMore look self.old self.new) }
         ensures told { AsTold self.old self.new (mem_state self.old) (mem_state self.old) result }
-        ensures moments { Elapses mem_clock mem_since mem_state self.old self.new }
+        ensures moments { Elapses mem_time mem_state self.old self.new }
         ensures counts { CountsPipe result (mem_counts self.old) (mem_counts self.new) }
         ensures once { OnErr result (PipeFailsOnce (mem_counts self.old) (mem_counts self.new)) }
         ensures records { RecordsCall self.old self.new }
@@ -529,7 +529,7 @@ impl MemMachine {
 }
 
 impl Machine for MemMachine {
-    ghost use Rattle.memory_machine.specs.Memory.{mem_start, mem_events, mem_input, mem_state, mem_clock, mem_since, mem_counts, mem_reads, mem_taken, KeepsRead, mem_starved, mem_calls, mem_plan, next_mode, TellsTheSame, TellsOneMore, IsNextCall, IsStarved, RecordsCall, AsTold, NamesAsTold};
+    ghost use Rattle.memory_machine.specs.Memory.{mem_start, mem_events, mem_input, mem_state, mem_time, mem_counts, mem_reads, mem_taken, KeepsRead, mem_starved, mem_calls, mem_plan, next_mode, TellsTheSame, TellsOneMore, IsNextCall, IsStarved, RecordsCall, AsTold, NamesAsTold};
     ghost use Rattle.memory_machine.specs.EventLaws.{now_counts, now_only, sound_held, sound-input, image-input, image_input};
     ghost use Rattle.memory_machine.specs.Events.{step};
     ghost use Rattle.boot_machine.specs.Moments.{Elapses};
@@ -541,9 +541,7 @@ impl Machine for MemMachine {
 
     ghost state = { mem_state };
 
-    ghost clock = { mem_clock };
-
-    ghost since = { mem_since };
+    ghost time = { mem_time };
 
     ghost counts = { mem_counts };
 
@@ -561,7 +559,7 @@ impl Machine for MemMachine {
     fn size(&mut self, path: &BootPath) -> Result<Option<u64>, DiskFault>
         ensures row { SizeRow (mem_state self.old) (mem_state self.new) path.now result }
         ensures told { AsTold self.old self.new (mem_state self.old) (mem_state self.old) result }
-        ensures moments { Elapses mem_clock mem_since mem_state self.old self.new }
+        ensures moments { Elapses mem_time mem_state self.old self.new }
         ensures counts { CountsDisk result (mem_counts self.old) (mem_counts self.new) }
         ensures once { OnErr result (DiskFailsOnce (mem_counts self.old) (mem_counts self.new)) }
         ensures records { RecordsCall self.old self.new }
@@ -577,7 +575,7 @@ impl Machine for MemMachine {
         ensures row { ReadRow (mem_state self.old) (mem_state self.new) path.now at into.new result }
         ensures within { IfOk result (λ n. n ≤ length into.new) }
         ensures told { AsTold self.old self.new (mem_state self.old) (mem_state self.old) result }
-        ensures moments { Elapses mem_clock mem_since mem_state self.old self.new }
+        ensures moments { Elapses mem_time mem_state self.old self.new }
         ensures counts { CountsDisk result (mem_counts self.old) (mem_counts self.new) }
         ensures once { OnErr result (DiskFailsOnce (mem_counts self.old) (mem_counts self.new)) }
         ensures records { RecordsCall self.old self.new }
@@ -596,7 +594,7 @@ impl Machine for MemMachine {
     fn names(&mut self, alloc: Global, folder: &BootPath) -> Result<Vec<FileName>, NamesFault>
         ensures row { NamesRow (mem_state self.old) (mem_state self.new) folder.now result }
         ensures told { NamesAsTold self.old self.new result }
-        ensures moments { Elapses mem_clock mem_since mem_state self.old self.new }
+        ensures moments { Elapses mem_time mem_state self.old self.new }
         ensures counts { CountsNames result (mem_counts self.old) (mem_counts self.new) }
         ensures once { IsErrOf result NamesFault.Disk → DiskFailsOnce (mem_counts self.old) (mem_counts self.new) }
         ensures records { RecordsCall self.old self.new }
@@ -615,7 +613,7 @@ impl Machine for MemMachine {
     fn create(&mut self, path: &TempPath) -> Result<(), DiskFault>
         ensures row { CreateRow (mem_state self.old) (mem_state self.new) path.now result }
         ensures told { AsTold self.old self.new (mem_state self.old) (created path.now (mem_state self.old)) result }
-        ensures moments { Elapses mem_clock mem_since mem_state self.old self.new }
+        ensures moments { Elapses mem_time mem_state self.old self.new }
         ensures counts { CountsDisk result (mem_counts self.old) (mem_counts self.new) }
         ensures once { OnErr result (DiskFailsOnce (mem_counts self.old) (mem_counts self.new)) }
         ensures records { RecordsCall self.old self.new }
@@ -633,7 +631,7 @@ impl Machine for MemMachine {
         ensures row { AppendRow (mem_state self.old) (mem_state self.new) path.now bytes.now result }
         ensures told { AsTold self.old self.new
             (appended path.now [] (mem_state self.old)) (appended path.now bytes.now (mem_state self.old)) result }
-        ensures moments { Elapses mem_clock mem_since mem_state self.old self.new }
+        ensures moments { Elapses mem_time mem_state self.old self.new }
         ensures counts { CountsDisk result (mem_counts self.old) (mem_counts self.new) }
         ensures once { OnErr result (DiskFailsOnce (mem_counts self.old) (mem_counts self.new)) }
         ensures records { RecordsCall self.old self.new }
@@ -649,7 +647,7 @@ impl Machine for MemMachine {
     fn sync_file(&mut self, path: &TempPath) -> Result<(), DiskFault>
         ensures row { SyncFileRow (mem_state self.old) (mem_state self.new) path.now result }
         ensures told { AsTold self.old self.new (mem_state self.old) (mem_state self.old) result }
-        ensures moments { Elapses mem_clock mem_since mem_state self.old self.new }
+        ensures moments { Elapses mem_time mem_state self.old self.new }
         ensures counts { CountsDisk result (mem_counts self.old) (mem_counts self.new) }
         ensures once { OnErr result (DiskFailsOnce (mem_counts self.old) (mem_counts self.new)) }
         ensures records { RecordsCall self.old self.new }
@@ -668,7 +666,7 @@ impl Machine for MemMachine {
         ensures row { RenameRow (mem_state self.old) (mem_state self.new) from.now to.now result }
         ensures told { AsTold self.old self.new (mem_state self.old)
             (renamed from.now to.now (mem_state self.old)) result }
-        ensures moments { Elapses mem_clock mem_since mem_state self.old self.new }
+        ensures moments { Elapses mem_time mem_state self.old self.new }
         ensures counts { CountsDisk result (mem_counts self.old) (mem_counts self.new) }
         ensures once { OnErr result (DiskFailsOnce (mem_counts self.old) (mem_counts self.new)) }
         ensures records { RecordsCall self.old self.new }
@@ -687,7 +685,7 @@ impl Machine for MemMachine {
         ensures row { RenameRow (mem_state self.old) (mem_state self.new) from.now to.now result }
         ensures told { AsTold self.old self.new (mem_state self.old)
             (renamed from.now to.now (mem_state self.old)) result }
-        ensures moments { Elapses mem_clock mem_since mem_state self.old self.new }
+        ensures moments { Elapses mem_time mem_state self.old self.new }
         ensures counts { CountsDisk result (mem_counts self.old) (mem_counts self.new) }
         ensures once { OnErr result (DiskFailsOnce (mem_counts self.old) (mem_counts self.new)) }
         ensures records { RecordsCall self.old self.new }
@@ -703,7 +701,7 @@ impl Machine for MemMachine {
     fn unlink(&mut self, path: &BootPath) -> Result<(), DiskFault>
         ensures row { UnlinkRow (mem_state self.old) (mem_state self.new) path.now result }
         ensures told { AsTold self.old self.new (mem_state self.old) (unlinked path.now (mem_state self.old)) result }
-        ensures moments { Elapses mem_clock mem_since mem_state self.old self.new }
+        ensures moments { Elapses mem_time mem_state self.old self.new }
         ensures counts { CountsDisk result (mem_counts self.old) (mem_counts self.new) }
         ensures once { OnErr result (DiskFailsOnce (mem_counts self.old) (mem_counts self.new)) }
         ensures records { RecordsCall self.old self.new }
@@ -719,7 +717,7 @@ impl Machine for MemMachine {
     fn unlink_temp(&mut self, path: &TempPath) -> Result<(), DiskFault>
         ensures row { UnlinkRow (mem_state self.old) (mem_state self.new) path.now result }
         ensures told { AsTold self.old self.new (mem_state self.old) (unlinked path.now (mem_state self.old)) result }
-        ensures moments { Elapses mem_clock mem_since mem_state self.old self.new }
+        ensures moments { Elapses mem_time mem_state self.old self.new }
         ensures counts { CountsDisk result (mem_counts self.old) (mem_counts self.new) }
         ensures once { OnErr result (DiskFailsOnce (mem_counts self.old) (mem_counts self.new)) }
         ensures records { RecordsCall self.old self.new }
@@ -735,7 +733,7 @@ impl Machine for MemMachine {
     fn sync_names(&mut self) -> Result<(), DiskFault>
         ensures row { SyncNamesRow (mem_state self.old) (mem_state self.new) result }
         ensures told { AsTold self.old self.new (mem_state self.old) (mem_state self.old) result }
-        ensures moments { Elapses mem_clock mem_since mem_state self.old self.new }
+        ensures moments { Elapses mem_time mem_state self.old self.new }
         ensures counts { CountsDisk result (mem_counts self.old) (mem_counts self.new) }
         ensures once { OnErr result (DiskFailsOnce (mem_counts self.old) (mem_counts self.new)) }
         ensures records { RecordsCall self.old self.new }
@@ -749,7 +747,7 @@ impl Machine for MemMachine {
         ensures row { PrintRow (mem_state self.old) (mem_state self.new) to bytes.now result }
         ensures told { AsTold self.old self.new (mem_state self.old)
             (with_printed to bytes.now (mem_state self.old)) result }
-        ensures moments { Elapses mem_clock mem_since mem_state self.old self.new }
+        ensures moments { Elapses mem_time mem_state self.old self.new }
         ensures counts { CountsPipe result (mem_counts self.old) (mem_counts self.new) }
         ensures once { OnErr result (PipeFailsOnce (mem_counts self.old) (mem_counts self.new)) }
         ensures records { RecordsCall self.old self.new }
@@ -766,7 +764,7 @@ impl Machine for MemMachine {
         ensures row { InputRow (mem_state self.old) (mem_state self.new) into.new result }
         ensures within { IfOk result (λ n. n ≤ length into.new) }
         ensures told { AsTold self.old self.new (mem_state self.old) (mem_state self.old) result }
-        ensures moments { Elapses mem_clock mem_since mem_state self.old self.new }
+        ensures moments { Elapses mem_time mem_state self.old self.new }
         ensures counts { CountsPipe result (mem_counts self.old) (mem_counts self.new) }
         ensures once { OnErr result (PipeFailsOnce (mem_counts self.old) (mem_counts self.new)) }
         ensures records { RecordsCall self.old self.new }

@@ -1,9 +1,9 @@
 -- What registers take, as far as it is known.
 use Rattle.std.specs.Prelude.{◌≡◌, ℕ, Bool, IsTrue, List, []}
 use Rattle.std.specs.List.{AllZip}
-use Rattle.boot_machine.specs.Disk.{Files, State}
+use Rattle.boot_machine.specs.Disk.{State}
+use Rattle.boot_machine.specs.Moments.{Timeline}
 use Rattle.boot_machine.specs.Reading.{OnlyReads}
-use Rattle.boot_machine.specs.declared.machine.Printed.{Printed}
 use Rattle.pcr_values.specs.declared.bank.Bank.{Bank}
 use Rattle.stub_replay.specs.declared.register.Register.{Register}
 use Rattle.stub_replay.specs.Registers.{AllHold, Takes, Extends}
@@ -22,7 +22,7 @@ abbrev pub AreBetween : List Register → Type 0
 AreBetween registers = (banks : List Bank) × (items : List (List ℕ)) × AllHold registers banks items []
 
 -- the hashes take these bytes, and the machine only reads meanwhile
-abbrev pub TakesReading : {D : Type 0} → Bool → (D → ℕ) → (D → ℕ → Files → List Printed → Type 0) → (D → State)
+abbrev pub TakesReading : {D : Type 0} → Bool → Timeline D → (D → State)
     → List ℕ → List Register → D → List Register → D → Type 0
-TakesReading tells clock since state bytes old before new after =
-    AllZip (Takes bytes) old new × (IsTrue tells → OnlyReads clock since state before after)
+TakesReading tells time state bytes old before new after =
+    AllZip (Takes bytes) old new × (IsTrue tells → OnlyReads time state before after)

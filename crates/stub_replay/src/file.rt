@@ -43,7 +43,7 @@ pub fn replay<M: Machine>(
     ensures bank { IfOk result (λ pcr. pcr_bank pcr ≡ bank) }
     ensures value { IfOk result (λ pcr. IsTrue M.tells
         → pcr_bytes pcr ≡ fold_of bank (measured_list (contents (M.state machine.old).files path.now))) }
-    ensures reads { IsTrue M.tells → OnlyReads M.clock M.since M.state machine.old machine.new }
+    ensures reads { IsTrue M.tells → OnlyReads M.time M.state machine.old machine.new }
     ensures counts { CountsDisk result (M.counts machine.old) (M.counts machine.new) }
     ensures taken { IsTrue M.tells
         → TakesAtMost (measured_length (contents (M.state machine.old).files path.now)) (M.taken machine.old)
@@ -75,7 +75,7 @@ pub fn replay_all<M: Machine>(
     ensures value { IfOk result (λ pcrs. IsTrue M.tells
         → map shown pcrs.items
         ≡ map (folded (measured_list (contents (M.state machine.old).files path.now))) banks.now) }
-    ensures reads { IsTrue M.tells → OnlyReads M.clock M.since M.state machine.old machine.new }
+    ensures reads { IsTrue M.tells → OnlyReads M.time M.state machine.old machine.new }
     ensures counts { CountsPredict result (M.counts machine.old) (M.counts machine.new) }
     ensures taken { IsTrue M.tells
         → TakesAtMost (measured_length (contents (M.state machine.old).files path.now)) (M.taken machine.old)
@@ -101,7 +101,7 @@ fn measure_sections<M: Machine>(
     ensures length { length buffer.new ≡ length buffer.old }
     ensures value { OnOk result (ExtendsWhere (IsTrue M.tells)
         (measured_list (contents (M.state machine.old).files path.now)) registers.old registers.new) }
-    ensures reads { IsTrue M.tells → OnlyReads M.clock M.since M.state machine.old machine.new }
+    ensures reads { IsTrue M.tells → OnlyReads M.time M.state machine.old machine.new }
     ensures counts { CountsDisk result (M.counts machine.old) (M.counts machine.new) }
     ensures taken { IsTrue M.tells
         → TakesAtMost (measured_length (contents (M.state machine.old).files path.now)) (M.taken machine.old)
@@ -129,7 +129,7 @@ fn measure_section<M: Machine>(
     ensures value { OnOk result (ExtendsWhere (IsTrue M.tells)
         (section_items name.now (loaded (contents (M.state machine.old).files path.now) name.now)) registers.old
         registers.new) }
-    ensures reads { IsTrue M.tells → OnlyReads M.clock M.since M.state machine.old machine.new }
+    ensures reads { IsTrue M.tells → OnlyReads M.time M.state machine.old machine.new }
     ensures counts { CountsDisk result (M.counts machine.old) (M.counts machine.new) }
     ensures taken { IsTrue M.tells → TakesAtMost
         (length (loaded (contents (M.state machine.old).files path.now) name.now)) (M.taken machine.old)
@@ -168,7 +168,7 @@ pub fn range_digest<M: Machine>(
     ensures value { IfOk result (λ digest. IsTrue M.tells
         → range.length ≤ length (drop range.place (contents (M.state machine.old).files path.now))
         → bytes_of_digest digest ≡ digest_of bank (bytes_in (contents (M.state machine.old).files path.now) range)) }
-    ensures reads { IsTrue M.tells → OnlyReads M.clock M.since M.state machine.old machine.new }
+    ensures reads { IsTrue M.tells → OnlyReads M.time M.state machine.old machine.new }
     ensures counts { CountsDisk result (M.counts machine.old) (M.counts machine.new) }
     ensures taken { IsTrue M.tells → TakesAtMost range.length (M.taken machine.old) (M.taken machine.new) }
 {

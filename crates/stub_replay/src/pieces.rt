@@ -32,7 +32,7 @@ pub(crate) fn take_content<M: Machine>(
     ensures data { OnOk result
         (TakesWhere (IsTrue M.tells × IsWhole (contents (seen (M.state machine.old))) content.now)
         (content_bytes (contents (seen (M.state machine.old))) content.now) registers.old registers.new) }
-    ensures reads { IsTrue M.tells → OnlyReads M.clock M.since M.state machine.old machine.new }
+    ensures reads { IsTrue M.tells → OnlyReads M.time M.state machine.old machine.new }
     ensures counts { CountsDisk result (M.counts machine.old) (M.counts machine.new) }
     ensures taken { IsTrue M.tells → TakesAtMost (read_length content.now) (M.taken machine.old) (M.taken machine.new) }
 {
@@ -58,7 +58,7 @@ fn take_pieces<M: Machine>(
     ensures data { OnOk result
         (TakesWhere (IsTrue M.tells × HasSizes (contents (seen (M.state machine.old))) pieces.now)
         (bytes_of (contents (seen (M.state machine.old))) pieces.now) registers.old registers.new) }
-    ensures reads { IsTrue M.tells → OnlyReads M.clock M.since M.state machine.old machine.new }
+    ensures reads { IsTrue M.tells → OnlyReads M.time M.state machine.old machine.new }
     ensures counts { CountsDisk result (M.counts machine.old) (M.counts machine.new) }
     ensures taken { IsTrue M.tells → TakesAtMost (sum_by file_length pieces.now) (M.taken machine.old)
         (M.taken machine.new) }
@@ -81,7 +81,7 @@ fn take_piece<M: Machine>(
     ensures data { OnOk result (TakesWhere (IsTrue M.tells
         × (length (piece_bytes (contents (seen (M.state machine.old))) piece.now) ≡ piece_length piece.now))
         (piece_bytes (contents (seen (M.state machine.old))) piece.now) registers.old registers.new) }
-    ensures reads { IsTrue M.tells → OnlyReads M.clock M.since M.state machine.old machine.new }
+    ensures reads { IsTrue M.tells → OnlyReads M.time M.state machine.old machine.new }
     ensures counts { CountsDisk result (M.counts machine.old) (M.counts machine.new) }
     ensures taken { IsTrue M.tells → TakesAtMost (file_length piece.now) (M.taken machine.old) (M.taken machine.new) }
 {
@@ -129,7 +129,7 @@ pub(crate) fn take_loaded<M: Machine>(
     ensures data { OnOk result (TakesWhere
         (IsTrue M.tells × (range.length ≤ length (drop range.place (contents (seen (M.state machine.old)) path.now))))
         (bytes_in (contents (seen (M.state machine.old)) path.now) range) registers.old registers.new) }
-    ensures reads { IsTrue M.tells → OnlyReads M.clock M.since M.state machine.old machine.new }
+    ensures reads { IsTrue M.tells → OnlyReads M.time M.state machine.old machine.new }
     ensures counts { CountsDisk result (M.counts machine.old) (M.counts machine.new) }
     ensures taken { IsTrue M.tells → TakesAtMost range.length (M.taken machine.old) (M.taken machine.new) }
 {
@@ -153,7 +153,7 @@ fn take_range<M: Machine>(
     ensures data { OnOk result (TakesWhere
         (IsTrue M.tells × (count ≤ length (drop at (contents (seen (M.state machine.old)) path.now))))
         (take count (drop at (contents (seen (M.state machine.old)) path.now))) registers.old registers.new) }
-    ensures reads { IsTrue M.tells → OnlyReads M.clock M.since M.state machine.old machine.new }
+    ensures reads { IsTrue M.tells → OnlyReads M.time M.state machine.old machine.new }
     ensures counts { CountsDisk result (M.counts machine.old) (M.counts machine.new) }
     ensures taken { IsTrue M.tells → TakesAtMost count (M.taken machine.old) (M.taken machine.new) }
 {

@@ -42,7 +42,7 @@ pub fn predict<M: Machine>(
     ensures value { IfOk result (λ pcrs. IsTrue M.tells → HaveSizes (contents (seen (M.state machine.old))) parts.now
         → map shown pcrs.items
         ≡ map (folded (items_of (map (named_bytes (contents (seen (M.state machine.old)))) parts.now))) banks.now) }
-    ensures reads { IsTrue M.tells → OnlyReads M.clock M.since M.state machine.old machine.new }
+    ensures reads { IsTrue M.tells → OnlyReads M.time M.state machine.old machine.new }
     ensures counts { CountsPredict result (M.counts machine.old) (M.counts machine.new) }
     ensures taken { IsTrue M.tells → TakesAtMost (files_length parts.now) (M.taken machine.old) (M.taken machine.new) }
 {
@@ -65,7 +65,7 @@ fn measure_all<M: Machine>(
     ensures value { OnOk result (ExtendsWhere
         (IsTrue M.tells × HaveSizes (contents (seen (M.state machine.old))) parts.now)
         (items_of (map (named_bytes (contents (seen (M.state machine.old)))) parts.now)) registers.old registers.new) }
-    ensures reads { IsTrue M.tells → OnlyReads M.clock M.since M.state machine.old machine.new }
+    ensures reads { IsTrue M.tells → OnlyReads M.time M.state machine.old machine.new }
     ensures counts { CountsDisk result (M.counts machine.old) (M.counts machine.new) }
     ensures taken { IsTrue M.tells → TakesAtMost (files_length parts.now) (M.taken machine.old) (M.taken machine.new) }
 {
@@ -90,7 +90,7 @@ pub(crate) fn measure_part<M: Machine>(
         (IsTrue M.tells × IsWhole (contents (seen (M.state machine.old))) part.now.content)
         (section_items part.now.name.now (content_bytes (contents (seen (M.state machine.old))) part.now.content))
         registers.old registers.new) }
-    ensures reads { IsTrue M.tells → OnlyReads M.clock M.since M.state machine.old machine.new }
+    ensures reads { IsTrue M.tells → OnlyReads M.time M.state machine.old machine.new }
     ensures counts { CountsDisk result (M.counts machine.old) (M.counts machine.new) }
     ensures taken { IsTrue M.tells → TakesAtMost (read_length part.now.content) (M.taken machine.old)
         (M.taken machine.new) }

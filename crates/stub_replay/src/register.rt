@@ -65,7 +65,7 @@ impl<M: Machine> ByteSink<M> for Hashes<'_> {
     ghost can_take = { λ s m. Unit {0} };
 
     ghost took = { λ bytes s m t n.
-        TakesReading M.tells M.clock M.since M.state bytes s.registers.now m t.registers.now n
+        TakesReading M.tells M.time M.state bytes s.registers.now m t.registers.now n
         × (t.registers.ghost_name ≡ s.registers.ghost_name) };
 
     ghost reads = { λ s m n reads. ((takes_none s.registers.now, reads), refl) };
@@ -73,7 +73,7 @@ impl<M: Machine> ByteSink<M> for Hashes<'_> {
     ghost more = { λ a b s t u m n o first second. (
       (
         takes_more a b s.registers.now t.registers.now u.registers.now first.0.0 second.0.0,
-        λ told. reads_on M.clock M.since M.state m n o (first.0.1 told) (second.0.1 told),
+        λ told. reads_on M.time M.state m n o (first.0.1 told) (second.0.1 told),
       ),
       second.1 ∙ first.1,
     ) };

@@ -12,7 +12,7 @@ use Rattle.boot_commands.proofs.plain.plain_step.Goals as goal
 pub returns-in_err-plan-clause-performs : goal.returns-in_err-plan-clause-performs
 returns-in_err-plan-clause-performs g c told firm =
     let old = c.args.machine.now in
-    plan_failed g.M.Machine.clock g.M.Machine.since g.M.Machine.state old (deed_of (seen (g.M.Machine.state old)) c.args.command.now) c.plan_plain.new.machine c.in_err-plan.field-0.0
+    plan_failed g.M.Machine.time g.M.Machine.state old (deed_of (seen (g.M.Machine.state old)) c.args.command.now) c.plan_plain.new.machine c.in_err-plan.field-0.0
     c.from_residual.result c.from_residual.ensures.0 c.from_residual.ensures.1 (λ m image. sees (g.M.Machine.state old) (g.met.M.Machine.sound old told) firm m image) firm (c.plan_plain.ensures.reads told)
 
 pub returns-in_err-plan-clause-tidies : goal.returns-in_err-plan-clause-tidies
@@ -23,13 +23,13 @@ returns-in_err-plan-clause-tidies g c told =
 pub returns-clause-performs : goal.returns-clause-performs
 returns-clause-performs g c told firm =
     let old = c.args.machine.now in
-    performs_after g.M.Machine.clock g.M.Machine.since g.M.Machine.state old c.plan_plain.new.machine c.carry_out.new.machine c.in_ok-plan.plan (step_reply (seen (g.M.Machine.state old)) c.args.command.now) c.carry_out.result
+    performs_after g.M.Machine.time g.M.Machine.state old c.plan_plain.new.machine c.carry_out.new.machine c.in_ok-plan.plan (step_reply (seen (g.M.Machine.state old)) c.args.command.now) c.carry_out.result
     (λ m image. sees (g.M.Machine.state old) (g.met.M.Machine.sound old told) firm m image) (c.plan_plain.ensures.reads told) (c.in_ok-plan.ensures.plans told).answer_is firm (c.carry_out.ensures.performs told)
 
 pub returns-clause-syncs : goal.returns-clause-syncs
 returns-clause-syncs g c told firm =
     let old = c.args.machine.now in
-    syncs_after g.M.Machine.clock g.M.Machine.since g.M.Machine.state old c.plan_plain.new.machine c.carry_out.new.machine c.in_ok-plan.plan (step_reply (seen (g.M.Machine.state old)) c.args.command.now) c.carry_out.result
+    syncs_after g.M.Machine.time g.M.Machine.state old c.plan_plain.new.machine c.carry_out.new.machine c.in_ok-plan.plan (step_reply (seen (g.M.Machine.state old)) c.args.command.now) c.carry_out.result
     (c.plan_plain.ensures.reads told) (c.in_ok-plan.ensures.plans told).answer_is firm (c.carry_out.ensures.syncs told)
 
 pub returns-clause-tidies : goal.returns-clause-tidies

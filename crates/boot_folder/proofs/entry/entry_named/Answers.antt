@@ -9,11 +9,11 @@ use Rattle.boot_folder.proofs.entry.entry_named.Goals as goal
 
 pub returns-in_err-path-clause-reads : goal.returns-in_err-path-clause-reads
 returns-in_err-path-clause-reads g c told =
-    reads_none g.M.Machine.clock g.M.Machine.since g.M.Machine.state c.args.machine.now (λ m o left. g.met.M.Machine.only_now c.args.machine.now m o told left)
+    reads_none g.M.Machine.time g.M.Machine.state c.args.machine.now (λ m o left. g.met.M.Machine.only_now c.args.machine.now m o told left)
 
 pub returns-in_default-clause-reads : goal.returns-in_default-clause-reads
 returns-in_default-clause-reads g c told =
-    reads_none g.M.Machine.clock g.M.Machine.since g.M.Machine.state c.args.machine.now (λ m o left. g.met.M.Machine.only_now c.args.machine.now m o told left)
+    reads_none g.M.Machine.time g.M.Machine.state c.args.machine.now (λ m o left. g.met.M.Machine.only_now c.args.machine.now m o told left)
 
 pub image_at-requires : goal.image_at-requires
 image_at-requires g c =

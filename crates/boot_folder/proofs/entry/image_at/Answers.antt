@@ -4,4 +4,4 @@ use Rattle.boot_folder.proofs.entry.image_at.Goals as goal
 
 pub returns-clause-reads : goal.returns-clause-reads
 returns-clause-reads g c told =
-    reads_on g.M.Machine.clock g.M.Machine.since g.M.Machine.state _ _ _ (c.size_within.ensures.reads told) (c.uki_item.ensures.reads told)
+    reads_on g.M.Machine.time g.M.Machine.state _ _ _ (c.size_within.ensures.reads told) (c.uki_item.ensures.reads told)

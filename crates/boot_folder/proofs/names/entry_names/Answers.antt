@@ -9,15 +9,15 @@ use Rattle.boot_folder.proofs.names.entry_names.Goals as goal
 
 pub returns-in_err-images-clause-reads : goal.returns-in_err-images-clause-reads
 returns-in_err-images-clause-reads g c told =
-    reads_on g.M.Machine.clock g.M.Machine.since g.M.Machine.state _ _ _ (c.names_with.ensures.reads told) (c.names_with-2.ensures.reads told)
+    reads_on g.M.Machine.time g.M.Machine.state _ _ _ (c.names_with.ensures.reads told) (c.names_with-2.ensures.reads told)
 
 pub returns-then-count-gt-ENTRY_LIMIT-clause-reads : goal.returns-then-count-gt-ENTRY_LIMIT-clause-reads
 returns-then-count-gt-ENTRY_LIMIT-clause-reads g c told =
-    reads_on g.M.Machine.clock g.M.Machine.since g.M.Machine.state _ _ _ (c.names_with.ensures.reads told) (c.names_with-2.ensures.reads told)
+    reads_on g.M.Machine.time g.M.Machine.state _ _ _ (c.names_with.ensures.reads told) (c.names_with-2.ensures.reads told)
 
 pub returns-clause-reads : goal.returns-clause-reads
 returns-clause-reads g c told =
-    reads_on g.M.Machine.clock g.M.Machine.since g.M.Machine.state _ _ _ (c.names_with.ensures.reads told) (c.names_with-2.ensures.reads told)
+    reads_on g.M.Machine.time g.M.Machine.state _ _ _ (c.names_with.ensures.reads told) (c.names_with-2.ensures.reads told)
 
 pub returns-then-count-gt-ENTRY_LIMIT-clause-many : goal.returns-then-count-gt-ENTRY_LIMIT-clause-many
 returns-then-count-gt-ENTRY_LIMIT-clause-many g c = (

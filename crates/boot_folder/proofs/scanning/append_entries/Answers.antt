@@ -12,7 +12,7 @@ use Rattle.boot_folder.proofs.scanning.append_entries.Goals as goal
 pub loop-name-init : goal.loop-name-init
 loop-name-init g c = record {
   entries = λ told. sym (append-nil c.args.items.now.items);
-  reads = λ told. reads_none g.M.Machine.clock g.M.Machine.since g.M.Machine.state c.args.machine.now (λ m o left. g.met.M.Machine.only_now c.args.machine.now m o told left);
+  reads = λ told. reads_none g.M.Machine.time g.M.Machine.state c.args.machine.now (λ m o left. g.met.M.Machine.only_now c.args.machine.now m o told left);
   counts = refl;
   taken = λ told. omega arith;
 }
@@ -27,11 +27,11 @@ loop-name-preserved g c =
           chosen_more (λ (name : List ℕ). entry_if c.args.suffix files (under c.args.folder.now name)) c.args.items.now.items c.loop-name.items.items c.append_entry.new.items.items c.args.names.now c.loop-name.name-index c.name-item.result c.loop-name-test.true c.name-item.is
           (before.entries told)
           (one.entry told ∙ ap (λ (s : State). c.loop-name.items.items ++ option_to_list (entry_if c.args.suffix s.files (under c.args.folder.now c.name-item.result))) (before.reads told).same);
-      reads = λ told. reads_on g.M.Machine.clock g.M.Machine.since g.M.Machine.state _ _ _ (before.reads told) (c.append_entry.ensures.reads told);
+      reads = λ told. reads_on g.M.Machine.time g.M.Machine.state _ _ _ (before.reads told) (c.append_entry.ensures.reads told);
       counts = one.counts ∙ before.counts;
       taken = λ told. taken_more (read_limit c.args.suffix) c.loop-name.name-index _ _ _ (before.taken told) (one.taken told);
     }
 
 pub returns-in_err-append_entry-clause-reads : goal.returns-in_err-append_entry-clause-reads
 returns-in_err-append_entry-clause-reads g c told =
-    reads_on g.M.Machine.clock g.M.Machine.since g.M.Machine.state _ _ _ (c.loop-name.invariant.reads told) (c.append_entry.ensures.reads told)
+    reads_on g.M.Machine.time g.M.Machine.state _ _ _ (c.loop-name.invariant.reads told) (c.append_entry.ensures.reads told)

@@ -13,11 +13,11 @@ use Rattle.boot_folder.proofs.scanning.entries.Goals as goal
 
 pub returns-in_err-append_entries-2-clause-reads : goal.returns-in_err-append_entries-2-clause-reads
 returns-in_err-append_entries-2-clause-reads g c told =
-    reads_on g.M.Machine.clock g.M.Machine.since g.M.Machine.state _ _ _ (c.append_entries.ensures.reads told) (c.append_entries-2.ensures.reads told)
+    reads_on g.M.Machine.time g.M.Machine.state _ _ _ (c.append_entries.ensures.reads told) (c.append_entries-2.ensures.reads told)
 
 pub returns-clause-reads : goal.returns-clause-reads
 returns-clause-reads g c told =
-    reads_on g.M.Machine.clock g.M.Machine.since g.M.Machine.state _ _ _ (c.append_entries.ensures.reads told) (c.append_entries-2.ensures.reads told)
+    reads_on g.M.Machine.time g.M.Machine.state _ _ _ (c.append_entries.ensures.reads told) (c.append_entries-2.ensures.reads told)
 
 pub returns-in_err-append_entries-clause-taken : goal.returns-in_err-append_entries-clause-taken
 returns-in_err-append_entries-clause-taken g c told are_texts are_images =

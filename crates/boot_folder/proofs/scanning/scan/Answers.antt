@@ -8,7 +8,7 @@ use Rattle.boot_folder.proofs.scanning.scan.Goals as goal
 
 pub returns-in_err-folders-clause-reads : goal.returns-in_err-folders-clause-reads
 returns-in_err-folders-clause-reads g c told =
-    reads_none g.M.Machine.clock g.M.Machine.since g.M.Machine.state c.args.machine.now (λ m o left. g.met.M.Machine.only_now c.args.machine.now m o told left)
+    reads_none g.M.Machine.time g.M.Machine.state c.args.machine.now (λ m o left. g.met.M.Machine.only_now c.args.machine.now m o told left)
 
 pub returns-clause-value : goal.returns-clause-value
 returns-clause-value g c =

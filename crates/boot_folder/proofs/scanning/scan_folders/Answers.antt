@@ -11,15 +11,15 @@ use Rattle.boot_folder.proofs.scanning.scan_folders.Goals as goal
 
 pub returns-in_err-items-clause-reads : goal.returns-in_err-items-clause-reads
 returns-in_err-items-clause-reads g c told =
-    reads_on g.M.Machine.clock g.M.Machine.since g.M.Machine.state _ _ _ (c.entry_names.ensures.reads told) (c.entries.ensures.reads told)
+    reads_on g.M.Machine.time g.M.Machine.state _ _ _ (c.entry_names.ensures.reads told) (c.entries.ensures.reads told)
 
 pub returns-in_err-menu_of-clause-reads : goal.returns-in_err-menu_of-clause-reads
 returns-in_err-menu_of-clause-reads g c told =
-    reads_on g.M.Machine.clock g.M.Machine.since g.M.Machine.state _ _ _ (c.entry_names.ensures.reads told) (c.entries.ensures.reads told)
+    reads_on g.M.Machine.time g.M.Machine.state _ _ _ (c.entry_names.ensures.reads told) (c.entries.ensures.reads told)
 
 pub returns-clause-reads : goal.returns-clause-reads
 returns-clause-reads g c told =
-    reads_on g.M.Machine.clock g.M.Machine.since g.M.Machine.state _ _ _ (c.entry_names.ensures.reads told) (c.entries.ensures.reads told)
+    reads_on g.M.Machine.time g.M.Machine.state _ _ _ (c.entry_names.ensures.reads told) (c.entries.ensures.reads told)
 
 pub returns-clause-menu : goal.returns-clause-menu
 returns-clause-menu g c told =

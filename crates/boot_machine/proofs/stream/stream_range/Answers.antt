@@ -12,7 +12,7 @@ loop-done-init g c = record {
   took = (
     _,
     g.met.S.ByteSink.reads c.args.sink.now c.args.machine.now c.args.machine.now
-        (λ told. reads_none g.M.Machine.clock g.M.Machine.since g.M.Machine.state c.args.machine.now (λ m o left. g.met.M.Machine.only_now c.args.machine.now m o told left)),
+        (λ told. reads_none g.M.Machine.time g.M.Machine.state c.args.machine.now (λ m o left. g.met.M.Machine.only_now c.args.machine.now m o told left)),
     λ told. none_of (drop c.args.start (contents (g.M.Machine.state c.args.machine.now).files c.args.path.now)),
   );
   counts = refl;

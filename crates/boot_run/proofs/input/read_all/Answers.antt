@@ -11,23 +11,23 @@ loop-buffer-init g c = record {
   within = omega (arith, c.new-bytes.ensures.len);
   read = λ told. ap (λ (l : List ℕ). l ++ (g.M.Machine.state c.args.machine.now).input) (sym c.new-bytes.ensures.items);
   same = λ told. refl;
-  moments = λ told. at_once g.M.Machine.clock g.M.Machine.since g.M.Machine.state _ c.args.machine.now (λ m o left. g.met.M.Machine.only_now c.args.machine.now m o told left);
+  moments = λ told. at_once g.M.Machine.time g.M.Machine.state _ c.args.machine.now (λ m o left. g.met.M.Machine.only_now c.args.machine.now m o told left);
   counts = refl;
 }
 
 pub returns-in_err-count-clause-moments : goal.returns-in_err-count-clause-moments
 returns-in_err-count-clause-moments g c told =
-    input_moments g.M.Machine.clock g.M.Machine.since g.M.Machine.state c.args.machine.now c.loop-buffer.machine c.input.new.self (c.loop-buffer.invariant.same told) (input_same _ _ _ c.input.result (c.input.ensures.row told))
+    input_moments g.M.Machine.time g.M.Machine.state c.args.machine.now c.loop-buffer.machine c.input.new.self (c.loop-buffer.invariant.same told) (input_same _ _ _ c.input.result (c.input.ensures.row told))
     (λ m o left. g.met.M.Machine.only_now c.loop-buffer.machine m o told left) (c.input.ensures.moments told) (c.loop-buffer.invariant.moments told)
 
 pub returns-then-count-eq0-clause-moments : goal.returns-then-count-eq0-clause-moments
 returns-then-count-eq0-clause-moments g c told =
-    input_moments g.M.Machine.clock g.M.Machine.since g.M.Machine.state c.args.machine.now c.loop-buffer.machine c.input.new.self (c.loop-buffer.invariant.same told) (input_same _ _ _ c.input.result (c.input.ensures.row told))
+    input_moments g.M.Machine.time g.M.Machine.state c.args.machine.now c.loop-buffer.machine c.input.new.self (c.loop-buffer.invariant.same told) (input_same _ _ _ c.input.result (c.input.ensures.row told))
     (λ m o left. g.met.M.Machine.only_now c.loop-buffer.machine m o told left) (c.input.ensures.moments told) (c.loop-buffer.invariant.moments told)
 
 pub returns-in_err-extend_from_slice-clause-moments : goal.returns-in_err-extend_from_slice-clause-moments
 returns-in_err-extend_from_slice-clause-moments g c told =
-    input_moments g.M.Machine.clock g.M.Machine.since g.M.Machine.state c.args.machine.now c.loop-buffer.machine c.input.new.self (c.loop-buffer.invariant.same told) (input_same _ _ _ c.input.result (c.input.ensures.row told))
+    input_moments g.M.Machine.time g.M.Machine.state c.args.machine.now c.loop-buffer.machine c.input.new.self (c.loop-buffer.invariant.same told) (input_same _ _ _ c.input.result (c.input.ensures.row told))
     (λ m o left. g.met.M.Machine.only_now c.loop-buffer.machine m o told left) (c.input.ensures.moments told) (c.loop-buffer.invariant.moments told)
 
 -- what was read so far is the front of the input, at its end or past the limit
@@ -55,7 +55,7 @@ loop-buffer-preserved g c = record {
       ∙ ap (λ (l : List ℕ). l ++ drop c.in_ok-count.count (g.M.Machine.state c.loop-buffer.machine).input) (sym items)
       ∙ ap (λ (l : List ℕ). c.extend_from_slice.new.self.items ++ l) (sym (ap (λ (s : State). s.input) row.1));
   same = λ told. same_trans (g.M.Machine.state c.args.machine.now) (g.M.Machine.state c.loop-buffer.machine) (g.M.Machine.state c.input.new.self) (c.loop-buffer.invariant.same told) (input_same _ _ _ c.input.result (c.input.ensures.row told));
-  moments = λ told. input_moments g.M.Machine.clock g.M.Machine.since g.M.Machine.state c.args.machine.now c.loop-buffer.machine c.input.new.self (c.loop-buffer.invariant.same told) (input_same _ _ _ c.input.result (c.input.ensures.row told))
+  moments = λ told. input_moments g.M.Machine.time g.M.Machine.state c.args.machine.now c.loop-buffer.machine c.input.new.self (c.loop-buffer.invariant.same told) (input_same _ _ _ c.input.result (c.input.ensures.row told))
       (λ m o left. g.met.M.Machine.only_now c.loop-buffer.machine m o told left) (c.input.ensures.moments told) (c.loop-buffer.invariant.moments told);
   counts = c.in_ok-count.ensures.counts ∙ c.loop-buffer.invariant.counts;
 }

@@ -10,12 +10,12 @@ use Rattle.boot_run.proofs.lines.first_command.Goals as goal
 
 pub returns-in_err-recovered-clause-performs : goal.returns-in_err-recovered-clause-performs
 returns-in_err-recovered-clause-performs g c told firm =
-    performed_failed g.M.Machine.clock g.M.Machine.since g.M.Machine.state c.args.machine.now c.recovered.new.machine (line_deed (recovered_now (g.M.Machine.state c.args.machine.now)) c.args.line.now) c.from_residual.result c.from_residual.ensures.0
+    performed_failed g.M.Machine.time g.M.Machine.state c.args.machine.now c.recovered.new.machine (line_deed (recovered_now (g.M.Machine.state c.args.machine.now)) c.args.line.now) c.from_residual.result c.from_residual.ensures.0
     (g.met.M.Machine.sound c.args.machine.now told) firm (c.recovered.ensures.recovers told firm) (c.recovered.ensures.keeps told).printed
 
 pub returns-in_err-recovered-clause-syncs : goal.returns-in_err-recovered-clause-syncs
 returns-in_err-recovered-clause-syncs g c told firm =
-    synced_failed g.M.Machine.clock g.M.Machine.since g.M.Machine.state c.args.machine.now c.recovered.new.machine (line_deed (recovered_now (g.M.Machine.state c.args.machine.now)) c.args.line.now) c.from_residual.result c.from_residual.ensures.0
+    synced_failed g.M.Machine.time g.M.Machine.state c.args.machine.now c.recovered.new.machine (line_deed (recovered_now (g.M.Machine.state c.args.machine.now)) c.args.line.now) c.from_residual.result c.from_residual.ensures.0
     (c.recovered.ensures.recovers told firm)
 
 pub returns-in_err-recovered-clause-temps : goal.returns-in_err-recovered-clause-temps
@@ -28,8 +28,8 @@ pub returns-clause-performs : goal.returns-clause-performs
 returns-clause-performs g c told firm =
     let old = c.args.machine.now in
     let recovers = c.recovered.ensures.recovers told firm in
-    let performs = subst (λ (v : Files). Performs g.M.Machine.clock g.M.Machine.since g.M.Machine.state end_of c.recovered.new.machine c.run_line.new.machine (line_deed v c.args.line.now) c.run_line.result) recovers.files (c.run_line.ensures.performs told recovers.firm) in
-    performed_after g.M.Machine.clock g.M.Machine.since g.M.Machine.state old c.recovered.new.machine c.run_line.new.machine (line_deed (recovered_now (g.M.Machine.state old)) c.args.line.now)
+    let performs = subst (λ (v : Files). Performs g.M.Machine.time g.M.Machine.state end_of c.recovered.new.machine c.run_line.new.machine (line_deed v c.args.line.now) c.run_line.result) recovers.files (c.run_line.ensures.performs told recovers.firm) in
+    performed_after g.M.Machine.time g.M.Machine.state old c.recovered.new.machine c.run_line.new.machine (line_deed (recovered_now (g.M.Machine.state old)) c.args.line.now)
     (command_settles (recovered_now (g.M.Machine.state old)) c.args.line.now c.requires.command)
     (g.met.M.Machine.sound old told) firm recovers (c.in_ok-recovered.ensures.one told) (c.recovered.ensures.keeps told).printed c.run_line.result performs
 
@@ -37,8 +37,8 @@ pub returns-clause-syncs : goal.returns-clause-syncs
 returns-clause-syncs g c told firm =
     let old = c.args.machine.now in
     let recovers = c.recovered.ensures.recovers told firm in
-    let performs = subst (λ (v : Files). Performs g.M.Machine.clock g.M.Machine.since g.M.Machine.state end_of c.recovered.new.machine c.run_line.new.machine (line_deed v c.args.line.now) c.run_line.result) recovers.files (c.run_line.ensures.performs told recovers.firm) in
-    synced_after g.M.Machine.clock g.M.Machine.since g.M.Machine.state old c.recovered.new.machine c.run_line.new.machine (line_deed (recovered_now (g.M.Machine.state old)) c.args.line.now)
+    let performs = subst (λ (v : Files). Performs g.M.Machine.time g.M.Machine.state end_of c.recovered.new.machine c.run_line.new.machine (line_deed v c.args.line.now) c.run_line.result) recovers.files (c.run_line.ensures.performs told recovers.firm) in
+    synced_after g.M.Machine.time g.M.Machine.state old c.recovered.new.machine c.run_line.new.machine (line_deed (recovered_now (g.M.Machine.state old)) c.args.line.now)
     (command_settles (recovered_now (g.M.Machine.state old)) c.args.line.now c.requires.command)
     (g.met.M.Machine.sound old told) firm recovers (c.in_ok-recovered.ensures.one told) (c.recovered.ensures.keeps told).printed c.run_line.result
     (c.in_ok-recovered.ensures.synced told firm) performs.moments

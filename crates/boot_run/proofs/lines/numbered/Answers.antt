@@ -15,37 +15,37 @@ use Rattle.boot_commands.specs.Commands.{deed_of}
 pub returns-in_err-texts-clause-performs : goal.returns-in_err-texts-clause-performs
 returns-in_err-texts-clause-performs g c told firm =
     let old = c.args.machine.now in
-    no_memory_yet g.M.Machine.clock g.M.Machine.since g.M.Machine.state old (acknowledged c.args.number (deed_of (seen (g.M.Machine.state c.args.machine.now)) c.args.command.now)) c.from_residual.result c.from_residual.ensures.0 c.from_residual.ensures.1 firm
+    no_memory_yet g.M.Machine.time g.M.Machine.state old (acknowledged c.args.number (deed_of (seen (g.M.Machine.state c.args.machine.now)) c.args.command.now)) c.from_residual.result c.from_residual.ensures.0 c.from_residual.ensures.1 firm
     (λ m o left. let now = g.met.M.Machine.only_now old m o told left in (sees (g.M.Machine.state old) (g.met.M.Machine.sound old told) firm m now.0, now.1))
 
 pub returns-in_err-outcome-clause-performs : goal.returns-in_err-outcome-clause-performs
 returns-in_err-outcome-clause-performs g c told firm =
     let old = c.args.machine.now in
     let deed = deed_of (seen (g.M.Machine.state c.args.machine.now)) c.args.command.now in
-    not_behind g.M.Machine.clock g.M.Machine.since g.M.Machine.state old deed (acknowledgement deed.outcome c.args.number) c.step.new.machine c.in_err-outcome.field-0.0
+    not_behind g.M.Machine.time g.M.Machine.state old deed (acknowledgement deed.outcome c.args.number) c.step.new.machine c.in_err-outcome.field-0.0
     c.from_residual-in_err-outcome.result c.from_residual-in_err-outcome.ensures.0 c.from_residual-in_err-outcome.ensures.1 (c.in_err-outcome.ensures.performs told firm)
 
 pub returns-in_err-acknowledge-clause-performs : goal.returns-in_err-acknowledge-clause-performs
 returns-in_err-acknowledge-clause-performs g c told firm =
     let old = c.args.machine.now in
     let deed = deed_of (seen (g.M.Machine.state c.args.machine.now)) c.args.command.now in
-    let performs : Performs g.M.Machine.clock g.M.Machine.since g.M.Machine.state end_of old c.step.new.machine deed (Ok c.in_ok-outcome.outcome) = (c.in_ok-outcome.ensures.performs told firm) in
+    let performs : Performs g.M.Machine.time g.M.Machine.state end_of old c.step.new.machine deed (Ok c.in_ok-outcome.outcome) = (c.in_ok-outcome.ensures.performs told firm) in
     let ack : acknowledgement_in c.in_ok-texts.texts c.in_ok-outcome.outcome ≡ acknowledgement deed.outcome c.args.number = c.in_ok-texts.ensures c.in_ok-outcome.outcome ∙ ap (λ o. acknowledgement o c.args.number) performs.ok.0 in
-    behind_failed g.M.Machine.clock g.M.Machine.since g.M.Machine.state old deed (acknowledgement deed.outcome c.args.number) c.step.new.machine c.acknowledge.new.machine c.in_ok-outcome.outcome
+    behind_failed g.M.Machine.time g.M.Machine.state old deed (acknowledgement deed.outcome c.args.number) c.step.new.machine c.acknowledge.new.machine c.in_ok-outcome.outcome
     c.from_residual-in_err-acknowledge.result c.from_residual-in_err-acknowledge.ensures.0 c.from_residual-in_err-acknowledge.ensures.1 performs
     (λ m image. sees (g.M.Machine.state c.step.new.machine) (g.met.M.Machine.sound c.step.new.machine told) performs.firm m image)
-    (subst (λ (bytes : List ℕ). EachSince g.M.Machine.clock g.M.Machine.since c.step.new.machine c.acknowledge.new.machine (PrintsPart (g.M.Machine.state c.step.new.machine) (tagged Out bytes))) ack (c.acknowledge.ensures.moments told))
+    (subst (λ (bytes : List ℕ). EachSince g.M.Machine.time c.step.new.machine c.acknowledge.new.machine (PrintsPart (g.M.Machine.state c.step.new.machine) (tagged Out bytes))) ack (c.acknowledge.ensures.moments told))
     (subst (λ (bytes : List ℕ). (k : ℕ) × (g.M.Machine.state c.acknowledge.new.machine ≡ with_printed Out (take k bytes) (g.M.Machine.state c.step.new.machine))) ack (c.in_err-acknowledge.ensures.part told))
 
 pub returns-clause-performs : goal.returns-clause-performs
 returns-clause-performs g c told firm =
     let old = c.args.machine.now in
     let deed = deed_of (seen (g.M.Machine.state c.args.machine.now)) c.args.command.now in
-    let performs : Performs g.M.Machine.clock g.M.Machine.since g.M.Machine.state end_of old c.step.new.machine deed (Ok c.in_ok-outcome.outcome) = (c.in_ok-outcome.ensures.performs told firm) in
+    let performs : Performs g.M.Machine.time g.M.Machine.state end_of old c.step.new.machine deed (Ok c.in_ok-outcome.outcome) = (c.in_ok-outcome.ensures.performs told firm) in
     let ack : acknowledgement_in c.in_ok-texts.texts c.in_ok-outcome.outcome ≡ acknowledgement deed.outcome c.args.number = c.in_ok-texts.ensures c.in_ok-outcome.outcome ∙ ap (λ o. acknowledgement o c.args.number) performs.ok.0 in
-    behind_done g.M.Machine.clock g.M.Machine.since g.M.Machine.state old deed (acknowledgement deed.outcome c.args.number) c.step.new.machine c.acknowledge.new.machine c.in_ok-outcome.outcome performs
+    behind_done g.M.Machine.time g.M.Machine.state old deed (acknowledgement deed.outcome c.args.number) c.step.new.machine c.acknowledge.new.machine c.in_ok-outcome.outcome performs
     (λ m image. sees (g.M.Machine.state c.step.new.machine) (g.met.M.Machine.sound c.step.new.machine told) performs.firm m image)
-    (subst (λ (bytes : List ℕ). EachSince g.M.Machine.clock g.M.Machine.since c.step.new.machine c.acknowledge.new.machine (PrintsPart (g.M.Machine.state c.step.new.machine) (tagged Out bytes))) ack (c.acknowledge.ensures.moments told))
+    (subst (λ (bytes : List ℕ). EachSince g.M.Machine.time c.step.new.machine c.acknowledge.new.machine (PrintsPart (g.M.Machine.state c.step.new.machine) (tagged Out bytes))) ack (c.acknowledge.ensures.moments told))
     (subst (λ (bytes : List ℕ). g.M.Machine.state c.acknowledge.new.machine ≡ with_printed Out bytes (g.M.Machine.state c.step.new.machine)) ack (c.in_ok-acknowledge.ensures.done told))
 
 pub returns-in_err-texts-clause-temps : goal.returns-in_err-texts-clause-temps

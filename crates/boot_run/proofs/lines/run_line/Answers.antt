@@ -9,13 +9,13 @@ use Rattle.boot_run.proofs.lines.run_line.Goals as goal
 
 pub returns-in-Plain-clause-performs : goal.returns-in-Plain-clause-performs
 returns-in-Plain-clause-performs g c told firm =
-    performed_rested g.M.Machine.clock g.M.Machine.since g.M.Machine.state c.args.machine.now c.step.new.machine c.args.line.now c.step.result (c.requires.rested told (ap is_unread c.in-Plain.is))
-    (subst (λ line. Performs g.M.Machine.clock g.M.Machine.since g.M.Machine.state end_of c.args.machine.now c.step.new.machine (line_deed (seen (g.M.Machine.state c.args.machine.now)) line) c.step.result) (sym c.in-Plain.is) (c.step.ensures.performs told firm))
+    performed_rested g.M.Machine.time g.M.Machine.state c.args.machine.now c.step.new.machine c.args.line.now c.step.result (c.requires.rested told (ap is_unread c.in-Plain.is))
+    (subst (λ line. Performs g.M.Machine.time g.M.Machine.state end_of c.args.machine.now c.step.new.machine (line_deed (seen (g.M.Machine.state c.args.machine.now)) line) c.step.result) (sym c.in-Plain.is) (c.step.ensures.performs told firm))
 
 pub returns-in-Numbered-clause-performs : goal.returns-in-Numbered-clause-performs
 returns-in-Numbered-clause-performs g c told firm =
-    performed_rested g.M.Machine.clock g.M.Machine.since g.M.Machine.state c.args.machine.now c.numbered.new.machine c.args.line.now c.numbered.result (c.requires.rested told (ap is_unread c.in-Numbered.is))
-    (subst (λ line. Performs g.M.Machine.clock g.M.Machine.since g.M.Machine.state end_of c.args.machine.now c.numbered.new.machine (line_deed (seen (g.M.Machine.state c.args.machine.now)) line) c.numbered.result) (sym c.in-Numbered.is) (c.numbered.ensures.performs told firm))
+    performed_rested g.M.Machine.time g.M.Machine.state c.args.machine.now c.numbered.new.machine c.args.line.now c.numbered.result (c.requires.rested told (ap is_unread c.in-Numbered.is))
+    (subst (λ line. Performs g.M.Machine.time g.M.Machine.state end_of c.args.machine.now c.numbered.new.machine (line_deed (seen (g.M.Machine.state c.args.machine.now)) line) c.numbered.result) (sym c.in-Numbered.is) (c.numbered.ensures.performs told firm))
 
 pub returns-in-Plain-clause-only_prints : goal.returns-in-Plain-clause-only_prints
 returns-in-Plain-clause-only_prints g c told firm is = cc (sym (ap is_unread c.in-Plain.is) ∙ is)
@@ -25,12 +25,12 @@ returns-in-Numbered-clause-only_prints g c told firm is = cc (sym (ap is_unread 
 
 pub returns-in-Unread-clause-only_prints : goal.returns-in-Unread-clause-only_prints
 returns-in-Unread-clause-only_prints g c told firm is =
-    subst (λ line. OnlyPrints g.M.Machine.clock g.M.Machine.since g.M.Machine.state c.args.machine.now c.unread_line.new.machine (line_deed (recovered_now (g.M.Machine.state c.args.machine.now)) line).sent) (sym c.in-Unread.is)
+    subst (λ line. OnlyPrints g.M.Machine.time g.M.Machine.state c.args.machine.now c.unread_line.new.machine (line_deed (recovered_now (g.M.Machine.state c.args.machine.now)) line).sent) (sym c.in-Unread.is)
     (record { same = c.unread_line.ensures.stays told; moments = c.unread_line.ensures.moments told firm })
 
 pub returns-in-TooLong-clause-only_prints : goal.returns-in-TooLong-clause-only_prints
 returns-in-TooLong-clause-only_prints g c told firm is =
-    subst (λ line. OnlyPrints g.M.Machine.clock g.M.Machine.since g.M.Machine.state c.args.machine.now c.too_long.new.machine (line_deed (recovered_now (g.M.Machine.state c.args.machine.now)) line).sent) (sym c.in-TooLong.is)
+    subst (λ line. OnlyPrints g.M.Machine.time g.M.Machine.state c.args.machine.now c.too_long.new.machine (line_deed (recovered_now (g.M.Machine.state c.args.machine.now)) line).sent) (sym c.in-TooLong.is)
     (record { same = c.too_long.ensures.stays told; moments = c.too_long.ensures.moments told })
 
 pub returns-in-Unread-clause-input : goal.returns-in-Unread-clause-input

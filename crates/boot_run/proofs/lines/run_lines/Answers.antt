@@ -18,12 +18,12 @@ use Rattle.boot_run.proofs.lines.run_lines.Goals as goal
 
 pub loop-line-init : goal.loop-line-init
 loop-line-init g c = record {
-  told = λ told firm. started g.M.Machine.clock g.M.Machine.since g.M.Machine.state c.args.machine.now c.args.lines.now firm
+  told = λ told firm. started g.M.Machine.time g.M.Machine.state c.args.machine.now c.args.lines.now firm
       (λ m o left. let now = g.met.M.Machine.only_now c.args.machine.now m o told left in (sees (g.M.Machine.state c.args.machine.now) (g.met.M.Machine.sound c.args.machine.now told) firm m now.0, now.1));
   synced = λ told firm. inl (record {
     unread = tt;
     same = prints_none (g.M.Machine.state c.args.machine.now);
-    moments = at_once g.M.Machine.clock g.M.Machine.since g.M.Machine.state _ c.args.machine.now (λ m o left. unsynced_yet (g.M.Machine.state c.args.machine.now) c.args.lines.now m o (g.met.M.Machine.only_now c.args.machine.now m o told left));
+    moments = at_once g.M.Machine.time g.M.Machine.state _ c.args.machine.now (λ m o left. unsynced_yet (g.M.Machine.state c.args.machine.now) c.args.lines.now m o (g.met.M.Machine.only_now c.args.machine.now m o told left));
   });
   begun = refl;
   rests = λ told is. cc;
@@ -36,26 +36,26 @@ loop-line-init g c = record {
 pub returns-in_err-outcome-clause-runs : goal.returns-in_err-outcome-clause-runs
 returns-in_err-outcome-clause-runs g c told firm =
     let so_far = c.loop-line.invariant.told told firm in
-    gives_up g.M.Machine.clock g.M.Machine.since g.M.Machine.state c.args.machine.now c.loop-line.machine c.next_line.new.machine c.args.lines.now c.loop-line.line-index c.loop-line.refused c.line-item.result c.loop-line-test.true (sym c.line-item.is) so_far
+    gives_up g.M.Machine.time g.M.Machine.state c.args.machine.now c.loop-line.machine c.next_line.new.machine c.args.lines.now c.loop-line.line-index c.loop-line.refused c.line-item.result c.loop-line-test.true (sym c.line-item.is) so_far
     c.in_err-outcome.field-0.0 c.from_residual.result c.from_residual.ensures.0 c.from_residual.ensures.1 (c.in_err-outcome.ensures.performs told so_far.firm)
 
 pub loop-line-preserved : goal.loop-line-preserved
 loop-line-preserved g c = record {
   told = λ told firm.
       let so_far = c.loop-line.invariant.told told firm in
-      subst (SoFar g.M.Machine.clock g.M.Machine.since g.M.Machine.state c.args.machine.now c.next_line.new.machine c.args.lines.now (c.loop-line.line-index + 1)) (sym c.some_refused-refused.ensures)
-      (goes_on g.M.Machine.clock g.M.Machine.since g.M.Machine.state c.args.machine.now c.loop-line.machine c.next_line.new.machine c.args.lines.now c.loop-line.line-index c.loop-line.refused c.line-item.result c.loop-line-test.true (sym c.line-item.is) so_far
+      subst (SoFar g.M.Machine.time g.M.Machine.state c.args.machine.now c.next_line.new.machine c.args.lines.now (c.loop-line.line-index + 1)) (sym c.some_refused-refused.ensures)
+      (goes_on g.M.Machine.time g.M.Machine.state c.args.machine.now c.loop-line.machine c.next_line.new.machine c.args.lines.now c.loop-line.line-index c.loop-line.refused c.line-item.result c.loop-line-test.true (sym c.line-item.is) so_far
       c.in_ok-outcome.outcome (c.in_ok-outcome.ensures.performs told so_far.firm));
   synced = λ told firm.
       let so_far = c.loop-line.invariant.told told firm in
       let performs = c.in_ok-outcome.ensures.performs told so_far.firm in
       ⊎_elim
       (λ run. elim (cases_Bool (is_unread c.line-item.result)) [
-        | inl is ↦ inl (unread_more g.M.Machine.clock g.M.Machine.since g.M.Machine.state c.args.machine.now c.loop-line.machine c.next_line.new.machine c.args.lines.now c.loop-line.line-index c.loop-line.refused c.line-item.result c.loop-line-test.true (sym c.line-item.is) so_far run is (c.next_line.ensures.only_prints told so_far.firm is))
-        | inr is ↦ inr (first_more g.M.Machine.clock g.M.Machine.since g.M.Machine.state c.args.machine.now c.loop-line.machine c.next_line.new.machine c.args.lines.now c.loop-line.line-index c.loop-line.refused c.line-item.result c.loop-line-test.true (sym c.line-item.is) so_far run is
+        | inl is ↦ inl (unread_more g.M.Machine.time g.M.Machine.state c.args.machine.now c.loop-line.machine c.next_line.new.machine c.args.lines.now c.loop-line.line-index c.loop-line.refused c.line-item.result c.loop-line-test.true (sym c.line-item.is) so_far run is (c.next_line.ensures.only_prints told so_far.firm is))
+        | inr is ↦ inr (first_more g.M.Machine.time g.M.Machine.state c.args.machine.now c.loop-line.machine c.next_line.new.machine c.args.lines.now c.loop-line.line-index c.loop-line.refused c.line-item.result c.loop-line-test.true (sym c.line-item.is) so_far run is
             (c.in_ok-outcome.ensures.syncs told so_far.firm (c.loop-line.invariant.begun ∙ none_begun (take c.loop-line.line-index c.args.lines.now) run.unread) is).ok)
       ])
-      (λ late. inr (late_more g.M.Machine.clock g.M.Machine.since g.M.Machine.state c.args.machine.now c.loop-line.machine c.next_line.new.machine c.args.lines.now c.loop-line.line-index c.loop-line.refused c.line-item.result c.loop-line-test.true (sym c.line-item.is) so_far late performs.moments))
+      (λ late. inr (late_more g.M.Machine.time g.M.Machine.state c.args.machine.now c.loop-line.machine c.next_line.new.machine c.args.lines.now c.loop-line.line-index c.loop-line.refused c.line-item.result c.loop-line-test.true (sym c.line-item.is) so_far late performs.moments))
       (c.loop-line.invariant.synced told firm);
   begun = c.is_begun-rested.ensures ∙ ap (λ b. b || not (is_unread c.line-item.result)) c.loop-line.invariant.begun
       ∙ sym (begun_more c.args.lines.now c.loop-line.line-index c.line-item.result c.loop-line-test.true (sym c.line-item.is));
@@ -78,17 +78,17 @@ returns-in_err-outcome-clause-synced g c told firm =
     let performs = c.in_err-outcome.ensures.performs told so_far.firm in
     ⊎_elim
     (λ run. elim (cases_Bool (is_unread c.line-item.result)) [
-      | inl is ↦ inl (unread_moments g.M.Machine.clock g.M.Machine.since g.M.Machine.state c.args.machine.now c.loop-line.machine c.next_line.new.machine c.args.lines.now c.loop-line.line-index c.loop-line.refused c.line-item.result c.loop-line-test.true (sym c.line-item.is) so_far run is (c.next_line.ensures.only_prints told so_far.firm is))
+      | inl is ↦ inl (unread_moments g.M.Machine.time g.M.Machine.state c.args.machine.now c.loop-line.machine c.next_line.new.machine c.args.lines.now c.loop-line.line-index c.loop-line.refused c.line-item.result c.loop-line-test.true (sym c.line-item.is) so_far run is (c.next_line.ensures.only_prints told so_far.firm is))
       | inr is ↦ ⊎_elim
-          (λ reads. inl (first_not g.M.Machine.clock g.M.Machine.since g.M.Machine.state c.args.machine.now c.loop-line.machine c.next_line.new.machine c.args.lines.now c.loop-line.line-index c.loop-line.refused c.line-item.result c.loop-line-test.true (sym c.line-item.is) so_far run reads))
-          (λ syncs. inr (first_moments g.M.Machine.clock g.M.Machine.since g.M.Machine.state c.args.machine.now c.loop-line.machine c.next_line.new.machine c.args.lines.now c.loop-line.line-index c.loop-line.refused c.line-item.result c.loop-line-test.true (sym c.line-item.is) so_far run syncs))
+          (λ reads. inl (first_not g.M.Machine.time g.M.Machine.state c.args.machine.now c.loop-line.machine c.next_line.new.machine c.args.lines.now c.loop-line.line-index c.loop-line.refused c.line-item.result c.loop-line-test.true (sym c.line-item.is) so_far run reads))
+          (λ syncs. inr (first_moments g.M.Machine.time g.M.Machine.state c.args.machine.now c.loop-line.machine c.next_line.new.machine c.args.lines.now c.loop-line.line-index c.loop-line.refused c.line-item.result c.loop-line-test.true (sym c.line-item.is) so_far run syncs))
           (c.in_err-outcome.ensures.syncs told so_far.firm (c.loop-line.invariant.begun ∙ none_begun (take c.loop-line.line-index c.args.lines.now) run.unread) is).err
     ])
-    (λ late. inr (late_moments g.M.Machine.clock g.M.Machine.since g.M.Machine.state c.args.machine.now c.loop-line.machine c.next_line.new.machine c.args.lines.now c.loop-line.line-index c.loop-line.refused c.line-item.result c.loop-line-test.true (sym c.line-item.is) so_far late performs.moments))
+    (λ late. inr (late_moments g.M.Machine.time g.M.Machine.state c.args.machine.now c.loop-line.machine c.next_line.new.machine c.args.lines.now c.loop-line.line-index c.loop-line.refused c.line-item.result c.loop-line-test.true (sym c.line-item.is) so_far late performs.moments))
     (c.loop-line.invariant.synced told firm)
 
 pub returns-clause-synced : goal.returns-clause-synced
-returns-clause-synced g c told firm = synced_done g.M.Machine.clock g.M.Machine.since g.M.Machine.state c.args.machine.now c.loop-line.machine c.args.lines.now c.loop-line.line-index (c.loop-line.invariant.synced told firm)
+returns-clause-synced g c told firm = synced_done g.M.Machine.time g.M.Machine.state c.args.machine.now c.loop-line.machine c.args.lines.now c.loop-line.line-index (c.loop-line.invariant.synced told firm)
 
 pub returns-clause-rests : goal.returns-clause-rests
 returns-clause-rests g c told is =
@@ -116,7 +116,7 @@ returns-in_err-outcome-clause-behind g c told firm =
     let done = take c.loop-line.line-index c.args.lines.now in
     let tidied : stop ≢ Disk → AllTidied done now = λ other. lines_later before now done (temps_but_disk stop before now other (c.in_err-outcome.ensures.temps told)) (c.loop-line.invariant.tidied told) in
     clean_so (g.M.Machine.state c.args.machine.now) now c.args.lines.now c.from_residual.result stop c.from_residual.ensures.0 c.from_residual.ensures.1
-    (clean_broken g.M.Machine.clock g.M.Machine.since g.M.Machine.state c.args.machine.now c.loop-line.machine c.next_line.new.machine c.args.lines.now c.loop-line.line-index c.loop-line.refused c.line-item.result c.loop-line-test.true (sym c.line-item.is) so_far
+    (clean_broken g.M.Machine.time g.M.Machine.state c.args.machine.now c.loop-line.machine c.next_line.new.machine c.args.lines.now c.loop-line.line-index c.loop-line.refused c.line-item.result c.loop-line-test.true (sym c.line-item.is) so_far
     stop (c.in_err-outcome.ensures.performs told so_far.firm)
     (λ other. record {
       tidied = tidied other;

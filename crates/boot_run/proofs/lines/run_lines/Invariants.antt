@@ -10,8 +10,8 @@ use Rattle.boot_run.proofs.lines.run_lines.Given as goal
 
 abbrev pub invariant-loop-line : goal.invariant-loop-line
 invariant-loop-line g l = record {
-  told : IsTrue g.M.Machine.tells → IsFirm (g.M.Machine.state l.initial.machine) → SoFar g.M.Machine.clock g.M.Machine.since g.M.Machine.state l.initial.machine l.machine l.lines l.line-index l.refused;
-  synced : IsTrue g.M.Machine.tells → IsFirm (g.M.Machine.state l.initial.machine) → Synced g.M.Machine.clock g.M.Machine.since g.M.Machine.state l.initial.machine l.machine l.lines l.line-index;
+  told : IsTrue g.M.Machine.tells → IsFirm (g.M.Machine.state l.initial.machine) → SoFar g.M.Machine.time g.M.Machine.state l.initial.machine l.machine l.lines l.line-index l.refused;
+  synced : IsTrue g.M.Machine.tells → IsFirm (g.M.Machine.state l.initial.machine) → Synced g.M.Machine.time g.M.Machine.state l.initial.machine l.machine l.lines l.line-index;
   begun : l.rested ≡ has_command (take l.line-index l.lines);
   rests : IsTrue g.M.Machine.tells → l.rested ≡ true → IsRested (g.M.Machine.state l.machine);
   tidied : IsTrue g.M.Machine.tells → AllTidied (take l.line-index l.lines) (g.M.Machine.state l.machine);

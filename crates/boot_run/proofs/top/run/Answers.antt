@@ -16,16 +16,16 @@ pub returns-clause-headline : goal.returns-clause-headline
 returns-clause-headline g c told settled lines asks =
     let old = c.args.machine.now in
     let now = c.run_to_end.new.machine in
-    headline g.M.Machine.clock g.M.Machine.since g.M.Machine.state old now lines c.run_to_end.result settled
-    (lines_run g.M.Machine.clock g.M.Machine.since g.M.Machine.state _ lines old now c.run_to_end.result asks (c.run_to_end.ensures.runs told) (firm_of_settled (g.M.Machine.state old) settled))
+    headline g.M.Machine.time g.M.Machine.state old now lines c.run_to_end.result settled
+    (lines_run g.M.Machine.time g.M.Machine.state _ lines old now c.run_to_end.result asks (c.run_to_end.ensures.runs told) (firm_of_settled (g.M.Machine.state old) settled))
 
 pub returns-clause-after_change : goal.returns-clause-after_change
 returns-clause-after_change g c told settled lines asks =
     let old = c.args.machine.now in
     let now = c.run_to_end.new.machine in
-    after_change g.M.Machine.clock g.M.Machine.since g.M.Machine.state old now lines
-    (headline g.M.Machine.clock g.M.Machine.since g.M.Machine.state old now lines c.run_to_end.result settled
-    (lines_run g.M.Machine.clock g.M.Machine.since g.M.Machine.state _ lines old now c.run_to_end.result asks (c.run_to_end.ensures.runs told) (firm_of_settled (g.M.Machine.state old) settled)))
+    after_change g.M.Machine.time g.M.Machine.state old now lines
+    (headline g.M.Machine.time g.M.Machine.state old now lines c.run_to_end.result settled
+    (lines_run g.M.Machine.time g.M.Machine.state _ lines old now c.run_to_end.result asks (c.run_to_end.ensures.runs told) (firm_of_settled (g.M.Machine.state old) settled)))
 
 pub returns-clause-leads : goal.returns-clause-leads
 returns-clause-leads g c told firm =
@@ -34,15 +34,15 @@ returns-clause-leads g c told firm =
     let asks = asked_of (map string_bytes c.args.words.now.items) (g.M.Machine.state old) in
     let same = ap ended_of c.status.ensures ∙ ended_again c.run_to_end.result in
     subst (λ ended. Adds (g.M.Machine.state old).printed (g.M.Machine.state now).printed (λ sent. Leads (recovered_views (g.M.Machine.state old)) asks (recovered_views (g.M.Machine.state now)) sent (end_at ended))) (sym same)
-    (leads_by g.M.Machine.clock g.M.Machine.since g.M.Machine.state asks old now c.run_to_end.result (c.run_to_end.ensures.runs told) firm)
+    (leads_by g.M.Machine.time g.M.Machine.state asks old now c.run_to_end.result (c.run_to_end.ensures.runs told) firm)
 
 pub returns-clause-stops : goal.returns-clause-stops
 returns-clause-stops g c told firm =
-    stops_by g.M.Machine.clock g.M.Machine.since g.M.Machine.state _ c.args.machine.now c.run_to_end.new.machine c.run_to_end.result
+    stops_by g.M.Machine.time g.M.Machine.state _ c.args.machine.now c.run_to_end.new.machine c.run_to_end.result
     (g.met.M.Machine.sound c.args.machine.now told) (c.run_to_end.ensures.runs told) firm
 
 pub returns-clause-firm : goal.returns-clause-firm
-returns-clause-firm g c told firm = firm_by g.M.Machine.clock g.M.Machine.since g.M.Machine.state _ c.args.machine.now c.run_to_end.new.machine c.run_to_end.result (c.run_to_end.ensures.runs told) firm
+returns-clause-firm g c told firm = firm_by g.M.Machine.time g.M.Machine.state _ c.args.machine.now c.run_to_end.new.machine c.run_to_end.result (c.run_to_end.ensures.runs told) firm
 
 pub returns-clause-settled : goal.returns-clause-settled
 returns-clause-settled g c told =
@@ -50,7 +50,7 @@ returns-clause-settled g c told =
     let now = c.run_to_end.new.machine in
     let same = ap ended_of c.status.ensures ∙ ended_again c.run_to_end.result in
     subst (λ ended. UnlessDisk ended (IsSettled (g.M.Machine.state old) → IsSettled (g.M.Machine.state now))) (sym same)
-    (settled_by g.M.Machine.clock g.M.Machine.since g.M.Machine.state _ old now c.run_to_end.result (c.run_to_end.ensures.runs told))
+    (settled_by g.M.Machine.time g.M.Machine.state _ old now c.run_to_end.result (c.run_to_end.ensures.runs told))
 
 pub returns-clause-tidied : goal.returns-clause-tidied
 returns-clause-tidied g c told lines asks =
@@ -73,4 +73,4 @@ returns-clause-behind g c told firm lines asks =
 
 pub returns-clause-from_sync : goal.returns-clause-from_sync
 returns-clause-from_sync g c told firm lines asks =
-    (lines_run g.M.Machine.clock g.M.Machine.since g.M.Machine.state _ lines c.args.machine.now c.run_to_end.new.machine c.run_to_end.result asks (c.run_to_end.ensures.runs told) firm).from_sync
+    (lines_run g.M.Machine.time g.M.Machine.state _ lines c.args.machine.now c.run_to_end.new.machine c.run_to_end.result asks (c.run_to_end.ensures.runs told) firm).from_sync

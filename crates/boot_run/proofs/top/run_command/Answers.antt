@@ -21,7 +21,7 @@ returns-then-not-is_script-clause-input g c told = takes_none c.args.command _ _
 pub returns-in_err-lines-clause-runs : goal.returns-in_err-lines-clause-runs
 returns-in_err-lines-clause-runs g c told firm =
     let old = c.args.machine.now in
-    no_script g.M.Machine.clock g.M.Machine.since g.M.Machine.state old c.read_script.new.machine (lines_for (g.M.Machine.state old).input c.args.command) c.in_err-lines.field-0.0
+    no_script g.M.Machine.time g.M.Machine.state old c.read_script.new.machine (lines_for (g.M.Machine.state old).input c.args.command) c.in_err-lines.field-0.0
     _ c.from_residual.ensures.0 c.from_residual.ensures.1
     (λ m image. sees (g.M.Machine.state old) (g.met.M.Machine.sound old told) firm m image) firm (c.read_script.ensures.same told) (c.read_script.ensures.moments told)
 
@@ -31,11 +31,11 @@ returns-clause-runs g c told firm =
     let s = g.M.Machine.state old in
     let is : is_script c.args.command ≡ true = sym c.is_script.ensures ∙ c.if-not-is_script.false in
     let lines = c.as_slice.ensures.value ∙ c.in_ok-lines.ensures.lines told in
-    let runs = c.run_lines-2.ensures.runs told (same_firm g.M.Machine.clock g.M.Machine.since g.M.Machine.state s (g.M.Machine.state c.read_script.new.machine) (c.read_script.ensures.same told) firm) in
-    subst (λ (l : List Line). RunsTo g.M.Machine.clock g.M.Machine.since g.M.Machine.state old c.run_lines-2.new.machine l c.run_lines-2.result) (sym (lines_script s.input c.args.command is))
-    (script_runs g.M.Machine.clock g.M.Machine.since g.M.Machine.state old c.read_script.new.machine c.run_lines-2.new.machine _ c.run_lines-2.result
+    let runs = c.run_lines-2.ensures.runs told (same_firm g.M.Machine.time g.M.Machine.state s (g.M.Machine.state c.read_script.new.machine) (c.read_script.ensures.same told) firm) in
+    subst (λ (l : List Line). RunsTo g.M.Machine.time g.M.Machine.state old c.run_lines-2.new.machine l c.run_lines-2.result) (sym (lines_script s.input c.args.command is))
+    (script_runs g.M.Machine.time g.M.Machine.state old c.read_script.new.machine c.run_lines-2.new.machine _ c.run_lines-2.result
     (λ m image. sees (g.M.Machine.state old) (g.met.M.Machine.sound old told) firm m image) (c.read_script.ensures.same told) (c.read_script.ensures.moments told)
-    (subst (λ (l : List Line). RunsTo g.M.Machine.clock g.M.Machine.since g.M.Machine.state c.read_script.new.machine c.run_lines-2.new.machine l c.run_lines-2.result) lines runs))
+    (subst (λ (l : List Line). RunsTo g.M.Machine.time g.M.Machine.state c.read_script.new.machine c.run_lines-2.new.machine l c.run_lines-2.result) lines runs))
 
 pub returns-clause-synced : goal.returns-clause-synced
 returns-clause-synced g c told firm =
@@ -43,10 +43,10 @@ returns-clause-synced g c told firm =
     let s = g.M.Machine.state old in
     let is : is_script c.args.command ≡ true = sym c.is_script.ensures ∙ c.if-not-is_script.false in
     let lines = c.as_slice.ensures.value ∙ c.in_ok-lines.ensures.lines told in
-    let synced = c.run_lines-2.ensures.synced told (same_firm g.M.Machine.clock g.M.Machine.since g.M.Machine.state s (g.M.Machine.state c.read_script.new.machine) (c.read_script.ensures.same told) firm) in
-    subst (λ (l : List Line). IsSyncedBy g.M.Machine.clock g.M.Machine.since g.M.Machine.state old c.run_lines-2.new.machine l) (sym (lines_script s.input c.args.command is))
-    (script_synced g.M.Machine.clock g.M.Machine.since g.M.Machine.state old c.read_script.new.machine c.run_lines-2.new.machine _ (c.read_script.ensures.same told) (c.read_script.ensures.moments told)
-    (subst (λ (l : List Line). IsSyncedBy g.M.Machine.clock g.M.Machine.since g.M.Machine.state c.read_script.new.machine c.run_lines-2.new.machine l) lines synced))
+    let synced = c.run_lines-2.ensures.synced told (same_firm g.M.Machine.time g.M.Machine.state s (g.M.Machine.state c.read_script.new.machine) (c.read_script.ensures.same told) firm) in
+    subst (λ (l : List Line). IsSyncedBy g.M.Machine.time g.M.Machine.state old c.run_lines-2.new.machine l) (sym (lines_script s.input c.args.command is))
+    (script_synced g.M.Machine.time g.M.Machine.state old c.read_script.new.machine c.run_lines-2.new.machine _ (c.read_script.ensures.same told) (c.read_script.ensures.moments told)
+    (subst (λ (l : List Line). IsSyncedBy g.M.Machine.time g.M.Machine.state c.read_script.new.machine c.run_lines-2.new.machine l) lines synced))
 
 pub returns-clause-tidies : goal.returns-clause-tidies
 returns-clause-tidies g c =
@@ -71,7 +71,7 @@ returns-clause-temps g c told =
 
 pub returns-in_err-lines-clause-synced : goal.returns-in_err-lines-clause-synced
 returns-in_err-lines-clause-synced g c told firm =
-    script_unsynced g.M.Machine.clock g.M.Machine.since g.M.Machine.state c.args.machine.now c.read_script.new.machine
+    script_unsynced g.M.Machine.time g.M.Machine.state c.args.machine.now c.read_script.new.machine
     (lines_for (g.M.Machine.state c.args.machine.now).input c.args.command) (c.read_script.ensures.moments told)
 
 pub returns-clause-rests : goal.returns-clause-rests
@@ -93,12 +93,12 @@ returns-clause-behind g c told firm =
     let now = g.M.Machine.state c.run_lines-2.new.machine in
     let is : is_script c.args.command ≡ true = sym c.is_script.ensures ∙ c.if-not-is_script.false in
     let lines = c.as_slice.ensures.value ∙ c.in_ok-lines.ensures.lines told ∙ sym (lines_script s.input c.args.command is) in
-    let behind = c.run_lines-2.ensures.behind told (same_firm g.M.Machine.clock g.M.Machine.since g.M.Machine.state s (g.M.Machine.state c.read_script.new.machine) (c.read_script.ensures.same told) firm) in
+    let behind = c.run_lines-2.ensures.behind told (same_firm g.M.Machine.time g.M.Machine.state s (g.M.Machine.state c.read_script.new.machine) (c.read_script.ensures.same told) firm) in
     clean_read s (g.M.Machine.state c.read_script.new.machine) now (lines_for s.input c.args.command) (ended_by c.run_lines-2.result) (c.read_script.ensures.same told)
     (subst (λ (l : List Line). CleanBehind (g.M.Machine.state c.read_script.new.machine) now l (ended_by c.run_lines-2.result)) lines behind)
 
 pub returns-then-not-is_script-clause-synced : goal.returns-then-not-is_script-clause-synced
 returns-then-not-is_script-clause-synced g c told firm =
     let old = c.args.machine.now in
-    subst (λ (l : List Line). IsSyncedBy g.M.Machine.clock g.M.Machine.since g.M.Machine.state old c.run_lines.new.machine l)
+    subst (λ (l : List Line). IsSyncedBy g.M.Machine.time g.M.Machine.state old c.run_lines.new.machine l)
     (sym (lines_plain (g.M.Machine.state old).input c.args.command (sym c.if-not-is_script.ensures))) (c.run_lines.ensures.synced told firm)

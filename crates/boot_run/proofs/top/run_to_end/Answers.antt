@@ -17,14 +17,14 @@ use Rattle.boot_run.proofs.top.run_to_end.Goals as goal
 pub returns-in-Ok-clause-runs : goal.returns-in-Ok-clause-runs
 returns-in-Ok-clause-runs g c told =
     let old = c.args.machine.now in
-    subst (λ meant. RunsBy g.M.Machine.clock g.M.Machine.since g.M.Machine.state (lines_to_run (g.M.Machine.state old).input meant) old c.run_command.new.machine c.of_lines.result) (sym c.in-Ok.ensures)
-    (λ firm. subst (RunsLines g.M.Machine.clock g.M.Machine.since g.M.Machine.state old c.run_command.new.machine (lines_for (g.M.Machine.state old).input c.in-Ok.command)) (sym c.of_lines.ensures)
-    (runs_lines g.M.Machine.clock g.M.Machine.since g.M.Machine.state old c.run_command.new.machine _ c.run_command.result (g.met.M.Machine.sound c.run_command.new.machine told) (c.run_command.ensures.synced told firm) (c.run_command.ensures.runs told firm)))
+    subst (λ meant. RunsBy g.M.Machine.time g.M.Machine.state (lines_to_run (g.M.Machine.state old).input meant) old c.run_command.new.machine c.of_lines.result) (sym c.in-Ok.ensures)
+    (λ firm. subst (RunsLines g.M.Machine.time g.M.Machine.state old c.run_command.new.machine (lines_for (g.M.Machine.state old).input c.in-Ok.command)) (sym c.of_lines.ensures)
+    (runs_lines g.M.Machine.time g.M.Machine.state old c.run_command.new.machine _ c.run_command.result (g.met.M.Machine.sound c.run_command.new.machine told) (c.run_command.ensures.synced told firm) (c.run_command.ensures.runs told firm)))
 
 pub returns-in-Err-Memory-clause-runs : goal.returns-in-Err-Memory-clause-runs
 returns-in-Err-Memory-clause-runs g c told =
     let old = c.args.machine.now in
-    runs_nothing g.M.Machine.clock g.M.Machine.since g.M.Machine.state _ old
+    runs_nothing g.M.Machine.time g.M.Machine.state _ old
     (λ m o left. g.met.M.Machine.only_now old m o told left) (λ firm m image. sees (g.M.Machine.state old) (g.met.M.Machine.sound old told) firm m image)
 
 pub returns-in-Ok-clause-tidies : goal.returns-in-Ok-clause-tidies

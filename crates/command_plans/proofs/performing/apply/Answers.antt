@@ -26,7 +26,7 @@ returns-in-Nothing-clause-step g c told firm =
     let old = c.args.machine.now in
     let s = g.M.Machine.state old in
     record {
-      moments = at_once g.M.Machine.clock g.M.Machine.since g.M.Machine.state _ old
+      moments = at_once g.M.Machine.time g.M.Machine.state _ old
           (λ m o left. let now = g.met.M.Machine.only_now old m o told left in (inl (only_view s _ (c.requires.one told) (sees s (g.met.M.Machine.sound old told) firm m now.0)), now.1));
       firm = firm;
       files = inl refl;
@@ -40,13 +40,13 @@ returns-in-Ok-clause-done g c told firm =
 pub returns-in-Ok-clause-step : goal.returns-in-Ok-clause-step
 returns-in-Ok-clause-step g c told firm =
     let s = g.M.Machine.state c.args.machine.now in
-    subst (λ next. StepsTo g.M.Machine.clock g.M.Machine.since g.M.Machine.state next c.args.machine.now c.drop_name.new.machine) (removed_rested s c.args.change.now (c.requires.rested told) c.in-Remove.path c.in-Remove.gone c.in-Remove.is)
+    subst (λ next. StepsTo g.M.Machine.time g.M.Machine.state next c.args.machine.now c.drop_name.new.machine) (removed_rested s c.args.change.now (c.requires.rested told) c.in-Remove.path c.in-Remove.gone c.in-Remove.is)
     (c.drop_name.ensures.step told firm)
 
 pub returns-in-Err-Disk-clause-step : goal.returns-in-Err-Disk-clause-step
 returns-in-Err-Disk-clause-step g c told firm =
     let s = g.M.Machine.state c.args.machine.now in
-    subst (λ next. StepsTo g.M.Machine.clock g.M.Machine.since g.M.Machine.state next c.args.machine.now c.drop_name.new.machine) (removed_rested s c.args.change.now (c.requires.rested told) c.in-Remove.path c.in-Remove.gone c.in-Remove.is)
+    subst (λ next. StepsTo g.M.Machine.time g.M.Machine.state next c.args.machine.now c.drop_name.new.machine) (removed_rested s c.args.change.now (c.requires.rested told) c.in-Remove.path c.in-Remove.gone c.in-Remove.is)
     (c.drop_name.ensures.step told firm)
 
 pub returns-in-Err-NotFound-clause-done : goal.returns-in-Err-NotFound-clause-done
@@ -64,13 +64,13 @@ returns-in-Err-NotFound-clause-made g c told =
 pub returns-in-Err-NotFound-clause-step : goal.returns-in-Err-NotFound-clause-step
 returns-in-Err-NotFound-clause-step g c told firm =
     let s = g.M.Machine.state c.args.machine.now in
-    subst (λ next. StepsTo g.M.Machine.clock g.M.Machine.since g.M.Machine.state next c.args.machine.now c.drop_name.new.machine) (removed_rested s c.args.change.now (c.requires.rested told) c.in-Remove.path c.in-Remove.gone c.in-Remove.is)
+    subst (λ next. StepsTo g.M.Machine.time g.M.Machine.state next c.args.machine.now c.drop_name.new.machine) (removed_rested s c.args.change.now (c.requires.rested told) c.in-Remove.path c.in-Remove.gone c.in-Remove.is)
     (c.drop_name.ensures.step told firm)
 
 pub returns-in_err-drop_leftovers-in-Leftovers-clause-step : goal.returns-in_err-drop_leftovers-in-Leftovers-clause-step
 returns-in_err-drop_leftovers-in-Leftovers-clause-step g c told firm =
     let s = g.M.Machine.state c.args.machine.now in
-    subst (λ next. StepsTo g.M.Machine.clock g.M.Machine.since g.M.Machine.state next c.args.machine.now c.drop_leftovers.new.machine) (left_rested s c.args.change.now (c.requires.rested told) c.in-Leftovers.temps c.in-Leftovers.is)
+    subst (λ next. StepsTo g.M.Machine.time g.M.Machine.state next c.args.machine.now c.drop_leftovers.new.machine) (left_rested s c.args.change.now (c.requires.rested told) c.in-Leftovers.temps c.in-Leftovers.is)
     (c.drop_leftovers.ensures.step told firm)
 
 pub returns-in_ok-drop_leftovers-in-Leftovers-clause-done : goal.returns-in_ok-drop_leftovers-in-Leftovers-clause-done
@@ -81,7 +81,7 @@ returns-in_ok-drop_leftovers-in-Leftovers-clause-done g c told firm =
 pub returns-in_ok-drop_leftovers-in-Leftovers-clause-step : goal.returns-in_ok-drop_leftovers-in-Leftovers-clause-step
 returns-in_ok-drop_leftovers-in-Leftovers-clause-step g c told firm =
     let s = g.M.Machine.state c.args.machine.now in
-    subst (λ next. StepsTo g.M.Machine.clock g.M.Machine.since g.M.Machine.state next c.args.machine.now c.drop_leftovers.new.machine) (left_rested s c.args.change.now (c.requires.rested told) c.in-Leftovers.temps c.in-Leftovers.is)
+    subst (λ next. StepsTo g.M.Machine.time g.M.Machine.state next c.args.machine.now c.drop_leftovers.new.machine) (left_rested s c.args.change.now (c.requires.rested told) c.in-Leftovers.temps c.in-Leftovers.is)
     (c.drop_leftovers.ensures.step told firm)
 
 pub returns-in-Ok-move_name-clause-done : goal.returns-in-Ok-move_name-clause-done
@@ -95,14 +95,14 @@ pub returns-in-Ok-move_name-clause-step : goal.returns-in-Ok-move_name-clause-st
 returns-in-Ok-move_name-clause-step g c told firm =
     let s = g.M.Machine.state c.args.machine.now in
     let move = c.in-Move in
-    subst (λ next. StepsTo g.M.Machine.clock g.M.Machine.since g.M.Machine.state next c.args.machine.now c.move_name.new.machine)
+    subst (λ next. StepsTo g.M.Machine.time g.M.Machine.state next c.args.machine.now c.move_name.new.machine)
     (moved_rested s c.args.change.now (c.requires.rested told) move.from move.to move.intent move.gone move.exists move.is (c.requires.there told)) (c.move_name.ensures.step told firm)
 
 pub returns-in-Err-Disk-move_name-clause-step : goal.returns-in-Err-Disk-move_name-clause-step
 returns-in-Err-Disk-move_name-clause-step g c told firm =
     let s = g.M.Machine.state c.args.machine.now in
     let move = c.in-Move in
-    subst (λ next. StepsTo g.M.Machine.clock g.M.Machine.since g.M.Machine.state next c.args.machine.now c.move_name.new.machine)
+    subst (λ next. StepsTo g.M.Machine.time g.M.Machine.state next c.args.machine.now c.move_name.new.machine)
     (moved_rested s c.args.change.now (c.requires.rested told) move.from move.to move.intent move.gone move.exists move.is (c.requires.there told)) (c.move_name.ensures.step told firm)
 
 pub returns-in-Err-NotFound-move_name-clause-done : goal.returns-in-Err-NotFound-move_name-clause-done
@@ -123,7 +123,7 @@ pub returns-in-Err-NotFound-move_name-clause-step : goal.returns-in-Err-NotFound
 returns-in-Err-NotFound-move_name-clause-step g c told firm =
     let s = g.M.Machine.state c.args.machine.now in
     let move = c.in-Move in
-    subst (λ next. StepsTo g.M.Machine.clock g.M.Machine.since g.M.Machine.state next c.args.machine.now c.move_name.new.machine)
+    subst (λ next. StepsTo g.M.Machine.time g.M.Machine.state next c.args.machine.now c.move_name.new.machine)
     (moved_rested s c.args.change.now (c.requires.rested told) move.from move.to move.intent move.gone move.exists move.is (c.requires.there told)) (c.move_name.ensures.step told firm)
 
 pub returns-in-Err-TargetExists-clause-done : goal.returns-in-Err-TargetExists-clause-done
@@ -144,5 +144,5 @@ pub returns-in-Err-TargetExists-clause-step : goal.returns-in-Err-TargetExists-c
 returns-in-Err-TargetExists-clause-step g c told firm =
     let s = g.M.Machine.state c.args.machine.now in
     let move = c.in-Move in
-    subst (λ next. StepsTo g.M.Machine.clock g.M.Machine.since g.M.Machine.state next c.args.machine.now c.move_name.new.machine)
+    subst (λ next. StepsTo g.M.Machine.time g.M.Machine.state next c.args.machine.now c.move_name.new.machine)
     (moved_rested s c.args.change.now (c.requires.rested told) move.from move.to move.intent move.gone move.exists move.is (c.requires.there told)) (c.move_name.ensures.step told firm)

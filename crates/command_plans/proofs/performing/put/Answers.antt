@@ -13,5 +13,5 @@ returns-clause-done g c =
 
 pub returns-clause-step : goal.returns-clause-step
 returns-clause-step g c told firm =
-    subst (λ next. StepsTo g.M.Machine.clock g.M.Machine.since g.M.Machine.state next c.args.machine.now c.write_bytes.new.machine)
+    subst (λ next. StepsTo g.M.Machine.time g.M.Machine.state next c.args.machine.now c.write_bytes.new.machine)
     (put_rested (g.M.Machine.state c.args.machine.now) c.args.target.now.path c.args.bytes.now (c.requires.rested told)) (c.write_bytes.ensures.step told firm)

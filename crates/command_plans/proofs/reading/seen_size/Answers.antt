@@ -7,5 +7,5 @@ returns-clause-size g c = size_answer _ _ c.args.path.now c.size.result c.know.e
 
 pub returns-clause-reads : goal.returns-clause-reads
 returns-clause-reads g c told =
-    reads_once g.M.Machine.clock g.M.Machine.since g.M.Machine.state c.args.machine.now c.size.new.self
+    reads_once g.M.Machine.time g.M.Machine.state c.args.machine.now c.size.new.self
     (λ m o left. g.met.M.Machine.only_now c.args.machine.now m o told left) (c.size.ensures.moments told) (c.size.ensures.row told).same

@@ -9,7 +9,7 @@ use Rattle.entry_commands.proofs.boot.boot.Goals as goal
 
 pub returns-in_err-folders-clause-reads : goal.returns-in_err-folders-clause-reads
 returns-in_err-folders-clause-reads g c told =
-    reads_none g.M.Machine.clock g.M.Machine.since g.M.Machine.state c.args.machine.now (λ m o left. g.met.M.Machine.only_now c.args.machine.now m o told left)
+    reads_none g.M.Machine.time g.M.Machine.state c.args.machine.now (λ m o left. g.met.M.Machine.only_now c.args.machine.now m o told left)
 
 pub boot_entry-requires-clause-there : goal.boot_entry-requires-clause-there
 boot_entry-requires-clause-there g c told =
@@ -26,4 +26,4 @@ boot_entry-requires-clause-read g c told =
 
 pub returns-in-Some-clause-reads : goal.returns-in-Some-clause-reads
 returns-in-Some-clause-reads g c told =
-    reads_on g.M.Machine.clock g.M.Machine.since g.M.Machine.state c.args.machine.now c.menu_at.new.machine c.boot_entry.new.machine (c.menu_at.ensures.reads told) (c.boot_entry.ensures.reads told)
+    reads_on g.M.Machine.time g.M.Machine.state c.args.machine.now c.menu_at.new.machine c.boot_entry.new.machine (c.menu_at.ensures.reads told) (c.boot_entry.ensures.reads told)

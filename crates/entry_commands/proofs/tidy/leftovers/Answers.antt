@@ -10,15 +10,15 @@ use Rattle.entry_commands.proofs.tidy.leftovers.Goals as goal
 
 pub returns-in_err-images-clause-reads : goal.returns-in_err-images-clause-reads
 returns-in_err-images-clause-reads g c told =
-    reads_on g.M.Machine.clock g.M.Machine.since g.M.Machine.state c.args.machine.now c.leftovers_in.new.machine c.leftovers_in-2.new.machine (c.leftovers_in.ensures.reads told) (c.leftovers_in-2.ensures.reads told)
+    reads_on g.M.Machine.time g.M.Machine.state c.args.machine.now c.leftovers_in.new.machine c.leftovers_in-2.new.machine (c.leftovers_in.ensures.reads told) (c.leftovers_in-2.ensures.reads told)
 
 pub returns-in_err-append-clause-reads : goal.returns-in_err-append-clause-reads
 returns-in_err-append-clause-reads g c told =
-    reads_on g.M.Machine.clock g.M.Machine.since g.M.Machine.state c.args.machine.now c.leftovers_in.new.machine c.leftovers_in-2.new.machine (c.leftovers_in.ensures.reads told) (c.leftovers_in-2.ensures.reads told)
+    reads_on g.M.Machine.time g.M.Machine.state c.args.machine.now c.leftovers_in.new.machine c.leftovers_in-2.new.machine (c.leftovers_in.ensures.reads told) (c.leftovers_in-2.ensures.reads told)
 
 pub returns-clause-reads : goal.returns-clause-reads
 returns-clause-reads g c told =
-    reads_on g.M.Machine.clock g.M.Machine.since g.M.Machine.state c.args.machine.now c.leftovers_in.new.machine c.leftovers_in-2.new.machine (c.leftovers_in.ensures.reads told) (c.leftovers_in-2.ensures.reads told)
+    reads_on g.M.Machine.time g.M.Machine.state c.args.machine.now c.leftovers_in.new.machine c.leftovers_in-2.new.machine (c.leftovers_in.ensures.reads told) (c.leftovers_in-2.ensures.reads told)
 
 pub returns-clause-there : goal.returns-clause-there
 returns-clause-there g c told =

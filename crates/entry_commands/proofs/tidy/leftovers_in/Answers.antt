@@ -8,17 +8,17 @@ use Rattle.entry_commands.proofs.tidy.leftovers_in.Goals as goal
 
 pub returns-in_err-names-clause-reads : goal.returns-in_err-names-clause-reads
 returns-in_err-names-clause-reads g c told =
-    reads_once g.M.Machine.clock g.M.Machine.since g.M.Machine.state c.args.machine.now c.names.new.self
+    reads_once g.M.Machine.time g.M.Machine.state c.args.machine.now c.names.new.self
     (λ m o left. g.met.M.Machine.only_now c.args.machine.now m o told left) (c.names.ensures.moments told) (c.names.ensures.row told).same
 
 pub returns-in_err-leftovers_among-clause-reads : goal.returns-in_err-leftovers_among-clause-reads
 returns-in_err-leftovers_among-clause-reads g c told =
-    reads_once g.M.Machine.clock g.M.Machine.since g.M.Machine.state c.args.machine.now c.names.new.self
+    reads_once g.M.Machine.time g.M.Machine.state c.args.machine.now c.names.new.self
     (λ m o left. g.met.M.Machine.only_now c.args.machine.now m o told left) (c.names.ensures.moments told) (c.names.ensures.row told).same
 
 pub returns-clause-reads : goal.returns-clause-reads
 returns-clause-reads g c told =
-    reads_once g.M.Machine.clock g.M.Machine.since g.M.Machine.state c.args.machine.now c.names.new.self
+    reads_once g.M.Machine.time g.M.Machine.state c.args.machine.now c.names.new.self
     (λ m o left. g.met.M.Machine.only_now c.args.machine.now m o told left) (c.names.ensures.moments told) (c.names.ensures.row told).same
 
 pub returns-clause-there : goal.returns-clause-there

@@ -7,11 +7,11 @@ use Rattle.image_build.proofs.build.building.Goals as goal
 
 pub returns-in_err-text-clause-reads : goal.returns-in_err-text-clause-reads
 returns-in_err-text-clause-reads g c told =
-    reads_on g.M.Machine.clock g.M.Machine.since g.M.Machine.state c.args.machine.now c.planned.new.machine c.reply.new.machine (c.planned.ensures.reads told) (c.reply.ensures.reads told)
+    reads_on g.M.Machine.time g.M.Machine.state c.args.machine.now c.planned.new.machine c.reply.new.machine (c.planned.ensures.reads told) (c.reply.ensures.reads told)
 
 pub returns-in_err-writing-clause-reads : goal.returns-in_err-writing-clause-reads
 returns-in_err-writing-clause-reads g c told =
-    reads_on g.M.Machine.clock g.M.Machine.since g.M.Machine.state c.args.machine.now c.planned.new.machine c.reply.new.machine (c.planned.ensures.reads told) (c.reply.ensures.reads told)
+    reads_on g.M.Machine.time g.M.Machine.state c.args.machine.now c.planned.new.machine c.reply.new.machine (c.planned.ensures.reads told) (c.reply.ensures.reads told)
 
 pub returns-clause-plans : goal.returns-clause-plans
 returns-clause-plans g c told =
@@ -20,7 +20,7 @@ returns-clause-plans g c told =
 
 pub returns-clause-reads : goal.returns-clause-reads
 returns-clause-reads g c told =
-    reads_on g.M.Machine.clock g.M.Machine.since g.M.Machine.state c.args.machine.now c.planned.new.machine c.reply.new.machine (c.planned.ensures.reads told) (c.reply.ensures.reads told)
+    reads_on g.M.Machine.time g.M.Machine.state c.args.machine.now c.planned.new.machine c.reply.new.machine (c.planned.ensures.reads told) (c.reply.ensures.reads told)
 
 pub planned-requires-clause-named : goal.planned-requires-clause-named
 planned-requires-clause-named g c = (c.args.words.now, c.requires.named)

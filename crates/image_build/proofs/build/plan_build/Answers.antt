@@ -14,11 +14,11 @@ returns-in-Ok-clause-declined g c why is = absurd (not_declined c.args.words.now
 
 pub returns-in_err-plan_declined-in-Err-clause-reads : goal.returns-in_err-plan_declined-in-Err-clause-reads
 returns-in_err-plan_declined-in-Err-clause-reads g c told =
-    reads_none g.M.Machine.clock g.M.Machine.since g.M.Machine.state c.args.machine.now (λ m o left. g.met.M.Machine.only_now c.args.machine.now m o told left)
+    reads_none g.M.Machine.time g.M.Machine.state c.args.machine.now (λ m o left. g.met.M.Machine.only_now c.args.machine.now m o told left)
 
 pub returns-in_ok-plan_declined-in-Err-clause-reads : goal.returns-in_ok-plan_declined-in-Err-clause-reads
 returns-in_ok-plan_declined-in-Err-clause-reads g c told =
-    reads_none g.M.Machine.clock g.M.Machine.since g.M.Machine.state c.args.machine.now (λ m o left. g.met.M.Machine.only_now c.args.machine.now m o told left)
+    reads_none g.M.Machine.time g.M.Machine.state c.args.machine.now (λ m o left. g.met.M.Machine.only_now c.args.machine.now m o told left)
 
 pub returns-in_ok-plan_declined-in-Err-clause-plans : goal.returns-in_ok-plan_declined-in-Err-clause-plans
 returns-in_ok-plan_declined-in-Err-clause-plans g c told =

@@ -8,10 +8,10 @@ use Rattle.image_build.proofs.Planning.{line_said, values_behind}
 use Rattle.image_build.proofs.build.reply.Goals as goal
 
 pub returns-in_err-text-clause-reads : goal.returns-in_err-text-clause-reads
-returns-in_err-text-clause-reads g c told = reads_none g.M.Machine.clock g.M.Machine.since g.M.Machine.state c.args.machine.now (λ m o left. g.met.M.Machine.only_now c.args.machine.now m o told left)
+returns-in_err-text-clause-reads g c told = reads_none g.M.Machine.time g.M.Machine.state c.args.machine.now (λ m o left. g.met.M.Machine.only_now c.args.machine.now m o told left)
 
 pub returns-then-not-measure-clause-reads : goal.returns-then-not-measure-clause-reads
-returns-then-not-measure-clause-reads g c told = reads_none g.M.Machine.clock g.M.Machine.since g.M.Machine.state c.args.machine.now (λ m o left. g.met.M.Machine.only_now c.args.machine.now m o told left)
+returns-then-not-measure-clause-reads g c told = reads_none g.M.Machine.time g.M.Machine.state c.args.machine.now (λ m o left. g.met.M.Machine.only_now c.args.machine.now m o told left)
 
 pub returns-then-not-measure-clause-says : goal.returns-then-not-measure-clause-says
 returns-then-not-measure-clause-says g c told on =

@@ -9,19 +9,19 @@ use Rattle.image_build.proofs.build_reads.build_files.Goals as goal
 
 pub returns-in_err-linux_length-clause-reads : goal.returns-in_err-linux_length-clause-reads
 returns-in_err-linux_length-clause-reads g c told =
-    reads_on g.M.Machine.clock g.M.Machine.since g.M.Machine.state c.args.machine.now c.readable.new.machine c.readable-2.new.machine (c.readable.ensures.reads told) (c.readable-2.ensures.reads told)
+    reads_on g.M.Machine.time g.M.Machine.state c.args.machine.now c.readable.new.machine c.readable-2.new.machine (c.readable.ensures.reads told) (c.readable-2.ensures.reads told)
 
 pub returns-in_err-parts-clause-reads : goal.returns-in_err-parts-clause-reads
 returns-in_err-parts-clause-reads g c told =
-    reads_on g.M.Machine.clock g.M.Machine.since g.M.Machine.state c.args.machine.now c.readable-2.new.machine c.parts_of_sources.new.machine (reads_on g.M.Machine.clock g.M.Machine.since g.M.Machine.state c.args.machine.now c.readable.new.machine c.readable-2.new.machine (c.readable.ensures.reads told) (c.readable-2.ensures.reads told)) (c.parts_of_sources.ensures.reads told)
+    reads_on g.M.Machine.time g.M.Machine.state c.args.machine.now c.readable-2.new.machine c.parts_of_sources.new.machine (reads_on g.M.Machine.time g.M.Machine.state c.args.machine.now c.readable.new.machine c.readable-2.new.machine (c.readable.ensures.reads told) (c.readable-2.ensures.reads told)) (c.parts_of_sources.ensures.reads told)
 
 pub returns-in_err-sbat-clause-reads : goal.returns-in_err-sbat-clause-reads
 returns-in_err-sbat-clause-reads g c told =
-    reads_on g.M.Machine.clock g.M.Machine.since g.M.Machine.state c.args.machine.now c.parts_of_sources.new.machine c.given_sbat.new.machine (reads_on g.M.Machine.clock g.M.Machine.since g.M.Machine.state c.args.machine.now c.readable-2.new.machine c.parts_of_sources.new.machine (reads_on g.M.Machine.clock g.M.Machine.since g.M.Machine.state c.args.machine.now c.readable.new.machine c.readable-2.new.machine (c.readable.ensures.reads told) (c.readable-2.ensures.reads told)) (c.parts_of_sources.ensures.reads told)) (c.given_sbat.ensures.reads told)
+    reads_on g.M.Machine.time g.M.Machine.state c.args.machine.now c.parts_of_sources.new.machine c.given_sbat.new.machine (reads_on g.M.Machine.time g.M.Machine.state c.args.machine.now c.readable-2.new.machine c.parts_of_sources.new.machine (reads_on g.M.Machine.time g.M.Machine.state c.args.machine.now c.readable.new.machine c.readable-2.new.machine (c.readable.ensures.reads told) (c.readable-2.ensures.reads told)) (c.parts_of_sources.ensures.reads told)) (c.given_sbat.ensures.reads told)
 
 pub returns-clause-reads : goal.returns-clause-reads
 returns-clause-reads g c told =
-    reads_on g.M.Machine.clock g.M.Machine.since g.M.Machine.state c.args.machine.now c.parts_of_sources.new.machine c.given_sbat.new.machine (reads_on g.M.Machine.clock g.M.Machine.since g.M.Machine.state c.args.machine.now c.readable-2.new.machine c.parts_of_sources.new.machine (reads_on g.M.Machine.clock g.M.Machine.since g.M.Machine.state c.args.machine.now c.readable.new.machine c.readable-2.new.machine (c.readable.ensures.reads told) (c.readable-2.ensures.reads told)) (c.parts_of_sources.ensures.reads told)) (c.given_sbat.ensures.reads told)
+    reads_on g.M.Machine.time g.M.Machine.state c.args.machine.now c.parts_of_sources.new.machine c.given_sbat.new.machine (reads_on g.M.Machine.time g.M.Machine.state c.args.machine.now c.readable-2.new.machine c.parts_of_sources.new.machine (reads_on g.M.Machine.time g.M.Machine.state c.args.machine.now c.readable.new.machine c.readable-2.new.machine (c.readable.ensures.reads told) (c.readable-2.ensures.reads told)) (c.parts_of_sources.ensures.reads told)) (c.given_sbat.ensures.reads told)
 
 pub returns-in_err-sbat-clause-taken : goal.returns-in_err-sbat-clause-taken
 returns-in_err-sbat-clause-taken g c told =

@@ -9,7 +9,7 @@ use Rattle.image_build.proofs.build_reads.kernel_sbat.Goals as goal
 
 pub returns-in-Ok-clause-reads : goal.returns-in-Ok-clause-reads
 returns-in-Ok-clause-reads g c told =
-    reads_on g.M.Machine.clock g.M.Machine.since g.M.Machine.state c.args.machine.now c.head_of_size.new.machine c.loaded_sbat.new.machine (c.head_of_size.ensures.reads told) (c.loaded_sbat.ensures.reads told)
+    reads_on g.M.Machine.time g.M.Machine.state c.args.machine.now c.head_of_size.new.machine c.loaded_sbat.new.machine (c.head_of_size.ensures.reads told) (c.loaded_sbat.ensures.reads told)
 
 pub returns-in-Ok-clause-taken : goal.returns-in-Ok-clause-taken
 returns-in-Ok-clause-taken g c told =

@@ -14,19 +14,19 @@ use Rattle.image_build.proofs.build_reads.read_build.Goals as goal
 
 pub returns-in_err-head-clause-reads : goal.returns-in_err-head-clause-reads
 returns-in_err-head-clause-reads g c told =
-    reads_on g.M.Machine.clock g.M.Machine.since g.M.Machine.state c.args.machine.now c.build_files.new.machine c.sized_head.new.machine (c.build_files.ensures.reads told) (c.sized_head.ensures.reads told)
+    reads_on g.M.Machine.time g.M.Machine.state c.args.machine.now c.build_files.new.machine c.sized_head.new.machine (c.build_files.ensures.reads told) (c.sized_head.ensures.reads told)
 
 pub returns-in_err-sbat-clause-reads : goal.returns-in_err-sbat-clause-reads
 returns-in_err-sbat-clause-reads g c told =
-    reads_on g.M.Machine.clock g.M.Machine.since g.M.Machine.state c.args.machine.now c.sized_head.new.machine c.image_sbat.new.machine (reads_on g.M.Machine.clock g.M.Machine.since g.M.Machine.state c.args.machine.now c.build_files.new.machine c.sized_head.new.machine (c.build_files.ensures.reads told) (c.sized_head.ensures.reads told)) (c.image_sbat.ensures.reads told)
+    reads_on g.M.Machine.time g.M.Machine.state c.args.machine.now c.sized_head.new.machine c.image_sbat.new.machine (reads_on g.M.Machine.time g.M.Machine.state c.args.machine.now c.build_files.new.machine c.sized_head.new.machine (c.build_files.ensures.reads told) (c.sized_head.ensures.reads told)) (c.image_sbat.ensures.reads told)
 
 pub returns-in_err-linux-clause-reads : goal.returns-in_err-linux-clause-reads
 returns-in_err-linux-clause-reads g c told =
-    reads_on g.M.Machine.clock g.M.Machine.since g.M.Machine.state c.args.machine.now c.sized_head.new.machine c.image_sbat.new.machine (reads_on g.M.Machine.clock g.M.Machine.since g.M.Machine.state c.args.machine.now c.build_files.new.machine c.sized_head.new.machine (c.build_files.ensures.reads told) (c.sized_head.ensures.reads told)) (c.image_sbat.ensures.reads told)
+    reads_on g.M.Machine.time g.M.Machine.state c.args.machine.now c.sized_head.new.machine c.image_sbat.new.machine (reads_on g.M.Machine.time g.M.Machine.state c.args.machine.now c.build_files.new.machine c.sized_head.new.machine (c.build_files.ensures.reads told) (c.sized_head.ensures.reads told)) (c.image_sbat.ensures.reads told)
 
 pub returns-clause-reads : goal.returns-clause-reads
 returns-clause-reads g c told =
-    reads_on g.M.Machine.clock g.M.Machine.since g.M.Machine.state c.args.machine.now c.sized_head.new.machine c.image_sbat.new.machine (reads_on g.M.Machine.clock g.M.Machine.since g.M.Machine.state c.args.machine.now c.build_files.new.machine c.sized_head.new.machine (c.build_files.ensures.reads told) (c.sized_head.ensures.reads told)) (c.image_sbat.ensures.reads told)
+    reads_on g.M.Machine.time g.M.Machine.state c.args.machine.now c.sized_head.new.machine c.image_sbat.new.machine (reads_on g.M.Machine.time g.M.Machine.state c.args.machine.now c.build_files.new.machine c.sized_head.new.machine (c.build_files.ensures.reads told) (c.sized_head.ensures.reads told)) (c.image_sbat.ensures.reads told)
 
 pub returns-clause-says : goal.returns-clause-says
 returns-clause-says g c told =

@@ -18,7 +18,7 @@ loop-source-init g c = record {
   limit = search rules;
   found = λ told. rw c.new-pieces.ensures.items (each_none _);
   sizes = λ told. search rules;
-  reads = λ told. reads_none g.M.Machine.clock g.M.Machine.since g.M.Machine.state c.args.machine.now (λ m o left. g.met.M.Machine.only_now c.args.machine.now m o told left);
+  reads = λ told. reads_none g.M.Machine.time g.M.Machine.state c.args.machine.now (λ m o left. g.met.M.Machine.only_now c.args.machine.now m o told left);
   taken = λ told. omega arith;
   counts = refl;
 }
@@ -31,7 +31,7 @@ returns-in_err-piece-clause-says g c told =
 
 pub returns-in_err-piece-clause-reads : goal.returns-in_err-piece-clause-reads
 returns-in_err-piece-clause-reads g c told =
-    reads_on g.M.Machine.clock g.M.Machine.since g.M.Machine.state _ _ _ (c.loop-source.invariant.reads told) (c.in_err-piece.ensures.reads told)
+    reads_on g.M.Machine.time g.M.Machine.state _ _ _ (c.loop-source.invariant.reads told) (c.in_err-piece.ensures.reads told)
 
 pub loop-source-preserved : goal.loop-source-preserved
 loop-source-preserved g c =
@@ -47,14 +47,14 @@ loop-source-preserved g c =
       sizes = λ told.
           all_more (λ (s : State) (piece : Piece). length (piece_bytes (contents (seen s)) piece) ≡ piece_length piece) (g.M.Machine.state c.args.machine.now) (g.M.Machine.state c.loop-source.machine)
           c.loop-source.pieces.items c.push.new.self.items c.in_ok-piece.piece (before.reads told).same (before.sizes told) (c.in_ok-piece.ensures.size told) c.in_ok-push.ensures.items;
-      reads = λ told. reads_on g.M.Machine.clock g.M.Machine.since g.M.Machine.state _ _ _ (before.reads told) (c.in_ok-piece.ensures.reads told);
+      reads = λ told. reads_on g.M.Machine.time g.M.Machine.state _ _ _ (before.reads told) (c.in_ok-piece.ensures.reads told);
       taken = λ told. omega (arith, before.taken told, c.in_ok-piece.ensures.taken told);
       counts = search rules;
     }
 
 pub returns-in_err-push-clause-reads : goal.returns-in_err-push-clause-reads
 returns-in_err-push-clause-reads g c told =
-    reads_on g.M.Machine.clock g.M.Machine.since g.M.Machine.state _ _ _ (c.loop-source.invariant.reads told) (c.in_ok-piece.ensures.reads told)
+    reads_on g.M.Machine.time g.M.Machine.state _ _ _ (c.loop-source.invariant.reads told) (c.in_ok-piece.ensures.reads told)
 
 pub returns-in_err-piece-clause-taken : goal.returns-in_err-piece-clause-taken
 returns-in_err-piece-clause-taken g c told = omega (arith, c.loop-source.invariant.taken told, c.in_err-piece.ensures.taken told)

@@ -15,7 +15,7 @@ invariant-loop-source g l = record {
   limit : total_length l.pieces.items ≤ sum_by source_limit l.yielded;
   found : IsTrue g.M.Machine.tells → each (source_bytes (seen (g.M.Machine.state l.initial.machine))) l.yielded ≡ Ok (map (piece_bytes (contents (seen (g.M.Machine.state l.initial.machine)))) l.pieces.items);
   sizes : IsTrue g.M.Machine.tells → HasSizes (contents (seen (g.M.Machine.state l.initial.machine))) l.pieces.items;
-  reads : IsTrue g.M.Machine.tells → OnlyReads g.M.Machine.clock g.M.Machine.since g.M.Machine.state l.initial.machine l.machine;
+  reads : IsTrue g.M.Machine.tells → OnlyReads g.M.Machine.time g.M.Machine.state l.initial.machine l.machine;
   taken : IsTrue g.M.Machine.tells → TakesAtMost 0 (g.M.Machine.taken l.initial.machine) (g.M.Machine.taken l.machine);
   counts : g.M.Machine.counts l.machine ≡ g.M.Machine.counts l.initial.machine;
 }

@@ -9,10 +9,10 @@ use Rattle.image_build.proofs.Values.{values_said}
 use Rattle.image_build.proofs.build_values.planned_values.Goals as goal
 
 pub returns-in_err-banks-clause-reads : goal.returns-in_err-banks-clause-reads
-returns-in_err-banks-clause-reads g c told = reads_none g.M.Machine.clock g.M.Machine.since g.M.Machine.state c.args.machine.now (λ m o left. g.met.M.Machine.only_now c.args.machine.now m o told left)
+returns-in_err-banks-clause-reads g c told = reads_none g.M.Machine.time g.M.Machine.state c.args.machine.now (λ m o left. g.met.M.Machine.only_now c.args.machine.now m o told left)
 
 pub returns-in_err-paths-clause-reads : goal.returns-in_err-paths-clause-reads
-returns-in_err-paths-clause-reads g c told = reads_none g.M.Machine.clock g.M.Machine.since g.M.Machine.state c.args.machine.now (λ m o left. g.met.M.Machine.only_now c.args.machine.now m o told left)
+returns-in_err-paths-clause-reads g c told = reads_none g.M.Machine.time g.M.Machine.state c.args.machine.now (λ m o left. g.met.M.Machine.only_now c.args.machine.now m o told left)
 
 pub result_lines-requires-clause-banks : goal.result_lines-requires-clause-banks
 result_lines-requires-clause-banks g c =

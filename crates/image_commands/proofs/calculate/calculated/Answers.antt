@@ -11,11 +11,11 @@ use Rattle.image_commands.proofs.calculate.calculated.Goals as goal
 
 pub returns-in_err-paths-clause-reads : goal.returns-in_err-paths-clause-reads
 returns-in_err-paths-clause-reads g c told =
-    reads_none g.M.Machine.clock g.M.Machine.since g.M.Machine.state c.args.machine.now (λ m o left. g.met.M.Machine.only_now c.args.machine.now m o told left)
+    reads_none g.M.Machine.time g.M.Machine.state c.args.machine.now (λ m o left. g.met.M.Machine.only_now c.args.machine.now m o told left)
 
 pub returns-in_err-registers-clause-reads : goal.returns-in_err-registers-clause-reads
 returns-in_err-registers-clause-reads g c told =
-    reads_on g.M.Machine.clock g.M.Machine.since g.M.Machine.state c.args.machine.now c.part_files.new.machine c.registers.new.machine (c.part_files.ensures.reads told) (c.registers.ensures.reads told)
+    reads_on g.M.Machine.time g.M.Machine.state c.args.machine.now c.part_files.new.machine c.registers.new.machine (c.part_files.ensures.reads told) (c.registers.ensures.reads told)
 
 pub result_lines-requires-clause-banks : goal.result_lines-requires-clause-banks
 result_lines-requires-clause-banks g c =
@@ -24,7 +24,7 @@ result_lines-requires-clause-banks g c =
 
 pub returns-in_err-result_lines-clause-reads : goal.returns-in_err-result_lines-clause-reads
 returns-in_err-result_lines-clause-reads g c told =
-    reads_on g.M.Machine.clock g.M.Machine.since g.M.Machine.state c.args.machine.now c.part_files.new.machine c.registers.new.machine (c.part_files.ensures.reads told) (c.registers.ensures.reads told)
+    reads_on g.M.Machine.time g.M.Machine.state c.args.machine.now c.part_files.new.machine c.registers.new.machine (c.part_files.ensures.reads told) (c.registers.ensures.reads told)
 
 pub returns-clause-says : goal.returns-clause-says
 returns-clause-says g c told =
@@ -38,7 +38,7 @@ returns-clause-says g c told =
 
 pub returns-clause-reads : goal.returns-clause-reads
 returns-clause-reads g c told =
-    reads_on g.M.Machine.clock g.M.Machine.since g.M.Machine.state c.args.machine.now c.part_files.new.machine c.registers.new.machine (c.part_files.ensures.reads told) (c.registers.ensures.reads told)
+    reads_on g.M.Machine.time g.M.Machine.state c.args.machine.now c.part_files.new.machine c.registers.new.machine (c.part_files.ensures.reads told) (c.registers.ensures.reads told)
 
 pub returns-in_err-registers-clause-taken : goal.returns-in_err-registers-clause-taken
 returns-in_err-registers-clause-taken g c told =

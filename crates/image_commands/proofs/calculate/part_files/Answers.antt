@@ -9,7 +9,7 @@ loop-name-init g c = record {
   left = sym c.into_iter-name-iterator.ensures.into_iter_gives.0;
   found = λ told. rw c.new-files.ensures.items (each_none _);
   sizes = λ told. search rules;
-  reads = λ told. reads_none g.M.Machine.clock g.M.Machine.since g.M.Machine.state c.args.machine.now (λ m o left. g.met.M.Machine.only_now c.args.machine.now m o told left);
+  reads = λ told. reads_none g.M.Machine.time g.M.Machine.state c.args.machine.now (λ m o left. g.met.M.Machine.only_now c.args.machine.now m o told left);
   counts = refl;
   taken = λ told. omega arith;
 }
@@ -22,7 +22,7 @@ returns-in_err-file-clause-says g c told =
 
 pub returns-in_err-file-clause-reads : goal.returns-in_err-file-clause-reads
 returns-in_err-file-clause-reads g c told =
-    reads_on g.M.Machine.clock g.M.Machine.since g.M.Machine.state _ _ _ (c.loop-name.invariant.reads told) (c.in_err-file.ensures.reads told)
+    reads_on g.M.Machine.time g.M.Machine.state _ _ _ (c.loop-name.invariant.reads told) (c.in_err-file.ensures.reads told)
 
 pub loop-name-preserved : goal.loop-name-preserved
 loop-name-preserved g c =
@@ -35,11 +35,11 @@ loop-name-preserved g c =
       sizes = λ told.
           size_more (g.M.Machine.state c.args.machine.now) (g.M.Machine.state c.loop-name.machine) c.loop-name.files.items c.push.new.items.items _ c.in_ok-file.file
           (before.reads told).same (before.sizes told) (c.in_ok-file.ensures.size told) c.in_ok-push.ensures;
-      reads = λ told. reads_on g.M.Machine.clock g.M.Machine.since g.M.Machine.state _ _ _ (before.reads told) (c.in_ok-file.ensures.reads told);
+      reads = λ told. reads_on g.M.Machine.time g.M.Machine.state _ _ _ (before.reads told) (c.in_ok-file.ensures.reads told);
       counts = search rules;
       taken = λ told. omega (arith, before.taken told, c.in_ok-file.ensures.taken told);
     }
 
 pub returns-in_err-push-clause-reads : goal.returns-in_err-push-clause-reads
 returns-in_err-push-clause-reads g c told =
-    reads_on g.M.Machine.clock g.M.Machine.since g.M.Machine.state _ _ _ (c.loop-name.invariant.reads told) (c.in_ok-file.ensures.reads told)
+    reads_on g.M.Machine.time g.M.Machine.state _ _ _ (c.loop-name.invariant.reads told) (c.in_ok-file.ensures.reads told)

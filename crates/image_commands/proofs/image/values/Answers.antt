@@ -18,7 +18,7 @@ returns-in_err-registers-clause-says g c told =
 
 pub returns-in_err-registers-clause-reads : goal.returns-in_err-registers-clause-reads
 returns-in_err-registers-clause-reads g c told =
-    reads_on g.M.Machine.clock g.M.Machine.since g.M.Machine.state c.args.machine.now c.image_head.new.machine c.registers.new.machine (c.image_head.ensures.reads told) (c.registers.ensures.reads told)
+    reads_on g.M.Machine.time g.M.Machine.state c.args.machine.now c.image_head.new.machine c.registers.new.machine (c.image_head.ensures.reads told) (c.registers.ensures.reads told)
 
 pub result_lines-requires-clause-banks : goal.result_lines-requires-clause-banks
 result_lines-requires-clause-banks g c =
@@ -27,11 +27,11 @@ result_lines-requires-clause-banks g c =
 
 pub returns-in_err-result_lines-clause-reads : goal.returns-in_err-result_lines-clause-reads
 returns-in_err-result_lines-clause-reads g c told =
-    reads_on g.M.Machine.clock g.M.Machine.since g.M.Machine.state c.args.machine.now c.image_head.new.machine c.registers.new.machine (c.image_head.ensures.reads told) (c.registers.ensures.reads told)
+    reads_on g.M.Machine.time g.M.Machine.state c.args.machine.now c.image_head.new.machine c.registers.new.machine (c.image_head.ensures.reads told) (c.registers.ensures.reads told)
 
 pub returns-clause-reads : goal.returns-clause-reads
 returns-clause-reads g c told =
-    reads_on g.M.Machine.clock g.M.Machine.since g.M.Machine.state c.args.machine.now c.image_head.new.machine c.registers.new.machine (c.image_head.ensures.reads told) (c.registers.ensures.reads told)
+    reads_on g.M.Machine.time g.M.Machine.state c.args.machine.now c.image_head.new.machine c.registers.new.machine (c.image_head.ensures.reads told) (c.registers.ensures.reads told)
 
 pub returns-clause-says : goal.returns-clause-says
 returns-clause-says g c told =

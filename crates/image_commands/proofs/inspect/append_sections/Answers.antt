@@ -12,14 +12,14 @@ pub loop-section-init : goal.loop-section-init
 loop-section-init g c = record {
   room = refl;
   lines = λ told. search rules;
-  reads = λ told. reads_none g.M.Machine.clock g.M.Machine.since g.M.Machine.state c.args.machine.now (λ m o left. g.met.M.Machine.only_now c.args.machine.now m o told left);
+  reads = λ told. reads_none g.M.Machine.time g.M.Machine.state c.args.machine.now (λ m o left. g.met.M.Machine.only_now c.args.machine.now m o told left);
   counts = refl;
   taken = λ told. omega arith;
 }
 
 pub returns-in_err-append_section-clause-reads : goal.returns-in_err-append_section-clause-reads
 returns-in_err-append_section-clause-reads g c told =
-    reads_on g.M.Machine.clock g.M.Machine.since g.M.Machine.state c.args.machine.now c.loop-section.machine c.append_section.new.machine (c.loop-section.invariant.reads told) (c.append_section.ensures.reads told)
+    reads_on g.M.Machine.time g.M.Machine.state c.args.machine.now c.loop-section.machine c.append_section.new.machine (c.loop-section.invariant.reads told) (c.append_section.ensures.reads told)
 
 pub returns-in_err-append_section-clause-says : goal.returns-in_err-append_section-clause-says
 returns-in_err-append_section-clause-says g c told =
@@ -38,7 +38,7 @@ loop-section-preserved g c =
           lines_more (contents (g.M.Machine.state c.args.machine.now).files c.args.path.now) _ c.sections-section-items.result.now c.loop-section.section-index _ c.args.out.now.items c.loop-section.out.items c.append_section.new.out.items c.loop-section-test.true same (before.lines told)
           (unwrapped _ _ _ _ refl refl (c.in_ok-append_section.ensures.says told
           (item_inside (contents (g.M.Machine.state c.args.machine.now).files c.args.path.now) _ (headers_of c.args.head.now) c.sections-section-items.result.now c.loop-section.section-index _ (c.requires.head told) same c.sections-section-items.ensures c.loop-section-test.true)));
-      reads = λ told. reads_on g.M.Machine.clock g.M.Machine.since g.M.Machine.state c.args.machine.now c.loop-section.machine c.append_section.new.machine (before.reads told) (c.append_section.ensures.reads told);
+      reads = λ told. reads_on g.M.Machine.time g.M.Machine.state c.args.machine.now c.loop-section.machine c.append_section.new.machine (before.reads told) (c.append_section.ensures.reads told);
       counts = search rules;
       taken = λ told. sections_taken c.sections-section-items.result.now c.loop-section.section-index _ _ _ _ c.loop-section-test.true (before.taken told) (c.append_section.ensures.taken told);
     }

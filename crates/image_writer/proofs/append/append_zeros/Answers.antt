@@ -8,7 +8,7 @@ use Rattle.image_writer.proofs.append.append_zeros.Goals as goal
 pub loop-done-init : goal.loop-done-init
 loop-done-init g c = record {
   within = omega arith;
-  appends = λ told. appends_none g.M.Machine.clock g.M.Machine.since g.M.Machine.state c.args.temp.now c.args.machine.now (λ m o left. g.met.M.Machine.only_now c.args.machine.now m o told left);
+  appends = λ told. appends_none g.M.Machine.time g.M.Machine.state c.args.temp.now c.args.machine.now (λ m o left. g.met.M.Machine.only_now c.args.machine.now m o told left);
   grown = λ told. grown_none c.args.temp.now (g.M.Machine.state c.args.machine.now);
   taken = λ told. refl;
   counts = refl;
@@ -16,17 +16,17 @@ loop-done-init g c = record {
 
 pub append-requires : goal.append-requires
 append-requires g c = record {
-  there = λ told. appends-there g.M.Machine.clock g.M.Machine.since g.M.Machine.state c.args.temp.now c.args.machine.now c.loop-done.machine (c.loop-done.invariant.appends told) (c.requires.there told);
+  there = λ told. appends-there g.M.Machine.time g.M.Machine.state c.args.temp.now c.args.machine.now c.loop-done.machine (c.loop-done.invariant.appends told) (c.requires.there told);
 }
 
 pub returns-in_err-append-clause-appends : goal.returns-in_err-append-clause-appends
 returns-in_err-append-clause-appends g c told =
-    appends_on g.M.Machine.clock g.M.Machine.since g.M.Machine.state c.args.temp.now _ _ _ (c.loop-done.invariant.appends told) (c.append.ensures.appends told)
+    appends_on g.M.Machine.time g.M.Machine.state c.args.temp.now _ _ _ (c.loop-done.invariant.appends told) (c.append.ensures.appends told)
 
 pub loop-done-preserved : goal.loop-done-preserved
 loop-done-preserved g c = record {
   within = search rules;
-  appends = λ told. appends_on g.M.Machine.clock g.M.Machine.since g.M.Machine.state c.args.temp.now _ _ _ (c.loop-done.invariant.appends told) (c.append.ensures.appends told);
+  appends = λ told. appends_on g.M.Machine.time g.M.Machine.state c.args.temp.now _ _ _ (c.loop-done.invariant.appends told) (c.append.ensures.appends told);
   grown = λ told.
       grown_as _ _ _ _ _
       (zeros_more c.args.zeros.now c.loop-done.done c.min-room.result c.requires.zeros (omega arith))

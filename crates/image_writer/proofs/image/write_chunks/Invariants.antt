@@ -12,7 +12,7 @@ use Rattle.image_writer.proofs.image.write_chunks.Given as goal
 abbrev pub invariant-loop-chunk : goal.invariant-loop-chunk
 invariant-loop-chunk g l = record {
   room : length l.buffer ≡ length l.initial.buffer;
-  appends : IsTrue g.M.Machine.tells → AppendsOnly g.M.Machine.clock g.M.Machine.since g.M.Machine.state l.temp l.initial.machine l.machine;
+  appends : IsTrue g.M.Machine.tells → AppendsOnly g.M.Machine.time g.M.Machine.state l.temp l.initial.machine l.machine;
   grown : IsTrue g.M.Machine.tells → Grown l.temp (flat_map (chunk_bytes (contents (g.M.Machine.state l.initial.machine).files (stub_path l.sources)) (new_sbat l.sources)) (take l.chunk-index l.chunks)) (g.M.Machine.state l.initial.machine) (g.M.Machine.state l.machine);
   taken : IsTrue g.M.Machine.tells → TakesAtMost (sum_by chunk_length (take l.chunk-index l.chunks)) (g.M.Machine.taken l.initial.machine) (g.M.Machine.taken l.machine);
   counts : g.M.Machine.counts l.machine ≡ g.M.Machine.counts l.initial.machine;

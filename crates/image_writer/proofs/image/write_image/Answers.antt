@@ -14,10 +14,10 @@ use Rattle.image_writer.proofs.Assembled.{aligned, finished_bytes, kept_within}
 use Rattle.image_writer.proofs.image.write_image.Goals as goal
 
 pub write_parts-requires-clause-there : goal.write_parts-requires-clause-there
-write_parts-requires-clause-there g c told = appends-there g.M.Machine.clock g.M.Machine.since g.M.Machine.state c.args.temp.now c.args.machine.now c.write_stub.new.machine (c.write_stub.ensures.appends told) (c.requires.there told)
+write_parts-requires-clause-there g c told = appends-there g.M.Machine.time g.M.Machine.state c.args.temp.now c.args.machine.now c.write_stub.new.machine (c.write_stub.ensures.appends told) (c.requires.there told)
 
 pub returns-clause-appends : goal.returns-clause-appends
-returns-clause-appends g c told = appends_on g.M.Machine.clock g.M.Machine.since g.M.Machine.state c.args.temp.now _ _ _ (c.write_stub.ensures.appends told) (c.write_parts.ensures.appends told)
+returns-clause-appends g c told = appends_on g.M.Machine.time g.M.Machine.state c.args.temp.now _ _ _ (c.write_stub.ensures.appends told) (c.write_parts.ensures.appends told)
 
 pub returns-clause-image : goal.returns-clause-image
 returns-clause-image g c = ok_then c.write_parts.result c.write_parts.ensures.grows (λ parts told h sizes in_place reads plans len.
@@ -29,7 +29,7 @@ returns-clause-image g c = ok_then c.write_parts.result c.write_parts.ensures.gr
     let is = c.requires.sourced told in
     let unit : 0 < c.stub_head.result.now.file_alignment =
     subst (λ (head : Head). 0 < head.file_alignment) (sym c.stub_head.ensures) (aligned plan stub (new_sbat sources) (parts_bytes files (part_list sources)) is.plan_is) in
-    let back = parts told unit files (λ (q : Path) shown. contents-view m q shown ∙ sym (appends-source g.M.Machine.clock g.M.Machine.since g.M.Machine.state c.args.temp.now c.args.machine.now c.write_stub.new.machine q c.know-2.ensures shown (c.write_stub.ensures.appends told))) in
+    let back = parts told unit files (λ (q : Path) shown. contents-view m q shown ∙ sym (appends-source g.M.Machine.time g.M.Machine.state c.args.temp.now c.args.machine.now c.write_stub.new.machine q c.know-2.ensures shown (c.write_stub.ensures.appends told))) in
     let same : behind_stub files c.stub_head.result.now.file_alignment c.stub_length-stub_length.result c.parts.result.now
     ≡ behind_stub files (planned_before plan).file_alignment (planned_stub_length plan) (part_list sources) =
     ap (λ (head : Head). behind_stub files head.file_alignment c.stub_length-stub_length.result c.parts.result.now) c.stub_head.ensures

@@ -7,22 +7,22 @@ use Rattle.image_writer.proofs.Filled.{four}
 use Rattle.image_writer.proofs.image.write_stub.Goals as goal
 
 pub write_chunks-requires-2-clause-there : goal.write_chunks-requires-2-clause-there
-write_chunks-requires-2-clause-there g c told = appends-there g.M.Machine.clock g.M.Machine.since g.M.Machine.state c.args.temp.now c.args.machine.now c.write_chunks.new.machine (c.write_chunks.ensures.appends told) (c.requires.there told)
+write_chunks-requires-2-clause-there g c told = appends-there g.M.Machine.time g.M.Machine.state c.args.temp.now c.args.machine.now c.write_chunks.new.machine (c.write_chunks.ensures.appends told) (c.requires.there told)
 
 pub returns-in_err-write_chunks-2-clause-appends : goal.returns-in_err-write_chunks-2-clause-appends
-returns-in_err-write_chunks-2-clause-appends g c told = appends_on g.M.Machine.clock g.M.Machine.since g.M.Machine.state c.args.temp.now _ _ _ (c.write_chunks.ensures.appends told) (c.write_chunks-2.ensures.appends told)
+returns-in_err-write_chunks-2-clause-appends g c told = appends_on g.M.Machine.time g.M.Machine.state c.args.temp.now _ _ _ (c.write_chunks.ensures.appends told) (c.write_chunks-2.ensures.appends told)
 
 pub write_headers-requires-clause-there : goal.write_headers-requires-clause-there
-write_headers-requires-clause-there g c told = appends-there g.M.Machine.clock g.M.Machine.since g.M.Machine.state c.args.temp.now c.args.machine.now c.write_chunks-2.new.machine (appends_on g.M.Machine.clock g.M.Machine.since g.M.Machine.state c.args.temp.now _ _ _ (c.write_chunks.ensures.appends told) (c.write_chunks-2.ensures.appends told)) (c.requires.there told)
+write_headers-requires-clause-there g c told = appends-there g.M.Machine.time g.M.Machine.state c.args.temp.now c.args.machine.now c.write_chunks-2.new.machine (appends_on g.M.Machine.time g.M.Machine.state c.args.temp.now _ _ _ (c.write_chunks.ensures.appends told) (c.write_chunks-2.ensures.appends told)) (c.requires.there told)
 
 pub returns-in_err-write_headers-clause-appends : goal.returns-in_err-write_headers-clause-appends
-returns-in_err-write_headers-clause-appends g c told = appends_on g.M.Machine.clock g.M.Machine.since g.M.Machine.state c.args.temp.now _ _ _ (appends_on g.M.Machine.clock g.M.Machine.since g.M.Machine.state c.args.temp.now _ _ _ (c.write_chunks.ensures.appends told) (c.write_chunks-2.ensures.appends told)) (c.write_headers.ensures.appends told)
+returns-in_err-write_headers-clause-appends g c told = appends_on g.M.Machine.time g.M.Machine.state c.args.temp.now _ _ _ (appends_on g.M.Machine.time g.M.Machine.state c.args.temp.now _ _ _ (c.write_chunks.ensures.appends told) (c.write_chunks-2.ensures.appends told)) (c.write_headers.ensures.appends told)
 
 pub write_chunks-requires-3-clause-there : goal.write_chunks-requires-3-clause-there
-write_chunks-requires-3-clause-there g c told = appends-there g.M.Machine.clock g.M.Machine.since g.M.Machine.state c.args.temp.now c.args.machine.now c.write_headers.new.machine (appends_on g.M.Machine.clock g.M.Machine.since g.M.Machine.state c.args.temp.now _ _ _ (appends_on g.M.Machine.clock g.M.Machine.since g.M.Machine.state c.args.temp.now _ _ _ (c.write_chunks.ensures.appends told) (c.write_chunks-2.ensures.appends told)) (c.write_headers.ensures.appends told)) (c.requires.there told)
+write_chunks-requires-3-clause-there g c told = appends-there g.M.Machine.time g.M.Machine.state c.args.temp.now c.args.machine.now c.write_headers.new.machine (appends_on g.M.Machine.time g.M.Machine.state c.args.temp.now _ _ _ (appends_on g.M.Machine.time g.M.Machine.state c.args.temp.now _ _ _ (c.write_chunks.ensures.appends told) (c.write_chunks-2.ensures.appends told)) (c.write_headers.ensures.appends told)) (c.requires.there told)
 
 pub returns-clause-appends : goal.returns-clause-appends
-returns-clause-appends g c told = appends_on g.M.Machine.clock g.M.Machine.since g.M.Machine.state c.args.temp.now _ _ _ (appends_on g.M.Machine.clock g.M.Machine.since g.M.Machine.state c.args.temp.now _ _ _ (appends_on g.M.Machine.clock g.M.Machine.since g.M.Machine.state c.args.temp.now _ _ _ (c.write_chunks.ensures.appends told) (c.write_chunks-2.ensures.appends told)) (c.write_headers.ensures.appends told)) (c.write_chunks-3.ensures.appends told)
+returns-clause-appends g c told = appends_on g.M.Machine.time g.M.Machine.state c.args.temp.now _ _ _ (appends_on g.M.Machine.time g.M.Machine.state c.args.temp.now _ _ _ (appends_on g.M.Machine.time g.M.Machine.state c.args.temp.now _ _ _ (c.write_chunks.ensures.appends told) (c.write_chunks-2.ensures.appends told)) (c.write_headers.ensures.appends told)) (c.write_chunks-3.ensures.appends told)
 
 pub returns-clause-grows : goal.returns-clause-grows
 returns-clause-grows g c = ok_then c.write_chunks-3.result c.write_chunks-3.ensures.grows (λ rest told.
@@ -31,7 +31,7 @@ returns-clause-grows g c = ok_then c.write_chunks-3.result c.write_chunks-3.ensu
     grown_as _ _ _ _ _
     (four _ _ _ _ _ _ _ _
     (ap (chunks_bytes stub sbat) c.number_chunks.ensures)
-    (ap (λ (s : List ℕ). chunks_bytes s sbat c.table_chunks.result) (appends-source g.M.Machine.clock g.M.Machine.since g.M.Machine.state c.args.temp.now c.args.machine.now c.write_chunks.new.machine (stub_path c.args.sources.now) c.know-2.ensures c.know.ensures (c.write_chunks.ensures.appends told)) ∙ ap (chunks_bytes stub sbat) c.table_chunks.ensures)
-    (ap (λ (s : List ℕ). headers_bytes s sbat c.new_sections.result.now) (appends-source g.M.Machine.clock g.M.Machine.since g.M.Machine.state c.args.temp.now c.args.machine.now c.write_chunks-2.new.machine (stub_path c.args.sources.now) c.know-2.ensures c.know.ensures (appends_on g.M.Machine.clock g.M.Machine.since g.M.Machine.state c.args.temp.now _ _ _ (c.write_chunks.ensures.appends told) (c.write_chunks-2.ensures.appends told))) ∙ ap (headers_bytes stub sbat) c.new_sections.ensures)
-    (ap (λ (s : List ℕ). chunks_bytes s sbat c.rest_chunks.result) (appends-source g.M.Machine.clock g.M.Machine.since g.M.Machine.state c.args.temp.now c.args.machine.now c.write_headers.new.machine (stub_path c.args.sources.now) c.know-2.ensures c.know.ensures (appends_on g.M.Machine.clock g.M.Machine.since g.M.Machine.state c.args.temp.now _ _ _ (appends_on g.M.Machine.clock g.M.Machine.since g.M.Machine.state c.args.temp.now _ _ _ (c.write_chunks.ensures.appends told) (c.write_chunks-2.ensures.appends told)) (c.write_headers.ensures.appends told))) ∙ ap (chunks_bytes stub sbat) c.rest_chunks.ensures))
+    (ap (λ (s : List ℕ). chunks_bytes s sbat c.table_chunks.result) (appends-source g.M.Machine.time g.M.Machine.state c.args.temp.now c.args.machine.now c.write_chunks.new.machine (stub_path c.args.sources.now) c.know-2.ensures c.know.ensures (c.write_chunks.ensures.appends told)) ∙ ap (chunks_bytes stub sbat) c.table_chunks.ensures)
+    (ap (λ (s : List ℕ). headers_bytes s sbat c.new_sections.result.now) (appends-source g.M.Machine.time g.M.Machine.state c.args.temp.now c.args.machine.now c.write_chunks-2.new.machine (stub_path c.args.sources.now) c.know-2.ensures c.know.ensures (appends_on g.M.Machine.time g.M.Machine.state c.args.temp.now _ _ _ (c.write_chunks.ensures.appends told) (c.write_chunks-2.ensures.appends told))) ∙ ap (headers_bytes stub sbat) c.new_sections.ensures)
+    (ap (λ (s : List ℕ). chunks_bytes s sbat c.rest_chunks.result) (appends-source g.M.Machine.time g.M.Machine.state c.args.temp.now c.args.machine.now c.write_headers.new.machine (stub_path c.args.sources.now) c.know-2.ensures c.know.ensures (appends_on g.M.Machine.time g.M.Machine.state c.args.temp.now _ _ _ (appends_on g.M.Machine.time g.M.Machine.state c.args.temp.now _ _ _ (c.write_chunks.ensures.appends told) (c.write_chunks-2.ensures.appends told)) (c.write_headers.ensures.appends told))) ∙ ap (chunks_bytes stub sbat) c.rest_chunks.ensures))
     (grown_on _ _ _ _ _ _ (grown_on _ _ _ _ _ _ (grown_on _ _ _ _ _ _ (c.in_ok-write_chunks.ensures.grows told) (c.in_ok-write_chunks-2.ensures.grows told)) (c.in_ok-write_headers.ensures.grows told)) (rest told)))

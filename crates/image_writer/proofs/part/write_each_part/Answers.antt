@@ -10,7 +10,7 @@ use Rattle.image_writer.proofs.part.write_each_part.Goals as goal
 pub loop-part-init : goal.loop-part-init
 loop-part-init g c = record {
   room = refl;
-  appends = λ told. appends_none g.M.Machine.clock g.M.Machine.since g.M.Machine.state c.args.temp.now c.args.machine.now (λ m o left. g.met.M.Machine.only_now c.args.machine.now m o told left);
+  appends = λ told. appends_none g.M.Machine.time g.M.Machine.state c.args.temp.now c.args.machine.now (λ m o left. g.met.M.Machine.only_now c.args.machine.now m o told left);
   grown = λ told unit files agrees. grown_none c.args.temp.now (g.M.Machine.state c.args.machine.now);
   taken = λ told. omega arith;
   counts = refl;
@@ -18,21 +18,21 @@ loop-part-init g c = record {
 
 pub write_part-requires-clause-there : goal.write_part-requires-clause-there
 write_part-requires-clause-there g c told =
-    appends-there g.M.Machine.clock g.M.Machine.since g.M.Machine.state c.args.temp.now c.args.machine.now c.loop-part.machine (c.loop-part.invariant.appends told) (c.requires.there told)
+    appends-there g.M.Machine.time g.M.Machine.state c.args.temp.now c.args.machine.now c.loop-part.machine (c.loop-part.invariant.appends told) (c.requires.there told)
 
 pub returns-in_err-write_part-clause-appends : goal.returns-in_err-write_part-clause-appends
 returns-in_err-write_part-clause-appends g c told =
-    appends_on g.M.Machine.clock g.M.Machine.since g.M.Machine.state c.args.temp.now _ _ _ (c.loop-part.invariant.appends told) (c.write_part.ensures.appends told)
+    appends_on g.M.Machine.time g.M.Machine.state c.args.temp.now _ _ _ (c.loop-part.invariant.appends told) (c.write_part.ensures.appends told)
 
 pub loop-part-preserved : goal.loop-part-preserved
 loop-part-preserved g c = record {
   room = search rules;
-  appends = λ told. appends_on g.M.Machine.clock g.M.Machine.since g.M.Machine.state c.args.temp.now _ _ _ (c.loop-part.invariant.appends told) (c.write_part.ensures.appends told);
+  appends = λ told. appends_on g.M.Machine.time g.M.Machine.state c.args.temp.now _ _ _ (c.loop-part.invariant.appends told) (c.write_part.ensures.appends told);
   grown = λ told unit files agrees.
       grown_as _ _ _ _ _
       (flat_map-more (padded_part files c.args.unit) c.args.parts.now c.loop-part.part-index c.part-item.result c.loop-part-test.true c.part-item.is)
       (grown_on _ _ _ _ _ _ (c.loop-part.invariant.grown told unit files agrees) (c.in_ok-write_part.ensures.grows told unit files
-      (λ (q : Path) shown. agrees q shown ∙ sym (appends-source g.M.Machine.clock g.M.Machine.since g.M.Machine.state c.args.temp.now c.args.machine.now c.loop-part.machine q c.know.ensures shown (c.loop-part.invariant.appends told)))));
+      (λ (q : Path) shown. agrees q shown ∙ sym (appends-source g.M.Machine.time g.M.Machine.state c.args.temp.now c.args.machine.now c.loop-part.machine q c.know.ensures shown (c.loop-part.invariant.appends told)))));
   taken = λ told.
       omega (
         arith,

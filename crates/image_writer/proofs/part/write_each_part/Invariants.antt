@@ -12,7 +12,7 @@ use Rattle.image_writer.proofs.part.write_each_part.Given as goal
 abbrev pub invariant-loop-part : goal.invariant-loop-part
 invariant-loop-part g l = record {
   room : length l.buffer ≡ length l.initial.buffer;
-  appends : IsTrue g.M.Machine.tells → AppendsOnly g.M.Machine.clock g.M.Machine.since g.M.Machine.state l.temp l.initial.machine l.machine;
+  appends : IsTrue g.M.Machine.tells → AppendsOnly g.M.Machine.time g.M.Machine.state l.temp l.initial.machine l.machine;
   grown : IsTrue g.M.Machine.tells → 0 < l.unit → (files : Reading) → Agrees files (g.M.Machine.state l.initial.machine).files → Grown l.temp (flat_map (padded_part files l.unit) (take l.part-index l.parts)) (g.M.Machine.state l.initial.machine) (g.M.Machine.state l.machine);
   taken : IsTrue g.M.Machine.tells → TakesAtMost (sum_by part_reading (take l.part-index l.parts)) (g.M.Machine.taken l.initial.machine) (g.M.Machine.taken l.machine);
   counts : g.M.Machine.counts l.machine ≡ g.M.Machine.counts l.initial.machine;

@@ -7,10 +7,10 @@ use Rattle.install_steps.specs.AppendLaws.{appends_on, appends-there, grown_on, 
 use Rattle.image_writer.proofs.part.write_part.Goals as goal
 
 pub write_zeros-requires-clause-there : goal.write_zeros-requires-clause-there
-write_zeros-requires-clause-there g c told = appends-there g.M.Machine.clock g.M.Machine.since g.M.Machine.state c.args.temp.now c.args.machine.now c.write_pieces.new.machine (c.write_pieces.ensures.appends told) (c.requires.there told)
+write_zeros-requires-clause-there g c told = appends-there g.M.Machine.time g.M.Machine.state c.args.temp.now c.args.machine.now c.write_pieces.new.machine (c.write_pieces.ensures.appends told) (c.requires.there told)
 
 pub returns-clause-appends : goal.returns-clause-appends
-returns-clause-appends g c told = appends_on g.M.Machine.clock g.M.Machine.since g.M.Machine.state c.args.temp.now _ _ _ (c.write_pieces.ensures.appends told) (c.write_zeros.ensures.appends told)
+returns-clause-appends g c told = appends_on g.M.Machine.time g.M.Machine.state c.args.temp.now _ _ _ (c.write_pieces.ensures.appends told) (c.write_zeros.ensures.appends told)
 
 pub returns-clause-grows : goal.returns-clause-grows
 returns-clause-grows g c = ok_then c.write_zeros.result c.write_zeros.ensures.grows (λ zeros told unit files agrees.

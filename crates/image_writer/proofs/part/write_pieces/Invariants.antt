@@ -10,7 +10,7 @@ use Rattle.image_writer.proofs.part.write_pieces.Given as goal
 abbrev pub invariant-loop-piece : goal.invariant-loop-piece
 invariant-loop-piece g l = record {
   room : length l.buffer ≡ length l.initial.buffer;
-  appends : IsTrue g.M.Machine.tells → AppendsOnly g.M.Machine.clock g.M.Machine.since g.M.Machine.state l.temp l.initial.machine l.machine;
+  appends : IsTrue g.M.Machine.tells → AppendsOnly g.M.Machine.time g.M.Machine.state l.temp l.initial.machine l.machine;
   grown : IsTrue g.M.Machine.tells → (files : Reading) → Agrees files (g.M.Machine.state l.initial.machine).files → Grown l.temp (flat_map (given_bytes files) (take l.piece-index l.pieces)) (g.M.Machine.state l.initial.machine) (g.M.Machine.state l.machine);
   taken : IsTrue g.M.Machine.tells → TakesAtMost (sum_by file_length (take l.piece-index l.pieces)) (g.M.Machine.taken l.initial.machine) (g.M.Machine.taken l.machine);
   counts : g.M.Machine.counts l.machine ≡ g.M.Machine.counts l.initial.machine;

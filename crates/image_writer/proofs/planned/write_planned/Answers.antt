@@ -16,9 +16,9 @@ use Rattle.image_writer.proofs.planned.write_planned.Goals as goal
 
 pub returns-in_err-create-clause-step : goal.returns-in_err-create-clause-step
 returns-in_err-create-clause-step g c told firm image finished =
-    let start = begins_same g.M.Machine.clock g.M.Machine.since g.M.Machine.state c.args.machine.now (λ m o. g.met.M.Machine.only_now c.args.machine.now m o told) (g.met.M.Machine.sound c.args.machine.now told) firm (c.requires.one told) in
-    let made = goes-create _ _ _ _ _ _ _ c.create.result start (c.create.ensures.moments told) c.args.target.now.temp c.know-2.ensures (c.create.ensures.row told) in
-    steps_same _ _ _ _ _ _ made
+    let start = begins_same g.M.Machine.time g.M.Machine.state c.args.machine.now (λ m o. g.met.M.Machine.only_now c.args.machine.now m o told) (g.met.M.Machine.sound c.args.machine.now told) firm (c.requires.one told) in
+    let made = goes-create _ _ _ _ _ _ c.create.result start (c.create.ensures.moments told) c.args.target.now.temp c.know-2.ensures (c.create.ensures.row told) in
+    steps_same _ _ _ _ _ made
 
 pub write_image-requires-clause-sourced : goal.write_image-requires-clause-sourced
 write_image-requires-clause-sourced g c told =
@@ -34,23 +34,23 @@ write_image-requires-clause-empty g c told = rw (c.in_ok-create.ensures.row told
 
 pub returns-in_err-write_image-clause-step : goal.returns-in_err-write_image-clause-step
 returns-in_err-write_image-clause-step g c told firm image finished =
-    let start = begins_same g.M.Machine.clock g.M.Machine.since g.M.Machine.state c.args.machine.now (λ m o. g.met.M.Machine.only_now c.args.machine.now m o told) (g.met.M.Machine.sound c.args.machine.now told) firm (c.requires.one told) in
-    let made = goes-create _ _ _ _ _ _ _ c.create.result start (c.create.ensures.moments told) c.args.target.now.temp c.know-2.ensures (c.create.ensures.row told) in
-    let written = goes-appends _ _ _ _ _ _ _ made c.args.target.now.temp c.know-2.ensures (c.write_image.ensures.appends told) in
-    steps_same _ _ _ _ _ _ written
+    let start = begins_same g.M.Machine.time g.M.Machine.state c.args.machine.now (λ m o. g.met.M.Machine.only_now c.args.machine.now m o told) (g.met.M.Machine.sound c.args.machine.now told) firm (c.requires.one told) in
+    let made = goes-create _ _ _ _ _ _ c.create.result start (c.create.ensures.moments told) c.args.target.now.temp c.know-2.ensures (c.create.ensures.row told) in
+    let written = goes-appends _ _ _ _ _ _ made c.args.target.now.temp c.know-2.ensures (c.write_image.ensures.appends told) in
+    steps_same _ _ _ _ _ written
 
 pub put_in_place-requires : goal.put_in_place-requires
 put_in_place-requires g c = record {
   there = λ told.
       let there : has (g.M.Machine.state c.create.new.self).files c.args.target.now.temp ≡ true = rw (c.in_ok-create.ensures.row told) (has-created (g.M.Machine.state c.args.machine.now).files c.args.target.now.temp) in
-      appends-there g.M.Machine.clock g.M.Machine.since g.M.Machine.state c.args.target.now.temp c.create.new.self c.write_image.new.machine (c.write_image.ensures.appends told) there;
+      appends-there g.M.Machine.time g.M.Machine.state c.args.target.now.temp c.create.new.self c.write_image.new.machine (c.write_image.ensures.appends told) there;
 }
 
 pub returns-clause-step : goal.returns-clause-step
 returns-clause-step g c told firm image finished =
-    let start = begins_same g.M.Machine.clock g.M.Machine.since g.M.Machine.state c.args.machine.now (λ m o. g.met.M.Machine.only_now c.args.machine.now m o told) (g.met.M.Machine.sound c.args.machine.now told) firm (c.requires.one told) in
-    let made = goes-create _ _ _ _ _ _ _ c.create.result start (c.create.ensures.moments told) c.args.target.now.temp c.know-2.ensures (c.create.ensures.row told) in
-    let written = goes-appends _ _ _ _ _ _ _ made c.args.target.now.temp c.know-2.ensures (c.write_image.ensures.appends told) in
+    let start = begins_same g.M.Machine.time g.M.Machine.state c.args.machine.now (λ m o. g.met.M.Machine.only_now c.args.machine.now m o told) (g.met.M.Machine.sound c.args.machine.now told) firm (c.requires.one told) in
+    let made = goes-create _ _ _ _ _ _ c.create.result start (c.create.ensures.moments told) c.args.target.now.temp c.know-2.ensures (c.create.ensures.row told) in
+    let written = goes-appends _ _ _ _ _ _ made c.args.target.now.temp c.know-2.ensures (c.write_image.ensures.appends told) in
     let created : (g.M.Machine.state c.create.new.self).files ≡ map.insert (g.M.Machine.state c.args.machine.now).files c.args.target.now.temp [] = rw (c.in_ok-create.ensures.row told) refl in
     let seen : view (g.M.Machine.state c.create.new.self).files ≡ view (g.M.Machine.state c.args.machine.now).files = ap view created ∙ view-insert_temp (g.M.Machine.state c.args.machine.now).files c.args.target.now.temp [] c.know-2.ensures in
     let files = view (g.M.Machine.state c.args.machine.now).files in
@@ -61,14 +61,14 @@ returns-clause-step g c told firm image finished =
     one_image c.args.plan.now stub (new_sbat c.args.sources.now) (parts_bytes (contents files) (part_list c.args.sources.now)) bytes image (c.requires.sourced told).plan_is is_image finished in
     let is : recovered_view (move_in c.args.target.now.temp c.args.target.now.path (g.M.Machine.state c.write_image.new.machine).files) ≡ map.insert (recovered_view (g.M.Machine.state c.args.machine.now).files) c.args.target.now.path image =
     sees_written (g.M.Machine.state c.args.machine.now).files c.args.target.now.temp c.args.target.now.path (g.M.Machine.state c.create.new.self) (g.M.Machine.state c.write_image.new.machine) image (c.requires.rested told) (off_intent c.args.target.now.path c.requires.free) c.know-2.ensures c.know.ensures created (c.write_image.ensures.appends told).left same in
-    let finishes = c.put_in_place.ensures.step told (firm_so_far _ _ _ _ _ _ written) (settled_so_far _ _ _ _ _ written) in
-    steps_on _ _ _ _ _ _ _ written (subst (λ (v : Files). StepsTo g.M.Machine.clock g.M.Machine.since g.M.Machine.state v c.write_image.new.machine c.put_in_place.new.machine) is finishes)
+    let finishes = c.put_in_place.ensures.step told (firm_so_far _ _ _ _ _ written) (settled_so_far _ _ _ _ written) in
+    steps_on _ _ _ _ _ _ written (subst (λ (v : Files). StepsTo g.M.Machine.time g.M.Machine.state v c.write_image.new.machine c.put_in_place.new.machine) is finishes)
 
 pub returns-clause-done : goal.returns-clause-done
 returns-clause-done g c = ok_then c.put_in_place.result c.put_in_place.ensures.done (λ done told firm image finished.
-    let start = begins_same g.M.Machine.clock g.M.Machine.since g.M.Machine.state c.args.machine.now (λ m o. g.met.M.Machine.only_now c.args.machine.now m o told) (g.met.M.Machine.sound c.args.machine.now told) firm (c.requires.one told) in
-    let made = goes-create _ _ _ _ _ _ _ c.create.result start (c.create.ensures.moments told) c.args.target.now.temp c.know-2.ensures (c.create.ensures.row told) in
-    let written = goes-appends _ _ _ _ _ _ _ made c.args.target.now.temp c.know-2.ensures (c.write_image.ensures.appends told) in
+    let start = begins_same g.M.Machine.time g.M.Machine.state c.args.machine.now (λ m o. g.met.M.Machine.only_now c.args.machine.now m o told) (g.met.M.Machine.sound c.args.machine.now told) firm (c.requires.one told) in
+    let made = goes-create _ _ _ _ _ _ c.create.result start (c.create.ensures.moments told) c.args.target.now.temp c.know-2.ensures (c.create.ensures.row told) in
+    let written = goes-appends _ _ _ _ _ _ made c.args.target.now.temp c.know-2.ensures (c.write_image.ensures.appends told) in
     let created : (g.M.Machine.state c.create.new.self).files ≡ map.insert (g.M.Machine.state c.args.machine.now).files c.args.target.now.temp [] = rw (c.in_ok-create.ensures.row told) refl in
     let seen : view (g.M.Machine.state c.create.new.self).files ≡ view (g.M.Machine.state c.args.machine.now).files = ap view created ∙ view-insert_temp (g.M.Machine.state c.args.machine.now).files c.args.target.now.temp [] c.know-2.ensures in
     let files = view (g.M.Machine.state c.args.machine.now).files in
@@ -79,7 +79,7 @@ returns-clause-done g c = ok_then c.put_in_place.result c.put_in_place.ensures.d
     one_image c.args.plan.now stub (new_sbat c.args.sources.now) (parts_bytes (contents files) (part_list c.args.sources.now)) bytes image (c.requires.sourced told).plan_is is_image finished in
     let is : recovered_view (move_in c.args.target.now.temp c.args.target.now.path (g.M.Machine.state c.write_image.new.machine).files) ≡ map.insert (recovered_view (g.M.Machine.state c.args.machine.now).files) c.args.target.now.path image =
     sees_written (g.M.Machine.state c.args.machine.now).files c.args.target.now.temp c.args.target.now.path (g.M.Machine.state c.create.new.self) (g.M.Machine.state c.write_image.new.machine) image (c.requires.rested told) (off_intent c.args.target.now.path c.requires.free) c.know-2.ensures c.know.ensures created (c.write_image.ensures.appends told).left same in
-    subst (IsDone (g.M.Machine.state c.put_in_place.new.machine)) is (done told (firm_so_far _ _ _ _ _ _ written) (settled_so_far _ _ _ _ _ written)))
+    subst (IsDone (g.M.Machine.state c.put_in_place.new.machine)) is (done told (firm_so_far _ _ _ _ _ written) (settled_so_far _ _ _ _ written)))
 
 pub returns-clause-temps : goal.returns-clause-temps
 returns-clause-temps g c = ok_then c.put_in_place.result c.put_in_place.ensures.files (λ files told q temp there.
@@ -88,23 +88,23 @@ returns-clause-temps g c = ok_then c.put_in_place.result c.put_in_place.ensures.
 
 pub returns-in_err-create-clause-quiet : goal.returns-in_err-create-clause-quiet
 returns-in_err-create-clause-quiet g c told =
-    let start = quiet_start g.M.Machine.clock g.M.Machine.since g.M.Machine.state c.args.machine.now (λ m o. g.met.M.Machine.only_now c.args.machine.now m o told) in
-    let made = quiet-create _ _ _ _ _ _ start (λ m o. g.met.M.Machine.only_now c.args.machine.now m o told) (c.create.ensures.moments told) c.create.result c.args.target.now.temp (c.create.ensures.row told) in
+    let start = quiet_start g.M.Machine.time g.M.Machine.state c.args.machine.now (λ m o. g.met.M.Machine.only_now c.args.machine.now m o told) in
+    let made = quiet-create _ _ _ _ _ start (λ m o. g.met.M.Machine.only_now c.args.machine.now m o told) (c.create.ensures.moments told) c.create.result c.args.target.now.temp (c.create.ensures.row told) in
     made.moments
 
 pub returns-in_err-write_image-clause-quiet : goal.returns-in_err-write_image-clause-quiet
 returns-in_err-write_image-clause-quiet g c told =
-    let start = quiet_start g.M.Machine.clock g.M.Machine.since g.M.Machine.state c.args.machine.now (λ m o. g.met.M.Machine.only_now c.args.machine.now m o told) in
-    let made = quiet-create _ _ _ _ _ _ start (λ m o. g.met.M.Machine.only_now c.args.machine.now m o told) (c.create.ensures.moments told) c.create.result c.args.target.now.temp (c.create.ensures.row told) in
-    let written = quiet_appends _ _ _ c.args.target.now.temp _ _ _ made (c.write_image.ensures.appends told) in
+    let start = quiet_start g.M.Machine.time g.M.Machine.state c.args.machine.now (λ m o. g.met.M.Machine.only_now c.args.machine.now m o told) in
+    let made = quiet-create _ _ _ _ _ start (λ m o. g.met.M.Machine.only_now c.args.machine.now m o told) (c.create.ensures.moments told) c.create.result c.args.target.now.temp (c.create.ensures.row told) in
+    let written = quiet_appends _ _ c.args.target.now.temp _ _ _ made (c.write_image.ensures.appends told) in
     written.moments
 
 pub returns-clause-quiet : goal.returns-clause-quiet
 returns-clause-quiet g c told =
-    let start = quiet_start g.M.Machine.clock g.M.Machine.since g.M.Machine.state c.args.machine.now (λ m o. g.met.M.Machine.only_now c.args.machine.now m o told) in
-    let made = quiet-create _ _ _ _ _ _ start (λ m o. g.met.M.Machine.only_now c.args.machine.now m o told) (c.create.ensures.moments told) c.create.result c.args.target.now.temp (c.create.ensures.row told) in
-    let written = quiet_appends _ _ _ c.args.target.now.temp _ _ _ made (c.write_image.ensures.appends told) in
-    let ended = quiet_then _ _ _ _ _ _ written (c.put_in_place.ensures.quiet told) (c.put_in_place.ensures.keeps told) in
+    let start = quiet_start g.M.Machine.time g.M.Machine.state c.args.machine.now (λ m o. g.met.M.Machine.only_now c.args.machine.now m o told) in
+    let made = quiet-create _ _ _ _ _ start (λ m o. g.met.M.Machine.only_now c.args.machine.now m o told) (c.create.ensures.moments told) c.create.result c.args.target.now.temp (c.create.ensures.row told) in
+    let written = quiet_appends _ _ c.args.target.now.temp _ _ _ made (c.write_image.ensures.appends told) in
+    let ended = quiet_then _ _ _ _ _ written (c.put_in_place.ensures.quiet told) (c.put_in_place.ensures.keeps told) in
     ended.moments
 
 pub returns-clause-rests : goal.returns-clause-rests

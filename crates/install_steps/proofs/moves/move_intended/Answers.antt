@@ -16,7 +16,7 @@ pub returns-in_err-put_intent-clause-step : goal.returns-in_err-put_intent-claus
 returns-in_err-put_intent-clause-step g c told firm =
     let s = g.M.Machine.state c.args.machine.now in
     let next = move_in c.args.from.now c.args.to.now (recovered_view s.files) in
-    let first = steps_part g.M.Machine.clock g.M.Machine.since g.M.Machine.state next (recovered_view s.files) c.args.machine.now c.put_intent.new.machine (inl refl) (c.put_intent.ensures.step told firm) in
+    let first = steps_part g.M.Machine.time g.M.Machine.state next (recovered_view s.files) c.args.machine.now c.put_intent.new.machine (inl refl) (c.put_intent.ensures.step told firm) in
     first
 
 pub rename_synced-requires-clause-there : goal.rename_synced-requires-clause-there
@@ -30,12 +30,12 @@ pub returns-in_err-rename_synced-clause-step : goal.returns-in_err-rename_synced
 returns-in_err-rename_synced-clause-step g c told firm =
     let s = g.M.Machine.state c.args.machine.now in
     let next = move_in c.args.from.now c.args.to.now (recovered_view s.files) in
-    let first = steps_part g.M.Machine.clock g.M.Machine.since g.M.Machine.state next (recovered_view s.files) c.args.machine.now c.put_intent.new.machine (inl refl) (c.put_intent.ensures.step told firm) in
+    let first = steps_part g.M.Machine.time g.M.Machine.state next (recovered_view s.files) c.args.machine.now c.put_intent.new.machine (inl refl) (c.put_intent.ensures.step told firm) in
     let intends = c.in_ok-put_intent.ensures.intends told in
     let m = g.M.Machine.state c.put_intent.new.machine in
     let stood : recovered_view m.files ≡ recovered_view s.files = intended_view s.files m.files c.args.from.now c.args.to.now (c.requires.rested told) intends (c.requires.none told) in
     let moved : recovered_view (move_in c.args.from.now c.args.to.now m.files) ≡ next = moved_view s.files m.files c.args.from.now c.args.to.now (c.requires.rested told) intends in
-    let second = steps_then g.M.Machine.clock g.M.Machine.since g.M.Machine.state next _ c.args.machine.now c.put_intent.new.machine c.rename_synced.new.machine first (c.put_intent.ensures.keeps told).printed (inl stood) (inr moved) (c.rename_synced.ensures.step told (c.put_intent.ensures.step told firm).firm) in
+    let second = steps_then g.M.Machine.time g.M.Machine.state next _ c.args.machine.now c.put_intent.new.machine c.rename_synced.new.machine first (c.put_intent.ensures.keeps told).printed (inl stood) (inr moved) (c.rename_synced.ensures.step told (c.put_intent.ensures.step told firm).firm) in
     second
 
 pub unlink_synced-requires-clause-there : goal.unlink_synced-requires-clause-there
@@ -46,17 +46,17 @@ pub returns-clause-step : goal.returns-clause-step
 returns-clause-step g c told firm =
     let s = g.M.Machine.state c.args.machine.now in
     let next = move_in c.args.from.now c.args.to.now (recovered_view s.files) in
-    let first = steps_part g.M.Machine.clock g.M.Machine.since g.M.Machine.state next (recovered_view s.files) c.args.machine.now c.put_intent.new.machine (inl refl) (c.put_intent.ensures.step told firm) in
+    let first = steps_part g.M.Machine.time g.M.Machine.state next (recovered_view s.files) c.args.machine.now c.put_intent.new.machine (inl refl) (c.put_intent.ensures.step told firm) in
     let intends = c.in_ok-put_intent.ensures.intends told in
     let m = g.M.Machine.state c.put_intent.new.machine in
     let stood : recovered_view m.files ≡ recovered_view s.files = intended_view s.files m.files c.args.from.now c.args.to.now (c.requires.rested told) intends (c.requires.none told) in
     let moved : recovered_view (move_in c.args.from.now c.args.to.now m.files) ≡ next = moved_view s.files m.files c.args.from.now c.args.to.now (c.requires.rested told) intends in
-    let second = steps_then g.M.Machine.clock g.M.Machine.since g.M.Machine.state next _ c.args.machine.now c.put_intent.new.machine c.rename_synced.new.machine first (c.put_intent.ensures.keeps told).printed (inl stood) (inr moved) (c.rename_synced.ensures.step told (c.put_intent.ensures.step told firm).firm) in
+    let second = steps_then g.M.Machine.time g.M.Machine.state next _ c.args.machine.now c.put_intent.new.machine c.rename_synced.new.machine first (c.put_intent.ensures.keeps told).printed (inl stood) (inr moved) (c.rename_synced.ensures.step told (c.put_intent.ensures.step told firm).firm) in
     let n = g.M.Machine.state c.rename_synced.new.machine in
     let files = c.in_ok-rename_synced.ensures.files told in
     let sees : recovered_view n.files ≡ next = ap recovered_view files ∙ moved in
     let without : recovered_view (map.remove n.files c.args.intent.now.path) ≡ next = rw (c.requires.at_intent, files) (dropped_view s.files m.files c.args.from.now c.args.to.now (c.requires.rested told) intends) in
-    steps_then g.M.Machine.clock g.M.Machine.since g.M.Machine.state next _ c.args.machine.now c.rename_synced.new.machine c.unlink_synced.new.machine second ((c.rename_synced.ensures.keeps told).printed ∙ (c.put_intent.ensures.keeps told).printed) (inr sees) (inr without) (c.unlink_synced.ensures.step told second.firm)
+    steps_then g.M.Machine.time g.M.Machine.state next _ c.args.machine.now c.rename_synced.new.machine c.unlink_synced.new.machine second ((c.rename_synced.ensures.keeps told).printed ∙ (c.put_intent.ensures.keeps told).printed) (inr sees) (inr without) (c.unlink_synced.ensures.step told second.firm)
 
 pub returns-clause-done : goal.returns-clause-done
 returns-clause-done g c = ok_both c.unlink_synced.result c.unlink_synced.ensures.files c.unlink_synced.ensures.one (λ removed one told firm.
@@ -65,7 +65,7 @@ returns-clause-done g c = ok_both c.unlink_synced.result c.unlink_synced.ensures
     let intends = c.in_ok-put_intent.ensures.intends told in
     let m = g.M.Machine.state c.put_intent.new.machine in
     let is : recovered_view (g.M.Machine.state c.unlink_synced.new.machine).files ≡ next = rw (removed told, c.requires.at_intent, c.in_ok-rename_synced.ensures.files told) (dropped_view s.files m.files c.args.from.now c.args.to.now (c.requires.rested told) intends) in
-    done_after g.M.Machine.clock g.M.Machine.since g.M.Machine.state next c.args.machine.now c.unlink_synced.new.machine (g.met.M.Machine.sound c.unlink_synced.new.machine told) (returns-clause-step g c told firm) (one told) is)
+    done_after g.M.Machine.time g.M.Machine.state next c.args.machine.now c.unlink_synced.new.machine (g.met.M.Machine.sound c.unlink_synced.new.machine told) (returns-clause-step g c told firm) (one told) is)
 
 pub returns-clause-rests : goal.returns-clause-rests
 returns-clause-rests g c = ok_then c.unlink_synced.result c.unlink_synced.ensures.files (λ removed told.
@@ -79,13 +79,13 @@ returns-clause-temps g c = ok_then c.unlink_synced.result c.unlink_synced.ensure
 
 pub returns-in_err-rename_synced-clause-quiet : goal.returns-in_err-rename_synced-clause-quiet
 returns-in_err-rename_synced-clause-quiet g c told =
-    let put = quiet_first g.M.Machine.clock g.M.Machine.since g.M.Machine.state _ _ (c.put_intent.ensures.quiet told) (c.put_intent.ensures.keeps told) in
-    let renamed = quiet_then _ _ _ _ _ _ put (c.rename_synced.ensures.quiet told) (c.rename_synced.ensures.keeps told) in
+    let put = quiet_first g.M.Machine.time g.M.Machine.state _ _ (c.put_intent.ensures.quiet told) (c.put_intent.ensures.keeps told) in
+    let renamed = quiet_then _ _ _ _ _ put (c.rename_synced.ensures.quiet told) (c.rename_synced.ensures.keeps told) in
     renamed.moments
 
 pub returns-clause-quiet : goal.returns-clause-quiet
 returns-clause-quiet g c told =
-    let put = quiet_first g.M.Machine.clock g.M.Machine.since g.M.Machine.state _ _ (c.put_intent.ensures.quiet told) (c.put_intent.ensures.keeps told) in
-    let renamed = quiet_then _ _ _ _ _ _ put (c.rename_synced.ensures.quiet told) (c.rename_synced.ensures.keeps told) in
-    let ended = quiet_then _ _ _ _ _ _ renamed (c.unlink_synced.ensures.quiet told) (c.unlink_synced.ensures.keeps told) in
+    let put = quiet_first g.M.Machine.time g.M.Machine.state _ _ (c.put_intent.ensures.quiet told) (c.put_intent.ensures.keeps told) in
+    let renamed = quiet_then _ _ _ _ _ put (c.rename_synced.ensures.quiet told) (c.rename_synced.ensures.keeps told) in
+    let ended = quiet_then _ _ _ _ _ renamed (c.unlink_synced.ensures.quiet told) (c.unlink_synced.ensures.keeps told) in
     ended.moments

@@ -13,67 +13,67 @@ pub returns-in_err-size-clause-step : goal.returns-in_err-size-clause-step
 returns-in_err-size-clause-step g c told firm =
     let s = g.M.Machine.state c.args.machine.now in
     let next = moved c.args.from.now c.args.to.now (recovered_view s.files) in
-    let start = begins g.M.Machine.clock g.M.Machine.since g.M.Machine.state next c.args.machine.now (λ m o. g.met.M.Machine.only_now c.args.machine.now m o told) (g.met.M.Machine.sound c.args.machine.now told) firm (c.requires.one told) in
-    let looked = goes-read _ _ _ _ _ _ _ start (c.size.ensures.moments told) (c.size.ensures.row told).same in
-    steps_to _ _ _ _ _ _ looked
+    let start = begins g.M.Machine.time g.M.Machine.state next c.args.machine.now (λ m o. g.met.M.Machine.only_now c.args.machine.now m o told) (g.met.M.Machine.sound c.args.machine.now told) firm (c.requires.one told) in
+    let looked = goes-read _ _ _ _ _ _ start (c.size.ensures.moments told) (c.size.ensures.row told).same in
+    steps_to _ _ _ _ _ looked
 
 pub returns-then-is_none-clause-step : goal.returns-then-is_none-clause-step
 returns-then-is_none-clause-step g c told firm =
     let s = g.M.Machine.state c.args.machine.now in
     let next = moved c.args.from.now c.args.to.now (recovered_view s.files) in
-    let start = begins g.M.Machine.clock g.M.Machine.since g.M.Machine.state next c.args.machine.now (λ m o. g.met.M.Machine.only_now c.args.machine.now m o told) (g.met.M.Machine.sound c.args.machine.now told) firm (c.requires.one told) in
-    let looked = goes-read _ _ _ _ _ _ _ start (c.size.ensures.moments told) (c.size.ensures.row told).same in
-    steps_to _ _ _ _ _ _ looked
+    let start = begins g.M.Machine.time g.M.Machine.state next c.args.machine.now (λ m o. g.met.M.Machine.only_now c.args.machine.now m o told) (g.met.M.Machine.sound c.args.machine.now told) firm (c.requires.one told) in
+    let looked = goes-read _ _ _ _ _ _ start (c.size.ensures.moments told) (c.size.ensures.row told).same in
+    steps_to _ _ _ _ _ looked
 
 pub returns-in_err-size-2-clause-step : goal.returns-in_err-size-2-clause-step
 returns-in_err-size-2-clause-step g c told firm =
     let s = g.M.Machine.state c.args.machine.now in
     let next = moved c.args.from.now c.args.to.now (recovered_view s.files) in
-    let start = begins g.M.Machine.clock g.M.Machine.since g.M.Machine.state next c.args.machine.now (λ m o. g.met.M.Machine.only_now c.args.machine.now m o told) (g.met.M.Machine.sound c.args.machine.now told) firm (c.requires.one told) in
-    let looked = goes-read _ _ _ _ _ _ _ start (c.size.ensures.moments told) (c.size.ensures.row told).same in
-    let looked2 = goes-read _ _ _ _ _ _ _ looked (c.size-2.ensures.moments told) (c.size-2.ensures.row told).same in
-    steps_to _ _ _ _ _ _ looked2
+    let start = begins g.M.Machine.time g.M.Machine.state next c.args.machine.now (λ m o. g.met.M.Machine.only_now c.args.machine.now m o told) (g.met.M.Machine.sound c.args.machine.now told) firm (c.requires.one told) in
+    let looked = goes-read _ _ _ _ _ _ start (c.size.ensures.moments told) (c.size.ensures.row told).same in
+    let looked2 = goes-read _ _ _ _ _ _ looked (c.size-2.ensures.moments told) (c.size-2.ensures.row told).same in
+    steps_to _ _ _ _ _ looked2
 
 pub returns-then-is_some-clause-step : goal.returns-then-is_some-clause-step
 returns-then-is_some-clause-step g c told firm =
     let s = g.M.Machine.state c.args.machine.now in
     let next = moved c.args.from.now c.args.to.now (recovered_view s.files) in
-    let start = begins g.M.Machine.clock g.M.Machine.since g.M.Machine.state next c.args.machine.now (λ m o. g.met.M.Machine.only_now c.args.machine.now m o told) (g.met.M.Machine.sound c.args.machine.now told) firm (c.requires.one told) in
-    let looked = goes-read _ _ _ _ _ _ _ start (c.size.ensures.moments told) (c.size.ensures.row told).same in
-    let looked2 = goes-read _ _ _ _ _ _ _ looked (c.size-2.ensures.moments told) (c.size-2.ensures.row told).same in
-    steps_to _ _ _ _ _ _ looked2
+    let start = begins g.M.Machine.time g.M.Machine.state next c.args.machine.now (λ m o. g.met.M.Machine.only_now c.args.machine.now m o told) (g.met.M.Machine.sound c.args.machine.now told) firm (c.requires.one told) in
+    let looked = goes-read _ _ _ _ _ _ start (c.size.ensures.moments told) (c.size.ensures.row told).same in
+    let looked2 = goes-read _ _ _ _ _ _ looked (c.size-2.ensures.moments told) (c.size-2.ensures.row told).same in
+    steps_to _ _ _ _ _ looked2
 
 pub returns-in_err-move_intended-clause-step : goal.returns-in_err-move_intended-clause-step
 returns-in_err-move_intended-clause-step g c told firm =
     let s = g.M.Machine.state c.args.machine.now in
     let next = moved c.args.from.now c.args.to.now (recovered_view s.files) in
-    let start = begins g.M.Machine.clock g.M.Machine.since g.M.Machine.state next c.args.machine.now (λ m o. g.met.M.Machine.only_now c.args.machine.now m o told) (g.met.M.Machine.sound c.args.machine.now told) firm (c.requires.one told) in
-    let looked = goes-read _ _ _ _ _ _ _ start (c.size.ensures.moments told) (c.size.ensures.row told).same in
-    let looked2 = goes-read _ _ _ _ _ _ _ looked (c.size-2.ensures.moments told) (c.size-2.ensures.row told).same in
+    let start = begins g.M.Machine.time g.M.Machine.state next c.args.machine.now (λ m o. g.met.M.Machine.only_now c.args.machine.now m o told) (g.met.M.Machine.sound c.args.machine.now told) firm (c.requires.one told) in
+    let looked = goes-read _ _ _ _ _ _ start (c.size.ensures.moments told) (c.size.ensures.row told).same in
+    let looked2 = goes-read _ _ _ _ _ _ looked (c.size-2.ensures.moments told) (c.size-2.ensures.row told).same in
     let same = (c.size-2.ensures.row told).same ∙ (c.size.ensures.row told).same in
-    let first = steps_to _ _ _ _ _ _ looked2 in
+    let first = steps_to _ _ _ _ _ looked2 in
     let there : has s.files c.args.from.now ≡ true = search rules in
     let none : has (g.M.Machine.state c.size.new.self).files c.args.to.now ≡ false = search rules in
     let is : moved c.args.from.now c.args.to.now (recovered_view s.files) ≡ move_in c.args.from.now c.args.to.now (recovered_view s.files) =
     moved_there c.args.from.now c.args.to.now (recovered_view s.files) (rw (has-recovered_view s.files c.args.from.now (c.requires.rested told) c.know.ensures) there) (rw (has-recovered_view s.files c.args.to.now (c.requires.rested told) c.know-2.ensures) (rw (c.size.ensures.row told).same at none)) in
     let step = c.move_intended.ensures.step told first.firm in
-    steps_then g.M.Machine.clock g.M.Machine.since g.M.Machine.state next _ c.args.machine.now c.size-2.new.self c.move_intended.new.machine first (ap (λ (t : State). t.printed) same) (inl (ap (λ (t : State). recovered_view t.files) same)) (inr (ap (λ (t : State). move_in c.args.from.now c.args.to.now (recovered_view t.files)) same ∙ sym is)) step
+    steps_then g.M.Machine.time g.M.Machine.state next _ c.args.machine.now c.size-2.new.self c.move_intended.new.machine first (ap (λ (t : State). t.printed) same) (inl (ap (λ (t : State). recovered_view t.files) same)) (inr (ap (λ (t : State). move_in c.args.from.now c.args.to.now (recovered_view t.files)) same ∙ sym is)) step
 
 pub returns-clause-step : goal.returns-clause-step
 returns-clause-step g c told firm =
     let s = g.M.Machine.state c.args.machine.now in
     let next = moved c.args.from.now c.args.to.now (recovered_view s.files) in
-    let start = begins g.M.Machine.clock g.M.Machine.since g.M.Machine.state next c.args.machine.now (λ m o. g.met.M.Machine.only_now c.args.machine.now m o told) (g.met.M.Machine.sound c.args.machine.now told) firm (c.requires.one told) in
-    let looked = goes-read _ _ _ _ _ _ _ start (c.size.ensures.moments told) (c.size.ensures.row told).same in
-    let looked2 = goes-read _ _ _ _ _ _ _ looked (c.size-2.ensures.moments told) (c.size-2.ensures.row told).same in
+    let start = begins g.M.Machine.time g.M.Machine.state next c.args.machine.now (λ m o. g.met.M.Machine.only_now c.args.machine.now m o told) (g.met.M.Machine.sound c.args.machine.now told) firm (c.requires.one told) in
+    let looked = goes-read _ _ _ _ _ _ start (c.size.ensures.moments told) (c.size.ensures.row told).same in
+    let looked2 = goes-read _ _ _ _ _ _ looked (c.size-2.ensures.moments told) (c.size-2.ensures.row told).same in
     let same = (c.size-2.ensures.row told).same ∙ (c.size.ensures.row told).same in
-    let first = steps_to _ _ _ _ _ _ looked2 in
+    let first = steps_to _ _ _ _ _ looked2 in
     let there : has s.files c.args.from.now ≡ true = search rules in
     let none : has (g.M.Machine.state c.size.new.self).files c.args.to.now ≡ false = search rules in
     let is : moved c.args.from.now c.args.to.now (recovered_view s.files) ≡ move_in c.args.from.now c.args.to.now (recovered_view s.files) =
     moved_there c.args.from.now c.args.to.now (recovered_view s.files) (rw (has-recovered_view s.files c.args.from.now (c.requires.rested told) c.know.ensures) there) (rw (has-recovered_view s.files c.args.to.now (c.requires.rested told) c.know-2.ensures) (rw (c.size.ensures.row told).same at none)) in
     let step = c.move_intended.ensures.step told first.firm in
-    steps_then g.M.Machine.clock g.M.Machine.since g.M.Machine.state next _ c.args.machine.now c.size-2.new.self c.move_intended.new.machine first (ap (λ (t : State). t.printed) same) (inl (ap (λ (t : State). recovered_view t.files) same)) (inr (ap (λ (t : State). move_in c.args.from.now c.args.to.now (recovered_view t.files)) same ∙ sym is)) step
+    steps_then g.M.Machine.time g.M.Machine.state next _ c.args.machine.now c.size-2.new.self c.move_intended.new.machine first (ap (λ (t : State). t.printed) same) (inl (ap (λ (t : State). recovered_view t.files) same)) (inr (ap (λ (t : State). move_in c.args.from.now c.args.to.now (recovered_view t.files)) same ∙ sym is)) step
 
 pub returns-clause-done : goal.returns-clause-done
 returns-clause-done g c told firm =
@@ -108,42 +108,42 @@ returns-clause-found g c told =
 
 pub returns-in_err-size-clause-quiet : goal.returns-in_err-size-clause-quiet
 returns-in_err-size-clause-quiet g c told =
-    let start = quiet_start g.M.Machine.clock g.M.Machine.since g.M.Machine.state c.args.machine.now (λ m o. g.met.M.Machine.only_now c.args.machine.now m o told) in
-    let looked = quiet-read _ _ _ _ _ _ start (λ m o. g.met.M.Machine.only_now c.args.machine.now m o told) (c.size.ensures.moments told) (c.size.ensures.row told).same in
+    let start = quiet_start g.M.Machine.time g.M.Machine.state c.args.machine.now (λ m o. g.met.M.Machine.only_now c.args.machine.now m o told) in
+    let looked = quiet-read _ _ _ _ _ start (λ m o. g.met.M.Machine.only_now c.args.machine.now m o told) (c.size.ensures.moments told) (c.size.ensures.row told).same in
     looked.moments
 
 pub returns-then-is_none-clause-quiet : goal.returns-then-is_none-clause-quiet
 returns-then-is_none-clause-quiet g c told =
-    let start = quiet_start g.M.Machine.clock g.M.Machine.since g.M.Machine.state c.args.machine.now (λ m o. g.met.M.Machine.only_now c.args.machine.now m o told) in
-    let looked = quiet-read _ _ _ _ _ _ start (λ m o. g.met.M.Machine.only_now c.args.machine.now m o told) (c.size.ensures.moments told) (c.size.ensures.row told).same in
+    let start = quiet_start g.M.Machine.time g.M.Machine.state c.args.machine.now (λ m o. g.met.M.Machine.only_now c.args.machine.now m o told) in
+    let looked = quiet-read _ _ _ _ _ start (λ m o. g.met.M.Machine.only_now c.args.machine.now m o told) (c.size.ensures.moments told) (c.size.ensures.row told).same in
     looked.moments
 
 pub returns-in_err-size-2-clause-quiet : goal.returns-in_err-size-2-clause-quiet
 returns-in_err-size-2-clause-quiet g c told =
-    let start = quiet_start g.M.Machine.clock g.M.Machine.since g.M.Machine.state c.args.machine.now (λ m o. g.met.M.Machine.only_now c.args.machine.now m o told) in
-    let looked = quiet-read _ _ _ _ _ _ start (λ m o. g.met.M.Machine.only_now c.args.machine.now m o told) (c.size.ensures.moments told) (c.size.ensures.row told).same in
-    let looked2 = quiet-read _ _ _ _ _ _ looked (λ m o. g.met.M.Machine.only_now c.size.new.self m o told) (c.size-2.ensures.moments told) (c.size-2.ensures.row told).same in
+    let start = quiet_start g.M.Machine.time g.M.Machine.state c.args.machine.now (λ m o. g.met.M.Machine.only_now c.args.machine.now m o told) in
+    let looked = quiet-read _ _ _ _ _ start (λ m o. g.met.M.Machine.only_now c.args.machine.now m o told) (c.size.ensures.moments told) (c.size.ensures.row told).same in
+    let looked2 = quiet-read _ _ _ _ _ looked (λ m o. g.met.M.Machine.only_now c.size.new.self m o told) (c.size-2.ensures.moments told) (c.size-2.ensures.row told).same in
     looked2.moments
 
 pub returns-then-is_some-clause-quiet : goal.returns-then-is_some-clause-quiet
 returns-then-is_some-clause-quiet g c told =
-    let start = quiet_start g.M.Machine.clock g.M.Machine.since g.M.Machine.state c.args.machine.now (λ m o. g.met.M.Machine.only_now c.args.machine.now m o told) in
-    let looked = quiet-read _ _ _ _ _ _ start (λ m o. g.met.M.Machine.only_now c.args.machine.now m o told) (c.size.ensures.moments told) (c.size.ensures.row told).same in
-    let looked2 = quiet-read _ _ _ _ _ _ looked (λ m o. g.met.M.Machine.only_now c.size.new.self m o told) (c.size-2.ensures.moments told) (c.size-2.ensures.row told).same in
+    let start = quiet_start g.M.Machine.time g.M.Machine.state c.args.machine.now (λ m o. g.met.M.Machine.only_now c.args.machine.now m o told) in
+    let looked = quiet-read _ _ _ _ _ start (λ m o. g.met.M.Machine.only_now c.args.machine.now m o told) (c.size.ensures.moments told) (c.size.ensures.row told).same in
+    let looked2 = quiet-read _ _ _ _ _ looked (λ m o. g.met.M.Machine.only_now c.size.new.self m o told) (c.size-2.ensures.moments told) (c.size-2.ensures.row told).same in
     looked2.moments
 
 pub returns-in_err-move_intended-clause-quiet : goal.returns-in_err-move_intended-clause-quiet
 returns-in_err-move_intended-clause-quiet g c told =
-    let start = quiet_start g.M.Machine.clock g.M.Machine.since g.M.Machine.state c.args.machine.now (λ m o. g.met.M.Machine.only_now c.args.machine.now m o told) in
-    let looked = quiet-read _ _ _ _ _ _ start (λ m o. g.met.M.Machine.only_now c.args.machine.now m o told) (c.size.ensures.moments told) (c.size.ensures.row told).same in
-    let looked2 = quiet-read _ _ _ _ _ _ looked (λ m o. g.met.M.Machine.only_now c.size.new.self m o told) (c.size-2.ensures.moments told) (c.size-2.ensures.row told).same in
-    let ended = quiet_then _ _ _ _ _ _ looked2 (c.move_intended.ensures.quiet told) (c.move_intended.ensures.keeps told) in
+    let start = quiet_start g.M.Machine.time g.M.Machine.state c.args.machine.now (λ m o. g.met.M.Machine.only_now c.args.machine.now m o told) in
+    let looked = quiet-read _ _ _ _ _ start (λ m o. g.met.M.Machine.only_now c.args.machine.now m o told) (c.size.ensures.moments told) (c.size.ensures.row told).same in
+    let looked2 = quiet-read _ _ _ _ _ looked (λ m o. g.met.M.Machine.only_now c.size.new.self m o told) (c.size-2.ensures.moments told) (c.size-2.ensures.row told).same in
+    let ended = quiet_then _ _ _ _ _ looked2 (c.move_intended.ensures.quiet told) (c.move_intended.ensures.keeps told) in
     ended.moments
 
 pub returns-clause-quiet : goal.returns-clause-quiet
 returns-clause-quiet g c told =
-    let start = quiet_start g.M.Machine.clock g.M.Machine.since g.M.Machine.state c.args.machine.now (λ m o. g.met.M.Machine.only_now c.args.machine.now m o told) in
-    let looked = quiet-read _ _ _ _ _ _ start (λ m o. g.met.M.Machine.only_now c.args.machine.now m o told) (c.size.ensures.moments told) (c.size.ensures.row told).same in
-    let looked2 = quiet-read _ _ _ _ _ _ looked (λ m o. g.met.M.Machine.only_now c.size.new.self m o told) (c.size-2.ensures.moments told) (c.size-2.ensures.row told).same in
-    let ended = quiet_then _ _ _ _ _ _ looked2 (c.move_intended.ensures.quiet told) (c.move_intended.ensures.keeps told) in
+    let start = quiet_start g.M.Machine.time g.M.Machine.state c.args.machine.now (λ m o. g.met.M.Machine.only_now c.args.machine.now m o told) in
+    let looked = quiet-read _ _ _ _ _ start (λ m o. g.met.M.Machine.only_now c.args.machine.now m o told) (c.size.ensures.moments told) (c.size.ensures.row told).same in
+    let looked2 = quiet-read _ _ _ _ _ looked (λ m o. g.met.M.Machine.only_now c.size.new.self m o told) (c.size-2.ensures.moments told) (c.size-2.ensures.row told).same in
+    let ended = quiet_then _ _ _ _ _ looked2 (c.move_intended.ensures.quiet told) (c.move_intended.ensures.keeps told) in
     ended.moments

@@ -14,20 +14,20 @@ pub returns-in_err-rename_name-clause-step : goal.returns-in_err-rename_name-cla
 returns-in_err-rename_name-clause-step g c told firm =
     let s = g.M.Machine.state c.args.machine.now in
     let next = recovered_view (move_in c.args.from.now c.args.to.now s.files) in
-    let start = begins g.M.Machine.clock g.M.Machine.since g.M.Machine.state next c.args.machine.now (λ m o. g.met.M.Machine.only_now c.args.machine.now m o told) (g.met.M.Machine.sound c.args.machine.now told) firm (c.requires.one told) in
+    let start = begins g.M.Machine.time g.M.Machine.state next c.args.machine.now (λ m o. g.met.M.Machine.only_now c.args.machine.now m o told) (g.met.M.Machine.sound c.args.machine.now told) firm (c.requires.one told) in
     let synced = not_soft s.soft start.stands.temps c.args.from.now c.know.ensures in
-    let moved = goes-rename _ _ _ _ _ _ _ c.rename_name.result start (c.rename_name.ensures.moments told) c.args.from.now c.args.to.now synced (inr (recovered_view-half_moved s.files c.args.from.now c.args.to.now (c.requires.named told))) (inr refl) (c.rename_name.ensures.row told) in
-    steps_to _ _ _ _ _ _ moved
+    let moved = goes-rename _ _ _ _ _ _ c.rename_name.result start (c.rename_name.ensures.moments told) c.args.from.now c.args.to.now synced (inr (recovered_view-half_moved s.files c.args.from.now c.args.to.now (c.requires.named told))) (inr refl) (c.rename_name.ensures.row told) in
+    steps_to _ _ _ _ _ moved
 
 pub returns-clause-step : goal.returns-clause-step
 returns-clause-step g c told firm =
     let s = g.M.Machine.state c.args.machine.now in
     let next = recovered_view (move_in c.args.from.now c.args.to.now s.files) in
-    let start = begins g.M.Machine.clock g.M.Machine.since g.M.Machine.state next c.args.machine.now (λ m o. g.met.M.Machine.only_now c.args.machine.now m o told) (g.met.M.Machine.sound c.args.machine.now told) firm (c.requires.one told) in
+    let start = begins g.M.Machine.time g.M.Machine.state next c.args.machine.now (λ m o. g.met.M.Machine.only_now c.args.machine.now m o told) (g.met.M.Machine.sound c.args.machine.now told) firm (c.requires.one told) in
     let synced = not_soft s.soft start.stands.temps c.args.from.now c.know.ensures in
-    let moved = goes-rename _ _ _ _ _ _ _ c.rename_name.result start (c.rename_name.ensures.moments told) c.args.from.now c.args.to.now synced (inr (recovered_view-half_moved s.files c.args.from.now c.args.to.now (c.requires.named told))) (inr refl) (c.rename_name.ensures.row told) in
-    let ended = goes-sync_names _ _ _ _ _ _ _ c.sync_names.result moved (c.sync_names.ensures.moments told) (c.sync_names.ensures.row told) in
-    steps_to _ _ _ _ _ _ ended
+    let moved = goes-rename _ _ _ _ _ _ c.rename_name.result start (c.rename_name.ensures.moments told) c.args.from.now c.args.to.now synced (inr (recovered_view-half_moved s.files c.args.from.now c.args.to.now (c.requires.named told))) (inr refl) (c.rename_name.ensures.row told) in
+    let ended = goes-sync_names _ _ _ _ _ _ c.sync_names.result moved (c.sync_names.ensures.moments told) (c.sync_names.ensures.row told) in
+    steps_to _ _ _ _ _ ended
 
 pub returns-clause-files : goal.returns-clause-files
 returns-clause-files g c = on_ok _ _ c.sync_names.result c.sync_names.ensures.row (λ told row. rw (row, c.in_ok-rename_name.ensures.row told) refl)
@@ -37,13 +37,13 @@ returns-clause-one g c = on_ok _ _ c.sync_names.result c.sync_names.ensures.row 
 
 pub returns-in_err-rename_name-clause-quiet : goal.returns-in_err-rename_name-clause-quiet
 returns-in_err-rename_name-clause-quiet g c told =
-    let start = quiet_start g.M.Machine.clock g.M.Machine.since g.M.Machine.state c.args.machine.now (λ m o. g.met.M.Machine.only_now c.args.machine.now m o told) in
-    let renamed = quiet-rename _ _ _ _ _ _ start (λ m o. g.met.M.Machine.only_now c.args.machine.now m o told) (c.rename_name.ensures.moments told) c.rename_name.result c.args.from.now c.args.to.now (c.rename_name.ensures.row told) in
+    let start = quiet_start g.M.Machine.time g.M.Machine.state c.args.machine.now (λ m o. g.met.M.Machine.only_now c.args.machine.now m o told) in
+    let renamed = quiet-rename _ _ _ _ _ start (λ m o. g.met.M.Machine.only_now c.args.machine.now m o told) (c.rename_name.ensures.moments told) c.rename_name.result c.args.from.now c.args.to.now (c.rename_name.ensures.row told) in
     renamed.moments
 
 pub returns-clause-quiet : goal.returns-clause-quiet
 returns-clause-quiet g c told =
-    let start = quiet_start g.M.Machine.clock g.M.Machine.since g.M.Machine.state c.args.machine.now (λ m o. g.met.M.Machine.only_now c.args.machine.now m o told) in
-    let renamed = quiet-rename _ _ _ _ _ _ start (λ m o. g.met.M.Machine.only_now c.args.machine.now m o told) (c.rename_name.ensures.moments told) c.rename_name.result c.args.from.now c.args.to.now (c.rename_name.ensures.row told) in
-    let ended = quiet-sync_names _ _ _ _ _ _ renamed (λ m o. g.met.M.Machine.only_now c.rename_name.new.self m o told) (c.sync_names.ensures.moments told) c.sync_names.result (c.sync_names.ensures.row told) in
+    let start = quiet_start g.M.Machine.time g.M.Machine.state c.args.machine.now (λ m o. g.met.M.Machine.only_now c.args.machine.now m o told) in
+    let renamed = quiet-rename _ _ _ _ _ start (λ m o. g.met.M.Machine.only_now c.args.machine.now m o told) (c.rename_name.ensures.moments told) c.rename_name.result c.args.from.now c.args.to.now (c.rename_name.ensures.row told) in
+    let ended = quiet-sync_names _ _ _ _ _ renamed (λ m o. g.met.M.Machine.only_now c.rename_name.new.self m o told) (c.sync_names.ensures.moments told) c.sync_names.result (c.sync_names.ensures.row told) in
     ended.moments

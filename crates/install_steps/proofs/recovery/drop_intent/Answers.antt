@@ -12,7 +12,7 @@ pub returns-clause-step : goal.returns-clause-step
 returns-clause-step g c told firm =
     let s = g.M.Machine.state c.args.machine.now in
     let is : recovered_view (map.remove s.files c.args.intent.now.path) ≡ recovered_view s.files = rw c.requires.at_intent (recovered_view-drop_intent s.files (c.requires.whole told)) in
-    steps_part g.M.Machine.clock g.M.Machine.since g.M.Machine.state (recovered_view s.files) _ c.args.machine.now c.unlink_synced.new.machine (inl is) (c.unlink_synced.ensures.step told firm)
+    steps_part g.M.Machine.time g.M.Machine.state (recovered_view s.files) _ c.args.machine.now c.unlink_synced.new.machine (inl is) (c.unlink_synced.ensures.step told firm)
 
 pub returns-clause-rests : goal.returns-clause-rests
 returns-clause-rests g c = ok_then c.unlink_synced.result c.unlink_synced.ensures.files (λ removed told.

@@ -10,32 +10,32 @@ use Rattle.install_steps.proofs.recovery.drop_left.Goals as goal
 pub returns-in_err-size-clause-step : goal.returns-in_err-size-clause-step
 returns-in_err-size-clause-step g c told firm =
     let s = g.M.Machine.state c.args.machine.now in
-    let start = begins_same g.M.Machine.clock g.M.Machine.since g.M.Machine.state c.args.machine.now (λ m o. g.met.M.Machine.only_now c.args.machine.now m o told) (g.met.M.Machine.sound c.args.machine.now told) firm (c.requires.one told) in
-    let looked = goes-read _ _ _ _ _ _ _ start (c.size.ensures.moments told) (c.size.ensures.row told).same in
-    steps_same _ _ _ _ _ _ looked
+    let start = begins_same g.M.Machine.time g.M.Machine.state c.args.machine.now (λ m o. g.met.M.Machine.only_now c.args.machine.now m o told) (g.met.M.Machine.sound c.args.machine.now told) firm (c.requires.one told) in
+    let looked = goes-read _ _ _ _ _ _ start (c.size.ensures.moments told) (c.size.ensures.row told).same in
+    steps_same _ _ _ _ _ looked
 
 pub returns-then-is_none-clause-step : goal.returns-then-is_none-clause-step
 returns-then-is_none-clause-step g c told firm =
     let s = g.M.Machine.state c.args.machine.now in
-    let start = begins_same g.M.Machine.clock g.M.Machine.since g.M.Machine.state c.args.machine.now (λ m o. g.met.M.Machine.only_now c.args.machine.now m o told) (g.met.M.Machine.sound c.args.machine.now told) firm (c.requires.one told) in
-    let looked = goes-read _ _ _ _ _ _ _ start (c.size.ensures.moments told) (c.size.ensures.row told).same in
-    steps_same _ _ _ _ _ _ looked
+    let start = begins_same g.M.Machine.time g.M.Machine.state c.args.machine.now (λ m o. g.met.M.Machine.only_now c.args.machine.now m o told) (g.met.M.Machine.sound c.args.machine.now told) firm (c.requires.one told) in
+    let looked = goes-read _ _ _ _ _ _ start (c.size.ensures.moments told) (c.size.ensures.row told).same in
+    steps_same _ _ _ _ _ looked
 
 pub returns-in_err-size-2-clause-step : goal.returns-in_err-size-2-clause-step
 returns-in_err-size-2-clause-step g c told firm =
     let s = g.M.Machine.state c.args.machine.now in
-    let start = begins_same g.M.Machine.clock g.M.Machine.since g.M.Machine.state c.args.machine.now (λ m o. g.met.M.Machine.only_now c.args.machine.now m o told) (g.met.M.Machine.sound c.args.machine.now told) firm (c.requires.one told) in
-    let looked = goes-read _ _ _ _ _ _ _ start (c.size.ensures.moments told) (c.size.ensures.row told).same in
-    let looked2 = goes-read _ _ _ _ _ _ _ looked (c.size-2.ensures.moments told) (c.size-2.ensures.row told).same in
-    steps_same _ _ _ _ _ _ looked2
+    let start = begins_same g.M.Machine.time g.M.Machine.state c.args.machine.now (λ m o. g.met.M.Machine.only_now c.args.machine.now m o told) (g.met.M.Machine.sound c.args.machine.now told) firm (c.requires.one told) in
+    let looked = goes-read _ _ _ _ _ _ start (c.size.ensures.moments told) (c.size.ensures.row told).same in
+    let looked2 = goes-read _ _ _ _ _ _ looked (c.size-2.ensures.moments told) (c.size-2.ensures.row told).same in
+    steps_same _ _ _ _ _ looked2
 
 pub returns-then-is_none-2-clause-step : goal.returns-then-is_none-2-clause-step
 returns-then-is_none-2-clause-step g c told firm =
     let s = g.M.Machine.state c.args.machine.now in
-    let start = begins_same g.M.Machine.clock g.M.Machine.since g.M.Machine.state c.args.machine.now (λ m o. g.met.M.Machine.only_now c.args.machine.now m o told) (g.met.M.Machine.sound c.args.machine.now told) firm (c.requires.one told) in
-    let looked = goes-read _ _ _ _ _ _ _ start (c.size.ensures.moments told) (c.size.ensures.row told).same in
-    let looked2 = goes-read _ _ _ _ _ _ _ looked (c.size-2.ensures.moments told) (c.size-2.ensures.row told).same in
-    steps_same _ _ _ _ _ _ looked2
+    let start = begins_same g.M.Machine.time g.M.Machine.state c.args.machine.now (λ m o. g.met.M.Machine.only_now c.args.machine.now m o told) (g.met.M.Machine.sound c.args.machine.now told) firm (c.requires.one told) in
+    let looked = goes-read _ _ _ _ _ _ start (c.size.ensures.moments told) (c.size.ensures.row told).same in
+    let looked2 = goes-read _ _ _ _ _ _ looked (c.size-2.ensures.moments told) (c.size-2.ensures.row told).same in
+    steps_same _ _ _ _ _ looked2
 
 pub returns-then-is_none-clause-whole : goal.returns-then-is_none-clause-whole
 returns-then-is_none-clause-whole g c told =
@@ -58,15 +58,15 @@ returns-then-is_none-2-clause-there g c told = rw ((c.size-2.ensures.row told).s
 pub returns-clause-step : goal.returns-clause-step
 returns-clause-step g c told firm =
     let s = g.M.Machine.state c.args.machine.now in
-    let start = begins_same g.M.Machine.clock g.M.Machine.since g.M.Machine.state c.args.machine.now (λ m o. g.met.M.Machine.only_now c.args.machine.now m o told) (g.met.M.Machine.sound c.args.machine.now told) firm (c.requires.one told) in
-    let looked = goes-read _ _ _ _ _ _ _ start (c.size.ensures.moments told) (c.size.ensures.row told).same in
-    let looked2 = goes-read _ _ _ _ _ _ _ looked (c.size-2.ensures.moments told) (c.size-2.ensures.row told).same in
+    let start = begins_same g.M.Machine.time g.M.Machine.state c.args.machine.now (λ m o. g.met.M.Machine.only_now c.args.machine.now m o told) (g.met.M.Machine.sound c.args.machine.now told) firm (c.requires.one told) in
+    let looked = goes-read _ _ _ _ _ _ start (c.size.ensures.moments told) (c.size.ensures.row told).same in
+    let looked2 = goes-read _ _ _ _ _ _ looked (c.size-2.ensures.moments told) (c.size-2.ensures.row told).same in
     let same = (c.size-2.ensures.row told).same ∙ (c.size.ensures.row told).same in
-    let first = steps_same _ _ _ (recovered_view s.files) _ _ looked2 in
+    let first = steps_same _ _ (recovered_view s.files) _ _ looked2 in
     let there : has (g.M.Machine.state c.size.new.self).files c.args.names.now.to ≡ true = search rules in
     let is : recovered_view (map.remove (g.M.Machine.state c.size-2.new.self).files c.args.names.now.from) ≡ recovered_view s.files =
     rw same (recovered_view-drop_left s.files c.args.names.now.from c.args.names.now.to (c.requires.named told) (rw (c.size.ensures.row told).same at there)) in
-    steps_then g.M.Machine.clock g.M.Machine.since g.M.Machine.state (recovered_view s.files) _ c.args.machine.now c.size-2.new.self c.unlink_synced.new.machine first (ap (λ (t : State). t.printed) same) (inl (ap (λ (t : State). recovered_view t.files) same)) (inl is) (c.unlink_synced.ensures.step told first.firm)
+    steps_then g.M.Machine.time g.M.Machine.state (recovered_view s.files) _ c.args.machine.now c.size-2.new.self c.unlink_synced.new.machine first (ap (λ (t : State). t.printed) same) (inl (ap (λ (t : State). recovered_view t.files) same)) (inl is) (c.unlink_synced.ensures.step told first.firm)
 
 pub returns-clause-whole : goal.returns-clause-whole
 returns-clause-whole g c = ok_then c.unlink_synced.result c.unlink_synced.ensures.files (λ removed told.
@@ -82,34 +82,34 @@ returns-clause-there g c = ok_then c.unlink_synced.result c.unlink_synced.ensure
 
 pub returns-in_err-size-clause-quiet : goal.returns-in_err-size-clause-quiet
 returns-in_err-size-clause-quiet g c told =
-    let start = quiet_start g.M.Machine.clock g.M.Machine.since g.M.Machine.state c.args.machine.now (λ m o. g.met.M.Machine.only_now c.args.machine.now m o told) in
-    let looked = quiet-read _ _ _ _ _ _ start (λ m o. g.met.M.Machine.only_now c.args.machine.now m o told) (c.size.ensures.moments told) (c.size.ensures.row told).same in
+    let start = quiet_start g.M.Machine.time g.M.Machine.state c.args.machine.now (λ m o. g.met.M.Machine.only_now c.args.machine.now m o told) in
+    let looked = quiet-read _ _ _ _ _ start (λ m o. g.met.M.Machine.only_now c.args.machine.now m o told) (c.size.ensures.moments told) (c.size.ensures.row told).same in
     looked.moments
 
 pub returns-then-is_none-clause-quiet : goal.returns-then-is_none-clause-quiet
 returns-then-is_none-clause-quiet g c told =
-    let start = quiet_start g.M.Machine.clock g.M.Machine.since g.M.Machine.state c.args.machine.now (λ m o. g.met.M.Machine.only_now c.args.machine.now m o told) in
-    let looked = quiet-read _ _ _ _ _ _ start (λ m o. g.met.M.Machine.only_now c.args.machine.now m o told) (c.size.ensures.moments told) (c.size.ensures.row told).same in
+    let start = quiet_start g.M.Machine.time g.M.Machine.state c.args.machine.now (λ m o. g.met.M.Machine.only_now c.args.machine.now m o told) in
+    let looked = quiet-read _ _ _ _ _ start (λ m o. g.met.M.Machine.only_now c.args.machine.now m o told) (c.size.ensures.moments told) (c.size.ensures.row told).same in
     looked.moments
 
 pub returns-in_err-size-2-clause-quiet : goal.returns-in_err-size-2-clause-quiet
 returns-in_err-size-2-clause-quiet g c told =
-    let start = quiet_start g.M.Machine.clock g.M.Machine.since g.M.Machine.state c.args.machine.now (λ m o. g.met.M.Machine.only_now c.args.machine.now m o told) in
-    let looked = quiet-read _ _ _ _ _ _ start (λ m o. g.met.M.Machine.only_now c.args.machine.now m o told) (c.size.ensures.moments told) (c.size.ensures.row told).same in
-    let looked2 = quiet-read _ _ _ _ _ _ looked (λ m o. g.met.M.Machine.only_now c.size.new.self m o told) (c.size-2.ensures.moments told) (c.size-2.ensures.row told).same in
+    let start = quiet_start g.M.Machine.time g.M.Machine.state c.args.machine.now (λ m o. g.met.M.Machine.only_now c.args.machine.now m o told) in
+    let looked = quiet-read _ _ _ _ _ start (λ m o. g.met.M.Machine.only_now c.args.machine.now m o told) (c.size.ensures.moments told) (c.size.ensures.row told).same in
+    let looked2 = quiet-read _ _ _ _ _ looked (λ m o. g.met.M.Machine.only_now c.size.new.self m o told) (c.size-2.ensures.moments told) (c.size-2.ensures.row told).same in
     looked2.moments
 
 pub returns-then-is_none-2-clause-quiet : goal.returns-then-is_none-2-clause-quiet
 returns-then-is_none-2-clause-quiet g c told =
-    let start = quiet_start g.M.Machine.clock g.M.Machine.since g.M.Machine.state c.args.machine.now (λ m o. g.met.M.Machine.only_now c.args.machine.now m o told) in
-    let looked = quiet-read _ _ _ _ _ _ start (λ m o. g.met.M.Machine.only_now c.args.machine.now m o told) (c.size.ensures.moments told) (c.size.ensures.row told).same in
-    let looked2 = quiet-read _ _ _ _ _ _ looked (λ m o. g.met.M.Machine.only_now c.size.new.self m o told) (c.size-2.ensures.moments told) (c.size-2.ensures.row told).same in
+    let start = quiet_start g.M.Machine.time g.M.Machine.state c.args.machine.now (λ m o. g.met.M.Machine.only_now c.args.machine.now m o told) in
+    let looked = quiet-read _ _ _ _ _ start (λ m o. g.met.M.Machine.only_now c.args.machine.now m o told) (c.size.ensures.moments told) (c.size.ensures.row told).same in
+    let looked2 = quiet-read _ _ _ _ _ looked (λ m o. g.met.M.Machine.only_now c.size.new.self m o told) (c.size-2.ensures.moments told) (c.size-2.ensures.row told).same in
     looked2.moments
 
 pub returns-clause-quiet : goal.returns-clause-quiet
 returns-clause-quiet g c told =
-    let start = quiet_start g.M.Machine.clock g.M.Machine.since g.M.Machine.state c.args.machine.now (λ m o. g.met.M.Machine.only_now c.args.machine.now m o told) in
-    let looked = quiet-read _ _ _ _ _ _ start (λ m o. g.met.M.Machine.only_now c.args.machine.now m o told) (c.size.ensures.moments told) (c.size.ensures.row told).same in
-    let looked2 = quiet-read _ _ _ _ _ _ looked (λ m o. g.met.M.Machine.only_now c.size.new.self m o told) (c.size-2.ensures.moments told) (c.size-2.ensures.row told).same in
-    let ended = quiet_then _ _ _ _ _ _ looked2 (c.unlink_synced.ensures.quiet told) (c.unlink_synced.ensures.keeps told) in
+    let start = quiet_start g.M.Machine.time g.M.Machine.state c.args.machine.now (λ m o. g.met.M.Machine.only_now c.args.machine.now m o told) in
+    let looked = quiet-read _ _ _ _ _ start (λ m o. g.met.M.Machine.only_now c.args.machine.now m o told) (c.size.ensures.moments told) (c.size.ensures.row told).same in
+    let looked2 = quiet-read _ _ _ _ _ looked (λ m o. g.met.M.Machine.only_now c.size.new.self m o told) (c.size-2.ensures.moments told) (c.size-2.ensures.row told).same in
+    let ended = quiet_then _ _ _ _ _ looked2 (c.unlink_synced.ensures.quiet told) (c.unlink_synced.ensures.keeps told) in
     ended.moments

@@ -12,16 +12,16 @@ use Rattle.install_steps.proofs.recovery.finish_left.Goals as goal
 pub returns-in_err-size-clause-step : goal.returns-in_err-size-clause-step
 returns-in_err-size-clause-step g c told firm =
     let s = g.M.Machine.state c.args.machine.now in
-    let start = begins_same g.M.Machine.clock g.M.Machine.since g.M.Machine.state c.args.machine.now (λ m o. g.met.M.Machine.only_now c.args.machine.now m o told) (g.met.M.Machine.sound c.args.machine.now told) firm (c.requires.one told) in
-    let looked = goes-read _ _ _ _ _ _ _ start (c.size.ensures.moments told) (c.size.ensures.row told).same in
-    steps_same _ _ _ _ _ _ looked
+    let start = begins_same g.M.Machine.time g.M.Machine.state c.args.machine.now (λ m o. g.met.M.Machine.only_now c.args.machine.now m o told) (g.met.M.Machine.sound c.args.machine.now told) firm (c.requires.one told) in
+    let looked = goes-read _ _ _ _ _ _ start (c.size.ensures.moments told) (c.size.ensures.row told).same in
+    steps_same _ _ _ _ _ looked
 
 pub returns-in_default-clause-step : goal.returns-in_default-clause-step
 returns-in_default-clause-step g c told firm =
     let s = g.M.Machine.state c.args.machine.now in
-    let start = begins_same g.M.Machine.clock g.M.Machine.since g.M.Machine.state c.args.machine.now (λ m o. g.met.M.Machine.only_now c.args.machine.now m o told) (g.met.M.Machine.sound c.args.machine.now told) firm (c.requires.one told) in
-    let looked = goes-read _ _ _ _ _ _ _ start (c.size.ensures.moments told) (c.size.ensures.row told).same in
-    steps_same _ _ _ _ _ _ looked
+    let start = begins_same g.M.Machine.time g.M.Machine.state c.args.machine.now (λ m o. g.met.M.Machine.only_now c.args.machine.now m o told) (g.met.M.Machine.sound c.args.machine.now told) firm (c.requires.one told) in
+    let looked = goes-read _ _ _ _ _ _ start (c.size.ensures.moments told) (c.size.ensures.row told).same in
+    steps_same _ _ _ _ _ looked
 
 pub left_names-requires-clause-there : goal.left_names-requires-clause-there
 left_names-requires-clause-there g c told =
@@ -36,10 +36,10 @@ left_names-requires-clause-size g c told =
 pub returns-in_err-names-clause-step : goal.returns-in_err-names-clause-step
 returns-in_err-names-clause-step g c told firm =
     let s = g.M.Machine.state c.args.machine.now in
-    let start = begins_same g.M.Machine.clock g.M.Machine.since g.M.Machine.state c.args.machine.now (λ m o. g.met.M.Machine.only_now c.args.machine.now m o told) (g.met.M.Machine.sound c.args.machine.now told) firm (c.requires.one told) in
-    let looked = goes-read _ _ _ _ _ _ _ start (c.size.ensures.moments told) (c.size.ensures.row told).same in
-    let read = goes-reads _ _ _ _ _ _ _ looked (c.left_names.ensures.reads told) in
-    steps_same _ _ _ _ _ _ read
+    let start = begins_same g.M.Machine.time g.M.Machine.state c.args.machine.now (λ m o. g.met.M.Machine.only_now c.args.machine.now m o told) (g.met.M.Machine.sound c.args.machine.now told) firm (c.requires.one told) in
+    let looked = goes-read _ _ _ _ _ _ start (c.size.ensures.moments told) (c.size.ensures.row told).same in
+    let read = goes-reads _ _ _ _ _ _ looked (c.left_names.ensures.reads told) in
+    steps_same _ _ _ _ _ read
 
 pub drop_intent-requires-clause-whole : goal.drop_intent-requires-clause-whole
 drop_intent-requires-clause-whole g c told =
@@ -49,119 +49,119 @@ drop_intent-requires-clause-whole g c told =
 pub returns-in_err-drop_intent-clause-step : goal.returns-in_err-drop_intent-clause-step
 returns-in_err-drop_intent-clause-step g c told firm =
     let s = g.M.Machine.state c.args.machine.now in
-    let start = begins_same g.M.Machine.clock g.M.Machine.since g.M.Machine.state c.args.machine.now (λ m o. g.met.M.Machine.only_now c.args.machine.now m o told) (g.met.M.Machine.sound c.args.machine.now told) firm (c.requires.one told) in
-    let looked = goes-read _ _ _ _ _ _ _ start (c.size.ensures.moments told) (c.size.ensures.row told).same in
-    let read = goes-reads _ _ _ _ _ _ _ looked (c.left_names.ensures.reads told) in
+    let start = begins_same g.M.Machine.time g.M.Machine.state c.args.machine.now (λ m o. g.met.M.Machine.only_now c.args.machine.now m o told) (g.met.M.Machine.sound c.args.machine.now told) firm (c.requires.one told) in
+    let looked = goes-read _ _ _ _ _ _ start (c.size.ensures.moments told) (c.size.ensures.row told).same in
+    let read = goes-reads _ _ _ _ _ _ looked (c.left_names.ensures.reads told) in
     let same = (c.left_names.ensures.reads told).same ∙ (c.size.ensures.row told).same in
-    let first = steps_same _ _ _ (recovered_view s.files) _ _ read in
-    let second = steps_then g.M.Machine.clock g.M.Machine.since g.M.Machine.state (recovered_view s.files) _ c.args.machine.now c.left_names.new.machine c.drop_intent.new.machine first (ap (λ (t : State). t.printed) same) (inl (ap (λ (t : State). recovered_view t.files) same)) (inl (ap (λ (t : State). recovered_view t.files) same)) (c.drop_intent.ensures.step told first.firm) in
+    let first = steps_same _ _ (recovered_view s.files) _ _ read in
+    let second = steps_then g.M.Machine.time g.M.Machine.state (recovered_view s.files) _ c.args.machine.now c.left_names.new.machine c.drop_intent.new.machine first (ap (λ (t : State). t.printed) same) (inl (ap (λ (t : State). recovered_view t.files) same)) (inl (ap (λ (t : State). recovered_view t.files) same)) (c.drop_intent.ensures.step told first.firm) in
     second
 
 pub returns-in_default-2-clause-step : goal.returns-in_default-2-clause-step
 returns-in_default-2-clause-step g c told firm =
     let s = g.M.Machine.state c.args.machine.now in
-    let start = begins_same g.M.Machine.clock g.M.Machine.since g.M.Machine.state c.args.machine.now (λ m o. g.met.M.Machine.only_now c.args.machine.now m o told) (g.met.M.Machine.sound c.args.machine.now told) firm (c.requires.one told) in
-    let looked = goes-read _ _ _ _ _ _ _ start (c.size.ensures.moments told) (c.size.ensures.row told).same in
-    let read = goes-reads _ _ _ _ _ _ _ looked (c.left_names.ensures.reads told) in
+    let start = begins_same g.M.Machine.time g.M.Machine.state c.args.machine.now (λ m o. g.met.M.Machine.only_now c.args.machine.now m o told) (g.met.M.Machine.sound c.args.machine.now told) firm (c.requires.one told) in
+    let looked = goes-read _ _ _ _ _ _ start (c.size.ensures.moments told) (c.size.ensures.row told).same in
+    let read = goes-reads _ _ _ _ _ _ looked (c.left_names.ensures.reads told) in
     let same = (c.left_names.ensures.reads told).same ∙ (c.size.ensures.row told).same in
-    let first = steps_same _ _ _ (recovered_view s.files) _ _ read in
-    let second = steps_then g.M.Machine.clock g.M.Machine.since g.M.Machine.state (recovered_view s.files) _ c.args.machine.now c.left_names.new.machine c.drop_intent.new.machine first (ap (λ (t : State). t.printed) same) (inl (ap (λ (t : State). recovered_view t.files) same)) (inl (ap (λ (t : State). recovered_view t.files) same)) (c.drop_intent.ensures.step told first.firm) in
+    let first = steps_same _ _ (recovered_view s.files) _ _ read in
+    let second = steps_then g.M.Machine.time g.M.Machine.state (recovered_view s.files) _ c.args.machine.now c.left_names.new.machine c.drop_intent.new.machine first (ap (λ (t : State). t.printed) same) (inl (ap (λ (t : State). recovered_view t.files) same)) (inl (ap (λ (t : State). recovered_view t.files) same)) (c.drop_intent.ensures.step told first.firm) in
     second
 
 pub returns-in_err-drop_left-clause-step : goal.returns-in_err-drop_left-clause-step
 returns-in_err-drop_left-clause-step g c told firm =
     let s = g.M.Machine.state c.args.machine.now in
-    let start = begins_same g.M.Machine.clock g.M.Machine.since g.M.Machine.state c.args.machine.now (λ m o. g.met.M.Machine.only_now c.args.machine.now m o told) (g.met.M.Machine.sound c.args.machine.now told) firm (c.requires.one told) in
-    let looked = goes-read _ _ _ _ _ _ _ start (c.size.ensures.moments told) (c.size.ensures.row told).same in
-    let read = goes-reads _ _ _ _ _ _ _ looked (c.left_names.ensures.reads told) in
+    let start = begins_same g.M.Machine.time g.M.Machine.state c.args.machine.now (λ m o. g.met.M.Machine.only_now c.args.machine.now m o told) (g.met.M.Machine.sound c.args.machine.now told) firm (c.requires.one told) in
+    let looked = goes-read _ _ _ _ _ _ start (c.size.ensures.moments told) (c.size.ensures.row told).same in
+    let read = goes-reads _ _ _ _ _ _ looked (c.left_names.ensures.reads told) in
     let same = (c.left_names.ensures.reads told).same ∙ (c.size.ensures.row told).same in
-    let first = steps_same _ _ _ (recovered_view s.files) _ _ read in
-    let second = steps_then g.M.Machine.clock g.M.Machine.since g.M.Machine.state (recovered_view s.files) _ c.args.machine.now c.left_names.new.machine c.drop_left.new.machine first (ap (λ (t : State). t.printed) same) (inl (ap (λ (t : State). recovered_view t.files) same)) (inl (ap (λ (t : State). recovered_view t.files) same)) (c.drop_left.ensures.step told first.firm) in
+    let first = steps_same _ _ (recovered_view s.files) _ _ read in
+    let second = steps_then g.M.Machine.time g.M.Machine.state (recovered_view s.files) _ c.args.machine.now c.left_names.new.machine c.drop_left.new.machine first (ap (λ (t : State). t.printed) same) (inl (ap (λ (t : State). recovered_view t.files) same)) (inl (ap (λ (t : State). recovered_view t.files) same)) (c.drop_left.ensures.step told first.firm) in
     second
 
 pub returns-in_err-drop_intent-2-clause-step : goal.returns-in_err-drop_intent-2-clause-step
 returns-in_err-drop_intent-2-clause-step g c told firm =
     let s = g.M.Machine.state c.args.machine.now in
-    let start = begins_same g.M.Machine.clock g.M.Machine.since g.M.Machine.state c.args.machine.now (λ m o. g.met.M.Machine.only_now c.args.machine.now m o told) (g.met.M.Machine.sound c.args.machine.now told) firm (c.requires.one told) in
-    let looked = goes-read _ _ _ _ _ _ _ start (c.size.ensures.moments told) (c.size.ensures.row told).same in
-    let read = goes-reads _ _ _ _ _ _ _ looked (c.left_names.ensures.reads told) in
+    let start = begins_same g.M.Machine.time g.M.Machine.state c.args.machine.now (λ m o. g.met.M.Machine.only_now c.args.machine.now m o told) (g.met.M.Machine.sound c.args.machine.now told) firm (c.requires.one told) in
+    let looked = goes-read _ _ _ _ _ _ start (c.size.ensures.moments told) (c.size.ensures.row told).same in
+    let read = goes-reads _ _ _ _ _ _ looked (c.left_names.ensures.reads told) in
     let same = (c.left_names.ensures.reads told).same ∙ (c.size.ensures.row told).same in
-    let first = steps_same _ _ _ (recovered_view s.files) _ _ read in
-    let second = steps_then g.M.Machine.clock g.M.Machine.since g.M.Machine.state (recovered_view s.files) _ c.args.machine.now c.left_names.new.machine c.drop_left.new.machine first (ap (λ (t : State). t.printed) same) (inl (ap (λ (t : State). recovered_view t.files) same)) (inl (ap (λ (t : State). recovered_view t.files) same)) (c.drop_left.ensures.step told first.firm) in
+    let first = steps_same _ _ (recovered_view s.files) _ _ read in
+    let second = steps_then g.M.Machine.time g.M.Machine.state (recovered_view s.files) _ c.args.machine.now c.left_names.new.machine c.drop_left.new.machine first (ap (λ (t : State). t.printed) same) (inl (ap (λ (t : State). recovered_view t.files) same)) (inl (ap (λ (t : State). recovered_view t.files) same)) (c.drop_left.ensures.step told first.firm) in
     let stood : recovered_view (g.M.Machine.state c.drop_left.new.machine).files ≡ recovered_view s.files = ⊎_elim (λ is. is) (λ is. is) second.files in
-    let third = steps_then g.M.Machine.clock g.M.Machine.since g.M.Machine.state (recovered_view s.files) _ c.args.machine.now c.drop_left.new.machine c.drop_intent-2.new.machine second ((c.drop_left.ensures.keeps told).printed ∙ ap (λ (t : State). t.printed) same) (inl stood) (inl stood) (c.drop_intent-2.ensures.step told second.firm) in
+    let third = steps_then g.M.Machine.time g.M.Machine.state (recovered_view s.files) _ c.args.machine.now c.drop_left.new.machine c.drop_intent-2.new.machine second ((c.drop_left.ensures.keeps told).printed ∙ ap (λ (t : State). t.printed) same) (inl stood) (inl stood) (c.drop_intent-2.ensures.step told second.firm) in
     third
 
 pub returns-clause-step : goal.returns-clause-step
 returns-clause-step g c told firm =
     let s = g.M.Machine.state c.args.machine.now in
-    let start = begins_same g.M.Machine.clock g.M.Machine.since g.M.Machine.state c.args.machine.now (λ m o. g.met.M.Machine.only_now c.args.machine.now m o told) (g.met.M.Machine.sound c.args.machine.now told) firm (c.requires.one told) in
-    let looked = goes-read _ _ _ _ _ _ _ start (c.size.ensures.moments told) (c.size.ensures.row told).same in
-    let read = goes-reads _ _ _ _ _ _ _ looked (c.left_names.ensures.reads told) in
+    let start = begins_same g.M.Machine.time g.M.Machine.state c.args.machine.now (λ m o. g.met.M.Machine.only_now c.args.machine.now m o told) (g.met.M.Machine.sound c.args.machine.now told) firm (c.requires.one told) in
+    let looked = goes-read _ _ _ _ _ _ start (c.size.ensures.moments told) (c.size.ensures.row told).same in
+    let read = goes-reads _ _ _ _ _ _ looked (c.left_names.ensures.reads told) in
     let same = (c.left_names.ensures.reads told).same ∙ (c.size.ensures.row told).same in
-    let first = steps_same _ _ _ (recovered_view s.files) _ _ read in
-    let second = steps_then g.M.Machine.clock g.M.Machine.since g.M.Machine.state (recovered_view s.files) _ c.args.machine.now c.left_names.new.machine c.drop_left.new.machine first (ap (λ (t : State). t.printed) same) (inl (ap (λ (t : State). recovered_view t.files) same)) (inl (ap (λ (t : State). recovered_view t.files) same)) (c.drop_left.ensures.step told first.firm) in
+    let first = steps_same _ _ (recovered_view s.files) _ _ read in
+    let second = steps_then g.M.Machine.time g.M.Machine.state (recovered_view s.files) _ c.args.machine.now c.left_names.new.machine c.drop_left.new.machine first (ap (λ (t : State). t.printed) same) (inl (ap (λ (t : State). recovered_view t.files) same)) (inl (ap (λ (t : State). recovered_view t.files) same)) (c.drop_left.ensures.step told first.firm) in
     let stood : recovered_view (g.M.Machine.state c.drop_left.new.machine).files ≡ recovered_view s.files = ⊎_elim (λ is. is) (λ is. is) second.files in
-    let third = steps_then g.M.Machine.clock g.M.Machine.since g.M.Machine.state (recovered_view s.files) _ c.args.machine.now c.drop_left.new.machine c.drop_intent-2.new.machine second ((c.drop_left.ensures.keeps told).printed ∙ ap (λ (t : State). t.printed) same) (inl stood) (inl stood) (c.drop_intent-2.ensures.step told second.firm) in
+    let third = steps_then g.M.Machine.time g.M.Machine.state (recovered_view s.files) _ c.args.machine.now c.drop_left.new.machine c.drop_intent-2.new.machine second ((c.drop_left.ensures.keeps told).printed ∙ ap (λ (t : State). t.printed) same) (inl stood) (inl stood) (c.drop_intent-2.ensures.step told second.firm) in
     third
 
 pub returns-in_err-size-clause-quiet : goal.returns-in_err-size-clause-quiet
 returns-in_err-size-clause-quiet g c told =
-    let start = quiet_start g.M.Machine.clock g.M.Machine.since g.M.Machine.state c.args.machine.now (λ m o. g.met.M.Machine.only_now c.args.machine.now m o told) in
-    let looked = quiet-read _ _ _ _ _ _ start (λ m o. g.met.M.Machine.only_now c.args.machine.now m o told) (c.size.ensures.moments told) (c.size.ensures.row told).same in
+    let start = quiet_start g.M.Machine.time g.M.Machine.state c.args.machine.now (λ m o. g.met.M.Machine.only_now c.args.machine.now m o told) in
+    let looked = quiet-read _ _ _ _ _ start (λ m o. g.met.M.Machine.only_now c.args.machine.now m o told) (c.size.ensures.moments told) (c.size.ensures.row told).same in
     looked.moments
 
 pub returns-in_default-clause-quiet : goal.returns-in_default-clause-quiet
 returns-in_default-clause-quiet g c told =
-    let start = quiet_start g.M.Machine.clock g.M.Machine.since g.M.Machine.state c.args.machine.now (λ m o. g.met.M.Machine.only_now c.args.machine.now m o told) in
-    let looked = quiet-read _ _ _ _ _ _ start (λ m o. g.met.M.Machine.only_now c.args.machine.now m o told) (c.size.ensures.moments told) (c.size.ensures.row told).same in
+    let start = quiet_start g.M.Machine.time g.M.Machine.state c.args.machine.now (λ m o. g.met.M.Machine.only_now c.args.machine.now m o told) in
+    let looked = quiet-read _ _ _ _ _ start (λ m o. g.met.M.Machine.only_now c.args.machine.now m o told) (c.size.ensures.moments told) (c.size.ensures.row told).same in
     looked.moments
 
 pub returns-in_err-names-clause-quiet : goal.returns-in_err-names-clause-quiet
 returns-in_err-names-clause-quiet g c told =
-    let start = quiet_start g.M.Machine.clock g.M.Machine.since g.M.Machine.state c.args.machine.now (λ m o. g.met.M.Machine.only_now c.args.machine.now m o told) in
-    let looked = quiet-read _ _ _ _ _ _ start (λ m o. g.met.M.Machine.only_now c.args.machine.now m o told) (c.size.ensures.moments told) (c.size.ensures.row told).same in
-    let named = quiet_reads _ _ _ _ _ _ looked (c.left_names.ensures.reads told) in
+    let start = quiet_start g.M.Machine.time g.M.Machine.state c.args.machine.now (λ m o. g.met.M.Machine.only_now c.args.machine.now m o told) in
+    let looked = quiet-read _ _ _ _ _ start (λ m o. g.met.M.Machine.only_now c.args.machine.now m o told) (c.size.ensures.moments told) (c.size.ensures.row told).same in
+    let named = quiet_reads _ _ _ _ _ looked (c.left_names.ensures.reads told) in
     named.moments
 
 pub returns-in_err-drop_left-clause-quiet : goal.returns-in_err-drop_left-clause-quiet
 returns-in_err-drop_left-clause-quiet g c told =
-    let start = quiet_start g.M.Machine.clock g.M.Machine.since g.M.Machine.state c.args.machine.now (λ m o. g.met.M.Machine.only_now c.args.machine.now m o told) in
-    let looked = quiet-read _ _ _ _ _ _ start (λ m o. g.met.M.Machine.only_now c.args.machine.now m o told) (c.size.ensures.moments told) (c.size.ensures.row told).same in
-    let named = quiet_reads _ _ _ _ _ _ looked (c.left_names.ensures.reads told) in
-    let dropped = quiet_then _ _ _ _ _ _ named (c.drop_left.ensures.quiet told) (c.drop_left.ensures.keeps told) in
+    let start = quiet_start g.M.Machine.time g.M.Machine.state c.args.machine.now (λ m o. g.met.M.Machine.only_now c.args.machine.now m o told) in
+    let looked = quiet-read _ _ _ _ _ start (λ m o. g.met.M.Machine.only_now c.args.machine.now m o told) (c.size.ensures.moments told) (c.size.ensures.row told).same in
+    let named = quiet_reads _ _ _ _ _ looked (c.left_names.ensures.reads told) in
+    let dropped = quiet_then _ _ _ _ _ named (c.drop_left.ensures.quiet told) (c.drop_left.ensures.keeps told) in
     dropped.moments
 
 pub returns-in_err-drop_intent-2-clause-quiet : goal.returns-in_err-drop_intent-2-clause-quiet
 returns-in_err-drop_intent-2-clause-quiet g c told =
-    let start = quiet_start g.M.Machine.clock g.M.Machine.since g.M.Machine.state c.args.machine.now (λ m o. g.met.M.Machine.only_now c.args.machine.now m o told) in
-    let looked = quiet-read _ _ _ _ _ _ start (λ m o. g.met.M.Machine.only_now c.args.machine.now m o told) (c.size.ensures.moments told) (c.size.ensures.row told).same in
-    let named = quiet_reads _ _ _ _ _ _ looked (c.left_names.ensures.reads told) in
-    let dropped = quiet_then _ _ _ _ _ _ named (c.drop_left.ensures.quiet told) (c.drop_left.ensures.keeps told) in
-    let ended = quiet_then _ _ _ _ _ _ dropped (c.drop_intent-2.ensures.quiet told) (c.drop_intent-2.ensures.keeps told) in
+    let start = quiet_start g.M.Machine.time g.M.Machine.state c.args.machine.now (λ m o. g.met.M.Machine.only_now c.args.machine.now m o told) in
+    let looked = quiet-read _ _ _ _ _ start (λ m o. g.met.M.Machine.only_now c.args.machine.now m o told) (c.size.ensures.moments told) (c.size.ensures.row told).same in
+    let named = quiet_reads _ _ _ _ _ looked (c.left_names.ensures.reads told) in
+    let dropped = quiet_then _ _ _ _ _ named (c.drop_left.ensures.quiet told) (c.drop_left.ensures.keeps told) in
+    let ended = quiet_then _ _ _ _ _ dropped (c.drop_intent-2.ensures.quiet told) (c.drop_intent-2.ensures.keeps told) in
     ended.moments
 
 pub returns-clause-quiet : goal.returns-clause-quiet
 returns-clause-quiet g c told =
-    let start = quiet_start g.M.Machine.clock g.M.Machine.since g.M.Machine.state c.args.machine.now (λ m o. g.met.M.Machine.only_now c.args.machine.now m o told) in
-    let looked = quiet-read _ _ _ _ _ _ start (λ m o. g.met.M.Machine.only_now c.args.machine.now m o told) (c.size.ensures.moments told) (c.size.ensures.row told).same in
-    let named = quiet_reads _ _ _ _ _ _ looked (c.left_names.ensures.reads told) in
-    let dropped = quiet_then _ _ _ _ _ _ named (c.drop_left.ensures.quiet told) (c.drop_left.ensures.keeps told) in
-    let ended = quiet_then _ _ _ _ _ _ dropped (c.drop_intent-2.ensures.quiet told) (c.drop_intent-2.ensures.keeps told) in
+    let start = quiet_start g.M.Machine.time g.M.Machine.state c.args.machine.now (λ m o. g.met.M.Machine.only_now c.args.machine.now m o told) in
+    let looked = quiet-read _ _ _ _ _ start (λ m o. g.met.M.Machine.only_now c.args.machine.now m o told) (c.size.ensures.moments told) (c.size.ensures.row told).same in
+    let named = quiet_reads _ _ _ _ _ looked (c.left_names.ensures.reads told) in
+    let dropped = quiet_then _ _ _ _ _ named (c.drop_left.ensures.quiet told) (c.drop_left.ensures.keeps told) in
+    let ended = quiet_then _ _ _ _ _ dropped (c.drop_intent-2.ensures.quiet told) (c.drop_intent-2.ensures.keeps told) in
     ended.moments
 
 pub returns-in_err-drop_intent-clause-quiet : goal.returns-in_err-drop_intent-clause-quiet
 returns-in_err-drop_intent-clause-quiet g c told =
-    let start = quiet_start g.M.Machine.clock g.M.Machine.since g.M.Machine.state c.args.machine.now (λ m o. g.met.M.Machine.only_now c.args.machine.now m o told) in
-    let looked = quiet-read _ _ _ _ _ _ start (λ m o. g.met.M.Machine.only_now c.args.machine.now m o told) (c.size.ensures.moments told) (c.size.ensures.row told).same in
-    let named = quiet_reads _ _ _ _ _ _ looked (c.left_names.ensures.reads told) in
-    let ended = quiet_then _ _ _ _ _ _ named (c.drop_intent.ensures.quiet told) (c.drop_intent.ensures.keeps told) in
+    let start = quiet_start g.M.Machine.time g.M.Machine.state c.args.machine.now (λ m o. g.met.M.Machine.only_now c.args.machine.now m o told) in
+    let looked = quiet-read _ _ _ _ _ start (λ m o. g.met.M.Machine.only_now c.args.machine.now m o told) (c.size.ensures.moments told) (c.size.ensures.row told).same in
+    let named = quiet_reads _ _ _ _ _ looked (c.left_names.ensures.reads told) in
+    let ended = quiet_then _ _ _ _ _ named (c.drop_intent.ensures.quiet told) (c.drop_intent.ensures.keeps told) in
     ended.moments
 
 pub returns-in_default-2-clause-quiet : goal.returns-in_default-2-clause-quiet
 returns-in_default-2-clause-quiet g c told =
-    let start = quiet_start g.M.Machine.clock g.M.Machine.since g.M.Machine.state c.args.machine.now (λ m o. g.met.M.Machine.only_now c.args.machine.now m o told) in
-    let looked = quiet-read _ _ _ _ _ _ start (λ m o. g.met.M.Machine.only_now c.args.machine.now m o told) (c.size.ensures.moments told) (c.size.ensures.row told).same in
-    let named = quiet_reads _ _ _ _ _ _ looked (c.left_names.ensures.reads told) in
-    let ended = quiet_then _ _ _ _ _ _ named (c.drop_intent.ensures.quiet told) (c.drop_intent.ensures.keeps told) in
+    let start = quiet_start g.M.Machine.time g.M.Machine.state c.args.machine.now (λ m o. g.met.M.Machine.only_now c.args.machine.now m o told) in
+    let looked = quiet-read _ _ _ _ _ start (λ m o. g.met.M.Machine.only_now c.args.machine.now m o told) (c.size.ensures.moments told) (c.size.ensures.row told).same in
+    let named = quiet_reads _ _ _ _ _ looked (c.left_names.ensures.reads told) in
+    let ended = quiet_then _ _ _ _ _ named (c.drop_intent.ensures.quiet told) (c.drop_intent.ensures.keeps told) in
     ended.moments

@@ -5,38 +5,38 @@ use Rattle.install_steps.proofs.recovery.recover.Goals as goal
 
 pub returns-in_err-settle-clause-recovers : goal.returns-in_err-settle-clause-recovers
 returns-in_err-settle-clause-recovers g c told firm =
-    recovers_not g.M.Machine.clock g.M.Machine.since g.M.Machine.state c.args.machine.now c.settle.new.machine c.settle.new.machine (c.settle.ensures.moments told) firm (c.in_err-settle.ensures.same told)
+    recovers_not g.M.Machine.time g.M.Machine.state c.args.machine.now c.settle.new.machine c.settle.new.machine (c.settle.ensures.moments told) firm (c.in_err-settle.ensures.same told)
 
 pub returns-in_err-settle-clause-same : goal.returns-in_err-settle-clause-same
 returns-in_err-settle-clause-same g c told settled =
-    same_all g.M.Machine.clock g.M.Machine.since g.M.Machine.state c.args.machine.now c.settle.new.machine c.settle.new.machine settled (returns-in_err-settle-clause-recovers g c told settled.firm).moments
+    same_all g.M.Machine.time g.M.Machine.state c.args.machine.now c.settle.new.machine c.settle.new.machine settled (returns-in_err-settle-clause-recovers g c told settled.firm).moments
 
 pub returns-clause-recovers : goal.returns-clause-recovers
 returns-clause-recovers g c told firm =
-    recovers_on g.M.Machine.clock g.M.Machine.since g.M.Machine.state c.args.machine.now c.settle.new.machine c.finish_left.new.machine
+    recovers_on g.M.Machine.time g.M.Machine.state c.args.machine.now c.settle.new.machine c.finish_left.new.machine
     (c.settle.ensures.moments told) (c.settle.ensures.files told) (c.settle.ensures.keeps told).printed (c.finish_left.ensures.step told (c.settle.ensures.firm told firm)) (c.in_ok-settle.ensures.one told) (λ t m le image. g.met.M.Machine.counts_now c.finish_left.new.machine t m told le image)
 
 pub returns-clause-same : goal.returns-clause-same
 returns-clause-same g c told settled =
-    same_all g.M.Machine.clock g.M.Machine.since g.M.Machine.state c.args.machine.now c.settle.new.machine c.finish_left.new.machine settled (returns-clause-recovers g c told settled.firm).moments
+    same_all g.M.Machine.time g.M.Machine.state c.args.machine.now c.settle.new.machine c.finish_left.new.machine settled (returns-clause-recovers g c told settled.firm).moments
 
 pub returns-clause-settled : goal.returns-clause-settled
 returns-clause-settled g c = ok_any c.finish_left.result (λ told firm.
-    settled_now g.M.Machine.clock g.M.Machine.since g.M.Machine.state c.args.machine.now c.settle.new.machine c.finish_left.new.machine
+    settled_now g.M.Machine.time g.M.Machine.state c.args.machine.now c.settle.new.machine c.finish_left.new.machine
     (c.settle.ensures.moments told) (c.settle.ensures.files told) (c.settle.ensures.keeps told).printed (c.finish_left.ensures.step told (c.settle.ensures.firm told firm)) (λ t m le image. g.met.M.Machine.counts_now c.finish_left.new.machine t m told le image))
 
 pub returns-clause-synced : goal.returns-clause-synced
 returns-clause-synced g c = ok_any c.finish_left.result (λ told firm.
-    same_from g.M.Machine.clock g.M.Machine.since g.M.Machine.state c.args.machine.now c.settle.new.machine c.finish_left.new.machine
+    same_from g.M.Machine.time g.M.Machine.state c.args.machine.now c.settle.new.machine c.finish_left.new.machine
     (c.settle.ensures.moments told) (c.settle.ensures.files told) (c.settle.ensures.keeps told).printed (c.finish_left.ensures.step told (c.settle.ensures.firm told firm)) (c.in_ok-settle.ensures.one told))
 
 pub returns-in_err-settle-clause-quiet : goal.returns-in_err-settle-clause-quiet
 returns-in_err-settle-clause-quiet g c told =
-    let settled = quiet_stays g.M.Machine.clock g.M.Machine.since g.M.Machine.state _ _ (c.settle.ensures.moments told) (c.settle.ensures.keeps told) in
+    let settled = quiet_stays g.M.Machine.time g.M.Machine.state _ _ (c.settle.ensures.moments told) (c.settle.ensures.keeps told) in
     settled.moments
 
 pub returns-clause-quiet : goal.returns-clause-quiet
 returns-clause-quiet g c told =
-    let settled = quiet_stays g.M.Machine.clock g.M.Machine.since g.M.Machine.state _ _ (c.settle.ensures.moments told) (c.settle.ensures.keeps told) in
-    let ended = quiet_then _ _ _ _ _ _ settled (c.finish_left.ensures.quiet told) (c.finish_left.ensures.keeps told) in
+    let settled = quiet_stays g.M.Machine.time g.M.Machine.state _ _ (c.settle.ensures.moments told) (c.settle.ensures.keeps told) in
+    let ended = quiet_then _ _ _ _ _ settled (c.finish_left.ensures.quiet told) (c.finish_left.ensures.keeps told) in
     ended.moments

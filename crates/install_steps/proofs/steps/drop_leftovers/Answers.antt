@@ -13,8 +13,8 @@ use Rattle.install_steps.proofs.steps.drop_leftovers.Goals as goal
 
 pub loop-path-init : goal.loop-path-init
 loop-path-init g c = record {
-  quiet = λ told. quiet_start g.M.Machine.clock g.M.Machine.since g.M.Machine.state c.args.machine.now (λ m o. g.met.M.Machine.only_now c.args.machine.now m o told);
-  going = λ told firm. begins g.M.Machine.clock g.M.Machine.since g.M.Machine.state (recovered_view (g.M.Machine.state c.args.machine.now).files) c.args.machine.now (λ m o. g.met.M.Machine.only_now c.args.machine.now m o told) (g.met.M.Machine.sound c.args.machine.now told) firm (c.requires.one told);
+  quiet = λ told. quiet_start g.M.Machine.time g.M.Machine.state c.args.machine.now (λ m o. g.met.M.Machine.only_now c.args.machine.now m o told);
+  going = λ told firm. begins g.M.Machine.time g.M.Machine.state (recovered_view (g.M.Machine.state c.args.machine.now).files) c.args.machine.now (λ m o. g.met.M.Machine.only_now c.args.machine.now m o told) (g.met.M.Machine.sound c.args.machine.now told) firm (c.requires.one told);
   lacks = λ told. lacks_none (g.M.Machine.state c.args.machine.now).files;
   keeps = λ told. record { printed = refl; input = refl };
   taken = λ told. refl;
@@ -33,8 +33,8 @@ returns-in_err-unlink_temp-clause-step g c told firm =
     let now = g.M.Machine.state c.loop-path.machine in
     let so_far = c.loop-path.invariant.going told firm in
     let sees : OldOrNext s (recovered_view s.files) (recovered_view (map.remove now.files c.path-item.result)) = subst (OldOrNext s (recovered_view s.files)) (sym (recovered_view-remove_temp now.files c.path-item.result c.know.ensures)) (now_sees s _ now so_far.stands) in
-    let gone = goes-unlink _ _ _ _ _ _ _ c.unlink_temp.result so_far (c.unlink_temp.ensures.moments told) c.path-item.result sees (c.unlink_temp.ensures.row told) in
-    steps_to _ _ _ _ _ _ gone
+    let gone = goes-unlink _ _ _ _ _ _ c.unlink_temp.result so_far (c.unlink_temp.ensures.moments told) c.path-item.result sees (c.unlink_temp.ensures.row told) in
+    steps_to _ _ _ _ _ gone
 
 pub returns-in_err-unlink_temp-clause-keeps : goal.returns-in_err-unlink_temp-clause-keeps
 returns-in_err-unlink_temp-clause-keeps g c told =
@@ -45,13 +45,13 @@ returns-in_err-unlink_temp-clause-keeps g c told =
 
 pub loop-path-preserved : goal.loop-path-preserved
 loop-path-preserved g c = record {
-  quiet = λ told. quiet-unlink _ _ _ _ _ _ (c.loop-path.invariant.quiet told) (λ m o. g.met.M.Machine.only_now c.loop-path.machine m o told) (c.unlink_temp.ensures.moments told) c.unlink_temp.result c.path-item.result (c.unlink_temp.ensures.row told);
+  quiet = λ told. quiet-unlink _ _ _ _ _ (c.loop-path.invariant.quiet told) (λ m o. g.met.M.Machine.only_now c.loop-path.machine m o told) (c.unlink_temp.ensures.moments told) c.unlink_temp.result c.path-item.result (c.unlink_temp.ensures.row told);
   going = λ told firm.
       let s = g.M.Machine.state c.args.machine.now in
       let now = g.M.Machine.state c.loop-path.machine in
       let so_far = c.loop-path.invariant.going told firm in
       let sees : OldOrNext s (recovered_view s.files) (recovered_view (map.remove now.files c.path-item.result)) = subst (OldOrNext s (recovered_view s.files)) (sym (recovered_view-remove_temp now.files c.path-item.result c.know.ensures)) (now_sees s _ now so_far.stands) in
-      let gone = goes-unlink _ _ _ _ _ _ _ c.unlink_temp.result so_far (c.unlink_temp.ensures.moments told) c.path-item.result sees (c.unlink_temp.ensures.row told) in
+      let gone = goes-unlink _ _ _ _ _ _ c.unlink_temp.result so_far (c.unlink_temp.ensures.moments told) c.path-item.result sees (c.unlink_temp.ensures.row told) in
       gone;
   lacks = λ told. rw (c.in_ok-unlink_temp.ensures.row told) (lacks_more c.args.paths.now c.loop-path.path-index c.path-item.result (g.M.Machine.state c.args.machine.now).files (g.M.Machine.state c.loop-path.machine).files c.loop-path-test.true c.path-item.is (c.loop-path.invariant.lacks told));
   keeps = λ told. let kept = c.loop-path.invariant.keeps told in rw (c.in_ok-unlink_temp.ensures.row told) (record { printed = kept.printed; input = kept.input });
@@ -62,20 +62,20 @@ loop-path-preserved g c = record {
 pub returns-in_err-sync_names-clause-step : goal.returns-in_err-sync_names-clause-step
 returns-in_err-sync_names-clause-step g c told firm =
     let so_far = c.loop-path.invariant.going told firm in
-    let ended = goes-sync_names _ _ _ _ _ _ _ c.sync_names.result so_far (c.sync_names.ensures.moments told) (c.sync_names.ensures.row told) in
-    steps_to _ _ _ _ _ _ ended
+    let ended = goes-sync_names _ _ _ _ _ _ c.sync_names.result so_far (c.sync_names.ensures.moments told) (c.sync_names.ensures.row told) in
+    steps_to _ _ _ _ _ ended
 
 pub returns-clause-step : goal.returns-clause-step
 returns-clause-step g c told firm =
     let so_far = c.loop-path.invariant.going told firm in
-    let ended = goes-sync_names _ _ _ _ _ _ _ c.sync_names.result so_far (c.sync_names.ensures.moments told) (c.sync_names.ensures.row told) in
-    steps_to _ _ _ _ _ _ ended
+    let ended = goes-sync_names _ _ _ _ _ _ c.sync_names.result so_far (c.sync_names.ensures.moments told) (c.sync_names.ensures.row told) in
+    steps_to _ _ _ _ _ ended
 
 pub returns-clause-done : goal.returns-clause-done
 returns-clause-done g c told firm =
     let s = g.M.Machine.state c.args.machine.now in
     let so_far = c.loop-path.invariant.going told firm in
-    let ended = goes-sync_names _ _ _ _ _ _ _ c.sync_names.result so_far (c.sync_names.ensures.moments told) (c.sync_names.ensures.row told) in
+    let ended = goes-sync_names _ _ _ _ _ _ c.sync_names.result so_far (c.sync_names.ensures.moments told) (c.sync_names.ensures.row told) in
     let one : (g.M.Machine.state c.sync_names.new.self).earlier ≡ [] = rw (c.in_ok-sync_names.ensures.row told) refl in
     let is : recovered_view (g.M.Machine.state c.sync_names.new.self).files ≡ recovered_view s.files = ⊎_elim (λ e. e) (λ e. e) (now_sees s _ (g.M.Machine.state c.sync_names.new.self) ended.stands) in
     is_done (g.M.Machine.state c.sync_names.new.self) (recovered_view s.files) ended.stands.temps one is
@@ -86,15 +86,15 @@ returns-clause-rests g c told =
 
 pub returns-in_err-unlink_temp-clause-quiet : goal.returns-in_err-unlink_temp-clause-quiet
 returns-in_err-unlink_temp-clause-quiet g c told =
-    let gone = quiet-unlink _ _ _ _ _ _ (c.loop-path.invariant.quiet told) (λ m o. g.met.M.Machine.only_now c.loop-path.machine m o told) (c.unlink_temp.ensures.moments told) c.unlink_temp.result c.path-item.result (c.unlink_temp.ensures.row told) in
+    let gone = quiet-unlink _ _ _ _ _ (c.loop-path.invariant.quiet told) (λ m o. g.met.M.Machine.only_now c.loop-path.machine m o told) (c.unlink_temp.ensures.moments told) c.unlink_temp.result c.path-item.result (c.unlink_temp.ensures.row told) in
     gone.moments
 
 pub returns-in_err-sync_names-clause-quiet : goal.returns-in_err-sync_names-clause-quiet
 returns-in_err-sync_names-clause-quiet g c told =
-    let ended = quiet-sync_names _ _ _ _ _ _ (c.loop-path.invariant.quiet told) (λ m o. g.met.M.Machine.only_now c.loop-path.machine m o told) (c.sync_names.ensures.moments told) c.sync_names.result (c.sync_names.ensures.row told) in
+    let ended = quiet-sync_names _ _ _ _ _ (c.loop-path.invariant.quiet told) (λ m o. g.met.M.Machine.only_now c.loop-path.machine m o told) (c.sync_names.ensures.moments told) c.sync_names.result (c.sync_names.ensures.row told) in
     ended.moments
 
 pub returns-clause-quiet : goal.returns-clause-quiet
 returns-clause-quiet g c told =
-    let ended = quiet-sync_names _ _ _ _ _ _ (c.loop-path.invariant.quiet told) (λ m o. g.met.M.Machine.only_now c.loop-path.machine m o told) (c.sync_names.ensures.moments told) c.sync_names.result (c.sync_names.ensures.row told) in
+    let ended = quiet-sync_names _ _ _ _ _ (c.loop-path.invariant.quiet told) (λ m o. g.met.M.Machine.only_now c.loop-path.machine m o told) (c.sync_names.ensures.moments told) c.sync_names.result (c.sync_names.ensures.row told) in
     ended.moments

@@ -14,18 +14,18 @@ pub returns-in_err-unlink-clause-step : goal.returns-in_err-unlink-clause-step
 returns-in_err-unlink-clause-step g c told firm =
     let s = g.M.Machine.state c.args.machine.now in
     let next = recovered_view (map.remove s.files c.args.path.now) in
-    let start = begins g.M.Machine.clock g.M.Machine.since g.M.Machine.state next c.args.machine.now (λ m o. g.met.M.Machine.only_now c.args.machine.now m o told) (g.met.M.Machine.sound c.args.machine.now told) firm (c.requires.one told) in
-    let gone = goes-unlink _ _ _ _ _ _ _ c.unlink.result start (c.unlink.ensures.moments told) c.args.path.now (inr refl) (c.unlink.ensures.row told) in
-    steps_to _ _ _ _ _ _ gone
+    let start = begins g.M.Machine.time g.M.Machine.state next c.args.machine.now (λ m o. g.met.M.Machine.only_now c.args.machine.now m o told) (g.met.M.Machine.sound c.args.machine.now told) firm (c.requires.one told) in
+    let gone = goes-unlink _ _ _ _ _ _ c.unlink.result start (c.unlink.ensures.moments told) c.args.path.now (inr refl) (c.unlink.ensures.row told) in
+    steps_to _ _ _ _ _ gone
 
 pub returns-clause-step : goal.returns-clause-step
 returns-clause-step g c told firm =
     let s = g.M.Machine.state c.args.machine.now in
     let next = recovered_view (map.remove s.files c.args.path.now) in
-    let start = begins g.M.Machine.clock g.M.Machine.since g.M.Machine.state next c.args.machine.now (λ m o. g.met.M.Machine.only_now c.args.machine.now m o told) (g.met.M.Machine.sound c.args.machine.now told) firm (c.requires.one told) in
-    let gone = goes-unlink _ _ _ _ _ _ _ c.unlink.result start (c.unlink.ensures.moments told) c.args.path.now (inr refl) (c.unlink.ensures.row told) in
-    let ended = goes-sync_names _ _ _ _ _ _ _ c.sync_names.result gone (c.sync_names.ensures.moments told) (c.sync_names.ensures.row told) in
-    steps_to _ _ _ _ _ _ ended
+    let start = begins g.M.Machine.time g.M.Machine.state next c.args.machine.now (λ m o. g.met.M.Machine.only_now c.args.machine.now m o told) (g.met.M.Machine.sound c.args.machine.now told) firm (c.requires.one told) in
+    let gone = goes-unlink _ _ _ _ _ _ c.unlink.result start (c.unlink.ensures.moments told) c.args.path.now (inr refl) (c.unlink.ensures.row told) in
+    let ended = goes-sync_names _ _ _ _ _ _ c.sync_names.result gone (c.sync_names.ensures.moments told) (c.sync_names.ensures.row told) in
+    steps_to _ _ _ _ _ ended
 
 pub returns-clause-files : goal.returns-clause-files
 returns-clause-files g c = on_ok _ _ c.sync_names.result c.sync_names.ensures.row (λ told row. rw (row, c.in_ok-unlink.ensures.row told) refl)
@@ -46,13 +46,13 @@ returns-clause-temps g c told =
 
 pub returns-in_err-unlink-clause-quiet : goal.returns-in_err-unlink-clause-quiet
 returns-in_err-unlink-clause-quiet g c told =
-    let start = quiet_start g.M.Machine.clock g.M.Machine.since g.M.Machine.state c.args.machine.now (λ m o. g.met.M.Machine.only_now c.args.machine.now m o told) in
-    let gone = quiet-unlink _ _ _ _ _ _ start (λ m o. g.met.M.Machine.only_now c.args.machine.now m o told) (c.unlink.ensures.moments told) c.unlink.result c.args.path.now (c.unlink.ensures.row told) in
+    let start = quiet_start g.M.Machine.time g.M.Machine.state c.args.machine.now (λ m o. g.met.M.Machine.only_now c.args.machine.now m o told) in
+    let gone = quiet-unlink _ _ _ _ _ start (λ m o. g.met.M.Machine.only_now c.args.machine.now m o told) (c.unlink.ensures.moments told) c.unlink.result c.args.path.now (c.unlink.ensures.row told) in
     gone.moments
 
 pub returns-clause-quiet : goal.returns-clause-quiet
 returns-clause-quiet g c told =
-    let start = quiet_start g.M.Machine.clock g.M.Machine.since g.M.Machine.state c.args.machine.now (λ m o. g.met.M.Machine.only_now c.args.machine.now m o told) in
-    let gone = quiet-unlink _ _ _ _ _ _ start (λ m o. g.met.M.Machine.only_now c.args.machine.now m o told) (c.unlink.ensures.moments told) c.unlink.result c.args.path.now (c.unlink.ensures.row told) in
-    let ended = quiet-sync_names _ _ _ _ _ _ gone (λ m o. g.met.M.Machine.only_now c.unlink.new.self m o told) (c.sync_names.ensures.moments told) c.sync_names.result (c.sync_names.ensures.row told) in
+    let start = quiet_start g.M.Machine.time g.M.Machine.state c.args.machine.now (λ m o. g.met.M.Machine.only_now c.args.machine.now m o told) in
+    let gone = quiet-unlink _ _ _ _ _ start (λ m o. g.met.M.Machine.only_now c.args.machine.now m o told) (c.unlink.ensures.moments told) c.unlink.result c.args.path.now (c.unlink.ensures.row told) in
+    let ended = quiet-sync_names _ _ _ _ _ gone (λ m o. g.met.M.Machine.only_now c.unlink.new.self m o told) (c.sync_names.ensures.moments told) c.sync_names.result (c.sync_names.ensures.row told) in
     ended.moments

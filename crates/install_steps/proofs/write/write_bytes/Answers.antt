@@ -12,9 +12,9 @@ use Rattle.install_steps.proofs.write.write_bytes.Goals as goal
 pub returns-in_err-create-clause-step : goal.returns-in_err-create-clause-step
 returns-in_err-create-clause-step g c told firm =
     let s = g.M.Machine.state c.args.machine.now in
-    let start = begins_same g.M.Machine.clock g.M.Machine.since g.M.Machine.state c.args.machine.now (λ m o. g.met.M.Machine.only_now c.args.machine.now m o told) (g.met.M.Machine.sound c.args.machine.now told) firm (c.requires.one told) in
-    let made = goes-create _ _ _ _ _ _ _ c.create.result start (c.create.ensures.moments told) c.args.target.now.temp c.know-2.ensures (c.create.ensures.row told) in
-    steps_same _ _ _ _ _ _ made
+    let start = begins_same g.M.Machine.time g.M.Machine.state c.args.machine.now (λ m o. g.met.M.Machine.only_now c.args.machine.now m o told) (g.met.M.Machine.sound c.args.machine.now told) firm (c.requires.one told) in
+    let made = goes-create _ _ _ _ _ _ c.create.result start (c.create.ensures.moments told) c.args.target.now.temp c.know-2.ensures (c.create.ensures.row told) in
+    steps_same _ _ _ _ _ made
 
 pub append-requires : goal.append-requires
 append-requires g c told = rw (c.in_ok-create.ensures.row told) (has-created (g.M.Machine.state c.args.machine.now).files c.args.target.now.temp)
@@ -22,10 +22,10 @@ append-requires g c told = rw (c.in_ok-create.ensures.row told) (has-created (g.
 pub returns-in_err-append-clause-step : goal.returns-in_err-append-clause-step
 returns-in_err-append-clause-step g c told firm =
     let s = g.M.Machine.state c.args.machine.now in
-    let start = begins_same g.M.Machine.clock g.M.Machine.since g.M.Machine.state c.args.machine.now (λ m o. g.met.M.Machine.only_now c.args.machine.now m o told) (g.met.M.Machine.sound c.args.machine.now told) firm (c.requires.one told) in
-    let made = goes-create _ _ _ _ _ _ _ c.create.result start (c.create.ensures.moments told) c.args.target.now.temp c.know-2.ensures (c.create.ensures.row told) in
-    let written = goes-append _ _ _ _ _ _ _ c.append.result made (c.append.ensures.moments told) c.args.target.now.temp c.args.bytes.now c.know-2.ensures (c.append.ensures.row told) in
-    steps_same _ _ _ _ _ _ written
+    let start = begins_same g.M.Machine.time g.M.Machine.state c.args.machine.now (λ m o. g.met.M.Machine.only_now c.args.machine.now m o told) (g.met.M.Machine.sound c.args.machine.now told) firm (c.requires.one told) in
+    let made = goes-create _ _ _ _ _ _ c.create.result start (c.create.ensures.moments told) c.args.target.now.temp c.know-2.ensures (c.create.ensures.row told) in
+    let written = goes-append _ _ _ _ _ _ c.append.result made (c.append.ensures.moments told) c.args.target.now.temp c.args.bytes.now c.know-2.ensures (c.append.ensures.row told) in
+    steps_same _ _ _ _ _ written
 
 pub put_in_place-requires : goal.put_in_place-requires
 put_in_place-requires g c = record {
@@ -35,23 +35,23 @@ put_in_place-requires g c = record {
 pub returns-clause-step : goal.returns-clause-step
 returns-clause-step g c told firm =
     let s = g.M.Machine.state c.args.machine.now in
-    let start = begins_same g.M.Machine.clock g.M.Machine.since g.M.Machine.state c.args.machine.now (λ m o. g.met.M.Machine.only_now c.args.machine.now m o told) (g.met.M.Machine.sound c.args.machine.now told) firm (c.requires.one told) in
-    let made = goes-create _ _ _ _ _ _ _ c.create.result start (c.create.ensures.moments told) c.args.target.now.temp c.know-2.ensures (c.create.ensures.row told) in
-    let written = goes-append _ _ _ _ _ _ _ c.append.result made (c.append.ensures.moments told) c.args.target.now.temp c.args.bytes.now c.know-2.ensures (c.append.ensures.row told) in
+    let start = begins_same g.M.Machine.time g.M.Machine.state c.args.machine.now (λ m o. g.met.M.Machine.only_now c.args.machine.now m o told) (g.met.M.Machine.sound c.args.machine.now told) firm (c.requires.one told) in
+    let made = goes-create _ _ _ _ _ _ c.create.result start (c.create.ensures.moments told) c.args.target.now.temp c.know-2.ensures (c.create.ensures.row told) in
+    let written = goes-append _ _ _ _ _ _ c.append.result made (c.append.ensures.moments told) c.args.target.now.temp c.args.bytes.now c.know-2.ensures (c.append.ensures.row told) in
     let next = map.insert (recovered_view s.files) c.args.target.now.path c.args.bytes.now in
     let is : recovered_view (move_in c.args.target.now.temp c.args.target.now.path (g.M.Machine.state c.append.new.self).files) ≡ next = rw (c.in_ok-append.ensures.row told, c.in_ok-create.ensures.row told) (recovered_view-written s.files c.args.target.now.temp c.args.target.now.path c.args.bytes.now (c.requires.rested told) c.know-2.ensures c.know.ensures (off_intent c.args.target.now.path c.requires.free)) in
-    let finished = c.put_in_place.ensures.step told (firm_so_far _ _ _ _ _ _ written) (settled_so_far _ _ _ _ _ written) in
-    steps_on _ _ _ _ _ _ _ written (subst (λ (v : Files). StepsTo g.M.Machine.clock g.M.Machine.since g.M.Machine.state v c.append.new.self c.put_in_place.new.machine) is finished)
+    let finished = c.put_in_place.ensures.step told (firm_so_far _ _ _ _ _ written) (settled_so_far _ _ _ _ written) in
+    steps_on _ _ _ _ _ _ written (subst (λ (v : Files). StepsTo g.M.Machine.time g.M.Machine.state v c.append.new.self c.put_in_place.new.machine) is finished)
 
 pub returns-clause-done : goal.returns-clause-done
 returns-clause-done g c = ok_then c.put_in_place.result c.put_in_place.ensures.done (λ done told firm.
     let s = g.M.Machine.state c.args.machine.now in
-    let start = begins_same g.M.Machine.clock g.M.Machine.since g.M.Machine.state c.args.machine.now (λ m o. g.met.M.Machine.only_now c.args.machine.now m o told) (g.met.M.Machine.sound c.args.machine.now told) firm (c.requires.one told) in
-    let made = goes-create _ _ _ _ _ _ _ c.create.result start (c.create.ensures.moments told) c.args.target.now.temp c.know-2.ensures (c.create.ensures.row told) in
-    let written = goes-append _ _ _ _ _ _ _ c.append.result made (c.append.ensures.moments told) c.args.target.now.temp c.args.bytes.now c.know-2.ensures (c.append.ensures.row told) in
+    let start = begins_same g.M.Machine.time g.M.Machine.state c.args.machine.now (λ m o. g.met.M.Machine.only_now c.args.machine.now m o told) (g.met.M.Machine.sound c.args.machine.now told) firm (c.requires.one told) in
+    let made = goes-create _ _ _ _ _ _ c.create.result start (c.create.ensures.moments told) c.args.target.now.temp c.know-2.ensures (c.create.ensures.row told) in
+    let written = goes-append _ _ _ _ _ _ c.append.result made (c.append.ensures.moments told) c.args.target.now.temp c.args.bytes.now c.know-2.ensures (c.append.ensures.row told) in
     let next = map.insert (recovered_view s.files) c.args.target.now.path c.args.bytes.now in
     let is : recovered_view (move_in c.args.target.now.temp c.args.target.now.path (g.M.Machine.state c.append.new.self).files) ≡ next = rw (c.in_ok-append.ensures.row told, c.in_ok-create.ensures.row told) (recovered_view-written s.files c.args.target.now.temp c.args.target.now.path c.args.bytes.now (c.requires.rested told) c.know-2.ensures c.know.ensures (off_intent c.args.target.now.path c.requires.free)) in
-    subst (IsDone (g.M.Machine.state c.put_in_place.new.machine)) is (done told (firm_so_far _ _ _ _ _ _ written) (settled_so_far _ _ _ _ _ written)))
+    subst (IsDone (g.M.Machine.state c.put_in_place.new.machine)) is (done told (firm_so_far _ _ _ _ _ written) (settled_so_far _ _ _ _ written)))
 
 pub returns-clause-temps : goal.returns-clause-temps
 returns-clause-temps g c = ok_then c.put_in_place.result c.put_in_place.ensures.files (λ files told q temp there.
@@ -65,21 +65,21 @@ returns-clause-rests g c = ok_then c.put_in_place.result c.put_in_place.ensures.
 
 pub returns-in_err-create-clause-quiet : goal.returns-in_err-create-clause-quiet
 returns-in_err-create-clause-quiet g c told =
-    let start = quiet_start g.M.Machine.clock g.M.Machine.since g.M.Machine.state c.args.machine.now (λ m o. g.met.M.Machine.only_now c.args.machine.now m o told) in
-    let made = quiet-create _ _ _ _ _ _ start (λ m o. g.met.M.Machine.only_now c.args.machine.now m o told) (c.create.ensures.moments told) c.create.result c.args.target.now.temp (c.create.ensures.row told) in
+    let start = quiet_start g.M.Machine.time g.M.Machine.state c.args.machine.now (λ m o. g.met.M.Machine.only_now c.args.machine.now m o told) in
+    let made = quiet-create _ _ _ _ _ start (λ m o. g.met.M.Machine.only_now c.args.machine.now m o told) (c.create.ensures.moments told) c.create.result c.args.target.now.temp (c.create.ensures.row told) in
     made.moments
 
 pub returns-in_err-append-clause-quiet : goal.returns-in_err-append-clause-quiet
 returns-in_err-append-clause-quiet g c told =
-    let start = quiet_start g.M.Machine.clock g.M.Machine.since g.M.Machine.state c.args.machine.now (λ m o. g.met.M.Machine.only_now c.args.machine.now m o told) in
-    let made = quiet-create _ _ _ _ _ _ start (λ m o. g.met.M.Machine.only_now c.args.machine.now m o told) (c.create.ensures.moments told) c.create.result c.args.target.now.temp (c.create.ensures.row told) in
-    let written = quiet-append _ _ _ _ _ _ made (λ m o. g.met.M.Machine.only_now c.create.new.self m o told) (c.append.ensures.moments told) c.append.result c.args.target.now.temp c.args.bytes.now (c.append.ensures.row told) in
+    let start = quiet_start g.M.Machine.time g.M.Machine.state c.args.machine.now (λ m o. g.met.M.Machine.only_now c.args.machine.now m o told) in
+    let made = quiet-create _ _ _ _ _ start (λ m o. g.met.M.Machine.only_now c.args.machine.now m o told) (c.create.ensures.moments told) c.create.result c.args.target.now.temp (c.create.ensures.row told) in
+    let written = quiet-append _ _ _ _ _ made (λ m o. g.met.M.Machine.only_now c.create.new.self m o told) (c.append.ensures.moments told) c.append.result c.args.target.now.temp c.args.bytes.now (c.append.ensures.row told) in
     written.moments
 
 pub returns-clause-quiet : goal.returns-clause-quiet
 returns-clause-quiet g c told =
-    let start = quiet_start g.M.Machine.clock g.M.Machine.since g.M.Machine.state c.args.machine.now (λ m o. g.met.M.Machine.only_now c.args.machine.now m o told) in
-    let made = quiet-create _ _ _ _ _ _ start (λ m o. g.met.M.Machine.only_now c.args.machine.now m o told) (c.create.ensures.moments told) c.create.result c.args.target.now.temp (c.create.ensures.row told) in
-    let written = quiet-append _ _ _ _ _ _ made (λ m o. g.met.M.Machine.only_now c.create.new.self m o told) (c.append.ensures.moments told) c.append.result c.args.target.now.temp c.args.bytes.now (c.append.ensures.row told) in
-    let ended = quiet_then _ _ _ _ _ _ written (c.put_in_place.ensures.quiet told) (c.put_in_place.ensures.keeps told) in
+    let start = quiet_start g.M.Machine.time g.M.Machine.state c.args.machine.now (λ m o. g.met.M.Machine.only_now c.args.machine.now m o told) in
+    let made = quiet-create _ _ _ _ _ start (λ m o. g.met.M.Machine.only_now c.args.machine.now m o told) (c.create.ensures.moments told) c.create.result c.args.target.now.temp (c.create.ensures.row told) in
+    let written = quiet-append _ _ _ _ _ made (λ m o. g.met.M.Machine.only_now c.create.new.self m o told) (c.append.ensures.moments told) c.append.result c.args.target.now.temp c.args.bytes.now (c.append.ensures.row told) in
+    let ended = quiet_then _ _ _ _ _ written (c.put_in_place.ensures.quiet told) (c.put_in_place.ensures.keeps told) in
     ended.moments

@@ -14,15 +14,15 @@ use Rattle.install_steps.proofs.write.write_whole.Goals as goal
 
 pub returns-in_err-size-clause-step : goal.returns-in_err-size-clause-step
 returns-in_err-size-clause-step g c told firm =
-    let start = begins_same g.M.Machine.clock g.M.Machine.since g.M.Machine.state c.args.machine.now (λ m o. g.met.M.Machine.only_now c.args.machine.now m o told) (g.met.M.Machine.sound c.args.machine.now told) firm (c.requires.one told) in
-    let looked = goes-read _ _ _ _ _ _ _ start (c.size.ensures.moments told) (c.size.ensures.row told).same in
-    steps_same _ _ _ _ _ _ looked
+    let start = begins_same g.M.Machine.time g.M.Machine.state c.args.machine.now (λ m o. g.met.M.Machine.only_now c.args.machine.now m o told) (g.met.M.Machine.sound c.args.machine.now told) firm (c.requires.one told) in
+    let looked = goes-read _ _ _ _ _ _ start (c.size.ensures.moments told) (c.size.ensures.row told).same in
+    steps_same _ _ _ _ _ looked
 
 pub returns-in_default-clause-step : goal.returns-in_default-clause-step
 returns-in_default-clause-step g c told firm =
-    let start = begins_same g.M.Machine.clock g.M.Machine.since g.M.Machine.state c.args.machine.now (λ m o. g.met.M.Machine.only_now c.args.machine.now m o told) (g.met.M.Machine.sound c.args.machine.now told) firm (c.requires.one told) in
-    let looked = goes-read _ _ _ _ _ _ _ start (c.size.ensures.moments told) (c.size.ensures.row told).same in
-    steps_same _ _ _ _ _ _ looked
+    let start = begins_same g.M.Machine.time g.M.Machine.state c.args.machine.now (λ m o. g.met.M.Machine.only_now c.args.machine.now m o told) (g.met.M.Machine.sound c.args.machine.now told) firm (c.requires.one told) in
+    let looked = goes-read _ _ _ _ _ _ start (c.size.ensures.moments told) (c.size.ensures.row told).same in
+    steps_same _ _ _ _ _ looked
 
 pub returns-in_default-clause-not_found : goal.returns-in_default-clause-not_found
 returns-in_default-clause-not_found g c = λ err told.
@@ -32,10 +32,10 @@ returns-in_default-clause-not_found g c = λ err told.
 
 pub returns-in_err-create-clause-step : goal.returns-in_err-create-clause-step
 returns-in_err-create-clause-step g c told firm =
-    let start = begins_same g.M.Machine.clock g.M.Machine.since g.M.Machine.state c.args.machine.now (λ m o. g.met.M.Machine.only_now c.args.machine.now m o told) (g.met.M.Machine.sound c.args.machine.now told) firm (c.requires.one told) in
-    let looked = goes-read _ _ _ _ _ _ _ start (c.size.ensures.moments told) (c.size.ensures.row told).same in
-    let made = goes-create _ _ _ _ _ _ _ c.create.result looked (c.create.ensures.moments told) c.args.target.now.temp c.know-3.ensures (c.create.ensures.row told) in
-    steps_same _ _ _ _ _ _ made
+    let start = begins_same g.M.Machine.time g.M.Machine.state c.args.machine.now (λ m o. g.met.M.Machine.only_now c.args.machine.now m o told) (g.met.M.Machine.sound c.args.machine.now told) firm (c.requires.one told) in
+    let looked = goes-read _ _ _ _ _ _ start (c.size.ensures.moments told) (c.size.ensures.row told).same in
+    let made = goes-create _ _ _ _ _ _ c.create.result looked (c.create.ensures.moments told) c.args.target.now.temp c.know-3.ensures (c.create.ensures.row told) in
+    steps_same _ _ _ _ _ made
 
 pub copy_part-requires-clause-there : goal.copy_part-requires-clause-there
 copy_part-requires-clause-there g c told =
@@ -43,57 +43,57 @@ copy_part-requires-clause-there g c told =
 
 pub returns-in_err-copy_part-clause-step : goal.returns-in_err-copy_part-clause-step
 returns-in_err-copy_part-clause-step g c told firm =
-    let start = begins_same g.M.Machine.clock g.M.Machine.since g.M.Machine.state c.args.machine.now (λ m o. g.met.M.Machine.only_now c.args.machine.now m o told) (g.met.M.Machine.sound c.args.machine.now told) firm (c.requires.one told) in
-    let looked = goes-read _ _ _ _ _ _ _ start (c.size.ensures.moments told) (c.size.ensures.row told).same in
-    let made = goes-create _ _ _ _ _ _ _ c.create.result looked (c.create.ensures.moments told) c.args.target.now.temp c.know-3.ensures (c.create.ensures.row told) in
-    let written = goes-appends _ _ _ _ _ _ _ made c.args.target.now.temp c.know-3.ensures (c.copy_part.ensures.appends told) in
-    steps_same _ _ _ _ _ _ written
+    let start = begins_same g.M.Machine.time g.M.Machine.state c.args.machine.now (λ m o. g.met.M.Machine.only_now c.args.machine.now m o told) (g.met.M.Machine.sound c.args.machine.now told) firm (c.requires.one told) in
+    let looked = goes-read _ _ _ _ _ _ start (c.size.ensures.moments told) (c.size.ensures.row told).same in
+    let made = goes-create _ _ _ _ _ _ c.create.result looked (c.create.ensures.moments told) c.args.target.now.temp c.know-3.ensures (c.create.ensures.row told) in
+    let written = goes-appends _ _ _ _ _ _ made c.args.target.now.temp c.know-3.ensures (c.copy_part.ensures.appends told) in
+    steps_same _ _ _ _ _ written
 
 pub put_in_place-requires : goal.put_in_place-requires
 put_in_place-requires g c = record {
   there = λ told.
       let there : has (g.M.Machine.state c.create.new.self).files c.args.target.now.temp ≡ true = rw (c.in_ok-create.ensures.row told) (has-created (g.M.Machine.state c.size.new.self).files c.args.target.now.temp) in
-      appends-there g.M.Machine.clock g.M.Machine.since g.M.Machine.state c.args.target.now.temp c.create.new.self c.copy_part.new.machine (c.copy_part.ensures.appends told) there;
+      appends-there g.M.Machine.time g.M.Machine.state c.args.target.now.temp c.create.new.self c.copy_part.new.machine (c.copy_part.ensures.appends told) there;
 }
 
 pub returns-in_err-put_in_place-clause-step : goal.returns-in_err-put_in_place-clause-step
 returns-in_err-put_in_place-clause-step g c told firm =
-    let start = begins_same g.M.Machine.clock g.M.Machine.since g.M.Machine.state c.args.machine.now (λ m o. g.met.M.Machine.only_now c.args.machine.now m o told) (g.met.M.Machine.sound c.args.machine.now told) firm (c.requires.one told) in
-    let looked = goes-read _ _ _ _ _ _ _ start (c.size.ensures.moments told) (c.size.ensures.row told).same in
-    let made = goes-create _ _ _ _ _ _ _ c.create.result looked (c.create.ensures.moments told) c.args.target.now.temp c.know-3.ensures (c.create.ensures.row told) in
-    let written = goes-appends _ _ _ _ _ _ _ made c.args.target.now.temp c.know-3.ensures (c.copy_part.ensures.appends told) in
+    let start = begins_same g.M.Machine.time g.M.Machine.state c.args.machine.now (λ m o. g.met.M.Machine.only_now c.args.machine.now m o told) (g.met.M.Machine.sound c.args.machine.now told) firm (c.requires.one told) in
+    let looked = goes-read _ _ _ _ _ _ start (c.size.ensures.moments told) (c.size.ensures.row told).same in
+    let made = goes-create _ _ _ _ _ _ c.create.result looked (c.create.ensures.moments told) c.args.target.now.temp c.know-3.ensures (c.create.ensures.row told) in
+    let written = goes-appends _ _ _ _ _ _ made c.args.target.now.temp c.know-3.ensures (c.copy_part.ensures.appends told) in
     let s = g.M.Machine.state c.args.machine.now in
     let created : (g.M.Machine.state c.create.new.self).files ≡ map.insert (g.M.Machine.state c.args.machine.now).files c.args.target.now.temp [] = rw (c.in_ok-create.ensures.row told, (c.size.ensures.row told).same) refl in
     let long = size_within s.files c.args.from.now c.in_ok-size.field-0 c.in-Some.size c.min-size.result (c.requires.rested told) c.know.ensures (c.requires.small told) (c.in_ok-size.ensures.row told).answer c.in-Some.is (λ small. omega (arith, small, c.min-size.ensures)) in
     let all = copied_file s.files c.args.target.now.temp c.args.from.now (g.M.Machine.state c.create.new.self) (g.M.Machine.state c.copy_part.new.machine) c.min-size.result c.know-3.ensures c.know.ensures created (c.copy_part.ensures.appends told).left (c.in_ok-copy_part.ensures.grows told) long in
     let is = sees_copy s.files (g.M.Machine.state c.copy_part.new.machine).files c.args.target.now.temp c.args.from.now c.args.target.now.path (c.requires.rested told) (off_intent c.args.target.now.path c.requires.free) c.know-3.ensures c.know.ensures c.know-2.ensures (size_there s.files c.args.from.now c.in_ok-size.field-0 c.in-Some.size (c.in_ok-size.ensures.row told).answer c.in-Some.is).1 all in
-    steps_on _ _ _ _ _ _ _ written (subst (λ (v : Files). StepsTo g.M.Machine.clock g.M.Machine.since g.M.Machine.state v c.copy_part.new.machine c.put_in_place.new.machine) is (c.put_in_place.ensures.step told (firm_so_far _ _ _ _ _ _ written) (settled_so_far _ _ _ _ _ written)))
+    steps_on _ _ _ _ _ _ written (subst (λ (v : Files). StepsTo g.M.Machine.time g.M.Machine.state v c.copy_part.new.machine c.put_in_place.new.machine) is (c.put_in_place.ensures.step told (firm_so_far _ _ _ _ _ written) (settled_so_far _ _ _ _ written)))
 
 pub returns-clause-step : goal.returns-clause-step
 returns-clause-step g c told firm =
-    let start = begins_same g.M.Machine.clock g.M.Machine.since g.M.Machine.state c.args.machine.now (λ m o. g.met.M.Machine.only_now c.args.machine.now m o told) (g.met.M.Machine.sound c.args.machine.now told) firm (c.requires.one told) in
-    let looked = goes-read _ _ _ _ _ _ _ start (c.size.ensures.moments told) (c.size.ensures.row told).same in
-    let made = goes-create _ _ _ _ _ _ _ c.create.result looked (c.create.ensures.moments told) c.args.target.now.temp c.know-3.ensures (c.create.ensures.row told) in
-    let written = goes-appends _ _ _ _ _ _ _ made c.args.target.now.temp c.know-3.ensures (c.copy_part.ensures.appends told) in
+    let start = begins_same g.M.Machine.time g.M.Machine.state c.args.machine.now (λ m o. g.met.M.Machine.only_now c.args.machine.now m o told) (g.met.M.Machine.sound c.args.machine.now told) firm (c.requires.one told) in
+    let looked = goes-read _ _ _ _ _ _ start (c.size.ensures.moments told) (c.size.ensures.row told).same in
+    let made = goes-create _ _ _ _ _ _ c.create.result looked (c.create.ensures.moments told) c.args.target.now.temp c.know-3.ensures (c.create.ensures.row told) in
+    let written = goes-appends _ _ _ _ _ _ made c.args.target.now.temp c.know-3.ensures (c.copy_part.ensures.appends told) in
     let s = g.M.Machine.state c.args.machine.now in
     let created : (g.M.Machine.state c.create.new.self).files ≡ map.insert (g.M.Machine.state c.args.machine.now).files c.args.target.now.temp [] = rw (c.in_ok-create.ensures.row told, (c.size.ensures.row told).same) refl in
     let long = size_within s.files c.args.from.now c.in_ok-size.field-0 c.in-Some.size c.min-size.result (c.requires.rested told) c.know.ensures (c.requires.small told) (c.in_ok-size.ensures.row told).answer c.in-Some.is (λ small. omega (arith, small, c.min-size.ensures)) in
     let all = copied_file s.files c.args.target.now.temp c.args.from.now (g.M.Machine.state c.create.new.self) (g.M.Machine.state c.copy_part.new.machine) c.min-size.result c.know-3.ensures c.know.ensures created (c.copy_part.ensures.appends told).left (c.in_ok-copy_part.ensures.grows told) long in
     let is = sees_copy s.files (g.M.Machine.state c.copy_part.new.machine).files c.args.target.now.temp c.args.from.now c.args.target.now.path (c.requires.rested told) (off_intent c.args.target.now.path c.requires.free) c.know-3.ensures c.know.ensures c.know-2.ensures (size_there s.files c.args.from.now c.in_ok-size.field-0 c.in-Some.size (c.in_ok-size.ensures.row told).answer c.in-Some.is).1 all in
-    steps_on _ _ _ _ _ _ _ written (subst (λ (v : Files). StepsTo g.M.Machine.clock g.M.Machine.since g.M.Machine.state v c.copy_part.new.machine c.put_in_place.new.machine) is (c.put_in_place.ensures.step told (firm_so_far _ _ _ _ _ _ written) (settled_so_far _ _ _ _ _ written)))
+    steps_on _ _ _ _ _ _ written (subst (λ (v : Files). StepsTo g.M.Machine.time g.M.Machine.state v c.copy_part.new.machine c.put_in_place.new.machine) is (c.put_in_place.ensures.step told (firm_so_far _ _ _ _ _ written) (settled_so_far _ _ _ _ written)))
 
 pub returns-clause-done : goal.returns-clause-done
 returns-clause-done g c told firm =
-    let start = begins_same g.M.Machine.clock g.M.Machine.since g.M.Machine.state c.args.machine.now (λ m o. g.met.M.Machine.only_now c.args.machine.now m o told) (g.met.M.Machine.sound c.args.machine.now told) firm (c.requires.one told) in
-    let looked = goes-read _ _ _ _ _ _ _ start (c.size.ensures.moments told) (c.size.ensures.row told).same in
-    let made = goes-create _ _ _ _ _ _ _ c.create.result looked (c.create.ensures.moments told) c.args.target.now.temp c.know-3.ensures (c.create.ensures.row told) in
-    let written = goes-appends _ _ _ _ _ _ _ made c.args.target.now.temp c.know-3.ensures (c.copy_part.ensures.appends told) in
+    let start = begins_same g.M.Machine.time g.M.Machine.state c.args.machine.now (λ m o. g.met.M.Machine.only_now c.args.machine.now m o told) (g.met.M.Machine.sound c.args.machine.now told) firm (c.requires.one told) in
+    let looked = goes-read _ _ _ _ _ _ start (c.size.ensures.moments told) (c.size.ensures.row told).same in
+    let made = goes-create _ _ _ _ _ _ c.create.result looked (c.create.ensures.moments told) c.args.target.now.temp c.know-3.ensures (c.create.ensures.row told) in
+    let written = goes-appends _ _ _ _ _ _ made c.args.target.now.temp c.know-3.ensures (c.copy_part.ensures.appends told) in
     let s = g.M.Machine.state c.args.machine.now in
     let created : (g.M.Machine.state c.create.new.self).files ≡ map.insert (g.M.Machine.state c.args.machine.now).files c.args.target.now.temp [] = rw (c.in_ok-create.ensures.row told, (c.size.ensures.row told).same) refl in
     let long = size_within s.files c.args.from.now c.in_ok-size.field-0 c.in-Some.size c.min-size.result (c.requires.rested told) c.know.ensures (c.requires.small told) (c.in_ok-size.ensures.row told).answer c.in-Some.is (λ small. omega (arith, small, c.min-size.ensures)) in
     let all = copied_file s.files c.args.target.now.temp c.args.from.now (g.M.Machine.state c.create.new.self) (g.M.Machine.state c.copy_part.new.machine) c.min-size.result c.know-3.ensures c.know.ensures created (c.copy_part.ensures.appends told).left (c.in_ok-copy_part.ensures.grows told) long in
     let is = sees_copy s.files (g.M.Machine.state c.copy_part.new.machine).files c.args.target.now.temp c.args.from.now c.args.target.now.path (c.requires.rested told) (off_intent c.args.target.now.path c.requires.free) c.know-3.ensures c.know.ensures c.know-2.ensures (size_there s.files c.args.from.now c.in_ok-size.field-0 c.in-Some.size (c.in_ok-size.ensures.row told).answer c.in-Some.is).1 all in
-    subst (IsDone (g.M.Machine.state c.put_in_place.new.machine)) is (c.in_ok-put_in_place.ensures.done told (firm_so_far _ _ _ _ _ _ written) (settled_so_far _ _ _ _ _ written))
+    subst (IsDone (g.M.Machine.state c.put_in_place.new.machine)) is (c.in_ok-put_in_place.ensures.done told (firm_so_far _ _ _ _ _ written) (settled_so_far _ _ _ _ written))
 
 pub returns-clause-found : goal.returns-clause-found
 returns-clause-found g c told =
@@ -114,45 +114,45 @@ returns-clause-rests g c told =
 
 pub returns-in_err-size-clause-quiet : goal.returns-in_err-size-clause-quiet
 returns-in_err-size-clause-quiet g c told =
-    let start = quiet_start g.M.Machine.clock g.M.Machine.since g.M.Machine.state c.args.machine.now (λ m o. g.met.M.Machine.only_now c.args.machine.now m o told) in
-    let looked = quiet-read _ _ _ _ _ _ start (λ m o. g.met.M.Machine.only_now c.args.machine.now m o told) (c.size.ensures.moments told) (c.size.ensures.row told).same in
+    let start = quiet_start g.M.Machine.time g.M.Machine.state c.args.machine.now (λ m o. g.met.M.Machine.only_now c.args.machine.now m o told) in
+    let looked = quiet-read _ _ _ _ _ start (λ m o. g.met.M.Machine.only_now c.args.machine.now m o told) (c.size.ensures.moments told) (c.size.ensures.row told).same in
     looked.moments
 
 pub returns-in_default-clause-quiet : goal.returns-in_default-clause-quiet
 returns-in_default-clause-quiet g c told =
-    let start = quiet_start g.M.Machine.clock g.M.Machine.since g.M.Machine.state c.args.machine.now (λ m o. g.met.M.Machine.only_now c.args.machine.now m o told) in
-    let looked = quiet-read _ _ _ _ _ _ start (λ m o. g.met.M.Machine.only_now c.args.machine.now m o told) (c.size.ensures.moments told) (c.size.ensures.row told).same in
+    let start = quiet_start g.M.Machine.time g.M.Machine.state c.args.machine.now (λ m o. g.met.M.Machine.only_now c.args.machine.now m o told) in
+    let looked = quiet-read _ _ _ _ _ start (λ m o. g.met.M.Machine.only_now c.args.machine.now m o told) (c.size.ensures.moments told) (c.size.ensures.row told).same in
     looked.moments
 
 pub returns-in_err-create-clause-quiet : goal.returns-in_err-create-clause-quiet
 returns-in_err-create-clause-quiet g c told =
-    let start = quiet_start g.M.Machine.clock g.M.Machine.since g.M.Machine.state c.args.machine.now (λ m o. g.met.M.Machine.only_now c.args.machine.now m o told) in
-    let looked = quiet-read _ _ _ _ _ _ start (λ m o. g.met.M.Machine.only_now c.args.machine.now m o told) (c.size.ensures.moments told) (c.size.ensures.row told).same in
-    let made = quiet-create _ _ _ _ _ _ looked (λ m o. g.met.M.Machine.only_now c.size.new.self m o told) (c.create.ensures.moments told) c.create.result c.args.target.now.temp (c.create.ensures.row told) in
+    let start = quiet_start g.M.Machine.time g.M.Machine.state c.args.machine.now (λ m o. g.met.M.Machine.only_now c.args.machine.now m o told) in
+    let looked = quiet-read _ _ _ _ _ start (λ m o. g.met.M.Machine.only_now c.args.machine.now m o told) (c.size.ensures.moments told) (c.size.ensures.row told).same in
+    let made = quiet-create _ _ _ _ _ looked (λ m o. g.met.M.Machine.only_now c.size.new.self m o told) (c.create.ensures.moments told) c.create.result c.args.target.now.temp (c.create.ensures.row told) in
     made.moments
 
 pub returns-in_err-copy_part-clause-quiet : goal.returns-in_err-copy_part-clause-quiet
 returns-in_err-copy_part-clause-quiet g c told =
-    let start = quiet_start g.M.Machine.clock g.M.Machine.since g.M.Machine.state c.args.machine.now (λ m o. g.met.M.Machine.only_now c.args.machine.now m o told) in
-    let looked = quiet-read _ _ _ _ _ _ start (λ m o. g.met.M.Machine.only_now c.args.machine.now m o told) (c.size.ensures.moments told) (c.size.ensures.row told).same in
-    let made = quiet-create _ _ _ _ _ _ looked (λ m o. g.met.M.Machine.only_now c.size.new.self m o told) (c.create.ensures.moments told) c.create.result c.args.target.now.temp (c.create.ensures.row told) in
-    let written = quiet_appends _ _ _ c.args.target.now.temp _ _ _ made (c.copy_part.ensures.appends told) in
+    let start = quiet_start g.M.Machine.time g.M.Machine.state c.args.machine.now (λ m o. g.met.M.Machine.only_now c.args.machine.now m o told) in
+    let looked = quiet-read _ _ _ _ _ start (λ m o. g.met.M.Machine.only_now c.args.machine.now m o told) (c.size.ensures.moments told) (c.size.ensures.row told).same in
+    let made = quiet-create _ _ _ _ _ looked (λ m o. g.met.M.Machine.only_now c.size.new.self m o told) (c.create.ensures.moments told) c.create.result c.args.target.now.temp (c.create.ensures.row told) in
+    let written = quiet_appends _ _ c.args.target.now.temp _ _ _ made (c.copy_part.ensures.appends told) in
     written.moments
 
 pub returns-in_err-put_in_place-clause-quiet : goal.returns-in_err-put_in_place-clause-quiet
 returns-in_err-put_in_place-clause-quiet g c told =
-    let start = quiet_start g.M.Machine.clock g.M.Machine.since g.M.Machine.state c.args.machine.now (λ m o. g.met.M.Machine.only_now c.args.machine.now m o told) in
-    let looked = quiet-read _ _ _ _ _ _ start (λ m o. g.met.M.Machine.only_now c.args.machine.now m o told) (c.size.ensures.moments told) (c.size.ensures.row told).same in
-    let made = quiet-create _ _ _ _ _ _ looked (λ m o. g.met.M.Machine.only_now c.size.new.self m o told) (c.create.ensures.moments told) c.create.result c.args.target.now.temp (c.create.ensures.row told) in
-    let written = quiet_appends _ _ _ c.args.target.now.temp _ _ _ made (c.copy_part.ensures.appends told) in
-    let ended = quiet_then _ _ _ _ _ _ written (c.put_in_place.ensures.quiet told) (c.put_in_place.ensures.keeps told) in
+    let start = quiet_start g.M.Machine.time g.M.Machine.state c.args.machine.now (λ m o. g.met.M.Machine.only_now c.args.machine.now m o told) in
+    let looked = quiet-read _ _ _ _ _ start (λ m o. g.met.M.Machine.only_now c.args.machine.now m o told) (c.size.ensures.moments told) (c.size.ensures.row told).same in
+    let made = quiet-create _ _ _ _ _ looked (λ m o. g.met.M.Machine.only_now c.size.new.self m o told) (c.create.ensures.moments told) c.create.result c.args.target.now.temp (c.create.ensures.row told) in
+    let written = quiet_appends _ _ c.args.target.now.temp _ _ _ made (c.copy_part.ensures.appends told) in
+    let ended = quiet_then _ _ _ _ _ written (c.put_in_place.ensures.quiet told) (c.put_in_place.ensures.keeps told) in
     ended.moments
 
 pub returns-clause-quiet : goal.returns-clause-quiet
 returns-clause-quiet g c told =
-    let start = quiet_start g.M.Machine.clock g.M.Machine.since g.M.Machine.state c.args.machine.now (λ m o. g.met.M.Machine.only_now c.args.machine.now m o told) in
-    let looked = quiet-read _ _ _ _ _ _ start (λ m o. g.met.M.Machine.only_now c.args.machine.now m o told) (c.size.ensures.moments told) (c.size.ensures.row told).same in
-    let made = quiet-create _ _ _ _ _ _ looked (λ m o. g.met.M.Machine.only_now c.size.new.self m o told) (c.create.ensures.moments told) c.create.result c.args.target.now.temp (c.create.ensures.row told) in
-    let written = quiet_appends _ _ _ c.args.target.now.temp _ _ _ made (c.copy_part.ensures.appends told) in
-    let ended = quiet_then _ _ _ _ _ _ written (c.put_in_place.ensures.quiet told) (c.put_in_place.ensures.keeps told) in
+    let start = quiet_start g.M.Machine.time g.M.Machine.state c.args.machine.now (λ m o. g.met.M.Machine.only_now c.args.machine.now m o told) in
+    let looked = quiet-read _ _ _ _ _ start (λ m o. g.met.M.Machine.only_now c.args.machine.now m o told) (c.size.ensures.moments told) (c.size.ensures.row told).same in
+    let made = quiet-create _ _ _ _ _ looked (λ m o. g.met.M.Machine.only_now c.size.new.self m o told) (c.create.ensures.moments told) c.create.result c.args.target.now.temp (c.create.ensures.row told) in
+    let written = quiet_appends _ _ c.args.target.now.temp _ _ _ made (c.copy_part.ensures.appends told) in
+    let ended = quiet_then _ _ _ _ _ written (c.put_in_place.ensures.quiet told) (c.put_in_place.ensures.keeps told) in
     ended.moments

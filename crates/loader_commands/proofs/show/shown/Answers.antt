@@ -11,15 +11,15 @@ use Rattle.loader_commands.proofs.show.shown.Goals as goal
 
 pub returns-in_err-paths-clause-reads : goal.returns-in_err-paths-clause-reads
 returns-in_err-paths-clause-reads g c told =
-    reads_none g.M.Machine.clock g.M.Machine.since g.M.Machine.state c.args.machine.now (λ m o left. g.met.M.Machine.only_now c.args.machine.now m o told left)
+    reads_none g.M.Machine.time g.M.Machine.state c.args.machine.now (λ m o left. g.met.M.Machine.only_now c.args.machine.now m o told left)
 
 pub returns-in_err-menu-clause-reads : goal.returns-in_err-menu-clause-reads
 returns-in_err-menu-clause-reads g c told =
-    reads_on g.M.Machine.clock g.M.Machine.since g.M.Machine.state c.args.machine.now c.conf_bytes.new.machine c.loader_menu.new.machine (c.conf_bytes.ensures.reads told) (c.loader_menu.ensures.reads told)
+    reads_on g.M.Machine.time g.M.Machine.state c.args.machine.now c.conf_bytes.new.machine c.loader_menu.new.machine (c.conf_bytes.ensures.reads told) (c.loader_menu.ensures.reads told)
 
 pub returns-clause-reads : goal.returns-clause-reads
 returns-clause-reads g c told =
-    reads_on g.M.Machine.clock g.M.Machine.since g.M.Machine.state c.args.machine.now c.conf_bytes.new.machine c.loader_menu.new.machine (c.conf_bytes.ensures.reads told) (c.loader_menu.ensures.reads told)
+    reads_on g.M.Machine.time g.M.Machine.state c.args.machine.now c.conf_bytes.new.machine c.loader_menu.new.machine (c.conf_bytes.ensures.reads told) (c.loader_menu.ensures.reads told)
 
 pub returns-clause-says : goal.returns-clause-says
 returns-clause-says g c told =

@@ -4,11 +4,11 @@ use Rattle.pe_reader.proofs.Joined.{head_joined}
 use Rattle.pe_reader.proofs.stages.head_in.Goals as goal
 
 pub returns-in_err-coff-clause-reads : goal.returns-in_err-coff-clause-reads
-returns-in_err-coff-clause-reads g c told = reads_on g.M.Machine.clock g.M.Machine.since g.M.Machine.state _ _ _ (c.place_in.ensures.reads told) (c.coff_in.ensures.reads told)
+returns-in_err-coff-clause-reads g c told = reads_on g.M.Machine.time g.M.Machine.state _ _ _ (c.place_in.ensures.reads told) (c.coff_in.ensures.reads told)
 
 pub returns-clause-reads : goal.returns-clause-reads
 returns-clause-reads g c told =
-    reads_on g.M.Machine.clock g.M.Machine.since g.M.Machine.state _ _ _ (reads_on g.M.Machine.clock g.M.Machine.since g.M.Machine.state _ _ _ (c.place_in.ensures.reads told) (c.coff_in.ensures.reads told)) (c.optional_in.ensures.reads told)
+    reads_on g.M.Machine.time g.M.Machine.state _ _ _ (reads_on g.M.Machine.time g.M.Machine.state _ _ _ (c.place_in.ensures.reads told) (c.coff_in.ensures.reads told)) (c.optional_in.ensures.reads told)
 
 pub returns-clause-read : goal.returns-clause-read
 returns-clause-read g c =

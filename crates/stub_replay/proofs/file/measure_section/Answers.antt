@@ -14,7 +14,7 @@ returns-in-None-clause-value g c =
 
 pub returns-in-None-clause-reads : goal.returns-in-None-clause-reads
 returns-in-None-clause-reads g c told =
-    reads_none g.M.Machine.clock g.M.Machine.since g.M.Machine.state c.args.machine.now (λ m o left. g.met.M.Machine.only_now c.args.machine.now m o told left)
+    reads_none g.M.Machine.time g.M.Machine.state c.args.machine.now (λ m o left. g.met.M.Machine.only_now c.args.machine.now m o told left)
 
 pub returns-in_ok-measure_part-in-Some-clause-value : goal.returns-in_ok-measure_part-in-Some-clause-value
 returns-in_ok-measure_part-in-Some-clause-value g c =

@@ -11,7 +11,7 @@ pub loop-name-init : goal.loop-name-init
 loop-name-init g c = record {
   room = refl;
   measured = measured_none (IsTrue g.M.Machine.tells) c.args.registers.now;
-  reads = λ told. reads_none g.M.Machine.clock g.M.Machine.since g.M.Machine.state c.args.machine.now (λ m o left. g.met.M.Machine.only_now c.args.machine.now m o told left);
+  reads = λ told. reads_none g.M.Machine.time g.M.Machine.state c.args.machine.now (λ m o left. g.met.M.Machine.only_now c.args.machine.now m o told left);
   counts = refl;
   taken = λ told. omega arith;
 }
@@ -22,7 +22,7 @@ measure_section-requires-clause-between g c =
 
 pub returns-in_err-measure_section-clause-reads : goal.returns-in_err-measure_section-clause-reads
 returns-in_err-measure_section-clause-reads g c told =
-    reads_on g.M.Machine.clock g.M.Machine.since g.M.Machine.state _ _ _ (c.loop-name.invariant.reads told) (c.measure_section.ensures.reads told)
+    reads_on g.M.Machine.time g.M.Machine.state _ _ _ (c.loop-name.invariant.reads told) (c.measure_section.ensures.reads told)
 
 pub returns-in_err-measure_section-clause-taken : goal.returns-in_err-measure_section-clause-taken
 returns-in_err-measure_section-clause-taken g c told =
@@ -42,7 +42,7 @@ loop-name-preserved g c =
     record {
       room = search rules;
       measured = sections_more (IsTrue g.M.Machine.tells) file _ _ c.loop-name.name-index c.args.registers.now c.loop-name.registers c.measure_section.new.registers same at before.measured section.value;
-      reads = λ told. reads_on g.M.Machine.clock g.M.Machine.since g.M.Machine.state _ _ _ (before.reads told) (c.measure_section.ensures.reads told);
+      reads = λ told. reads_on g.M.Machine.time g.M.Machine.state _ _ _ (before.reads told) (c.measure_section.ensures.reads told);
       counts = search rules;
       taken = λ told. taken_more file _ _ c.loop-name.name-index _ _ _ (same told) at (before.taken told) (section.taken told);
     }

@@ -12,14 +12,14 @@ pub loop-piece-init : goal.loop-piece-init
 loop-piece-init g c = record {
   room = refl;
   hashed = where_none _ c.args.registers.now;
-  reads = λ told. reads_none g.M.Machine.clock g.M.Machine.since g.M.Machine.state c.args.machine.now (λ m o left. g.met.M.Machine.only_now c.args.machine.now m o told left);
+  reads = λ told. reads_none g.M.Machine.time g.M.Machine.state c.args.machine.now (λ m o left. g.met.M.Machine.only_now c.args.machine.now m o told left);
   counts = refl;
   taken = λ told. omega arith;
 }
 
 pub returns-in_err-take_piece-clause-reads : goal.returns-in_err-take_piece-clause-reads
 returns-in_err-take_piece-clause-reads g c told =
-    reads_on g.M.Machine.clock g.M.Machine.since g.M.Machine.state _ _ _ (c.loop-piece.invariant.reads told) (c.take_piece.ensures.reads told)
+    reads_on g.M.Machine.time g.M.Machine.state _ _ _ (c.loop-piece.invariant.reads told) (c.take_piece.ensures.reads told)
 
 pub loop-piece-preserved : goal.loop-piece-preserved
 loop-piece-preserved g c =
@@ -30,7 +30,7 @@ loop-piece-preserved g c =
       hashed = pieces_more g.M.Machine.tells (contents (seen (g.M.Machine.state c.args.machine.now))) (contents (seen (g.M.Machine.state c.loop-piece.machine)))
           c.args.pieces.now c.loop-piece.piece-index c.piece-item.result c.args.registers.now c.loop-piece.registers c.take_piece.new.registers
           (λ told. ap (λ (s : State). contents (seen s)) (before.reads told).same) (omega arith) c.piece-item.is before.hashed piece.data;
-      reads = λ told. reads_on g.M.Machine.clock g.M.Machine.since g.M.Machine.state _ _ _ (before.reads told) (c.take_piece.ensures.reads told);
+      reads = λ told. reads_on g.M.Machine.time g.M.Machine.state _ _ _ (before.reads told) (c.take_piece.ensures.reads told);
       counts = search rules;
       taken = λ told.
           omega (

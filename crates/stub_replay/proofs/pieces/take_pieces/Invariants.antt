@@ -12,7 +12,7 @@ invariant-loop-piece g l = record {
   room : length l.buffer ≡ length l.initial.buffer;
   hashed : TakesWhere (IsTrue g.M.Machine.tells × HasSizes (contents (seen (g.M.Machine.state l.initial.machine))) l.pieces)
       (bytes_of (contents (seen (g.M.Machine.state l.initial.machine))) (take l.piece-index l.pieces)) l.initial.registers l.registers;
-  reads : IsTrue g.M.Machine.tells → OnlyReads g.M.Machine.clock g.M.Machine.since g.M.Machine.state l.initial.machine l.machine;
+  reads : IsTrue g.M.Machine.tells → OnlyReads g.M.Machine.time g.M.Machine.state l.initial.machine l.machine;
   counts : g.M.Machine.counts l.machine ≡ g.M.Machine.counts l.initial.machine;
   taken : IsTrue g.M.Machine.tells → TakesAtMost (sum_by file_length (take l.piece-index l.pieces)) (g.M.Machine.taken l.initial.machine) (g.M.Machine.taken l.machine);
 }

@@ -13,7 +13,7 @@ pub loop-part-init : goal.loop-part-init
 loop-part-init g c = record {
   room = refl;
   value = measured_none _ c.args.registers.now;
-  reads = λ told. reads_none g.M.Machine.clock g.M.Machine.since g.M.Machine.state c.args.machine.now (λ m o left. g.met.M.Machine.only_now c.args.machine.now m o told left);
+  reads = λ told. reads_none g.M.Machine.time g.M.Machine.state c.args.machine.now (λ m o left. g.met.M.Machine.only_now c.args.machine.now m o told left);
   counts = refl;
   taken = λ told. omega arith;
 }
@@ -24,7 +24,7 @@ measure_part-requires-clause-between g c =
 
 pub returns-in_err-measure_part-clause-reads : goal.returns-in_err-measure_part-clause-reads
 returns-in_err-measure_part-clause-reads g c told =
-    reads_on g.M.Machine.clock g.M.Machine.since g.M.Machine.state _ _ _ (c.loop-part.invariant.reads told) (c.measure_part.ensures.reads told)
+    reads_on g.M.Machine.time g.M.Machine.state _ _ _ (c.loop-part.invariant.reads told) (c.measure_part.ensures.reads told)
 
 pub loop-part-preserved : goal.loop-part-preserved
 loop-part-preserved g c =
@@ -35,7 +35,7 @@ loop-part-preserved g c =
       value = parts_more g.M.Machine.tells (contents (seen (g.M.Machine.state c.args.machine.now))) (contents (seen (g.M.Machine.state c.loop-part.machine)))
           c.args.parts.now c.loop-part.part-index c.part-item.result c.args.registers.now c.loop-part.registers c.measure_part.new.registers
           (λ told. ap (λ (s : State). contents (seen s)) (before.reads told).same) (omega arith) c.part-item.is before.value part.value;
-      reads = λ told. reads_on g.M.Machine.clock g.M.Machine.since g.M.Machine.state _ _ _ (before.reads told) (c.measure_part.ensures.reads told);
+      reads = λ told. reads_on g.M.Machine.time g.M.Machine.state _ _ _ (before.reads told) (c.measure_part.ensures.reads told);
       counts = search rules;
       taken = λ told.
           omega (

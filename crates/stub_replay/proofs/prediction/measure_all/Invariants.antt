@@ -11,7 +11,7 @@ invariant-loop-part g l = record {
   room : length l.buffer ≡ length l.initial.buffer;
   value : ExtendsWhere (IsTrue g.M.Machine.tells × HaveSizes (contents (seen (g.M.Machine.state l.initial.machine))) l.parts)
       (items_of (map (named_bytes (contents (seen (g.M.Machine.state l.initial.machine)))) (take l.part-index l.parts))) l.initial.registers l.registers;
-  reads : IsTrue g.M.Machine.tells → OnlyReads g.M.Machine.clock g.M.Machine.since g.M.Machine.state l.initial.machine l.machine;
+  reads : IsTrue g.M.Machine.tells → OnlyReads g.M.Machine.time g.M.Machine.state l.initial.machine l.machine;
   counts : g.M.Machine.counts l.machine ≡ g.M.Machine.counts l.initial.machine;
   taken : IsTrue g.M.Machine.tells → TakesAtMost (files_length (take l.part-index l.parts)) (g.M.Machine.taken l.initial.machine) (g.M.Machine.taken l.machine);
 }

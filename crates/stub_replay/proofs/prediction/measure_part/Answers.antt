@@ -12,7 +12,7 @@ returns-then-content_length-eq0-clause-value g c =
 
 pub returns-then-content_length-eq0-clause-reads : goal.returns-then-content_length-eq0-clause-reads
 returns-then-content_length-eq0-clause-reads g c told =
-    reads_none g.M.Machine.clock g.M.Machine.since g.M.Machine.state c.args.machine.now (λ m o left. g.met.M.Machine.only_now c.args.machine.now m o told left)
+    reads_none g.M.Machine.time g.M.Machine.state c.args.machine.now (λ m o left. g.met.M.Machine.only_now c.args.machine.now m o told left)
 
 pub close_all-requires : goal.close_all-requires
 close_all-requires g c =

@@ -9,7 +9,7 @@ use Rattle.stub_replay.proofs.prediction.predict.Goals as goal
 
 pub returns-in_err-registers-clause-reads : goal.returns-in_err-registers-clause-reads
 returns-in_err-registers-clause-reads g c told =
-    reads_none g.M.Machine.clock g.M.Machine.since g.M.Machine.state c.args.machine.now (λ m o left. g.met.M.Machine.only_now c.args.machine.now m o told left)
+    reads_none g.M.Machine.time g.M.Machine.state c.args.machine.now (λ m o left. g.met.M.Machine.only_now c.args.machine.now m o told left)
 
 pub returns-clause-banks : goal.returns-clause-banks
 returns-clause-banks g c =

@@ -6,7 +6,7 @@ pub returns-clause-took : goal.returns-clause-took
 returns-clause-took g c = (
   (
     c.update_all.ensures,
-    λ told. reads_none g.M.Machine.clock g.M.Machine.since g.M.Machine.state c.args._machine.now (λ m o left. g.met.M.Machine.only_now c.args._machine.now m o told left),
+    λ told. reads_none g.M.Machine.time g.M.Machine.state c.args._machine.now (λ m o left. g.met.M.Machine.only_now c.args._machine.now m o told left),
   ),
   refl,
 )
