@@ -11,7 +11,7 @@ pub fn short_name(name: &[u8; 8]) -> &[u8]
     &name[..used]
 }
 
-/// Where the first NUL stands.
+// Where the first NUL stands.
 fn first_nul(name: &[u8]) -> Option<usize>
     ensures at { result ≡ position (λ b. b == 0) name.now }
     ensures inside { IfSome result (λ i. i < length name.now) }

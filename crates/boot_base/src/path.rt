@@ -82,7 +82,7 @@ impl BootPath {
         if has_nul(text) || has_refused_component(text) {
             return Err(PathFault::BadPath);
         }
-        let text = normal(alloc, text)?;
+        let text = normal_text(alloc, text)?;
         if !is_boot_text(text.as_str()) {
             return Err(PathFault::BadPath);
         }
@@ -99,7 +99,7 @@ impl BootPath {
 
     /// The path whose text these bytes are, and None where they aren't the normal form of a path that a word may
     /// name. An intent's names are read by it.
-    pub fn named(alloc: Global, bytes: &[u8]) -> Result<Option<BootPath>, AllocError>
+    pub fn from_bytes(alloc: Global, bytes: &[u8]) -> Result<Option<BootPath>, AllocError>
         ensures { IfOk result (λ path. path ≡ (if is_nameable bytes.now then Some bytes.now else None)) }
     {
         let Ok(text) = str::from_utf8(bytes) else {
@@ -462,7 +462,7 @@ fn is_boot_text(text: &str) -> bool
     !(text.is_empty() || text.len() > PATH_LIMIT || ends_as_temp(text)) && text != INTENT
 }
 
-fn normal(alloc: Global, text: &str) -> Result<String, AllocError>
+fn normal_text(alloc: Global, text: &str) -> Result<String, AllocError>
     ensures { IfOk result (λ normal. string_bytes normal ≡ normal_of text.now) }
 {
     let mut normal = String::new(alloc);

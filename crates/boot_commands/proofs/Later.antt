@@ -8,7 +8,7 @@ use Rattle.boot_machine.specs.Disk.{State, has}
 use Rattle.install_steps.specs.Steps.{NoNewTemp}
 use Rattle.tool_words.specs.declared.command.Command.{Command}
 use Rattle.tool_words.specs.declared.command.Command.TheVariants as command
-use Rattle.boot_commands.specs.Commands.{Tidied}
+use Rattle.boot_commands.specs.Commands.{LeavesTidied}
 use Rattle.entry_commands.specs.Folders.{folders_of}
 use Rattle.entry_commands.specs.Tidying.{CleanAt, IsClean}
 use Rattle.boot_folder.specs.declared.folders.Folders.{Folders}
@@ -20,7 +20,7 @@ clean_later s now folder none clean name is_name temp = elim (cases_Bool (has no
   | inr gone ↦ gone
 ]
 
-pub tidied_later : (s now : State) (c : Command) → NoNewTemp s now → Tidied c s.files → Tidied c now.files
+pub tidied_later : (s now : State) (c : Command) → NoNewTemp s now → LeavesTidied c s.files → LeavesTidied c now.files
 tidied_later s now (command.Tidy esp) none tidied = by_folders (folders_of esp) tidied
   where
     by_folders : (read : Result Folders Refusal) → CleanAt s.files read → CleanAt now.files read

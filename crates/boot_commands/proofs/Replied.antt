@@ -3,16 +3,16 @@ use Rattle.std.proofs.Common.{◌≡◌, ◌≤◌, ◌-◌, ℕ, arith, take, L
 use Rattle.std.proofs.Math.Seq.{drop-append_seam}
 use Rattle.std.proofs.lemmas.List.{length-drop, take_all}
 use Rattle.boot_machine.specs.Disk.{Files, State}
-use Rattle.boot_machine.specs.Rows.{tagged}
-use Rattle.boot_machine.specs.Sent.{Sent, latest, recovered_views, seen}
+use Rattle.boot_machine.specs.Rows.{on_channel}
+use Rattle.boot_machine.specs.Sent.{Sent, latest_view, recovered_views, seen}
 use Rattle.boot_machine.specs.declared.machine.Channel.{Channel}
 use Rattle.boot_machine.specs.declared.machine.Printed.{Printed}
 use Rattle.boot_machine.proofs.Recovering.{recovered_view-calm}
-use Rattle.boot_machine.proofs.Seeing.{latest-recovered_views}
+use Rattle.boot_machine.proofs.Seeing.{latest_view-recovered_views}
 use Rattle.tool_words.specs.declared.command.Command.{Command}
 use Rattle.tool_words.specs.declared.command.Command.TheVariants as command
 use Rattle.command_plans.specs.Answers.{Answer, channel_of}
-use Rattle.command_plans.specs.Deeds.{made}
+use Rattle.command_plans.specs.Deeds.{deed_of_answer}
 use Rattle.command_plans.specs.Performs.{DoesDeed}
 use Rattle.command_plans.specs.declared.outcome.Outcome.{Outcome}
 use Rattle.boot_commands.specs.Commands.{step_reply}
@@ -25,7 +25,7 @@ unfolding step_reply
 plain_is view (command.Demo seed count) is = absurd (cc is)
 plain_is view c is = refl
 
-bytes_tagged : (to : Channel) (bytes : List ℕ) → map (λ (p : Printed). p.byte) (tagged to bytes) ≡ bytes
+bytes_tagged : (to : Channel) (bytes : List ℕ) → map (λ (p : Printed). p.byte) (on_channel to bytes) ≡ bytes
 bytes_tagged to [] = refl
 bytes_tagged to (byte ∷ bytes) = ap (λ (l : List ℕ). byte ∷ l) (bytes_tagged to bytes)
 
@@ -33,16 +33,16 @@ rest_of : (n : ℕ) (l : Sent) → take (length l - n) (drop n l) ≡ drop n l
 rest_of n l = take_all (length l - n) (drop n l) (subst (λ k. k ≤ length l - n) (sym (length-drop n l)) (omega arith))
 
 -- what is printed behind what was printed before
-pub bytes_behind : (before now : Sent) (to : Channel) (text : List ℕ) → now ≡ before ++ tagged to text
+pub bytes_behind : (before now : Sent) (to : Channel) (text : List ℕ) → now ≡ before ++ on_channel to text
     → map (λ (p : Printed). p.byte) (take (length now - length before) (drop (length before) now)) ≡ text
 bytes_behind before now to text is =
     ap (λ (l : Sent). map (λ (p : Printed). p.byte) l) (rest_of (length before) now)
     ∙ ap (λ (l : Sent). map (λ (p : Printed). p.byte) (drop (length before) l)) is
-    ∙ ap (λ (l : Sent). map (λ (p : Printed). p.byte) l) (drop-append_seam before (tagged to text))
+    ∙ ap (λ (l : Sent). map (λ (p : Printed). p.byte) l) (drop-append_seam before (on_channel to text))
     ∙ bytes_tagged to text
 
 seen_after : (now : State) (after : Files) → IsReady now → recovered_views now ≡ after ∷ [] → seen now ≡ after
-seen_after now after ready views = sym (recovered_view-calm now.files ready.rested) ∙ sym (latest-recovered_views now) ∙ ap latest views
+seen_after now after ready views = sym (recovered_view-calm now.files ready.rested) ∙ sym (latest_view-recovered_views now) ∙ ap latest_view views
 
 whole : (answer : Answer) (outcome : Outcome) (files : Files) (text : List ℕ) → outcome ≡ answer.outcome → files ≡ answer.after → text ≡ answer.text
     → (let found : Answer = record { outcome = outcome; after = files; text = text } in found) ≡ answer
@@ -53,7 +53,7 @@ whole answer outcome files text outcome_is files_is text_is =
     ∙ ap (λ (t : List ℕ). of answer.outcome answer.after t) text_is
 
 -- so the outcome, the files and the bytes that are printed are the answer
-pub replied : (old now : State) (answer : Answer) (outcome : Outcome) (text : List ℕ) → DoesDeed (made answer) old now outcome → IsReady now
+pub replied : (old now : State) (answer : Answer) (outcome : Outcome) (text : List ℕ) → DoesDeed (deed_of_answer answer) old now outcome → IsReady now
     → text ≡ map (λ (p : Printed). p.byte) (take (length now.printed - length old.printed) (drop (length old.printed) now.printed))
     → (let found : Answer = record { outcome = outcome; after = seen now; text = text } in found) ≡ answer
 replied old now answer outcome text is_done ready text_is =

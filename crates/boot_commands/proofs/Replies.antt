@@ -8,19 +8,19 @@ use Rattle.boot_machine.specs.Disk.{Files}
 use Rattle.pcr_values.specs.ValueLines.{heading_of, value_lines}
 use Rattle.tool_words.specs.declared.command.Command.{Command}
 use Rattle.tool_words.specs.declared.command.Command.TheVariants as command
-use Rattle.command_plans.specs.Answers.{Answer, answered}
+use Rattle.command_plans.specs.Answers.{Answer, answer_or_refusal}
 use Rattle.pcr_values.specs.declared.bank.Bank.{Bank}
 use Rattle.pe_reader.specs.declared.fault.FailedCheck.{FailedCheck}
 use Rattle.pe_reader.specs.Grammar.{Headers, pe_of}
-use Rattle.image_build.specs.Building.{Built, build_of, built_answer}
+use Rattle.image_build.specs.Building.{BuiltImage, build_of, built_answer}
 use Rattle.command_plans.specs.Files.{bytes_at, each, image_at}
-use Rattle.image_commands.specs.Calculating.{calculate_said, part_words, under_name}
-use Rattle.stub_replay.specs.Ordered.{present}
-use Rattle.image_commands.specs.Said.{has_loaded, identify_said, image_said, inspect_said, inspection_at, kind_at, kind_of, values_at}
-use Rattle.command_plans.specs.Choices.{banks_of, once, paths_of}
+use Rattle.image_commands.specs.Calculating.{calculate_result, part_words, under_name}
+use Rattle.stub_replay.specs.Ordered.{present_parts}
+use Rattle.image_commands.specs.Said.{has_loaded, identify_result, measure_result, inspect_result, inspection_at, kind_at, kind_of, values_at}
+use Rattle.command_plans.specs.Choices.{banks_of, without_repeats, paths_of}
 use Rattle.boot_commands.specs.Commands.{step_reply}
 use Rattle.boot_commands.specs.Plain.{plain_answer}
-use Rattle.boot_commands.specs.Demonstration.{demo_said, number_up_to}
+use Rattle.boot_commands.specs.Demonstration.{demo_result, number_up_to}
 use Rattle.entry_commands.specs.Folders.{folders_of}
 use Rattle.entry_commands.proofs.Replies.{HasText, some_boot, some_install, some_line, some_list, some_marked, some_said, text_next}
 use Rattle.command_plans.specs.Declining.{◌>>=◌, path_in, printed_path}
@@ -28,8 +28,8 @@ use Rattle.command_plans.specs.Refusing.{unless_refused}
 use Rattle.entry_commands.specs.Tidying.{tidy_answer}
 use Rattle.entry_commands.specs.Unlinking.{entry_path, removal, unlink_answer}
 use Rattle.loader_commands.specs.Places.{conf_bytes, loader_menu, loader_paths}
-use Rattle.loader_commands.specs.Setting.{conf_changed, conf_set}
-use Rattle.loader_commands.specs.Showing.{default_item, menu_shown, show_said, shown_or_empty}
+use Rattle.loader_commands.specs.Setting.{changed_conf, conf_update}
+use Rattle.loader_commands.specs.Showing.{default_item, menu_shown, show_result, shown_or_empty}
 use Rattle.boot_texts.specs.Conf.{conf_default, conf_timeout}
 use Rattle.boot_texts.specs.declared.conf_change.ConfKey.{ConfKey}
 use Rattle.boot_texts.specs.declared.conf_change.ConfKey.TheVariants.{Default, Timeout}
@@ -50,7 +50,7 @@ some_lines value banks (path ∷ paths) some = some_heading value banks path pat
 
 -- the lines of values aren't empty, since some path is always predicted for
 some_values : (value : Bank → List (List ℕ) → List ℕ) (banks : List Bank) (texts : List (List ℕ)) → 0 < length (value_lines value banks (paths_of texts))
-unfolding once
+unfolding without_repeats
 some_values value banks [] = some_lines value banks (paths_of []) (omega arith)
 some_values value banks (first ∷ more) = some_lines value banks (paths_of (first ∷ more)) (omega arith)
 
@@ -66,7 +66,7 @@ some_removal : (view : Files) (path : Path) (found : Option (List ℕ)) → 0 < 
 some_removal view path None = some_line (refusals.NotFound (printed_path path))
 some_removal view path (Some bytes) = omega arith
 
-some_built : (view : Files) (measure : Bool) (built : Result Built Refusal) → 0 < length (built_answer view measure built).text
+some_built : (view : Files) (measure : Bool) (built : Result BuiltImage Refusal) → 0 < length (built_answer view measure built).text
 some_built view measure (Err why) = some_line why
 some_built view measure (Ok built) = omega arith
 
@@ -74,7 +74,7 @@ some_shown : (timeout : Option (List ℕ)) (item : Option MenuItem) → HasText 
 some_shown timeout None = tt
 some_shown timeout (Some item) = omega arith
 
-some_changed : (view : Files) (key : ConfKey) (value : List ℕ) (change : Result (Path × List ℕ) Refusal) → 0 < length (answered view (change >>= λ change. Ok (conf_changed view key value change))).text
+some_changed : (view : Files) (key : ConfKey) (value : List ℕ) (change : Result (Path × List ℕ) Refusal) → 0 < length (answer_or_refusal view (change >>= λ change. Ok (changed_conf view key value change))).text
 some_changed view Default value (Ok change) = omega arith
 some_changed view Timeout value (Ok change) = omega arith
 some_changed view key value (Err why) = some_line why
@@ -84,26 +84,26 @@ pub some_text : (view : Files) (c : Command) → 0 < length (step_reply view c).
 unfolding step_reply plain_answer
 some_text view (command.Build words) = some_built view words.measure (build_of view words)
 some_text view (command.Calculate words) =
-    some_said view (calculate_said view words)
-    (text_next (each (under_name path_in) (present (part_words words))) _ (λ paths. text_next (each (under_name (bytes_at view)) paths) _ (λ parts. some_values _ (banks_of words.banks) words.phases)))
+    some_said view (calculate_result view words)
+    (text_next (each (under_name path_in) (present_parts (part_words words))) _ (λ paths. text_next (each (under_name (bytes_at view)) paths) _ (λ parts. some_values _ (banks_of words.banks) words.phases)))
 some_text view (command.Inspect file) =
-    some_said view (inspect_said view file) (text_next (path_in file) (inspection_at view) (λ path. text_next (image_at view path) _ (λ image. omega arith)))
+    some_said view (inspect_result view file) (text_next (path_in file) (inspection_at view) (λ path. text_next (image_at view path) _ (λ image. omega arith)))
 some_text view (command.Image file banks phases) =
-    some_said view (image_said view file banks phases)
+    some_said view (measure_result view file banks phases)
     (text_next (path_in file) (values_at view banks phases) (λ path. text_next (image_at view path) _ (λ image. some_values _ (banks_of banks) phases)))
 some_text view (command.Identify file) =
-    some_said view (identify_said view file) (text_next (path_in file) (kind_at view) (λ path. text_next (bytes_at view path) _ (λ bytes. some_kind bytes (pe_of bytes))))
+    some_said view (identify_result view file) (text_next (path_in file) (kind_at view) (λ path. text_next (bytes_at view path) _ (λ bytes. some_kind bytes (pe_of bytes))))
 some_text view (command.List esp) = some_list view esp
 some_text view (command.Tidy esp) = some_unless view (folders_of esp) (tidy_answer view) (λ folders. omega arith)
 some_text view (command.Boot esp) = some_boot view esp
 some_text view (command.Unlink name esp) = some_unless view (entry_path name esp) (unlink_answer view) (λ path. some_removal view path (get view path))
 some_text view (command.Install file name tries esp) = some_install view file name tries esp
 some_text view (command.Bless verb path esp) = some_marked view verb path esp
-some_text view (command.LoaderShow esp) = some_said view (show_said view esp)
+some_text view (command.LoaderShow esp) = some_said view (show_result view esp)
     (text_next (loader_paths esp) _ (λ paths. text_next (conf_bytes view paths.conf) _ (λ bytes. text_next (loader_menu view paths.folders) (menu_shown bytes) (λ menu. some_shown (conf_timeout bytes) (default_item (conf_default bytes) menu)))))
-some_text view (command.LoaderDefault pattern esp) = some_changed view Default pattern (conf_set view Default pattern esp)
-some_text view (command.LoaderTimeout value esp) = some_changed view Timeout value (conf_set view Timeout value esp)
+some_text view (command.LoaderDefault pattern esp) = some_changed view Default pattern (conf_update view Default pattern esp)
+some_text view (command.LoaderTimeout value esp) = some_changed view Timeout value (conf_update view Timeout value esp)
 some_text view command.Script = some_line (refusals.BadScript 0)
 some_text view (command.Demo seed count) =
-    some_said view (demo_said seed count)
+    some_said view (demo_result seed count)
     (text_next (number_up_to 18446744073709551615 seed) _ (λ seed. text_next (number_up_to 10000 count) _ (λ count. omega arith)))

@@ -5,28 +5,28 @@ use Rattle.boot_base.specs.Paths.{Path}
 use Rattle.boot_base.specs.declared.refusal.Refusal.{Refusal}
 use Rattle.boot_folder.specs.declared.folders.Folders.{Folders}
 use Rattle.boot_machine.specs.Disk.{Files}
-use Rattle.command_plans.specs.Answers.{Answer, answer_of_read, answered}
+use Rattle.command_plans.specs.Answers.{Answer, answer_of_read, answer_or_refusal}
 use Rattle.command_plans.specs.Refusing.{unless_refused}
 use Rattle.command_plans.specs.Declining.{◌>>=◌, path_in}
 use Rattle.tool_words.specs.declared.command.Command.{Command}
 use Rattle.tool_words.specs.declared.command.Command.TheVariants as command
-use Rattle.image_build.specs.Building.{Built, build_of, built_answer}
-use Rattle.image_commands.specs.Calculating.{calculate_said}
-use Rattle.image_commands.specs.Said.{identify_said, image_said, inspect_said}
+use Rattle.image_build.specs.Building.{BuiltImage, build_of, built_answer}
+use Rattle.image_commands.specs.Calculating.{calculate_result}
+use Rattle.image_commands.specs.Said.{identify_result, measure_result, inspect_result}
 use Rattle.entry_commands.specs.Folders.{folders_of}
 use Rattle.entry_commands.specs.GoodEntries.{HasGoodEntry}
-use Rattle.entry_commands.specs.Listing.{list_said}
+use Rattle.entry_commands.specs.Listing.{list_result}
 use Rattle.entry_commands.specs.Tidying.{tidy_answer}
 use Rattle.entry_commands.specs.Unlinking.{entry_path, unlink_answer}
 use Rattle.entry_commands.proofs.GoodEntries.{kept_bless, kept_boot, kept_install, kept_unlink, put_apart}
 use Rattle.loader_commands.specs.Places.{conf_path}
-use Rattle.loader_commands.specs.Setting.{conf_changed, conf_set, text_set, value_in}
-use Rattle.loader_commands.specs.Showing.{show_said}
+use Rattle.loader_commands.specs.Setting.{changed_conf, conf_update, changed_text, value_in}
+use Rattle.loader_commands.specs.Showing.{show_result}
 use Rattle.boot_texts.specs.declared.conf_change.ConfKey.{ConfKey}
 use Rattle.boot_texts.specs.declared.conf_change.ConfKey.TheVariants.{Default, Timeout}
 use Rattle.boot_commands.specs.Commands.{step_reply}
 use Rattle.boot_commands.specs.Plain.{plain_answer}
-use Rattle.boot_commands.specs.Demonstration.{demo_said}
+use Rattle.boot_commands.specs.Demonstration.{demo_result}
 use Rattle.boot_commands.specs.Sparing.{Spares}
 use Rattle.image_build.proofs.Outputs.{build_output}
 
@@ -48,15 +48,15 @@ apart_next set (Ok value) (Err why) path spares = tt
 apart_next set (Ok value) (Ok place) path spares = apart_at place path (set value place) (λ same. spares (ap Ok same))
 
 -- a change of loader.conf writes at no path that it spares
-set_apart : (view : Files) (key : ConfKey) (value esp : List ℕ) (path : Path) → conf_path esp ≢ Ok path → IfOk (conf_set view key value esp) (λ change. change.0 ≢ path)
-set_apart view key value esp path spares = apart_next (text_set view key) (value_in key value) (conf_path esp) path spares
+set_apart : (view : Files) (key : ConfKey) (value esp : List ℕ) (path : Path) → conf_path esp ≢ Ok path → IfOk (conf_update view key value esp) (λ change. change.0 ≢ path)
+set_apart view key value esp path spares = apart_next (changed_text view key) (value_in key value) (conf_path esp) path spares
 
 module _ (folders : Folders) (path : Path) (view : Files) (entry : HasGoodEntry folders path view) where
   kept_said : (text : Result (List ℕ) Refusal) → HasGoodEntry folders path (answer_of_read view text).after
   kept_said (Ok text) = entry
   kept_said (Err why) = entry
 
-  kept_built : (measure : Bool) (output : Result Path Refusal) (built : Result Built Refusal)
+  kept_built : (measure : Bool) (output : Result Path Refusal) (built : Result BuiltImage Refusal)
       → IfOk built (λ built. output ≡ Ok built.output)
       → output ≢ Ok path → HasGoodEntry folders path (built_answer view measure built).after
   kept_built measure output (Ok built) is spares =
@@ -71,7 +71,7 @@ module _ (folders : Folders) (path : Path) (view : Files) (entry : HasGoodEntry 
 
   kept_changed : (key : ConfKey) (value : List ℕ) (change : Result (Path × List ℕ) Refusal)
       → IfOk change (λ change. change.0 ≢ path)
-      → HasGoodEntry folders path (answered view (change >>= λ change. Ok (conf_changed view key value change))).after
+      → HasGoodEntry folders path (answer_or_refusal view (change >>= λ change. Ok (changed_conf view key value change))).after
   kept_changed key value (Ok change) apart = put_apart folders path view entry change.0 change.1 apart
   kept_changed key value (Err why) apart = entry
 
@@ -80,19 +80,19 @@ module _ (folders : Folders) (path : Path) (view : Files) (entry : HasGoodEntry 
   unfolding step_reply plain_answer
   kept (command.Build words) spares =
       kept_built words.measure (path_in words.output) (build_of view words) (build_output view words) spares
-  kept (command.Calculate words) spares = kept_said (calculate_said view words)
-  kept (command.Inspect file) spares = kept_said (inspect_said view file)
-  kept (command.Image file banks phases) spares = kept_said (image_said view file banks phases)
-  kept (command.Identify file) spares = kept_said (identify_said view file)
-  kept (command.List esp) spares = kept_said (list_said view esp)
+  kept (command.Calculate words) spares = kept_said (calculate_result view words)
+  kept (command.Inspect file) spares = kept_said (inspect_result view file)
+  kept (command.Image file banks phases) spares = kept_said (measure_result view file banks phases)
+  kept (command.Identify file) spares = kept_said (identify_result view file)
+  kept (command.List esp) spares = kept_said (list_result view esp)
   kept (command.Tidy esp) spares = kept_unless (folders_of esp) (tidy_answer view) (λ folders is. entry)
   kept (command.Boot esp) spares = kept_boot folders path view entry esp
   kept (command.Unlink name esp) spares = kept_unless (entry_path name esp) (unlink_answer view) (λ at is.
       kept_unlink folders path view entry at (λ same. spares (is ∙ ap Ok same)))
   kept (command.Install file name tries esp) spares = kept_install folders path view entry file name tries esp
   kept (command.Bless verb word esp) spares = kept_bless folders path view entry verb word esp spares
-  kept (command.LoaderShow esp) spares = kept_said (show_said view esp)
-  kept (command.LoaderDefault pattern esp) spares = kept_changed Default pattern (conf_set view Default pattern esp) (set_apart view Default pattern esp path spares)
-  kept (command.LoaderTimeout value esp) spares = kept_changed Timeout value (conf_set view Timeout value esp) (set_apart view Timeout value esp path spares)
+  kept (command.LoaderShow esp) spares = kept_said (show_result view esp)
+  kept (command.LoaderDefault pattern esp) spares = kept_changed Default pattern (conf_update view Default pattern esp) (set_apart view Default pattern esp path spares)
+  kept (command.LoaderTimeout value esp) spares = kept_changed Timeout value (conf_update view Timeout value esp) (set_apart view Timeout value esp path spares)
   kept command.Script spares = entry
-  kept (command.Demo seed count) spares = kept_said (demo_said seed count)
+  kept (command.Demo seed count) spares = kept_said (demo_result seed count)

@@ -10,7 +10,7 @@ use Rattle.command_plans.specs.declared.outcome.MachineFault.TheVariants as faul
 use Rattle.command_plans.specs.declared.outcome.Stop.{Stop}
 use Rattle.command_plans.specs.declared.outcome.Stop.TheVariants as stops
 use Rattle.command_plans.specs.declared.plan.Change.{Change}
-use Rattle.boot_commands.specs.Commands.{Tidied, TidiesTo, stop_tidies}
+use Rattle.boot_commands.specs.Commands.{LeavesTidied, TidiesTo, stop_tidies}
 
 stopped : {T : Type 0} (result : Result T Stop) (stop : Stop) (c : Command) (old new : State) → IsErr result → IsErrAnd result (λ s. s ≡ stop) → stop_tidies stop c old new → TidiesTo result c old new
 stopped (Ok v) stop c old new failed is tidies = cc
@@ -23,7 +23,7 @@ untold stops.Pipe c old new same = λ differs. absurd (differs (ap (λ (s : Stat
 untold stops.Memory c old new same = tt
 
 -- the change was made, but where the disk failed
-made_or_not : (fault : MachineFault) (change : Change) (c : Command) (old new : State) → ((files : Files) → Drops change old.files files → Tidied c files) → fault_drops fault change old.files new.files → stop_tidies (stop_of fault) c old new
+made_or_not : (fault : MachineFault) (change : Change) (c : Command) (old new : State) → ((files : Files) → Drops change old.files files → LeavesTidied c files) → fault_drops fault change old.files new.files → stop_tidies (stop_of fault) c old new
 made_or_not faults.Disk change c old new so dropped = tt
 made_or_not faults.Pipe change c old new so dropped = λ differs. so new.files dropped
 
@@ -33,6 +33,6 @@ tidies_unplanned result stop c old new failed is same = stopped result stop c ol
 
 -- the plan couldn't be carried out
 pub tidies_failed : {T : Type 0} (result : Result T Stop) (fault : MachineFault) (change : Change) (c : Command) (old mid new : State) → IsErr result → IsErrAnd result (λ s. s ≡ stop_of fault) → mid ≡ old
-    → ((files : Files) → Drops change old.files files → Tidied c files) → fault_drops fault change mid.files new.files → TidiesTo result c old new
+    → ((files : Files) → Drops change old.files files → LeavesTidied c files) → fault_drops fault change mid.files new.files → TidiesTo result c old new
 tidies_failed result fault change c old mid new failed is same so dropped =
     stopped result (stop_of fault) c old new failed is (made_or_not fault change c old new so (subst (λ (s : State). fault_drops fault change s.files new.files) same dropped))

@@ -5,15 +5,15 @@ use Rattle.boot_machine.specs.Disk.{Files, State}
 use Rattle.tool_words.specs.declared.command.Command.{Command}
 use Rattle.tool_words.specs.declared.command.Command.TheVariants as command
 use Rattle.command_plans.specs.Answers.{Answer, answer_of_read}
-use Rattle.command_plans.specs.Deeds.{Deed, made}
+use Rattle.command_plans.specs.Deeds.{Deed, deed_of_answer}
 use Rattle.command_plans.specs.declared.outcome.Stop.{Stop}
 use Rattle.command_plans.specs.declared.outcome.Stop.TheVariants as stops
 use Rattle.entry_commands.specs.Tidying.{IsTidied}
-use Rattle.boot_commands.specs.Demonstration.{demo_said}
+use Rattle.boot_commands.specs.Demonstration.{demo_result}
 use Rattle.boot_commands.specs.Plain.{answer_or_none, plain_answer}
 
 abbrev pub answer_of : Files → Command → Option Answer
-answer_of view (command.Demo seed count) = Some (answer_of_read view (demo_said seed count))
+answer_of view (command.Demo seed count) = Some (answer_of_read view (demo_result seed count))
 answer_of view c = plain_answer view c
 
 -- the reply of a step, and the view after it
@@ -22,18 +22,18 @@ step_reply view c = answer_or_none view (answer_of view c)
 
 -- what a command does to the machine that shows this view
 abbrev pub deed_of : Files → Command → Deed
-deed_of view c = made (step_reply view c)
+deed_of view c = deed_of_answer (step_reply view c)
 
 -- what of the files a command leaves that the view doesn't show: after a tidying no temporary file is in its folders
-abbrev pub Tidied : Command → Files → Type 0
-Tidied (command.Tidy esp) files = IsTidied esp files
-Tidied c files = Unit {0}
+abbrev pub LeavesTidied : Command → Files → Type 0
+LeavesTidied (command.Tidy esp) files = IsTidied esp files
+LeavesTidied c files = Unit {0}
 
 -- a command has tidied that is done, or that printed a part of its reply before a pipe failed
 abbrev pub stop_tidies : Stop → Command → State → State → Type 0
 stop_tidies stops.Disk c old new = Unit {0}
-stop_tidies stops.Pipe c old new = new.printed ≢ old.printed → Tidied c new.files
+stop_tidies stops.Pipe c old new = new.printed ≢ old.printed → LeavesTidied c new.files
 stop_tidies stops.Memory c old new = Unit {0}
 
 abbrev pub TidiesTo : {T : Type 0} → Result T Stop → Command → State → State → Type 0
-TidiesTo result c old new = MatchResult result (λ _. Tidied c new.files) (λ stop. stop_tidies stop c old new)
+TidiesTo result c old new = MatchResult result (λ _. LeavesTidied c new.files) (λ stop. stop_tidies stop c old new)

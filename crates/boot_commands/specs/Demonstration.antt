@@ -18,7 +18,7 @@ use Rattle.pcr_values.specs.Banks.{digest_of}
 use Rattle.command_plans.specs.Answers.{Answer, is_refusal}
 use Rattle.command_plans.specs.Declining.{◌>>=◌}
 use Rattle.boot_commands.specs.DemoImages.{demo_image}
-use Rattle.boot_commands.specs.Draws.{drawn, next_number}
+use Rattle.boot_commands.specs.Draws.{draw_below, next_number}
 use Rattle.boot_commands.specs.Plain.{plain_reply}
 
 -- 1 to 20 digits
@@ -101,8 +101,8 @@ third_number number = next_number (next_number (next_number number))
 -- the command that three draws stand for, from that number of the generator on
 abbrev pub next_command : ℕ → List ℕ → Command
 next_command number entry =
-    drawn_command (drawn (next_number number) 8) (drawn (next_number (next_number number)) 4)
-    (drawn (third_number number) 4) entry
+    drawn_command (draw_below (next_number number) 8) (draw_below (next_number (next_number number)) 4)
+    (draw_below (third_number number) 4) entry
 
 -- a turn: three draws, and the command that they stand for
 abbrev pub demo_turn : DemoState → DemoState
@@ -153,7 +153,7 @@ demo_text seed count state =
     run_line seed count ++ count_lines state.done state.refused
     ++ end_lines (maps.len state.files) (list_digest state.files)
 
-abbrev pub demo_said : List ℕ → List ℕ → Result (List ℕ) Refusal
-demo_said seed count =
+abbrev pub demo_result : List ℕ → List ℕ → Result (List ℕ) Refusal
+demo_result seed count =
     number_up_to 18446744073709551615 seed >>= λ seed. number_up_to 10000 count
     >>= λ count. Ok (demo_text seed count (demo_turns count (demo_start seed)))

@@ -5,5 +5,5 @@ abbrev pub next_number : ℕ → ℕ
 next_number number = (number * 6364136223846793005 + 1442695040888963407) % 2 ^ 64
 
 -- what is drawn of a number, below a bound
-abbrev pub drawn : ℕ → ℕ → ℕ
-drawn number bound = number / 2 ^ 33 % bound
+abbrev pub draw_below : ℕ → ℕ → ℕ
+draw_below number bound = number / 2 ^ 33 % bound

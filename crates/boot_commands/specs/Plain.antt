@@ -8,14 +8,14 @@ use Rattle.tool_words.specs.declared.command.Command.TheVariants as command
 use Rattle.command_plans.specs.Answers.{Answer, answer_of_read, refusal}
 use Rattle.command_plans.specs.Refusing.{unless_refused}
 use Rattle.image_build.specs.Building.{build_answer}
-use Rattle.image_commands.specs.Calculating.{calculate_said}
-use Rattle.image_commands.specs.Said.{identify_said, image_said, inspect_said}
+use Rattle.image_commands.specs.Calculating.{calculate_result}
+use Rattle.image_commands.specs.Said.{identify_result, measure_result, inspect_result}
 use Rattle.entry_commands.specs.Blessing.{bless_answer}
 use Rattle.entry_commands.specs.Booting.{boot_answer}
 use Rattle.entry_commands.specs.Installing.{install_answer}
 use Rattle.entry_commands.specs.Unlinking.{entry_path, unlink_answer}
 use Rattle.entry_commands.specs.Folders.{folders_of}
-use Rattle.entry_commands.specs.Listing.{list_said}
+use Rattle.entry_commands.specs.Listing.{list_result}
 use Rattle.entry_commands.specs.Tidying.{tidy_answer}
 use Rattle.loader_commands.specs.Setting.{set_answer}
 use Rattle.loader_commands.specs.Showing.{show_answer}
@@ -38,11 +38,11 @@ is_plain c = not (is_script c || is_demo c)
 -- what a command comes to that runs no other
 unfoldable pub plain_answer : Files → Command → Option Answer
 plain_answer view (command.Build words) = Some (build_answer view words)
-plain_answer view (command.Calculate words) = Some (answer_of_read view (calculate_said view words))
-plain_answer view (command.Inspect file) = Some (answer_of_read view (inspect_said view file))
-plain_answer view (command.Image file banks phases) = Some (answer_of_read view (image_said view file banks phases))
-plain_answer view (command.Identify file) = Some (answer_of_read view (identify_said view file))
-plain_answer view (command.List esp) = Some (answer_of_read view (list_said view esp))
+plain_answer view (command.Calculate words) = Some (answer_of_read view (calculate_result view words))
+plain_answer view (command.Inspect file) = Some (answer_of_read view (inspect_result view file))
+plain_answer view (command.Image file banks phases) = Some (answer_of_read view (measure_result view file banks phases))
+plain_answer view (command.Identify file) = Some (answer_of_read view (identify_result view file))
+plain_answer view (command.List esp) = Some (answer_of_read view (list_result view esp))
 plain_answer view (command.Tidy esp) = Some (unless_refused view (folders_of esp) (tidy_answer view))
 plain_answer view (command.Boot esp) = Some (boot_answer view esp)
 plain_answer view (command.Unlink name esp) = Some (unless_refused view (entry_path name esp) (unlink_answer view))

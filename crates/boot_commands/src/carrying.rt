@@ -3,10 +3,10 @@ ghost use Rattle.std.specs.Prelude.{◌≡◌, IsTrue};
 ghost use Rattle.boot_machine.specs.Disk.{Files, IsRested};
 ghost use Rattle.boot_machine.specs.Images.{IsFirm};
 ghost use Rattle.boot_machine.specs.Sent.{seen};
-ghost use Rattle.boot_commands.specs.Commands.{Tidied, TidiesTo};
-ghost use Rattle.command_plans.specs.Deeds.{made};
+ghost use Rattle.boot_commands.specs.Commands.{LeavesTidied, TidiesTo};
+ghost use Rattle.command_plans.specs.Deeds.{deed_of_answer};
 ghost use Rattle.command_plans.specs.Performs.{CountsStop, LeavesNoTemp, LeavesRested, Performs, Syncs, end_of};
-ghost use Rattle.command_plans.specs.Plans.{CanMake, Drops, IsMakeable, planned};
+ghost use Rattle.command_plans.specs.Plans.{CanMake, Drops, IsMakeable, answer_of_plan};
 ghost use Rattle.tool_words.specs.declared.command.Command.{Command};
 
 use boot_machine::Machine;
@@ -19,12 +19,12 @@ pub(crate) fn carry_out<M: Machine>(plan: &Plan, machine: &mut M) -> Result<Outc
     requires there { IsTrue M.tells → CanMake (M.state machine.old) plan.now.change }
     ensures performs { IsTrue M.tells → IsFirm (M.state machine.old)
         → Performs M.time M.state end_of machine.old machine.new
-        (made (planned (seen (M.state machine.old)) plan.now)) result }
+        (deed_of_answer (answer_of_plan (seen (M.state machine.old)) plan.now)) result }
     ensures syncs { IsTrue M.tells → IsFirm (M.state machine.old)
         → Syncs M.time M.state machine.old machine.new
-        (made (planned (seen (M.state machine.old)) plan.now)) result }
+        (deed_of_answer (answer_of_plan (seen (M.state machine.old)) plan.now)) result }
     ensures tidies { IsTrue M.tells → (c : Command)
-        → ((files : Files) → Drops plan.now.change (M.state machine.old).files files → Tidied c files)
+        → ((files : Files) → Drops plan.now.change (M.state machine.old).files files → LeavesTidied c files)
         → TidiesTo result c (M.state machine.old) (M.state machine.new) }
     ensures input { IsTrue M.tells → (M.state machine.new).input ≡ (M.state machine.old).input }
     ensures rests { IsTrue M.tells → LeavesRested result (M.state machine.new) }

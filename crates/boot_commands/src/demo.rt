@@ -13,7 +13,7 @@ ghost use Rattle.command_plans.specs.Declining.{Means};
 ghost use Rattle.command_plans.specs.Unsaying.{CountsUnsaid, Says};
 ghost use Rattle.memory_machine.specs.Memory.{mem_state};
 ghost use Rattle.boot_commands.specs.DemoImages.{demo_image};
-ghost use Rattle.boot_commands.specs.Demonstration.{demo_esp, demo_files, demo_said, demo_start, demo_text, demo_turns, count_lines, end_lines, is_long_number, list_digest, long_number, number_up_to, run_line};
+ghost use Rattle.boot_commands.specs.Demonstration.{demo_esp, demo_files, demo_result, demo_start, demo_text, demo_turns, count_lines, end_lines, is_long_number, list_digest, long_number, number_up_to, run_line};
 ghost use Rattle.boot_commands.specs.DemoRuns.{IsReady, demo_state, reply_answer};
 ghost use Rattle.boot_commands.specs.Plain.{plain_reply};
 ghost use Rattle.tool_words.specs.declared.command.Command.TheVariants.{List as ListCommand};
@@ -22,7 +22,7 @@ use crate::demo_images::demo_image;
 use crate::demo_turns::{Demo, ESP, Reply, reply_of};
 use crate::draws::Draws;
 use boot_base::{BootPath, Refusal, Text};
-use command_plans::{Declined, Plan, Stop, Unsaid, said};
+use command_plans::{Declined, Plan, Stop, Unsaid, text_or_refusal};
 use memory_machine::{MemFile, MemMachine};
 use pcr_values::{Bank, Digest};
 use std::alloc::{AllocError, Global};
@@ -187,8 +187,8 @@ fn demonstrate(alloc: Global, seed: u64, count: u64) -> Result<Vec<u8>, AllocErr
     Ok(text)
 }
 
-fn demo_said(alloc: Global, seed: &str, count: &str) -> Result<Vec<u8>, Unsaid>
-    ensures says { Says (λ text. text.items) result (demo_said seed.now count.now) }
+fn demo_result(alloc: Global, seed: &str, count: &str) -> Result<Vec<u8>, Unsaid>
+    ensures says { Says (λ text. text.items) result (demo_result seed.now count.now) }
     ensures counts { (counts : Counts) → CountsUnsaid result counts counts }
 {
     let seed = number_up_to(alloc, u64::MAX, seed)?;
@@ -200,10 +200,10 @@ fn demo_said(alloc: Global, seed: &str, count: &str) -> Result<Vec<u8>, Unsaid>
 /// the refusal of a word.
 pub fn plan_demo(alloc: Global, seed: &str, count: &str) -> Result<Plan, Stop>
     ensures plans { IfOk result (λ plan. (s : State)
-        → Plans s plan (answer_of_read (seen s) (demo_said seed.now count.now))) }
+        → Plans s plan (answer_of_read (seen s) (demo_result seed.now count.now))) }
     ensures makeable { IfOk result (λ plan. IsMakeable plan.change) }
     ensures counts { (counts : Counts) → CountsStop result counts counts }
 {
-    let text = demo_said(alloc, seed, count);
-    said(alloc, text)
+    let text = demo_result(alloc, seed, count);
+    text_or_refusal(alloc, text)
 }

@@ -69,7 +69,7 @@ fn put(out: &mut Vec<u8>, place: usize, bytes: &[u8]) -> Result<(), AllocError>
 }
 
 // The bytes of these numbers at their places.
-fn placed(alloc: Global, fields: &[(usize, u32)]) -> Result<Vec<u8>, AllocError>
+fn place_fields(alloc: Global, fields: &[(usize, u32)]) -> Result<Vec<u8>, AllocError>
     ensures { IfOk result (λ bytes. bytes.items ≡ fold with_number [] fields.now) }
 {
     let mut out = Vec::new(alloc);
@@ -90,7 +90,7 @@ pub fn demo_image(alloc: Global, digit: u64) -> Result<Vec<u8>, AllocError>
     ensures { IfOk result (λ image. image.items ≡ demo_image digit) }
 {
     let osrel = osrel_text(alloc, digit)?;
-    let mut image = placed(alloc, &HEADERS)?;
+    let mut image = place_fields(alloc, &HEADERS)?;
     put(&mut image, 1024, osrel.as_bytes())?;
     put(&mut image, 1536, b"abc")?;
     append_zeros(&mut image, 2048)?;

@@ -134,11 +134,11 @@ pub fn reply_of(
         reply_answer reply (seen (mem_state machine.new)) ≡ plain_reply (seen (mem_state machine.old)) command.now) }
     ensures ready { OnOk result (IsReady (mem_state machine.new)) }
 {
-    let before = machine.printed().len();
+    let before = machine.printed_bytes().len();
     let Ok(outcome) = plain_step(alloc, command, machine) else {
         return Err(AllocError);
     };
-    let text = bytes_of(alloc, &machine.printed()[before..])?;
+    let text = bytes_of(alloc, &machine.printed_bytes()[before..])?;
     Ok(Reply { outcome, text })
 }
 

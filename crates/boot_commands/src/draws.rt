@@ -1,6 +1,6 @@
 //! The numbers of a demonstration.
 ghost use Rattle.std.specs.Prelude.{◌≡◌, ◌<◌};
-ghost use Rattle.boot_commands.specs.Draws.{drawn, next_number};
+ghost use Rattle.boot_commands.specs.Draws.{draw_below, next_number};
 
 /// A linear congruential generator with Knuth's numbers for 64 bits, whose upper bits are drawn from.
 #[derive(Clone, Copy, Debug)]
@@ -13,7 +13,7 @@ impl Draws {
     pub fn below(&mut self, bound: u64) -> u64
         requires { 0 < bound }
         ensures number { self.new.number ≡ next_number self.old.number }
-        ensures drawn { result ≡ drawn self.new.number bound }
+        ensures drawn { result ≡ draw_below self.new.number bound }
     {
         self.number = self
             .number

@@ -3,7 +3,7 @@ ghost use Rattle.std.specs.Prelude.{◌≡◌, false, IfOk, IsTrue};
 ghost use Rattle.boot_machine.specs.Disk.{Files, IsRested};
 ghost use Rattle.boot_machine.specs.Images.{IsFirm};
 ghost use Rattle.boot_machine.specs.Sent.{seen};
-ghost use Rattle.boot_commands.specs.Commands.{Tidied, TidiesTo, deed_of, step_reply};
+ghost use Rattle.boot_commands.specs.Commands.{LeavesTidied, TidiesTo, deed_of, step_reply};
 ghost use Rattle.boot_commands.specs.Plain.{is_script};
 ghost use Rattle.boot_machine.specs.Reading.{OnlyReads};
 ghost use Rattle.command_plans.specs.Performs.{CountsStop, LeavesNoTemp, LeavesRested, Performs, Syncs, end_of};
@@ -25,7 +25,7 @@ fn plan_of<M: Machine>(alloc: Global, command: &Command, machine: &mut M) -> Res
         → Plans (M.state machine.old) plan (step_reply (seen (M.state machine.old)) command.now)) }
     ensures makeable { IfOk result (λ plan. IsMakeable plan.change) }
     ensures tidies { IfOk result (λ plan. IsTrue M.tells
-        → (files : Files) → Drops plan.change (M.state machine.old).files files → Tidied command.now files) }
+        → (files : Files) → Drops plan.change (M.state machine.old).files files → LeavesTidied command.now files) }
     ensures reads { IsTrue M.tells → OnlyReads M.time M.state machine.old machine.new }
     ensures counts { CountsStop result (M.counts machine.old) (M.counts machine.new) }
 {

@@ -20,7 +20,7 @@ use Rattle.menu_order.specs.declared.counted.Suffix.{Suffix}
 use Rattle.menu_order.specs.declared.counted.Suffix.TheVariants.{Conf, Efi}
 use Rattle.boot_machine.proofs.Listing.{same_bytes}
 use Rattle.boot_machine.proofs.Views.{get-view_shown, has-view}
-use Rattle.boot_machine.specs.Disk.{Files, has, path_cmp, same, view}
+use Rattle.boot_machine.specs.Disk.{Files, has, path_cmp, is_same_path, view}
 use Rattle.boot_texts.specs.BootEntries.{boots, type1_of}
 use Rattle.menu_order.proofs.Menus.{menu_of_entries, one_menu}
 use Rattle.menu_order.specs.Menu.{HaveOwnPaths, IsBefore, IsMenu}
@@ -31,7 +31,7 @@ use Rattle.pe_reader.specs.declared.fault.FailedCheck.{FailedCheck}
 use Rattle.boot_texts.specs.KeyValues.{Pair}
 use Rattle.boot_folder.specs.Entries.{IsEntry, boot_menu, entries_of, entry_at, entry_count, entry_if, entry_in, entry_of, folder_of, own_path, stands_in, type_count}
 use Rattle.boot_folder.specs.Laws.{EntriesMenu, ViewMenu, ViewCount}
-use Rattle.boot_folder.specs.Records.{Unfit, found, titled, type1_item, type2_item, uki_from, uki_of, unless_missing}
+use Rattle.boot_folder.specs.Records.{Unfit, value_if_ok, titled_item, type1_item, type2_item, uki_from, uki_of, unless_missing}
 use Rattle.boot_folder.specs.Scanning.{AreEntryNames, entries_named, scan_limit}
 use Rattle.boot_folder.specs.declared.fault.Missing.{Missing}
 use Rattle.boot_folder.specs.declared.fault.Missing.TheVariants as missing
@@ -60,20 +60,20 @@ first_T true true t = (tt, tt)
 first_T true false t = absurd t
 first_T false b t = absurd t
 
-below_apart : (path : Path) (es : List (Path × List ℕ)) → T (below_all path_cmp path es) → AllByRecursion (λ other. same path other ≡ false) (map (λ e. e.0) es)
+below_apart : (path : Path) (es : List (Path × List ℕ)) → T (below_all path_cmp path es) → AllByRecursion (λ other. is_same_path path other ≡ false) (map (λ e. e.0) es)
 below_apart path [] below = tt
 below_apart path (e ∷ es) below =
     let both = first_T (is_lt (path_cmp path e.0)) (below_all path_cmp path es) below in
     (is_same (path_cmp path e.0) both.0, below_apart path es both.1)
 
-sorted_distinct : (es : List (Path × List ℕ)) → T (map.is_sorted path_cmp es) → IsDistinct same (map (λ e. e.0) es)
+sorted_distinct : (es : List (Path × List ℕ)) → T (map.is_sorted path_cmp es) → IsDistinct is_same_path (map (λ e. e.0) es)
 unfolding IsDistinct
 sorted_distinct [] sorted = tt
 sorted_distinct (e ∷ es) sorted =
     let both = first_T (below_all path_cmp e.0 es) (map.is_sorted path_cmp es) sorted in
     (below_apart e.0 es both.0, sorted_distinct es both.1)
 
-same_is : same ≡ bytes_eq
+same_is : is_same_path ≡ bytes_eq
 same_is i a b = same_bytes a b i
 
 pub distinct_paths : (files : Files) → IsDistinct bytes_eq (paths_of files)
@@ -123,7 +123,7 @@ some_if : {X : Type 0} (b : Bool) (x y : X) → (if b then Some x else None) ≡
 some_if true x y is = cc
 some_if false x y is = cc
 
-found_if : {X E : Type 0} (b : Bool) (r : Result X E) (y : X) → (if b then found r else None) ≡ Some y → r ≡ Ok y
+found_if : {X E : Type 0} (b : Bool) (r : Result X E) (y : X) → (if b then value_if_ok r else None) ≡ Some y → r ≡ Ok y
 found_if true (Ok x) y is = cc
 found_if true (Err e) y is = cc
 found_if false r y is = cc
@@ -135,8 +135,8 @@ demand_met false missing rest item is = cc
 ok_same : {X E : Type 0} (x y : X) → ◌≡◌ {A = Result X E} (Ok x) (Ok y) → x ≡ y
 ok_same x y is = cc
 
-titled_path : (path : Path) (pairs : List Pair) (item : MenuItem) → titled path pairs ≡ Ok item → item.path ≡ path
-unfolding titled
+titled_path : (path : Path) (pairs : List Pair) (item : MenuItem) → titled_item path pairs ≡ Ok item → item.path ≡ path
+unfolding titled_item
 titled_path path pairs item is =
     ap (λ (i : MenuItem). i.path) (sym (ok_same (type2_item path pairs) item (demand_met (is_some (title_of pairs)) missing.Title (Ok (type2_item path pairs)) item is)))
 
@@ -302,17 +302,17 @@ unfolding IsDistinct
 IsDistinct-none = tt
 
 module _ (folders : Folders) (suffix : Suffix) where
-  abbrev standing : Files → List Path
-  standing files = filter (stands_in folders suffix) (paths_of files)
+  abbrev standing_paths : Files → List Path
+  standing_paths files = filter (stands_in folders suffix) (paths_of files)
 
-  count_is : (files : Files) → type_count files folders suffix ≡ length (standing files)
+  count_is : (files : Files) → type_count files folders suffix ≡ length (standing_paths files)
   unfolding type_count
   count_is files = sym (length-filter (stands_in folders suffix) (paths_of files))
 
-  distinct_standing : (files : Files) → IsDistinct bytes_eq (standing files)
+  distinct_standing : (files : Files) → IsDistinct bytes_eq (standing_paths files)
   distinct_standing files = distinct_passing bytes_eq (stands_in folders suffix) (paths_of files) (distinct_paths files)
 
-  member_standing : (files : Files) (path : Path) → list_any (bytes_eq path) (standing files) ≡ (has files path && stands_in folders suffix path)
+  member_standing : (files : Files) (path : Path) → list_any (bytes_eq path) (standing_paths files) ≡ (has files path && stands_in folders suffix path)
   member_standing files path =
       is_member-filter nat_list_eq_equiv (stands_in folders suffix) path (λ other is. ap (stands_in folders suffix) (bytes_are path other is)) (paths_of files)
       ∙ ap (λ (b : Bool). b && stands_in folders suffix path) (member_is files path)
@@ -334,14 +334,14 @@ module _ (folders : Folders) (suffix : Suffix) where
   view_type : (files : Files) → type_count (view files) folders suffix ≡ type_count files folders suffix
   view_type files =
       count_is (view files)
-      ∙ length-from_same_keys nat_list_eq_equiv (standing (view files)) (standing files) (distinct_standing (view files)) (distinct_standing files)
+      ∙ length-from_same_keys nat_list_eq_equiv (standing_paths (view files)) (standing_paths files) (distinct_standing (view files)) (distinct_standing files)
       (λ path. member_standing (view files) path ∙ same_member files path ∙ sym (member_standing files path))
       ∙ sym (count_is files)
 
   -- the names of the files of a type are as many
   module _ (files : Files) (names : List (List ℕ)) (are : AreEntryNames files (folder_of folders suffix) suffix names) where
-    abbrev placed : List Path
-    placed = map (under (folder_of folders suffix)) names
+    abbrev paths_of_names : List Path
+    paths_of_names = map (under (folder_of folders suffix)) names
 
     apart : (name : List ℕ) (others : List (List ℕ)) → AllByRecursion (λ other. bytes_eq name other ≡ false) others
         → AllByRecursion (λ other. bytes_eq (under (folder_of folders suffix) name) other ≡ false) (map (under (folder_of folders suffix)) others)
@@ -360,26 +360,26 @@ module _ (folders : Folders) (suffix : Suffix) where
         (apart name others (IsDistinct-head bytes_eq name others distinct))
         (distinct_placed others (IsDistinct-tail bytes_eq name others distinct))
 
-    forth : (path : Path) → list_any (bytes_eq path) placed ≡ true → (has files path && stands_in folders suffix path) ≡ true
+    forth : (path : Path) → list_any (bytes_eq path) paths_of_names ≡ true → (has files path && stands_in folders suffix path) ≡ true
     forth path is =
-        let name = mapped_from (under (folder_of folders suffix)) names path (Contains-from_any bytes_are path placed is) in
+        let name = mapped_from (under (folder_of folders suffix)) names path (Contains-from_any bytes_are path paths_of_names is) in
         let found_name = (are.each name.0).0 name.1 in
         subst (λ (p : Path). (has files p && stands_in folders suffix p) ≡ true) name.2
         (and_from (has files (under (folder_of folders suffix) name.0)) (stands_in folders suffix (under (folder_of folders suffix) name.0)) found_name.2 (stands_of folders suffix name.0 found_name.0 found_name.1))
 
-    back : (path : Path) → (has files path && stands_in folders suffix path) ≡ true → list_any (bytes_eq path) placed ≡ true
+    back : (path : Path) → (has files path && stands_in folders suffix path) ≡ true → list_any (bytes_eq path) paths_of_names ≡ true
     back path is =
         let both = and_parts (has files path) (stands_in folders suffix path) is in
         let parts = stands_parts folders suffix path both.1 in
         let there : has files (under (folder_of folders suffix) (file_name_of path)) ≡ true = ap (has files) (sym parts.2) ∙ both.0 in
         let named = (are.each (file_name_of path)).1 (parts.0, parts.1, there) in
-        list_any-from_Contains nat_list_eq_equiv path placed (subst (Contains placed) (sym parts.2) (mapped (under (folder_of folders suffix)) names (file_name_of path) named))
+        list_any-from_Contains nat_list_eq_equiv path paths_of_names (subst (Contains paths_of_names) (sym parts.2) (mapped (under (folder_of folders suffix)) names (file_name_of path) named))
 
     pub as_many : length names ≡ type_count files folders suffix
     as_many =
         sym (length-map names (under (folder_of folders suffix)))
-        ∙ length-from_same_keys nat_list_eq_equiv placed (standing files) (distinct_placed names are.distinct) (distinct_standing files)
-        (λ path. bool_same (list_any (bytes_eq path) placed) (has files path && stands_in folders suffix path) (forth path) (back path) ∙ sym (member_standing files path))
+        ∙ length-from_same_keys nat_list_eq_equiv paths_of_names (standing_paths files) (distinct_placed names are.distinct) (distinct_standing files)
+        (λ path. bool_same (list_any (bytes_eq path) paths_of_names) (has files path && stands_in folders suffix path) (forth path) (back path) ∙ sym (member_standing files path))
         ∙ sym (count_is files)
 
 pub view_count : ViewCount

@@ -11,7 +11,7 @@ use Rattle.boot_machine.specs.Disk.{Files, has}
 use Rattle.boot_machine.specs.Rows.{IsNamesOf, contents}
 use Rattle.menu_order.specs.declared.item.MenuItem.{MenuItem}
 use Rattle.boot_folder.specs.Entries.{entry_at, entry_of}
-use Rattle.boot_folder.specs.Records.{found, type1_entry, uki_of}
+use Rattle.boot_folder.specs.Records.{value_if_ok, type1_entry, uki_of}
 use Rattle.boot_folder.specs.Scanning.{AreEntryNames, size_within}
 use Rattle.boot_folder.proofs.Members.{distinct_passing, passing, passing_from}
 
@@ -90,8 +90,8 @@ text_found files path size read item is given reads =
     reads ∙ ap (type1_entry path) (given is.size_is) ∙ sym (ap (option_and_then (entry_of Conf path)) is.there)
 
 pub image_found : (files : Files) (path : Path) (size : ℕ) (item : Option MenuItem) → IsSized 268435456 files path size
-    → item ≡ found (uki_of path (contents files path)) → item ≡ entry_at Efi files path
+    → item ≡ value_if_ok (uki_of path (contents files path)) → item ≡ entry_at Efi files path
 image_found files path size item is reads =
     reads
-    ∙ sym (cond-true (nat_le (length (contents files path)) 268435456) (found (uki_of path (contents files path))) None is.fits)
+    ∙ sym (cond-true (nat_le (length (contents files path)) 268435456) (value_if_ok (uki_of path (contents files path))) None is.fits)
     ∙ sym (ap (option_and_then (entry_of Efi path)) is.there)

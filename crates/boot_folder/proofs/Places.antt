@@ -9,7 +9,7 @@ use Rattle.std.proofs.lemmas.List.{append_cancel_left, same_from_push}
 use Rattle.std.proofs.lemmas.List.Splits.{length-slice_split}
 use Rattle.std.proofs.lemmas.Slice.Eq.{bytes_eq-Decides, ends_is}
 use Rattle.boot_base.specs.Paths.{Path, components, file_name_of, is_component, is_file_name, is_form, is_kept, is_normal, is_path, is_path_text, is_slash, is_temp, intent, normal_of, path_below, path_of, temp_end, under}
-use Rattle.boot_base.proofs.Joined.{adding, is_kept-long, joined, joined-kept}
+use Rattle.boot_base.proofs.Joined.{add_piece, is_kept-long, join_filtered, join_filtered-kept}
 use Rattle.boot_base.proofs.LastComponent.{file_name_of-from}
 use Rattle.boot_base.proofs.Normal.{path-some}
 use Rattle.menu_order.proofs.Splitting.{suffix_cut}
@@ -81,9 +81,9 @@ module _ (folder : Path) (normal : is_normal folder ≡ true) where
   normal_under : (name : List ℕ) → is_kept name ≡ true → list_any is_slash name ≡ false → normal_of (under folder name) ≡ under folder name
   normal_under name kept none =
       let itself : normal_of folder ≡ folder = (bytes_eq-Decides (normal_of folder) folder).0 normal_parts.1 in
-      ap (joined 47 is_kept) (components_under folder name ∙ ap (λ (l : List (List ℕ)). components folder ++ l) (one_component name none))
-      ∙ joined-kept 47 is_kept is_kept-long (components folder) name kept
-      ∙ ap (λ (t : List ℕ). adding 47 t name) itself
+      ap (join_filtered 47 is_kept) (components_under folder name ∙ ap (λ (l : List (List ℕ)). components folder ++ l) (one_component name none))
+      ∙ join_filtered-kept 47 is_kept is_kept-long (components folder) name kept
+      ∙ ap (λ (t : List ℕ). add_piece 47 t name) itself
       ∙ cond-false (length folder == 0) name (folder ++ (47 ∷ name)) some_folder
 
   below_is : (name : List ℕ) → is_kept name ≡ true → list_any is_slash name ≡ false → path_below folder name ≡ path_of (under folder name)

@@ -4,10 +4,10 @@ use Rattle.std.specs.Prelude.{codes, ◌==◌}
 use Rattle.std.proofs.lemmas.Bool.Decides.{nat_tests}
 use Rattle.boot_base.specs.Paths.{Path}
 use Rattle.pe_reader.specs.Grammar.{Headers, pe_of}
-use Rattle.pe_reader.specs.Loaded.{bytes_in, loaded}
+use Rattle.pe_reader.specs.LoadedBytes.{bytes_in, loaded_bytes}
 use Rattle.pe_reader.specs.declared.section.LoadedRange.{LoadedRange}
 use Rattle.boot_texts.specs.OsRelease.{os_pairs}
-use Rattle.boot_folder.specs.Records.{NotUki, is_os_length, titled, uki_from, uki_of, unless_missing}
+use Rattle.boot_folder.specs.Records.{NotUki, is_os_length, titled_item, uki_from, uki_of, unless_missing}
 use Rattle.boot_folder.specs.Ranges.{IsRange}
 use Rattle.boot_folder.specs.declared.fault.Missing.TheVariants as missing
 use Rattle.boot_folder.proofs.Ranges.{length-range}
@@ -15,9 +15,9 @@ use Rattle.boot_folder.proofs.Ranges.{length-range}
 -- the entry of an image, by its loaded bytes
 by_loaded : (path : Path) (file : List ℕ) (h : Headers) → pe_of file ≡ Ok h
     → uki_of path file
-    ≡ unless_missing (not (length (loaded file (codes ".linux")) == 0)) missing.Linux (
-    unless_missing (is_os_length (length (loaded file (codes ".osrel")))) missing.Osrel (
-    titled path (os_pairs (loaded file (codes ".osrel")))))
+    ≡ unless_missing (not (length (loaded_bytes file (codes ".linux")) == 0)) missing.Linux (
+    unless_missing (is_os_length (length (loaded_bytes file (codes ".osrel")))) missing.Osrel (
+    titled_item path (os_pairs (loaded_bytes file (codes ".osrel")))))
 unfolding uki_from
 by_loaded path file h reads = rw reads refl
 
@@ -39,9 +39,9 @@ module _ (path : Path) (file : List ℕ) (h : Headers) (reads : pe_of file ≡ O
     no_osrel none =
         rw (by_loaded path file h reads, length-range file (codes ".linux") linux has_linux, some_bytes (linux.length + linux.zeros) some, length-range file (codes ".osrel") osrel has_osrel, none) refl
 
-    pub by_osrel : is_os_length (osrel.length + osrel.zeros) ≡ true → uki_of path file ≡ titled path (os_pairs (bytes_in file osrel))
+    pub by_osrel : is_os_length (osrel.length + osrel.zeros) ≡ true → uki_of path file ≡ titled_item path (os_pairs (bytes_in file osrel))
     by_osrel fits =
-        rw (by_loaded path file h reads, length-range file (codes ".linux") linux has_linux, some_bytes (linux.length + linux.zeros) some, length-range file (codes ".osrel") osrel has_osrel, fits) (ap (λ text. titled path (os_pairs text)) has_osrel.bytes)
+        rw (by_loaded path file h reads, length-range file (codes ".linux") linux has_linux, some_bytes (linux.length + linux.zeros) some, length-range file (codes ".osrel") osrel has_osrel, fits) (ap (λ text. titled_item path (os_pairs text)) has_osrel.bytes)
 
 pub no_length : (n : ℕ) → n ≡ 0 → is_os_length n ≡ false
 no_length n none = rw none refl

@@ -6,7 +6,7 @@ ghost use Rattle.menu_order.specs.Splits.{has_suffix};
 ghost use Rattle.menu_order.specs.declared.counted.Suffix.TheVariants.{Conf, Efi};
 ghost use Rattle.boot_folder.specs.Entries.{entry_at, entry_if, own_path};
 ghost use Rattle.boot_folder.specs.Items.{CountsItem, GivesItem};
-ghost use Rattle.boot_folder.specs.Records.{Unfit, found, type1_entry, type1_item};
+ghost use Rattle.boot_folder.specs.Records.{Unfit, value_if_ok, type1_entry, type1_item};
 ghost use Rattle.boot_folder.specs.Scanning.{CountsRead, read_limit, size_within};
 ghost use Rattle.boot_machine.specs.Counts.{Counts, CountsDisk};
 ghost use Rattle.boot_machine.specs.Reading.{OnlyReads, TakesAtMost};
@@ -14,7 +14,7 @@ ghost use Rattle.boot_machine.specs.Rows.{contents};
 ghost use Rattle.menu_order.specs.declared.item.MenuItem.{MenuItem};
 
 use crate::fault::{ItemFault, ReadFault};
-use crate::name::named;
+use crate::name::split_name;
 use crate::uki::{uki_item, zeros};
 use boot_base::{BootPath, FileName, PathFault};
 use boot_machine::{DiskFault, Machine, read_part};
@@ -28,7 +28,7 @@ const TEXT_LIMIT: u64 = 65_536;
 /// The most bytes of a type 2 file.
 const IMAGE_LIMIT: u64 = 268_435_456;
 
-/// The size of a machine's file, if it is there with no more bytes than that.
+// The size of a machine's file, if it is there with no more bytes than that.
 fn size_within<M: Machine>(
     machine: &mut M,
     path: &BootPath,
@@ -47,7 +47,7 @@ fn size_within<M: Machine>(
     }
 }
 
-/// The bytes of a machine's file of that size.
+// The bytes of a machine's file of that size.
 fn file_bytes<M: Machine>(
     alloc: Global,
     machine: &mut M,
@@ -67,11 +67,11 @@ fn file_bytes<M: Machine>(
     Ok(bytes)
 }
 
-/// The entry of a type 1 text at a path.
+// The entry of a type 1 text at a path.
 fn type1_item(alloc: Global, path: BootPath, entry: Type1) -> Result<MenuItem, AllocError>
     ensures { IfOk result (λ item. item ≡ type1_item path entry) }
 {
-    let (base, counter) = named(alloc, path.file_name(), Suffix::Conf)?;
+    let (base, counter) = split_name(alloc, path.file_name(), Suffix::Conf)?;
     Ok(MenuItem {
         path,
         suffix: Suffix::Conf,
@@ -88,7 +88,7 @@ fn type1_item(alloc: Global, path: BootPath, entry: Type1) -> Result<MenuItem, A
     })
 }
 
-/// The entry of a type 1 file's bytes, None where they are none.
+// The entry of a type 1 file's bytes, None where they are none.
 fn text_entry(alloc: Global, path: BootPath, bytes: &[u8]) -> Result<Option<MenuItem>, AllocError>
     ensures { IfOk result (λ item. item ≡ type1_entry path bytes.now) }
 {
@@ -99,7 +99,7 @@ fn text_entry(alloc: Global, path: BootPath, bytes: &[u8]) -> Result<Option<Menu
     }
 }
 
-/// The entry of the type 1 file at a path, None where there is no valid one.
+// The entry of the type 1 file at a path, None where there is no valid one.
 fn text_at<M: Machine>(
     alloc: Global,
     machine: &mut M,
@@ -117,9 +117,10 @@ fn text_at<M: Machine>(
     Ok(text_entry(alloc, path, &bytes)?)
 }
 
-/// What an image comes to in a scan, which passes over a file that is no entry.
-fn kept(read: Result<MenuItem, ItemFault>) -> Result<Option<MenuItem>, ReadFault>
-    ensures meant { (entry : Result MenuItem Unfit) → GivesItem read entry → IfOk result (λ item. item ≡ found entry) }
+// What an image comes to in a scan, which passes over a file that is no entry.
+fn keep_entry(read: Result<MenuItem, ItemFault>) -> Result<Option<MenuItem>, ReadFault>
+    ensures meant { (entry : Result MenuItem Unfit) → GivesItem read entry
+        → IfOk result (λ item. item ≡ value_if_ok entry) }
     ensures counts { (old new : Counts) → CountsItem read old new → CountsRead result old new }
 {
     match read {
@@ -130,7 +131,7 @@ fn kept(read: Result<MenuItem, ItemFault>) -> Result<Option<MenuItem>, ReadFault
     }
 }
 
-/// The entry of the type 2 file at a path, None where there is no valid one.
+// The entry of the type 2 file at a path, None where there is no valid one.
 fn image_at<M: Machine>(
     alloc: Global,
     machine: &mut M,
@@ -146,10 +147,10 @@ fn image_at<M: Machine>(
         return Ok(None);
     }
     let file = path.copy(alloc)?;
-    kept(uki_item(alloc, machine, &file, path))
+    keep_entry(uki_item(alloc, machine, &file, path))
 }
 
-/// The path of a file of that name directly in a folder, None where it is no path of a boot file.
+// The path of a file of that name directly in a folder, None where it is no path of a boot file.
 fn path_of_name(
     alloc: Global,
     folder: &BootPath,

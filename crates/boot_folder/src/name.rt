@@ -9,7 +9,7 @@ use std::alloc::{AllocError, Global};
 
 /// The base of a name with that suffix, and its counter if it has one.
 #[tactic(auto, unfolding(crate::specs::Names::parts_of_name))]
-pub(crate) fn named(
+pub(crate) fn split_name(
     alloc: Global,
     name: &str,
     suffix: Suffix,
@@ -27,7 +27,7 @@ pub(crate) fn named(
     }
 }
 
-/// The name without the suffix that it ends in.
+// The name without the suffix that it ends in.
 fn stem(name: &str, suffix: Suffix) -> &[u8]
     ensures { result.now ≡ stem_of suffix name.now }
 {

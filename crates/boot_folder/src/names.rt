@@ -32,7 +32,7 @@ fn has_suffix(name: &FileName, suffix: Suffix) -> bool
     name.ends_with(suffix.as_str().as_bytes())
 }
 
-/// The names with that suffix among those of the files directly in a folder.
+// The names with that suffix among those of the files directly in a folder.
 fn names_with<M: Machine>(
     alloc: Global,
     machine: &mut M,

@@ -20,7 +20,7 @@ pub(crate) fn menu_of(alloc: Global, items: Vec<MenuItem>) -> Result<Vec<MenuIte
     sort_menu(alloc, once)
 }
 
-/// One entry of each path among these.
+// One entry of each path among these.
 fn each_path_once(mut items: Vec<MenuItem>) -> Result<Vec<MenuItem>, AllocError>
     ensures own_paths { IfOk result (λ once. HaveOwnPaths once.items) }
     ensures among { IfOk result (λ once. (item : MenuItem) → Contains once.items item → Contains items.items item) }
@@ -32,7 +32,7 @@ fn each_path_once(mut items: Vec<MenuItem>) -> Result<Vec<MenuItem>, AllocError>
     Ok(items)
 }
 
-/// Puts the entries in the order of their paths.
+// Puts the entries in the order of their paths.
 fn sort_by_path(items: &mut Vec<MenuItem>) -> Result<(), AllocError>
     ensures same { IsPermutation items.old.items items.new.items }
     ensures sorted { OnOk result (IsSorted path_order items.new.items) }

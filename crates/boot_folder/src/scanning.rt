@@ -86,7 +86,7 @@ pub fn scan_folders<M: Machine>(
     Ok(menu_of(alloc, items)?)
 }
 
-/// The entries of the files of these names.
+// The entries of the files of these names.
 fn entries<M: Machine>(
     alloc: Global,
     machine: &mut M,
@@ -128,7 +128,7 @@ fn entries<M: Machine>(
     Ok(items)
 }
 
-/// Puts the entries of the files of these names directly in the folder of their type behind `items`.
+// Puts the entries of the files of these names directly in the folder of their type behind `items`.
 fn append_entries<M: Machine>(
     alloc: Global,
     machine: &mut M,
@@ -151,7 +151,7 @@ fn append_entries<M: Machine>(
     Ok(())
 }
 
-/// Puts the entry of the file of that name directly in the folder of its type behind `items`, if it is one.
+// Puts the entry of the file of that name directly in the folder of its type behind `items`, if it is one.
 fn append_entry<M: Machine>(
     alloc: Global,
     machine: &mut M,
@@ -171,7 +171,7 @@ fn append_entry<M: Machine>(
     Ok(append_found(items, item)?)
 }
 
-/// Puts an entry behind `items`, if it was found.
+// Puts an entry behind `items`, if it was found.
 fn append_found(items: &mut Vec<MenuItem>, item: Option<MenuItem>) -> Result<(), AllocError>
     ensures { OnOk result (items.new.items ≡ items.old.items ++ option_to_list item) }
 {

@@ -4,17 +4,17 @@ ghost use Rattle.boot_base.specs.Paths.{file_name_of};
 ghost use Rattle.boot_machine.specs.Counts.{Counts};
 ghost use Rattle.boot_machine.specs.Disk.{has};
 ghost use Rattle.menu_order.specs.Splits.{has_suffix};
-ghost use Rattle.boot_folder.specs.Records.{titled, type2_item, uki_of};
+ghost use Rattle.boot_folder.specs.Records.{titled_item, type2_item, uki_of};
 ghost use Rattle.boot_machine.specs.Reading.{OnlyReads, TakesAtMost};
 ghost use Rattle.boot_machine.specs.Rows.{contents};
-ghost use Rattle.pe_reader.specs.Loaded.{bytes_in};
+ghost use Rattle.pe_reader.specs.LoadedBytes.{bytes_in};
 ghost use Rattle.boot_folder.specs.Items.{CountsItem, GivesItem, IsUnread};
 ghost use Rattle.pe_reader.specs.Grammar.{pe_of};
 ghost use Rattle.pe_reader.specs.Reads.{headers_of};
 ghost use Rattle.boot_folder.specs.Ranges.{IsRange, FindsOsrel};
 
 use crate::fault::{ItemFault, Missing};
-use crate::name::named;
+use crate::name::split_name;
 use boot_base::{BootPath, Bytes, BytesList};
 use boot_machine::{Machine, read_part};
 use boot_texts::OsRelease;
@@ -51,14 +51,14 @@ pub fn uki_item<M: Machine>(
     let range = osrel_range(&head)?;
     let text = range_bytes(alloc, machine, file, range)?;
     let release = OsRelease::read(alloc, &text)?;
-    titled(alloc, path, &release)
+    titled_item(alloc, path, &release)
 }
 
-/// The entry of an os-release text, which has to give a title.
-#[tactic(auto, unfolding(crate::specs::Records::titled))]
-fn titled(alloc: Global, path: BootPath, release: &OsRelease) -> Result<MenuItem, ItemFault>
+// The entry of an os-release text, which has to give a title.
+#[tactic(auto, unfolding(crate::specs::Records::titled_item))]
+fn titled_item(alloc: Global, path: BootPath, release: &OsRelease) -> Result<MenuItem, ItemFault>
     requires { has_suffix Suffix.Efi (file_name_of path) ≡ true }
-    ensures gives { GivesItem result (titled path release.now) }
+    ensures gives { GivesItem result (titled_item path release.now) }
     ensures counts { (counts : Counts) → CountsItem result counts counts }
 {
     if release.title().is_none() {
@@ -69,20 +69,20 @@ fn titled(alloc: Global, path: BootPath, release: &OsRelease) -> Result<MenuItem
     Ok(type2_item(alloc, path, release)?)
 }
 
-/// The entry of an os-release text.
+// The entry of an os-release text.
 fn type2_item(alloc: Global, path: BootPath, release: &OsRelease) -> Result<MenuItem, AllocError>
     requires { has_suffix Suffix.Efi (file_name_of path) ≡ true }
     ensures { IfOk result (λ item. item ≡ type2_item path release.now) }
 {
-    let (base, counter) = named(alloc, path.file_name(), Suffix::Efi)?;
+    let (base, counter) = split_name(alloc, path.file_name(), Suffix::Efi)?;
     Ok(MenuItem {
         path,
         suffix: Suffix::Efi,
         base,
         counter,
-        title: copied(alloc, release.title())?,
-        version: copied(alloc, release.version())?,
-        sort_key: copied(alloc, release.sort_key())?,
+        title: copy_option(alloc, release.title())?,
+        version: copy_option(alloc, release.version())?,
+        sort_key: copy_option(alloc, release.sort_key())?,
         machine_id: None,
         linux: None,
         efi: None,
@@ -91,8 +91,8 @@ fn type2_item(alloc: Global, path: BootPath, release: &OsRelease) -> Result<Menu
     })
 }
 
-/// A copy of a value that may be absent.
-fn copied(alloc: Global, value: Option<&[u8]>) -> Result<Option<Bytes>, AllocError>
+// A copy of a value that may be absent.
+fn copy_option(alloc: Global, value: Option<&[u8]>) -> Result<Option<Bytes>, AllocError>
     ensures { IfOk result (λ copy. copy ≡ option_copied value.entry) }
 {
     match value {
@@ -101,7 +101,7 @@ fn copied(alloc: Global, value: Option<&[u8]>) -> Result<Option<Bytes>, AllocErr
     }
 }
 
-/// Where the loaded bytes of the first section of that name stand, nowhere where there is no such section.
+// Where the loaded bytes of the first section of that name stand, nowhere where there is no such section.
 fn range_named(head: &Pe, name: &[u8]) -> LoadedRange
     ensures range { (file : List ℕ) → pe_of file ≡ Ok (headers_of head.now) → IsRange file name.now result }
     ensures small { (result.place < 2 ^ 32) × (result.length + result.zeros < 2 ^ 32) }

@@ -6,9 +6,9 @@ use Rattle.tool_words.specs.Meaning.{meaning}
 use Rattle.tool_words.specs.declared.fault.UsageReason.{UsageReason}
 use Rattle.boot_machine.specs.Disk.{Files}
 use Rattle.boot_machine.specs.Sent.{Sent, IsPrefix}
-use Rattle.boot_run.specs.Asked.{asked, lines_to_run}
+use Rattle.boot_run.specs.AskedLines.{asked_lines, lines_to_run}
 use Rattle.boot_run.specs.Lines.{line_deed}
-use Rattle.boot_run.specs.Step.{Acknowledges, AllUnread, NoneEmpty, joined, replies}
+use Rattle.boot_run.specs.Step.{Acknowledges, AllUnread, NoneEmpty, join_replies, replies}
 use Rattle.boot_run.specs.declared.line.Line.{Line}
 use Rattle.boot_run.specs.declared.line.Line.TheVariants.{Plain, Numbered, Unread, TooLong}
 use Rattle.boot_run.proofs.Replying.{none_empty}
@@ -27,7 +27,7 @@ alike_self (Err reason) = refl
 
 -- no command's lines depend on the view
 pub asked_alike : (words : List Word) (input : List ℕ) (view other : Files)
-    → AreAlike (asked words input view) (asked words input other)
+    → AreAlike (asked_lines words input view) (asked_lines words input other)
 asked_alike words input view other = alike_self (lines_to_run input (meaning words))
 
 -- ---- replies
@@ -37,33 +37,33 @@ length-replies view [] = refl
 length-replies view (line ∷ lines) = ap suc (length-replies (line_deed view line).after lines)
 
 -- the first replies joined are a first part of all of them
-front_of : (all : List Sent) (k : ℕ) → IsPrefix (joined (take k all)) (joined all)
-front_of all zero = (joined all, refl)
+front_of : (all : List Sent) (k : ℕ) → IsPrefix (join_replies (take k all)) (join_replies all)
+front_of all zero = (join_replies all, refl)
 front_of [] (suc k) = ([], refl)
 front_of (reply ∷ all) (suc k) =
     let rest = front_of all k in
-    (rest.0, append_assoc reply (joined (take k all)) rest.0 ∙ ap (λ (l : Sent). reply ++ l) rest.1)
+    (rest.0, append_assoc reply (join_replies (take k all)) rest.0 ∙ ap (λ (l : Sent). reply ++ l) rest.1)
 
 prefix_trans : (a b c : Sent) → IsPrefix a b → IsPrefix b c → IsPrefix a c
 prefix_trans a b c p q = (p.0 ++ q.0, sym (append_assoc a p.0 q.0) ∙ ap (λ (l : Sent). l ++ q.0) p.1 ∙ q.1)
 
 -- of replies that aren't empty more are longer
 longer : (view : Files) (lines : List Line) (i j : ℕ) → NoneEmpty view lines → i < j → j ≤ length lines
-    → length (joined (take i (replies view lines))) < length (joined (take j (replies view lines)))
+    → length (join_replies (take i (replies view lines))) < length (join_replies (take j (replies view lines)))
 longer view lines i zero some lt le = absurd (omega arith)
 longer view [] i (suc j) some lt le = absurd (omega arith)
 longer view (line ∷ lines) zero (suc j) some lt le =
     omega (
       arith,
       some_length _ some.0,
-      length-append (line_deed view line).sent (joined (take j (replies (line_deed view line).after lines))),
+      length-append (line_deed view line).sent (join_replies (take j (replies (line_deed view line).after lines))),
     )
 longer view (line ∷ lines) (suc i) (suc j) some lt le =
     omega (
       arith,
       longer (line_deed view line).after lines i j some.1 (omega arith) (omega arith),
-      length-append (line_deed view line).sent (joined (take i (replies (line_deed view line).after lines))),
-      length-append (line_deed view line).sent (joined (take j (replies (line_deed view line).after lines))),
+      length-append (line_deed view line).sent (join_replies (take i (replies (line_deed view line).after lines))),
+      length-append (line_deed view line).sent (join_replies (take j (replies (line_deed view line).after lines))),
     )
 
 -- the replies to lines without a command are the same from each view
@@ -111,15 +111,15 @@ module _ (view other : Files) (lines others : List Line) (leading : ℕ) (all : 
   shorter_back j le within = omega (arith, length-take leading others, length-take leading lines, ap length alike)
 
   -- what is printed is a first part of the replies from the other view
-  pub front_again : (sent : Sent) → IsPrefix sent (joined (take leading (replies view lines)))
-      → IsPrefix sent (joined (replies other others))
+  pub front_again : (sent : Sent) → IsPrefix sent (join_replies (take leading (replies view lines)))
+      → IsPrefix sent (join_replies (replies other others))
   front_again sent front =
-      prefix_trans sent (joined (take leading (replies other others))) (joined (replies other others))
-      (subst (λ (l : List Sent). IsPrefix sent (joined l)) (sym (same_replies leading (omega arith))) front)
+      prefix_trans sent (join_replies (take leading (replies other others))) (join_replies (replies other others))
+      (subst (λ (l : List Sent). IsPrefix sent (join_replies l)) (sym (same_replies leading (omega arith))) front)
       (front_of (replies other others) leading)
 
   -- as many are acknowledged
-  pub acked_again : (sent : Sent) (k : ℕ) → k ≤ leading → IsPrefix sent (joined (take leading (replies view lines)))
+  pub acked_again : (sent : Sent) (k : ℕ) → k ≤ leading → IsPrefix sent (join_replies (take leading (replies view lines)))
       → Acknowledges (replies view lines) sent k → Acknowledges (replies other others) sent k
   acked_again sent k le front acked = record {
     within = omega (
@@ -127,14 +127,14 @@ module _ (view other : Files) (lines others : List Line) (leading : ℕ) (all : 
       shorter_back k le (omega (arith, acked.within, length-replies view lines)),
       length-replies other others,
     );
-    whole = subst (λ (l : List Sent). IsPrefix (joined l) sent) (sym (same_replies k le)) acked.whole;
+    whole = subst (λ (l : List Sent). IsPrefix (join_replies l) sent) (sym (same_replies k le)) acked.whole;
     most = most;
   }
     where
       few_or_many : (j : ℕ) → (j ≤ leading) ⊎ (leading < j)
       few_or_many j = grind arith
 
-      most : (j : ℕ) → j ≤ length (replies other others) → IsPrefix (joined (take j (replies other others))) sent
+      most : (j : ℕ) → j ≤ length (replies other others) → IsPrefix (join_replies (take j (replies other others))) sent
           → j ≤ k
       most j within p = ⊎_elim
           (λ (few : j ≤ leading). acked.most j
@@ -144,12 +144,12 @@ module _ (view other : Files) (lines others : List Line) (leading : ℕ) (all : 
             length-replies other others,
             shorter j few (omega (arith, length-replies other others)),
           ))
-          (subst (λ (l : List Sent). IsPrefix (joined l) sent) (same_replies j few) p))
+          (subst (λ (l : List Sent). IsPrefix (join_replies l) sent) (same_replies j few) p))
           (λ (many : leading < j). absurd (omega (
             arith,
             longer other others leading j (none_empty other others) many (omega (arith, length-replies other others)),
             length-prefix _ _ p,
             length-prefix _ _ front,
-            ap (λ (l : List Sent). length (joined l)) (same_replies leading (omega arith)),
+            ap (λ (l : List Sent). length (join_replies l)) (same_replies leading (omega arith)),
           )))
           (few_or_many j)

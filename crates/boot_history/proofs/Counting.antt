@@ -2,19 +2,19 @@
 use Rattle.std.proofs.Common.{◌≡◌, ◌≢◌, ◌⊎◌, inl, inr, ⊎_elim, ℕ, ◌+◌, ◌≤◌, List, [], ◌∷◌, length, take, refl, sym, ap, ◌∙◌, subst, arith, Result, Ok, Err}
 use Rattle.tool_words.specs.declared.fault.UsageReason.{UsageReason}
 use Rattle.boot_machine.specs.Disk.{Files, IsIn}
-use Rattle.boot_machine.specs.Rows.{tagged}
-use Rattle.boot_machine.specs.Sent.{Sent, IsPrefix, latest}
+use Rattle.boot_machine.specs.Rows.{on_channel}
+use Rattle.boot_machine.specs.Sent.{Sent, IsPrefix, latest_view}
 use Rattle.boot_machine.specs.declared.machine.Channel.TheVariants.{Err as ErrChannel}
 use Rattle.command_plans.specs.Deeds.{End, Stopped, Finished, NoMemory, DiskFails, PipeFails}
-use Rattle.boot_run.specs.Asked.{usage_line}
-use Rattle.boot_run.specs.Step.{Acknowledges, AllUnread, Early, KeepsViews, Late, Step, StepBy, joined, replies, view_after}
+use Rattle.boot_run.specs.AskedLines.{usage_line}
+use Rattle.boot_run.specs.Step.{Acknowledges, AllUnread, IsEarly, KeepsViews, IsLate, Step, StepBy, join_replies, replies, view_after}
 use Rattle.boot_run.specs.declared.line.Line.{Line}
 use Rattle.boot_run.proofs.Stepping.{unread_after}
 use Rattle.boot_history.specs.Histories.{Run, IsHistory, asked_at, state_after}
 use Rattle.boot_history.specs.Numbers.{FitRuns, HistoryLaw, IsDueTo, MayDoBy, after_runs, after_some}
 use Rattle.boot_history.proofs.Alike.{AreAlike, acked_again, asked_alike, front_again, length-replies, shorter_back, still_unread}
 
-pub latest_in : (state : List Files) → state ≢ [] → IsIn (latest state) state
+pub latest_in : (state : List Files) → state ≢ [] → IsIn (latest_view state) state
 latest_in [] some = absurd (some refl)
 latest_in (view ∷ []) some = inl refl
 latest_in (view ∷ next ∷ later) some = inr (latest_in (next ∷ later) (λ is. cc))
@@ -42,7 +42,7 @@ record ComesFrom (old : List Files) (asks : Files → Result (List Line) UsageRe
 -- a run that came to no command leaves each view as it was
 early_does : (first view : Files) (lines : List Line) (asks : Result (List Line) UsageReason) → AreAlike (Ok lines) asks
     → (sent : Sent) (k leading : ℕ) → AllUnread (take leading lines) → k ≤ leading
-    → IsPrefix sent (joined (take leading (replies first lines))) → Acknowledges (replies first lines) sent k
+    → IsPrefix sent (join_replies (take leading (replies first lines))) → Acknowledges (replies first lines) sent k
     → MayDoBy view asks sent k × (view ≡ after_some view asks k)
 early_does first view lines (Ok others) alike sent k leading unread enough front acked =
     let same = alike leading unread in (
@@ -59,38 +59,38 @@ early_does first view lines (Ok others) alike sent k leading unread enough front
 early_does first view lines (Err reason) alike sent k leading unread enough front acked = absurd alike
 
 usage_does : (view : Files) (reason : UsageReason) (asks : Result (List Line) UsageReason) → AreAlike (Err reason) asks
-    → (sent : Sent) → IsPrefix sent (tagged ErrChannel (usage_line reason))
+    → (sent : Sent) → IsPrefix sent (on_channel ErrChannel (usage_line reason))
     → MayDoBy view asks sent 0 × (view ≡ after_some view asks 0)
 usage_does view reason (Ok others) alike sent front = absurd alike
 usage_does view reason (Err other) alike sent front =
-    let front = subst (λ r. IsPrefix sent (tagged ErrChannel (usage_line r))) (sym alike) front in
+    let front = subst (λ r. IsPrefix sent (on_channel ErrChannel (usage_line r))) (sym alike) front in
     (record { none = refl; front = front }, refl)
 
 module _ (old new : List Files) (sent : Sent) (end : End) (some : old ≢ [])
     (asks : Files → Result (List Line) UsageReason) where
   -- a view that is that after n lines from the last one
-  late_from : (lines : List Line) → asks (latest old) ≡ Ok lines → (step : Step old lines new sent end) → (n : ℕ)
+  late_from : (lines : List Line) → asks (latest_view old) ≡ Ok lines → (step : Step old lines new sent end) → (n : ℕ)
       → (n ≡ step.acked) ⊎ (n ≡ step.acked + 1) → n ≤ length lines
-      → (view : Files) → view ≡ view_after (latest old) (take n lines) → ComesFrom old asks sent view
+      → (view : Files) → view ≡ view_after (latest_view old) (take n lines) → ComesFrom old asks sent view
   late_from lines is step n one_more within view at = record {
-    start = latest old;
+    start = latest_view old;
     there = latest_in old some;
     n = n;
-    may = subst (λ s. MayDoBy (latest old) s sent n) (sym is) (record {
+    may = subst (λ s. MayDoBy (latest_view old) s sent n) (sym is) (record {
       acked = step.acked;
       is_acked = step.is_acked;
       one_more = one_more;
       within = within;
       front = step.front;
     });
-    is = at ∙ ap (λ s. after_some (latest old) s n) (sym is);
+    is = at ∙ ap (λ s. after_some (latest_view old) s n) (sym is);
   }
 
-  one_run : (r : Result (List Line) UsageReason) → asks (latest old) ≡ r → ((view : Files) → AreAlike r (asks view))
+  one_run : (r : Result (List Line) UsageReason) → asks (latest_view old) ≡ r → ((view : Files) → AreAlike r (asks view))
       → StepBy old r new sent end → (view : Files) → IsIn view new → ComesFrom old asks sent view
   one_run (Ok lines) is alike step view there = ⊎_elim
-      (λ (early : Early old lines new sent end step.acked).
-      let does = early_does (latest old) view lines (asks view) (alike view) sent step.acked early.leading early.unread
+      (λ (early : IsEarly old lines new sent end step.acked).
+      let does = early_does (latest_view old) view lines (asks view) (alike view) sent step.acked early.leading early.unread
       early.enough early.front step.is_acked in
       record {
         start =
@@ -100,9 +100,9 @@ module _ (old new : List Files) (sent : Sent) (end : End) (some : old ≢ [])
         may = does.0;
         is = does.1;
       })
-      (λ (late : Late old lines new end step.acked). ⊎_elim
+      (λ (late : IsLate old lines new end step.acked). ⊎_elim
       (λ at. late_from lines is step step.acked (inl refl)
-      (omega (arith, step.is_acked.within, length-replies (latest old) lines)) view at)
+      (omega (arith, step.is_acked.within, length-replies (latest_view old) lines)) view at)
       (λ next. late_from lines is step (step.acked + 1) (inr refl) (omega (arith, next.0)) view next.1)
       (late.views view there))
       step.case
@@ -122,8 +122,8 @@ each_due state [] some history view there =
     record { start = view; there = there; due = record { numbers = []; fit = tt; is = refl } }
 each_due state (run ∷ runs) some history view there =
     let later = each_due run.left runs history.0.some history.1 view there in
-    let now = one_run state run.left run.sent run.end some (λ v. asked_at v run) (asked_at (latest state) run) refl
-    (asked_alike run.words run.input (latest state)) history.0.step later.start later.there in
+    let now = one_run state run.left run.sent run.end some (λ v. asked_at v run) (asked_at (latest_view state) run) refl
+    (asked_alike run.words run.input (latest_view state)) history.0.step later.start later.there in
     record {
       start = now.start;
       there = now.there;

@@ -2,9 +2,9 @@
 use Rattle.std.proofs.Common.{◌≢◌, ⊎_elim, ◌+◌, List, [], ◌∷◌, ◌++◌, sym, subst, Result, Ok, Err}
 use Rattle.tool_words.specs.declared.fault.UsageReason.{UsageReason}
 use Rattle.boot_machine.specs.Disk.{Files}
-use Rattle.boot_machine.specs.Sent.{Sent, latest}
+use Rattle.boot_machine.specs.Sent.{Sent, latest_view}
 use Rattle.command_plans.specs.Deeds.{End}
-use Rattle.boot_run.specs.Step.{Early, Late, StepBy}
+use Rattle.boot_run.specs.Step.{IsEarly, IsLate, StepBy}
 use Rattle.boot_run.specs.declared.line.Line.{Line}
 use Rattle.boot_history.specs.Histories.{Run, IsHistory, IsStart, AllAlong, AllViews, asked_at, state_after}
 use Rattle.boot_history.specs.Keeping.{KeptBy, KeptFrom, KeptLaw, Meets}
@@ -18,10 +18,10 @@ later_history first (run ∷ before) later some history = later_history run.left
 
 module _ (P : Files → Type 0) where
   kept_by_run : (old new : List Files) (sent : Sent) (end : End) → (asks : Result (List Line) UsageReason)
-      → StepBy old asks new sent end → KeptBy P (latest old) asks → AllViews P old → AllViews P new
+      → StepBy old asks new sent end → KeptBy P (latest_view old) asks → AllViews P old → AllViews P new
   kept_by_run old new sent end (Ok lines) step kept all view there = ⊎_elim
-      (λ (early : Early old lines new sent end step.acked). all view (was_there old new end early.kept view there))
-      (λ (late : Late old lines new end step.acked). ⊎_elim
+      (λ (early : IsEarly old lines new sent end step.acked). all view (was_there old new end early.kept view there))
+      (λ (late : IsLate old lines new end step.acked). ⊎_elim
       (λ at. subst P (sym at) (kept step.acked))
       (λ next. subst P (sym next.1) (kept (step.acked + 1)))
       (late.views view there))
@@ -33,10 +33,10 @@ module _ (P : Files → Type 0) where
       → AllViews P state → AllAlong P state runs
   kept_along state [] some history kept all = all
   kept_along state (run ∷ runs) some history kept all =
-      let now = kept.0 (all (latest state) (latest_in state some)) in (
+      let now = kept.0 (all (latest_view state) (latest_in state some)) in (
         all,
         kept_along run.left runs history.0.some history.1 kept.1
-            (kept_by_run state run.left run.sent run.end (asked_at (latest state) run) history.0.step now all),
+            (kept_by_run state run.left run.sent run.end (asked_at (latest_view state) run) history.0.step now all),
       )
 
   -- what each later run keeps stays from there on

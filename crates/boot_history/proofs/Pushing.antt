@@ -4,12 +4,12 @@ use Rattle.std.proofs.Math.Seq.{take-suc}
 use Rattle.std.proofs.lemmas.List.{append-nil, map-append}
 use Rattle.tool_words.specs.Grammar.{Word}
 use Rattle.boot_machine.specs.Disk.{Files}
-use Rattle.boot_machine.specs.Sent.{Sent, latest}
-use Rattle.boot_run.specs.Step.{Leads, joined}
+use Rattle.boot_machine.specs.Sent.{Sent, latest_view}
+use Rattle.boot_run.specs.Step.{Leads, join_replies}
 use Rattle.boot_history.specs.Histories.{Run, HasHistory, IsHistory, asked_at, state_after}
 
 history_push : (old : List Files) (runs : List Run) (run : Run) → IsHistory old runs
-    → Leads (state_after old runs) (asked_at (latest (state_after old runs)) run) run.left run.sent run.end
+    → Leads (state_after old runs) (asked_at (latest_view (state_after old runs)) run) run.left run.sent run.end
     → IsHistory old (runs ++ run ∷ [])
 history_push old [] run history leads = (leads, tt)
 history_push old (first ∷ runs) run history leads = (history.0, history_push first.left runs run history.1 leads)
@@ -18,28 +18,28 @@ state_push : (old : List Files) (runs : List Run) (run : Run) → state_after ol
 state_push old [] run = refl
 state_push old (first ∷ runs) run = state_push first.left runs run
 
-joined_push : (texts : List Sent) (text : Sent) → joined (texts ++ text ∷ []) ≡ joined texts ++ text
+joined_push : (texts : List Sent) (text : Sent) → join_replies (texts ++ text ∷ []) ≡ join_replies texts ++ text
 joined_push [] text = append-nil text
 joined_push (first ∷ texts) text =
-    ap (λ (l : Sent). first ++ l) (joined_push texts text) ∙ sym (append_assoc first (joined texts) text)
+    ap (λ (l : Sent). first ++ l) (joined_push texts text) ∙ sym (append_assoc first (join_replies texts) text)
 
 pub no_run : (old : List Files) → HasHistory [] old old []
 no_run old = record { runs = []; history = tt; left = refl; spoken = refl; said = refl }
 
 pub one_more : (words : List (List Word)) (old mid : List Files) (said : Sent) (run : Run)
     → HasHistory words old mid said
-    → Leads mid (asked_at (latest mid) run) run.left run.sent run.end
+    → Leads mid (asked_at (latest_view mid) run) run.left run.sent run.end
     → HasHistory (words ++ run.words ∷ []) old run.left (said ++ run.sent)
 one_more words old mid said run has leads = record {
   runs = has.runs ++ run ∷ [];
   history = history_push old has.runs run has.history
-      (subst (λ (s : List Files). Leads s (asked_at (latest s) run) run.left run.sent run.end) (sym has.left) leads);
+      (subst (λ (s : List Files). Leads s (asked_at (latest_view s) run) run.left run.sent run.end) (sym has.left) leads);
   left = state_push old has.runs run;
   spoken =
       map-append (λ (r : Run). r.words) has.runs (run ∷ [])
       ∙ ap (λ (l : List (List Word)). l ++ run.words ∷ []) has.spoken;
   said =
-      ap joined (map-append (λ (r : Run). r.sent) has.runs (run ∷ []))
+      ap join_replies (map-append (λ (r : Run). r.sent) has.runs (run ∷ []))
       ∙ joined_push (map (λ (r : Run). r.sent) has.runs) run.sent
       ∙ ap (λ (l : Sent). l ++ run.sent) has.said;
 }

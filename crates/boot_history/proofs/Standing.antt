@@ -9,11 +9,11 @@ use Rattle.boot_folder.specs.declared.folders.Folders.{Folders}
 use Rattle.boot_folder.proofs.EntryFiles.{entries_menu}
 use Rattle.boot_folder.proofs.Members.{none_in}
 use Rattle.boot_machine.specs.Disk.{Files}
-use Rattle.boot_machine.specs.Sent.{latest}
+use Rattle.boot_machine.specs.Sent.{latest_view}
 use Rattle.menu_order.specs.declared.item.MenuItem.{MenuItem}
 use Rattle.tool_words.specs.declared.fault.UsageReason.{UsageReason}
 use Rattle.entry_commands.specs.GoodEntries.{HasGoodEntry}
-use Rattle.entry_commands.specs.Listing.{menu_said}
+use Rattle.entry_commands.specs.Listing.{menu_result}
 use Rattle.boot_commands.proofs.Sparing.{kept}
 use Rattle.boot_run.specs.Lines.{line_deed}
 use Rattle.boot_run.specs.Step.{view_after}
@@ -49,7 +49,7 @@ module _ (folders : Folders) (path : Path) where
       → KeptFrom (HasGoodEntry folders path) state runs
   kept_from state [] spare = tt
   kept_from state (run ∷ runs) spare = (
-    λ entry. after_asked (latest state) (asked_at (latest state) run) spare.0 entry,
+    λ entry. after_asked (latest_view state) (asked_at (latest_view state) run) spare.0 entry,
     kept_from run.left runs spare.1,
   )
 
@@ -60,7 +60,7 @@ good_entry_law folders path first before later start history all spare =
 
 -- ---- the list
 
-some_said : (menu : List MenuItem) (item : MenuItem) → Contains menu item → menu_said menu ≡ Ok (list_text menu)
+some_said : (menu : List MenuItem) (item : MenuItem) → Contains menu item → menu_result menu ≡ Ok (list_text menu)
 some_said [] item among = absurd (none_in item among)
 some_said (first ∷ later) item among = refl
 

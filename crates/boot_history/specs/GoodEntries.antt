@@ -5,12 +5,12 @@ use Rattle.boot_folder.specs.Entries.{entry_count}
 use Rattle.boot_folder.specs.Listing.{list_text}
 use Rattle.boot_folder.specs.declared.folders.Folders.{Folders}
 use Rattle.boot_machine.specs.Disk.{Files}
-use Rattle.boot_machine.specs.Sent.{latest}
+use Rattle.boot_machine.specs.Sent.{latest_view}
 use Rattle.menu_order.specs.declared.item.MenuItem.{MenuItem}
 use Rattle.tool_words.specs.declared.fault.UsageReason.{UsageReason}
 use Rattle.entry_commands.specs.Folders.{folders_of}
 use Rattle.entry_commands.specs.GoodEntries.{HasGoodEntry}
-use Rattle.entry_commands.specs.Listing.{list_said}
+use Rattle.entry_commands.specs.Listing.{list_result}
 use Rattle.boot_commands.specs.Sparing.{Spares}
 use Rattle.boot_run.specs.declared.line.Line.{Line}
 use Rattle.boot_run.specs.declared.line.Line.TheVariants.{Plain, Numbered, Unread, TooLong}
@@ -35,7 +35,7 @@ AsksSpare path (Err reason) = Unit {0}
 -- and each run from this state on, by what its words ask for at its start
 abbrev pub SpareFrom : Path → List Files → List Run → Type 0
 SpareFrom path state [] = Unit {0}
-SpareFrom path state (run ∷ runs) = AsksSpare path (asked_at (latest state) run) × SpareFrom path run.left runs
+SpareFrom path state (run ∷ runs) = AsksSpare path (asked_at (latest_view state) run) × SpareFrom path run.left runs
 
 -- Where a good entry stands at a path in each view at the start of some run of a history, and no command from that run
 -- on is told to build over it, to unlink it, or to bless it as bad or as indeterminate, one stands there in each later
@@ -50,7 +50,7 @@ GoodEntryLaw =
 -- the list of an ESP is the text of a menu, and the entry at this path is in it
 pub record IsListed (view : Files) (esp : List ℕ) (path : Path) : Type 0 where
   pub menu : List MenuItem
-  pub text : list_said view esp ≡ Ok (list_text menu)
+  pub text : list_result view esp ≡ Ok (list_text menu)
   pub item : MenuItem
   pub at : item.path ≡ path
   pub among : Contains menu item

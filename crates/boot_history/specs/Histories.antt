@@ -6,10 +6,10 @@ use Rattle.tool_words.specs.Grammar.{Word}
 use Rattle.tool_words.specs.declared.fault.UsageReason.{UsageReason}
 use Rattle.boot_machine.specs.Disk.{Files, State, IsIn}
 use Rattle.boot_machine.specs.Images.{IsSettled}
-use Rattle.boot_machine.specs.Sent.{Sent, latest, recovered_views}
+use Rattle.boot_machine.specs.Sent.{Sent, latest_view, recovered_views}
 use Rattle.command_plans.specs.Deeds.{End}
-use Rattle.boot_run.specs.Asked.{asked}
-use Rattle.boot_run.specs.Step.{IsOneView, Leads, joined}
+use Rattle.boot_run.specs.AskedLines.{asked_lines}
+use Rattle.boot_run.specs.Step.{IsOneView, Leads, join_replies}
 use Rattle.boot_run.specs.declared.line.Line.{Line}
 
 -- a run: its words and its standard input, what it printed, how it ended, and the views that it left
@@ -22,13 +22,13 @@ pub record Run : Type 0 where
 
 -- what a run is to do that begins where boot sees this view
 abbrev pub asked_at : Files → Run → Result (List Line) UsageReason
-asked_at view run = asked run.words run.input view
+asked_at view run = asked_lines run.words run.input view
 
 -- From each state on, a run does what its words ask for at the last view, and leaves some view.
 abbrev pub IsHistory : List Files → List Run → Type 0
 IsHistory state [] = Unit {0}
 IsHistory state (run ∷ runs) =
-    Leads state (asked_at (latest state) run) run.left run.sent run.end × IsHistory run.left runs
+    Leads state (asked_at (latest_view state) run) run.left run.sent run.end × IsHistory run.left runs
 
 -- the state that these runs leave
 abbrev pub state_after : List Files → List Run → List Files
@@ -60,4 +60,4 @@ pub record HasHistory (words : List (List Word)) (old new : List Files) (sent : 
   pub history : IsHistory old runs
   pub left : state_after old runs ≡ new
   pub spoken : map (λ run. run.words) runs ≡ words
-  pub said : joined (map (λ run. run.sent) runs) ≡ sent
+  pub said : join_replies (map (λ run. run.sent) runs) ≡ sent

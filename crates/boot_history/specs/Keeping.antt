@@ -2,7 +2,7 @@
 use Rattle.std.specs.Prelude.{◌≡◌, ℕ, Bool, true, List, [], ◌∷◌, ◌++◌, take, Result, Ok, Err}
 use Rattle.tool_words.specs.declared.fault.UsageReason.{UsageReason}
 use Rattle.boot_machine.specs.Disk.{Files}
-use Rattle.boot_machine.specs.Sent.{latest}
+use Rattle.boot_machine.specs.Sent.{latest_view}
 use Rattle.boot_run.specs.Step.{view_after}
 use Rattle.boot_run.specs.declared.line.Line.{Line}
 use Rattle.boot_history.specs.Histories.{Run, IsHistory, IsStart, AllAlong, AllViews, asked_at, state_after}
@@ -20,7 +20,7 @@ KeptBy P view (Err reason) = Unit {0}
 abbrev pub KeptFrom : (Files → Type 0) → List Files → List Run → Type 0
 KeptFrom P state [] = Unit {0}
 KeptFrom P state (run ∷ runs) =
-    (P (latest state) → KeptBy P (latest state) (asked_at (latest state) run)) × KeptFrom P run.left runs
+    (P (latest_view state) → KeptBy P (latest_view state) (asked_at (latest_view state) run)) × KeptFrom P run.left runs
 
 -- Where each view at the start of some run of a history meets a test, and each run from there on keeps it, each later
 -- view meets it.

@@ -2,11 +2,11 @@
 use Rattle.std.specs.Prelude.{◌≡◌, ◌⊎◌, ℕ, ◌+◌, ◌≤◌, List, [], ◌∷◌, length, take, Result, Ok, Err}
 use Rattle.tool_words.specs.declared.fault.UsageReason.{UsageReason}
 use Rattle.boot_machine.specs.Disk.{Files, IsIn}
-use Rattle.boot_machine.specs.Rows.{tagged}
-use Rattle.boot_machine.specs.Sent.{Sent, IsPrefix, latest}
+use Rattle.boot_machine.specs.Rows.{on_channel}
+use Rattle.boot_machine.specs.Sent.{Sent, IsPrefix, latest_view}
 use Rattle.boot_machine.specs.declared.machine.Channel.TheVariants.{Err as ErrChannel}
-use Rattle.boot_run.specs.Asked.{usage_line}
-use Rattle.boot_run.specs.Step.{Acknowledges, joined, replies, view_after}
+use Rattle.boot_run.specs.AskedLines.{usage_line}
+use Rattle.boot_run.specs.Step.{Acknowledges, join_replies, replies, view_after}
 use Rattle.boot_run.specs.declared.line.Line.{Line}
 use Rattle.boot_history.specs.Histories.{Run, IsHistory, IsStart, asked_at, state_after}
 
@@ -17,7 +17,7 @@ pub record MayDo (view : Files) (lines : List Line) (sent : Sent) (n : ℕ) : Ty
   pub is_acked : Acknowledges (replies view lines) sent acked
   pub one_more : (n ≡ acked) ⊎ (n ≡ acked + 1)
   pub within : n ≤ length lines
-  pub front : IsPrefix sent (joined (replies view lines))
+  pub front : IsPrefix sent (join_replies (replies view lines))
 
 -- words that are no command do nothing, and a first part of the usage line is printed
 pub record DoesNothing (line : Sent) (sent : Sent) (n : ℕ) : Type 0 where
@@ -26,7 +26,7 @@ pub record DoesNothing (line : Sent) (sent : Sent) (n : ℕ) : Type 0 where
 
 abbrev pub MayDoBy : Files → Result (List Line) UsageReason → Sent → ℕ → Type 0
 MayDoBy view (Ok lines) sent n = MayDo view lines sent n
-MayDoBy view (Err reason) sent n = DoesNothing (tagged ErrChannel (usage_line reason)) sent n
+MayDoBy view (Err reason) sent n = DoesNothing (on_channel ErrChannel (usage_line reason)) sent n
 
 -- the view after the first n of the lines that are asked for
 abbrev pub after_some : Files → Result (List Line) UsageReason → ℕ → Files
@@ -58,4 +58,4 @@ pub record IsDueTo (first : Files) (runs : List Run) (view : Files) : Type 0 whe
 abbrev pub HistoryLaw : Type 0
 HistoryLaw =
     (first : List Files) (runs : List Run) → IsStart first → IsHistory first runs
-    → (view : Files) → IsIn view (state_after first runs) → IsDueTo (latest first) runs view
+    → (view : Files) → IsIn view (state_after first runs) → IsDueTo (latest_view first) runs view

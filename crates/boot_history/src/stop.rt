@@ -4,7 +4,7 @@ ghost use Rattle.boot_machine.specs.Images.{IsFirm, IsSettled};
 ghost use Rattle.boot_machine.specs.Sent.{Adds, recovered_views};
 ghost use Rattle.command_plans.specs.Deeds.{Stopped};
 ghost use Rattle.memory_machine.specs.Memory.{mem_state};
-ghost use Rattle.boot_run.specs.Asked.{asked_of};
+ghost use Rattle.boot_run.specs.AskedLines.{asked_lines_of};
 ghost use Rattle.boot_run.specs.Step.{Leads};
 
 use boot_run::run;
@@ -23,7 +23,7 @@ pub fn run_and_stop(
 ) -> Result<MemMachine, AllocError>
     ensures leads { IfOk result (λ left. IsFirm (mem_state machine)
         → Adds (mem_state machine).printed (mem_state left).printed (λ sent. Leads
-        (recovered_views (mem_state machine)) (asked_of (map string_bytes words.now.items) (mem_state machine))
+        (recovered_views (mem_state machine)) (asked_lines_of (map string_bytes words.now.items) (mem_state machine))
         (recovered_views (mem_state left)) sent Stopped)) }
     ensures settled { IfOk result (λ left. IsSettled (mem_state left)) }
 {

@@ -27,7 +27,7 @@ fn check_printed(
     wanted: &str,
 ) -> Result<(), Fail> {
     let mut bytes = Vec::new(alloc);
-    for printed in machine.printed() {
+    for printed in machine.printed_bytes() {
         bytes.push(printed.byte)?;
     }
     assert_eq!(rt; str::from_utf8(bytes.as_slice()), Ok(wanted));

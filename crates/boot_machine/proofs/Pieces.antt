@@ -2,22 +2,22 @@
 use Rattle.std.proofs.Common.{◌≡◌, ◌+◌, ℕ, List, [], ◌++◌, drop, sym, ap, ◌∙◌, arith}
 use Rattle.std.specs.Prelude.{Result, Ok, Err, OnErr}
 use Rattle.std.proofs.lemmas.List.{drop-drop}
-use Rattle.boot_machine.specs.Reading.{zero_filled}
-use Rattle.boot_machine.proofs.Filling.{zero_filled-inside}
-use Rattle.boot_machine.proofs.Ranges.{zero_filled-add}
+use Rattle.boot_machine.specs.Reading.{fill_with_zeros}
+use Rattle.boot_machine.proofs.Filling.{fill_with_zeros-inside}
+use Rattle.boot_machine.proofs.Ranges.{fill_with_zeros-add}
 
 -- no byte of a range
-pub none_of : (bytes : List ℕ) → [] ≡ zero_filled bytes 0
-none_of bytes = sym (zero_filled-inside bytes 0 (omega arith))
+pub none_of : (bytes : List ℕ) → [] ≡ fill_with_zeros bytes 0
+none_of bytes = sym (fill_with_zeros-inside bytes 0 (omega arith))
 
 -- the next piece of it, of a file that has kept its bytes
-pub piece_more : (file seen first next : List ℕ) (start done count : ℕ) → seen ≡ file → first ≡ zero_filled (drop start file) done → next ≡ zero_filled (drop (start + done) seen) count
-    → first ++ next ≡ zero_filled (drop start file) (done + count)
+pub piece_more : (file seen first next : List ℕ) (start done count : ℕ) → seen ≡ file → first ≡ fill_with_zeros (drop start file) done → next ≡ fill_with_zeros (drop (start + done) seen) count
+    → first ++ next ≡ fill_with_zeros (drop start file) (done + count)
 piece_more file seen first next start done count same is more =
     ap (λ (l : List ℕ). l ++ next) is
-    ∙ ap (λ (l : List ℕ). zero_filled (drop start file) done ++ l) (more ∙ ap (λ (f : List ℕ). zero_filled (drop (start + done) f) count) same)
-    ∙ ap (λ (l : List ℕ). zero_filled (drop start file) done ++ zero_filled l count) (sym (drop-drop done start file))
-    ∙ sym (zero_filled-add (drop start file) done count)
+    ∙ ap (λ (l : List ℕ). fill_with_zeros (drop start file) done ++ l) (more ∙ ap (λ (f : List ℕ). fill_with_zeros (drop (start + done) f) count) same)
+    ∙ ap (λ (l : List ℕ). fill_with_zeros (drop start file) done ++ fill_with_zeros l count) (sym (drop-drop done start file))
+    ∙ sym (fill_with_zeros-add (drop start file) done count)
 
 -- what holds holds after an error
 pub after_error : {T E : Type 0} (result : Result T E) (P : Type 0) → P → OnErr result P

@@ -4,57 +4,57 @@ use Rattle.std.specs.Prelude.{replicate}
 use Rattle.std.proofs.Math.Seq.{take-add}
 use Rattle.std.proofs.lemmas.Bool.{cases_lt}
 use Rattle.std.proofs.lemmas.List.{take_all, drop_all, drop-drop, replicate-append-replicate}
-use Rattle.boot_machine.specs.Reading.{between, zero_filled}
-use Rattle.boot_machine.proofs.Filling.{zero_filled-inside}
+use Rattle.boot_machine.specs.Reading.{bytes_between, fill_with_zeros}
+use Rattle.boot_machine.proofs.Filling.{fill_with_zeros-inside}
 
-inside_add : (xs : List ℕ) (a b : ℕ) → a ≤ length xs → zero_filled xs (a + b) ≡ zero_filled xs a ++ zero_filled (drop a xs) b
+inside_add : (xs : List ℕ) (a b : ℕ) → a ≤ length xs → fill_with_zeros xs (a + b) ≡ fill_with_zeros xs a ++ fill_with_zeros (drop a xs) b
 inside_add xs a b le =
     let rest : a + b - length xs ≡ b - length (drop a xs) = omega (arith, length-drop a xs) in
     ap (λ (l : List ℕ). l ++ replicate (a + b - length xs) 0) (take-add a b xs)
     ∙ ap (λ (n : ℕ). (take a xs ++ take b (drop a xs)) ++ replicate n 0) rest
     ∙ append_assoc (take a xs) (take b (drop a xs)) _
-    ∙ ap (λ (l : List ℕ). l ++ zero_filled (drop a xs) b) (sym (zero_filled-inside xs a le))
+    ∙ ap (λ (l : List ℕ). l ++ fill_with_zeros (drop a xs) b) (sym (fill_with_zeros-inside xs a le))
 
-past_add : (xs : List ℕ) (a b : ℕ) → length xs < a → zero_filled xs (a + b) ≡ zero_filled xs a ++ zero_filled (drop a xs) b
+past_add : (xs : List ℕ) (a b : ℕ) → length xs < a → fill_with_zeros xs (a + b) ≡ fill_with_zeros xs a ++ fill_with_zeros (drop a xs) b
 past_add xs a b lt =
     let rest : a + b - length xs ≡ a - length xs + b = omega arith in
     let none : drop a xs ≡ [] = drop_all a xs (omega arith) in
     let all : b - 0 ≡ b = omega arith in
-    let zeros : zero_filled [] b ≡ replicate b 0 = ap (λ (l : List ℕ). l ++ replicate (b - 0) 0) (take_all b [] (omega arith)) ∙ ap (λ (n : ℕ). replicate n 0) all in
+    let zeros : fill_with_zeros [] b ≡ replicate b 0 = ap (λ (l : List ℕ). l ++ replicate (b - 0) 0) (take_all b [] (omega arith)) ∙ ap (λ (n : ℕ). replicate n 0) all in
     ap (λ (l : List ℕ). l ++ replicate (a + b - length xs) 0) (take_all (a + b) xs (omega arith) ∙ sym (take_all a xs (omega arith)))
     ∙ ap (λ (n : ℕ). take a xs ++ replicate n 0) rest
     ∙ ap (λ (l : List ℕ). take a xs ++ l) (sym (replicate-append-replicate (a - length xs) b 0))
     ∙ sym (append_assoc (take a xs) (replicate (a - length xs) 0) (replicate b 0))
-    ∙ ap (λ (l : List ℕ). zero_filled xs a ++ l) (sym (ap (λ (l : List ℕ). zero_filled l b) none ∙ zeros))
+    ∙ ap (λ (l : List ℕ). fill_with_zeros xs a ++ l) (sym (ap (λ (l : List ℕ). fill_with_zeros l b) none ∙ zeros))
 
 -- bytes in two pieces
-pub zero_filled-add : (xs : List ℕ) (a b : ℕ) → zero_filled xs (a + b) ≡ zero_filled xs a ++ zero_filled (drop a xs) b
-zero_filled-add xs a b = elim (cases_lt (length xs) a) [ inl lt ↦ past_add xs a b lt | inr le ↦ inside_add xs a b le ]
+pub fill_with_zeros-add : (xs : List ℕ) (a b : ℕ) → fill_with_zeros xs (a + b) ≡ fill_with_zeros xs a ++ fill_with_zeros (drop a xs) b
+fill_with_zeros-add xs a b = elim (cases_lt (length xs) a) [ inl lt ↦ past_add xs a b lt | inr le ↦ inside_add xs a b le ]
 
-pub between_none : (file : List ℕ) (at : ℕ) → between file at at ≡ []
+pub between_none : (file : List ℕ) (at : ℕ) → bytes_between file at at ≡ []
 between_none file at =
     let none : at - at ≡ 0 = omega arith in
-    ap (zero_filled (drop at file)) none ∙ zero_filled-inside (drop at file) 0 (omega arith)
+    ap (fill_with_zeros (drop at file)) none ∙ fill_with_zeros-inside (drop at file) 0 (omega arith)
 
 pub between_more : (file seen : List ℕ) (from at count : ℕ) → from ≤ at → seen ≡ file
-    → between file from at ++ zero_filled (drop at seen) count ≡ between file from (at + count)
+    → bytes_between file from at ++ fill_with_zeros (drop at seen) count ≡ bytes_between file from (at + count)
 between_more file seen from at count le same =
     let all : at - from + count ≡ at + count - from = omega arith in
     let back : at - from + from ≡ at = omega arith in
     let rest : drop (at - from) (drop from file) ≡ drop at file = drop-drop (at - from) from file ∙ ap (λ (n : ℕ). drop n file) (omega arith) in
-    ap (λ (l : List ℕ). between file from at ++ zero_filled (drop at l) count) same
-    ∙ ap (λ (l : List ℕ). between file from at ++ zero_filled l count) (sym rest)
-    ∙ sym (zero_filled-add (drop from file) (at - from) count)
-    ∙ ap (zero_filled (drop from file)) all
+    ap (λ (l : List ℕ). bytes_between file from at ++ fill_with_zeros (drop at l) count) same
+    ∙ ap (λ (l : List ℕ). bytes_between file from at ++ fill_with_zeros l count) (sym rest)
+    ∙ sym (fill_with_zeros-add (drop from file) (at - from) count)
+    ∙ ap (fill_with_zeros (drop from file)) all
 
 -- up to the end, or no bytes at all
-pub between_all : (file : List ℕ) (from to at : ℕ) → from ≤ at → at - from ≤ to - from → to ≤ at → between file from at ≡ between file from to
+pub between_all : (file : List ℕ) (from to at : ℕ) → from ≤ at → at - from ≤ to - from → to ≤ at → bytes_between file from at ≡ bytes_between file from to
 between_all file from to at a b c =
     let same : at - from ≡ to - from = omega arith in
-    ap (zero_filled (drop from file)) same
+    ap (fill_with_zeros (drop from file)) same
 
 -- all of a file
-pub between_whole : (file : List ℕ) (size : ℕ) → size ≡ length file → between file 0 size ≡ file
+pub between_whole : (file : List ℕ) (size : ℕ) → size ≡ length file → bytes_between file 0 size ≡ file
 between_whole file size long =
     let all : size - 0 ≡ size = omega arith in
-    ap (zero_filled file) all ∙ zero_filled-inside file size (omega (arith, long)) ∙ take_all size file (omega (arith, long))
+    ap (fill_with_zeros file) all ∙ fill_with_zeros-inside file size (omega (arith, long)) ∙ take_all size file (omega (arith, long))

@@ -4,7 +4,7 @@ use Rattle.std.proofs.lemmas.Bool.{cases_Bool}
 use Rattle.std.specs.FinMap as map
 use Rattle.std.specs.FinSet as set
 use Rattle.boot_base.specs.Paths.{Path, is_temp}
-use Rattle.boot_machine.specs.Disk.{Files, Paths, has, is_shown, view, same}
+use Rattle.boot_machine.specs.Disk.{Files, Paths, has, is_shown, view, is_same_path}
 use Rattle.boot_machine.specs.Images.{IsImageOf}
 use Rattle.boot_machine.specs.Rows.{contents, append_to, move_in}
 use Rattle.boot_machine.specs.Maps.{cases_same, same_files, get-insert, get-insert_here, get-insert_apart, get-remove, get-remove_here, get-remove_apart, get-retain}
@@ -25,7 +25,7 @@ view_from m n alike =
       | inr not_temp ↦ rw (get-view m q, get-view n q, shown_if_not_temp m q, shown_if_not_temp n q, not_temp) (alike q not_temp)
     ])
 
-pub temp_apart : (q p : Path) → is_temp p ≡ true → is_temp q ≡ false → same q p ≡ false
+pub temp_apart : (q p : Path) → is_temp p ≡ true → is_temp q ≡ false → is_same_path q p ≡ false
 temp_apart q p temp not_temp = elim (cases_same q p) [ inl is ↦ absurd (cc (temp, not_temp, ap is_temp is)) | inr apart ↦ apart ]
 
 pub view-insert_temp : (m : Files) (p : Path) (v : List ℕ) → is_temp p ≡ true → view (map.insert m p v) ≡ view m
@@ -34,14 +34,14 @@ view-insert_temp m p v temp = view_from _ _ (λ q not_temp. get-insert_apart m p
 pub view-remove_temp : (m : Files) (p : Path) → is_temp p ≡ true → view (map.remove m p) ≡ view m
 view-remove_temp m p temp = view_from _ _ (λ q not_temp. get-remove_apart m p q (temp_apart q p temp not_temp))
 
-pub get-append_to : (m : Files) (p : Path) (bytes : List ℕ) (q : Path) → map.get (append_to p bytes m) q ≡ cond (same q p && has m p) (Some (contents m p ++ bytes)) (map.get m q)
+pub get-append_to : (m : Files) (p : Path) (bytes : List ℕ) (q : Path) → map.get (append_to p bytes m) q ≡ cond (is_same_path q p && has m p) (Some (contents m p ++ bytes)) (map.get m q)
 unfolding append_to
 get-append_to m p bytes q = elim (cases_Bool (has m p)) [
-  | inl there ↦ rw (there) (elim (cases_Bool (same q p)) [
+  | inl there ↦ rw (there) (elim (cases_Bool (is_same_path q p)) [
     | inl here ↦ rw (get-insert m p (contents m p ++ bytes) q, here) refl
     | inr apart ↦ rw (get-insert m p (contents m p ++ bytes) q, apart) refl
   ])
-  | inr none ↦ rw (none) (elim (cases_Bool (same q p)) [ inl here ↦ rw here refl | inr apart ↦ rw apart refl ])
+  | inr none ↦ rw (none) (elim (cases_Bool (is_same_path q p)) [ inl here ↦ rw here refl | inr apart ↦ rw apart refl ])
 ]
 
 pub view-append_to : (m : Files) (p : Path) (bytes : List ℕ) → is_temp p ≡ true → view (append_to p bytes m) ≡ view m
@@ -63,7 +63,7 @@ view-move_in_temp m from to temp not_temp =
 pub view-remove : (m : Files) (p : Path) → is_temp p ≡ false → view (map.remove m p) ≡ map.remove (view m) p
 view-remove m p not_temp =
     same_files _ _ (λ q. rw (get-view (map.remove m p) q, get-remove (view m) p q, get-view m q, shown_if_not_temp (map.remove m p) q, shown_if_not_temp m q, get-remove m p q)
-    (elim (cases_Bool (same q p)) [
+    (elim (cases_Bool (is_same_path q p)) [
       | inl one ↦ rw one (elim (cases_Bool (is_temp q)) [ inl temp ↦ rw temp refl | inr shown ↦ rw shown refl ])
       | inr two ↦ rw two refl
     ]))

@@ -12,8 +12,8 @@ abbrev pub path_cmp : Path → Path → Ordering
 path_cmp = slice_cmp nat_cmp
 
 -- the two paths are one
-abbrev pub same : Path → Path → Bool
-same q p = eq_by_cmp path_cmp q p
+abbrev pub is_same_path : Path → Path → Bool
+is_same_path q p = eq_by_cmp path_cmp q p
 
 -- files by their paths
 abbrev pub Files : Type 0
@@ -39,12 +39,13 @@ of_intent None test = false
 of_intent (Some names) test = test names.0 names.1
 
 -- the two names of the intent, the old and the new one, where an intent is there in the right form
-abbrev pub intended : Files → Option (Path × Path)
-intended files = option_and_then read_intent (map.get files intent)
+abbrev pub intent_names : Files → Option (Path × Path)
+intent_names files = option_and_then read_intent (map.get files intent)
 
 -- the rename that the intent names has left both names, and this is the old one
 unfoldable pub is_left : Files → Path → Bool
-is_left files path = of_intent (intended files) (λ from to. same path from && has files from && has files to)
+is_left files path =
+    of_intent (intent_names files) (λ from to. is_same_path path from && has files from && has files to)
 
 -- no rename is half done
 pub record HasNoHalfRename (files : Files) : Type 0 where
@@ -52,7 +53,7 @@ pub record HasNoHalfRename (files : Files) : Type 0 where
 
 -- the file at this path is there still once a recovery has run, and isn't a temporary one
 unfoldable pub is_recovered : Files → Path → Bool
-is_recovered files path = not (is_temp path) && not (same path intent) && not (is_left files path)
+is_recovered files path = not (is_temp path) && not (is_same_path path intent) && not (is_left files path)
 
 -- The recovered view: what `view` will be once a recovery has run. It has neither the intent nor the old name of a
 -- rename that is half done. What a stop may leave counts by it. Where no intent is there, as whenever a command reads,
@@ -62,7 +63,7 @@ recovered_view files = map.retain_keys files (is_recovered files)
 
 -- the intent names this path
 unfoldable pub is_intended : Files → Path → Bool
-is_intended files path = of_intent (intended files) (λ from to. same path from || same path to)
+is_intended files path = of_intent (intent_names files) (λ from to. is_same_path path from || is_same_path path to)
 
 pub record State : Type 0 where
   pub files : Files

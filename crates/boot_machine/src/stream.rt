@@ -1,7 +1,7 @@
 //! The loop that streams a range of a file.
 ghost use Rattle.std.specs.Prelude.{◌≡◌, ◌<◌, ◌≤◌, ◌+◌, ◌^◌, length, drop, IfOk, OnOk, OnErr, IsTrue};
 ghost use Rattle.boot_machine.specs.Counts.{CountsDisk};
-ghost use Rattle.boot_machine.specs.Reading.{TakesAtMost, TakesPiece, zero_filled};
+ghost use Rattle.boot_machine.specs.Reading.{TakesAtMost, TakesPiece, fill_with_zeros};
 ghost use Rattle.boot_machine.specs.Rows.{contents};
 ghost use Rattle.boot_machine.specs.Streams.{TookSome, TookWhere};
 
@@ -29,7 +29,8 @@ pub fn stream_range<M: Machine, S: ByteSink<M>>(
     requires can { S.can_take sink.old machine.old }
     ensures length { length buffer.new ≡ length buffer.old }
     ensures took { OnOk result (TookWhere S.took (IsTrue M.tells)
-        (zero_filled (drop start (contents (M.state machine.old).files path.now)) count) sink.old machine.old sink.new
+        (fill_with_zeros (drop start (contents (M.state machine.old).files path.now)) count) sink.old machine.old
+        sink.new
         machine.new) }
     ensures some { OnErr result (IsTrue M.tells → TookSome S.took sink.old machine.old sink.new machine.new) }
     ensures counts { CountsDisk result (M.counts machine.old) (M.counts machine.new) }
@@ -60,7 +61,7 @@ fn stream_piece<M: Machine, S: ByteSink<M>>(
     ensures grows { IfOk result (λ count. 0 < count) }
     ensures within { IfOk result (λ count. count ≤ left) }
     ensures took { IfOk result (λ count. TookWhere S.took (IsTrue M.tells)
-        (zero_filled (drop at (contents (M.state machine.old).files path.now)) count) sink.old machine.old sink.new
+        (fill_with_zeros (drop at (contents (M.state machine.old).files path.now)) count) sink.old machine.old sink.new
         machine.new) }
     ensures some { OnErr result (IsTrue M.tells → TookSome S.took sink.old machine.old sink.new machine.new) }
     ensures counts { CountsDisk result (M.counts machine.old) (M.counts machine.new) }

@@ -4,8 +4,8 @@ use Rattle.std.proofs.lemmas.List.{length-append, take-take}
 use Rattle.std.proofs.lemmas.List.Elements.{All-nil, All-take}
 use Rattle.boot_machine.specs.Disk.{Files, IsRested, State}
 use Rattle.boot_machine.specs.Moments.{Timeline}
-use Rattle.boot_machine.specs.Sent.{Sent, Adds, SameButInput, latest, recovered_now, recovered_views}
-use Rattle.boot_machine.proofs.Seeing.{latest-recovered_views}
+use Rattle.boot_machine.specs.Sent.{Sent, Adds, SameButInput, latest_view, recovered_now, recovered_views}
+use Rattle.boot_machine.proofs.Seeing.{latest_view-recovered_views}
 use Rattle.command_plans.specs.Deeds.{Deed, NoMemory}
 use Rattle.command_plans.specs.Performs.{end_of, stop_rests, stop_temps}
 use Rattle.install_steps.specs.Steps.{NoNewTemp}
@@ -17,7 +17,7 @@ use Rattle.boot_run.specs.History.{BreaksBehind, printed_by}
 use Rattle.boot_run.specs.Lines.{TidiedBy, has_command, is_unread, line_deed}
 use Rattle.boot_run.specs.RunBy.{CleanBehind, CleanBy, LeavesClean}
 use Rattle.boot_run.specs.RunsTo.{PerformsBehind, at_part}
-use Rattle.boot_run.specs.Step.{Acknowledges, NoneEmpty, joined as end_to_end, replies}
+use Rattle.boot_run.specs.Step.{Acknowledges, NoneEmpty, join_replies as end_to_end, replies}
 use Rattle.boot_run.specs.declared.ended.Ended.{Ended}
 use Rattle.boot_run.specs.declared.ended.Ended.TheVariants.{Done, Refused, Usage, Disk, Pipe, Memory}
 use Rattle.boot_run.specs.declared.line.Line.{Line}
@@ -49,7 +49,7 @@ acked_most s lines j k sent acked short = fewer (recovered_now s) lines k j (non
 
 -- what was said is so long
 said_length : (s : State) (lines : List Line) (i : ℕ) → length (printed_by (recovered_views s) (take i lines)) ≡ length (end_to_end (take i (replies (recovered_now s) lines)))
-said_length s lines i = ap length (printed_by-is (recovered_views s) (take i lines) ∙ ap (λ v. end_to_end (replies v (take i lines))) (latest-recovered_views s) ∙ ap end_to_end (take-replies (recovered_now s) lines i))
+said_length s lines i = ap length (printed_by-is (recovered_views s) (take i lines) ∙ ap (λ v. end_to_end (replies v (take i lines))) (latest_view-recovered_views s) ∙ ap end_to_end (take-replies (recovered_now s) lines i))
 
 -- a command among fewer lines is among more
 has_more : (lines : List Line) (k : ℕ) → has_command (take k lines) ≡ true → has_command lines ≡ true
@@ -141,7 +141,7 @@ module _ {D : Type 0} (time : Timeline D) (state : D → State) where
 
       more : length (printed_by (recovered_views (state old)) (take (i + 1) lines)) ≡ length (printed_by (recovered_views (state old)) (take i lines)) + length deed.sent
       more = ap length (said_more (recovered_views (state old)) lines i line within line_is) ∙ length-append (printed_by (recovered_views (state old)) (take i lines)) _
-          ∙ ap (λ v. length (printed_by (recovered_views (state old)) (take i lines)) + length (line_deed v line).sent) (sym (ap latest so_far.all.state) ∙ latest-recovered_views (state mid))
+          ∙ ap (λ v. length (printed_by (recovered_views (state old)) (take i lines)) + length (line_deed v line).sent) (sym (ap latest_view so_far.all.state) ∙ latest_view-recovered_views (state mid))
 
       -- a pipe failed with this printed of the reply
       at_pipe : (part : Sent) → (state new).printed ≡ (state mid).printed ++ part → length part ≤ length deed.sent → LeavesClean (take i lines) (state new)

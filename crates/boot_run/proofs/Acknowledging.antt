@@ -5,7 +5,7 @@ use Rattle.std.proofs.lemmas.List.{append-nil}
 use Rattle.boot_machine.specs.Disk.{Files, State, IsIn, recovered_view}
 use Rattle.boot_machine.specs.Images.{IsImage, IsFirm}
 use Rattle.boot_machine.specs.Moments.{Timeline, EachSince}
-use Rattle.boot_machine.specs.Rows.{tagged, with_printed}
+use Rattle.boot_machine.specs.Rows.{on_channel, with_printed}
 use Rattle.boot_machine.specs.Sent.{Sent, Adds, PrintsPart, recovered_views, recovered_now}
 use Rattle.boot_machine.specs.declared.machine.Channel.TheVariants.{Out, Err as ErrChannel}
 use Rattle.boot_machine.proofs.Elapsing.{weaken, joined, at_once}
@@ -17,18 +17,18 @@ use Rattle.command_plans.specs.declared.outcome.Outcome.TheVariants.{Refused}
 use Rattle.command_plans.specs.declared.outcome.Stop.{Stop}
 use Rattle.command_plans.specs.declared.outcome.Stop.TheVariants.{Pipe, Memory}
 use Rattle.command_plans.proofs.Exits.{if_ok, if_err}
-use Rattle.boot_run.specs.Lines.{Prints, unread}
+use Rattle.boot_run.specs.Lines.{Prints, unread_deed}
 use Rattle.boot_run.proofs.Staying.{image_stays}
 
 -- a deed that says this behind its reply
 abbrev pub behind : Deed → (List ℕ) → Deed
-behind deed ack = record { settles = deed.settles; outcome = deed.outcome; after = deed.after; sent = deed.sent ++ tagged Out ack }
+behind deed ack = record { settles = deed.settles; outcome = deed.outcome; after = deed.after; sent = deed.sent ++ on_channel Out ack }
 
 -- breaking off in a deed is breaking off in it with more behind
 pub breaks_more : (deed : Deed) (ack : (List ℕ)) (old new : List Files) (part : Sent) (end : End) → Breaks deed old new part end → Breaks (behind deed ack) old new part end
 breaks_more deed ack old new part end (inl stays) = inl stays
-breaks_more deed ack old new part Stopped (inr acts) = inr (prefix_more part deed.sent (tagged Out ack) acts.0, acts.1)
-breaks_more deed ack old new part PipeFails (inr acts) = inr (prefix_more part deed.sent (tagged Out ack) acts.0, acts.1)
+breaks_more deed ack old new part Stopped (inr acts) = inr (prefix_more part deed.sent (on_channel Out ack) acts.0, acts.1)
+breaks_more deed ack old new part PipeFails (inr acts) = inr (prefix_more part deed.sent (on_channel Out ack) acts.0, acts.1)
 breaks_more deed ack old new part DiskFails (inr acts) = inr acts
 breaks_more deed ack old new part WithoutMemory (inr acts) = absurd acts
 breaks_more deed ack old new part Finished (inr acts) = absurd acts
@@ -49,26 +49,26 @@ module _ {D : Type 0} (time : Timeline D) (state : D → State) (old : D) where
 
   -- the reply to a line that is no command
   pub refused_unread : (new : D) (number : ℕ) (text : (List ℕ)) (result : Result Outcome Stop) (k : ℕ) → ((m : Files) → IsImage (state old) m → IsIn (recovered_view m) (recovered_views (state old))) → IsFirm (state old)
-      → EachSince time old new (PrintsPart (state old) (tagged ErrChannel text)) → state new ≡ with_printed ErrChannel (take k text) (state old)
-      → IsErr result → IsErrAnd result (λ stop. stop ≡ Pipe) → Performs time state end_of old new (unread number text (recovered_now (state old))) result
+      → EachSince time old new (PrintsPart (state old) (on_channel ErrChannel text)) → state new ≡ with_printed ErrChannel (take k text) (state old)
+      → IsErr result → IsErrAnd result (λ stop. stop ≡ Pipe) → Performs time state end_of old new (unread_deed number text (recovered_now (state old))) result
   refused_unread new number text result k sees firm moments shown failed is = record {
     firm = subst IsFirm (sym shown) (record { unseen = firm.unseen; intent = firm.intent; unnamed = firm.unnamed });
     ok = if_ok result _ failed;
-    err = if_err result Pipe _ is (tagged ErrChannel (take k text), ap (λ (s : State). s.printed) shown, inr (tagged_part ErrChannel k text, ap recovered_views shown));
+    err = if_err result Pipe _ is (on_channel ErrChannel (take k text), ap (λ (s : State). s.printed) shown, inr (tagged_part ErrChannel k text, ap recovered_views shown));
     moments = unread_moments new number text sees moments;
   }
     where
-      unread_moments : (new : D) (number : ℕ) (text : (List ℕ)) → ((m : Files) → IsImage (state old) m → IsIn (recovered_view m) (recovered_views (state old))) → EachSince time old new (PrintsPart (state old) (tagged ErrChannel text)) → EachSince time old new (Within (unread number text (recovered_now (state old))))
-      unread_moments new number text sees moments = weaken time state _ (Within (unread number text (recovered_now (state old)))) old new (λ m o prints. (prints.part.0, prints.part.1, inr (prints.part.2, (recovered_view m, refl, sees m prints.stands)))) moments
+      unread_moments : (new : D) (number : ℕ) (text : (List ℕ)) → ((m : Files) → IsImage (state old) m → IsIn (recovered_view m) (recovered_views (state old))) → EachSince time old new (PrintsPart (state old) (on_channel ErrChannel text)) → EachSince time old new (Within (unread_deed number text (recovered_now (state old))))
+      unread_moments new number text sees moments = weaken time state _ (Within (unread_deed number text (recovered_now (state old)))) old new (λ m o prints. (prints.part.0, prints.part.1, inr (prints.part.2, (recovered_view m, refl, sees m prints.stands)))) moments
 
   pub told_unread : (new : D) (number : ℕ) (text : (List ℕ)) → ((m : Files) → IsImage (state old) m → IsIn (recovered_view m) (recovered_views (state old))) → IsFirm (state old)
-      → EachSince time old new (PrintsPart (state old) (tagged ErrChannel text)) → state new ≡ with_printed ErrChannel text (state old)
-      → Performs time state end_of old new (unread number text (recovered_now (state old))) (Ok (Refused number))
+      → EachSince time old new (PrintsPart (state old) (on_channel ErrChannel text)) → state new ≡ with_printed ErrChannel text (state old)
+      → Performs time state end_of old new (unread_deed number text (recovered_now (state old))) (Ok (Refused number))
   told_unread new number text sees firm moments shown = record {
     firm = subst IsFirm (sym shown) (record { unseen = firm.unseen; intent = firm.intent; unnamed = firm.unnamed });
     ok = (refl, ap recovered_views shown, ap (λ (s : State). s.printed) shown);
     err = tt;
-    moments = weaken time state _ (Within (unread number text (recovered_now (state old)))) old new (λ m o prints. (prints.part.0, prints.part.1, inr (prints.part.2, (recovered_view m, refl, sees m prints.stands)))) moments;
+    moments = weaken time state _ (Within (unread_deed number text (recovered_now (state old)))) old new (λ m o prints. (prints.part.0, prints.part.1, inr (prints.part.2, (recovered_view m, refl, sees m prints.stands)))) moments;
   }
 
   module _ (deed : Deed) (ack : (List ℕ)) where
@@ -85,36 +85,36 @@ module _ {D : Type 0} (time : Timeline D) (state : D → State) (old : D) where
     }
 
     both_moments : (mid new : D) (outcome : Outcome) → Performs time state end_of old mid deed (Ok outcome) → ((m : Files) → IsImage (state mid) m → IsIn (recovered_view m) (recovered_views (state mid)))
-        → EachSince time mid new (PrintsPart (state mid) (tagged Out ack)) → EachSince time old new (Within (behind deed ack))
+        → EachSince time mid new (PrintsPart (state mid) (on_channel Out ack)) → EachSince time old new (Within (behind deed ack))
     both_moments mid new outcome performs sees moments = joined time state (Within (behind deed ack)) old mid new (earlier mid performs.moments)
         (weaken time state _ (Within (behind deed ack)) mid new (λ m o prints. (
           deed.sent ++ prints.part.0,
           prints.part.1 ∙ ap (λ (l : Sent). l ++ prints.part.0) performs.ok.2 ∙ append_assoc (state old).printed deed.sent prints.part.0,
-          inr (prefix_behind deed.sent prints.part.0 (tagged Out ack) prints.part.2, (recovered_view m, refl, subst (λ (l : List Files). IsIn (recovered_view m) l) performs.ok.1 (sees m prints.stands))),
+          inr (prefix_behind deed.sent prints.part.0 (on_channel Out ack) prints.part.2, (recovered_view m, refl, subst (λ (l : List Files). IsIn (recovered_view m) l) performs.ok.1 (sees m prints.stands))),
         )) moments)
 
     -- the line behind it couldn't be printed
     pub behind_failed : (mid new : D) (outcome : Outcome) (result : Result Outcome Stop) → IsErr result → IsErrAnd result (λ stop. stop ≡ Pipe) → Performs time state end_of old mid deed (Ok outcome)
-        → ((m : Files) → IsImage (state mid) m → IsIn (recovered_view m) (recovered_views (state mid))) → EachSince time mid new (PrintsPart (state mid) (tagged Out ack)) → (k : ℕ) × (state new ≡ with_printed Out (take k ack) (state mid))
+        → ((m : Files) → IsImage (state mid) m → IsIn (recovered_view m) (recovered_views (state mid))) → EachSince time mid new (PrintsPart (state mid) (on_channel Out ack)) → (k : ℕ) × (state new ≡ with_printed Out (take k ack) (state mid))
         → Performs time state end_of old new (behind deed ack) result
     behind_failed mid new outcome result failed is performs sees moments shown = record {
       firm = subst IsFirm (sym shown.1) (record { unseen = performs.firm.unseen; intent = performs.firm.intent; unnamed = performs.firm.unnamed });
       ok = if_ok result _ failed;
       err = if_err result Pipe _ is (
-        deed.sent ++ tagged Out (take shown.0 ack),
-        ap (λ (s : State). s.printed) shown.1 ∙ ap (λ (l : Sent). l ++ tagged Out (take shown.0 ack)) performs.ok.2 ∙ append_assoc (state old).printed deed.sent (tagged Out (take shown.0 ack)),
-        inr (prefix_behind deed.sent (tagged Out (take shown.0 ack)) (tagged Out ack) (tagged_part Out shown.0 ack), ap recovered_views shown.1 ∙ performs.ok.1),
+        deed.sent ++ on_channel Out (take shown.0 ack),
+        ap (λ (s : State). s.printed) shown.1 ∙ ap (λ (l : Sent). l ++ on_channel Out (take shown.0 ack)) performs.ok.2 ∙ append_assoc (state old).printed deed.sent (on_channel Out (take shown.0 ack)),
+        inr (prefix_behind deed.sent (on_channel Out (take shown.0 ack)) (on_channel Out ack) (tagged_part Out shown.0 ack), ap recovered_views shown.1 ∙ performs.ok.1),
       );
       moments = both_moments mid new outcome performs sees moments;
     }
 
     -- reply and line are printed
     pub behind_done : (mid new : D) (outcome : Outcome) → Performs time state end_of old mid deed (Ok outcome)
-        → ((m : Files) → IsImage (state mid) m → IsIn (recovered_view m) (recovered_views (state mid))) → EachSince time mid new (PrintsPart (state mid) (tagged Out ack)) → state new ≡ with_printed Out ack (state mid)
+        → ((m : Files) → IsImage (state mid) m → IsIn (recovered_view m) (recovered_views (state mid))) → EachSince time mid new (PrintsPart (state mid) (on_channel Out ack)) → state new ≡ with_printed Out ack (state mid)
         → Performs time state end_of old new (behind deed ack) (Ok outcome)
     behind_done mid new outcome performs sees moments shown = record {
       firm = subst IsFirm (sym shown) (record { unseen = performs.firm.unseen; intent = performs.firm.intent; unnamed = performs.firm.unnamed });
-      ok = (performs.ok.0, ap recovered_views shown ∙ performs.ok.1, ap (λ (s : State). s.printed) shown ∙ ap (λ (l : Sent). l ++ tagged Out ack) performs.ok.2 ∙ append_assoc (state old).printed deed.sent (tagged Out ack));
+      ok = (performs.ok.0, ap recovered_views shown ∙ performs.ok.1, ap (λ (s : State). s.printed) shown ∙ ap (λ (l : Sent). l ++ on_channel Out ack) performs.ok.2 ∙ append_assoc (state old).printed deed.sent (on_channel Out ack));
       err = tt;
       moments = both_moments mid new outcome performs sees moments;
     }

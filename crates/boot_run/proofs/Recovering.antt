@@ -6,9 +6,9 @@ use Rattle.boot_machine.specs.Disk.{Files, State, HasOneCandidate, IsIn, IsReste
 use Rattle.boot_machine.specs.Images.{IsFirm, IsSettled}
 use Rattle.boot_machine.specs.Moments.{Timeline, EachSince}
 use Rattle.boot_machine.specs.Reading.{OnlyReads}
-use Rattle.boot_machine.specs.Sent.{Sent, Adds, latest, recovered_now, recovered_views, seen}
+use Rattle.boot_machine.specs.Sent.{Sent, Adds, latest_view, recovered_now, recovered_views, seen}
 use Rattle.boot_machine.proofs.Elapsing.{weaken, joined}
-use Rattle.boot_machine.proofs.Seeing.{candidate_image, from_views, latest-recovered_views, one_view, recovered_now_in, sees}
+use Rattle.boot_machine.proofs.Seeing.{candidate_image, from_views, latest_view-recovered_views, one_view, recovered_now_in, sees}
 use Rattle.boot_machine.proofs.Recovering.{recovered_view-calm}
 use Rattle.install_steps.specs.Recovery.{RecoversTo, SameFrom, SeesSame, StaysOrSame}
 use Rattle.command_plans.specs.Deeds.{Deed, End, Stopped, Finished, NoMemory, DiskFails, PipeFails, left_by, Stays, Acts, Breaks}
@@ -29,8 +29,8 @@ one_is : (x v : Files) → IsIn x (v ∷ []) → x ≡ v
 one_is x v is = ⊎_elim (λ here. here) (λ none. absurd none) is
 
 -- what broke off in a deed from the one recovered_view broke off in it from the state, or the recovery was all
-module _ (v : Files) (old : List Files) (last : latest old ≡ v) (inside : IsIn v old) (deed : Deed) (settles : deed.settles ≡ true) where
-  all_are : (new : List Files) → new ≡ v ∷ [] → AllAre (latest old) new
+module _ (v : Files) (old : List Files) (last : latest_view old ≡ v) (inside : IsIn v old) (deed : Deed) (settles : deed.settles ≡ true) where
+  all_are : (new : List Files) → new ≡ v ∷ [] → AllAre (latest_view old) new
   all_are new is x x_in = one_is x v (subst (IsIn x) is x_in) ∙ sym last
 
   stays_after : (new : List Files) (part : Sent) (end : End) → part ≡ [] → Stays (v ∷ []) new end → BreaksBehind deed old new part end
@@ -60,10 +60,10 @@ module _ {D : Type 0} (time : Timeline D) (state : D → State) where
 
   -- the same of a deed that began with the files as they were
   abbrev StopAfresh : D → Deed → Files → Sent → Type 0
-  StopAfresh old deed image sent = Adds (state old).printed sent (λ part. Breaks deed (latest (recovered_views (state old)) ∷ []) (recovered_view image ∷ []) part Stopped)
+  StopAfresh old deed image sent = Adds (state old).printed sent (λ part. Breaks deed (latest_view (recovered_views (state old)) ∷ []) (recovered_view image ∷ []) part Stopped)
 
   afresh : (old : D) (deed : Deed) (m : Files) (o : Sent) → SeesSame (state old) m o → StopAfresh old deed m o
-  afresh old deed m o same = ([], same.1 ∙ sym (append-nil (state old).printed), inl (refl, (recovered_view m, refl, inl (same.0 ∙ sym (latest-recovered_views (state old))))))
+  afresh old deed m o same = ([], same.1 ∙ sym (append-nil (state old).printed), inl (refl, (recovered_view m, refl, inl (same.0 ∙ sym (latest_view-recovered_views (state old))))))
 
   -- a stop in a recovery is one before the deed
   stop_before : (old : D) (deed : Deed) → IsSound (state old) → IsFirm (state old) → (m : Files) (o : Sent) → StaysOrSame (state old) m o → StopIn old deed m o
@@ -75,8 +75,8 @@ module _ {D : Type 0} (time : Timeline D) (state : D → State) where
 
   module _ (old mid new : D) (deed : Deed) (settles : deed.settles ≡ true) (sound : IsSound (state old)) (firm : IsFirm (state old)) (recovers : RecoversTo time state old mid) (one : HasOneCandidate (state mid))
       (printed : (state mid).printed ≡ (state old).printed) where
-    same_last : latest (recovered_views (state old)) ≡ recovered_now (state mid)
-    same_last = latest-recovered_views (state old) ∙ sym recovers.files
+    same_last : latest_view (recovered_views (state old)) ≡ recovered_now (state mid)
+    same_last = latest_view-recovered_views (state old) ∙ sym recovers.files
 
     inside : IsIn (recovered_now (state mid)) (recovered_views (state old))
     inside = subst (λ x. IsIn x (recovered_views (state old))) (sym recovers.files) (recovered_now_in (state old))
@@ -145,10 +145,10 @@ module _ {D : Type 0} (time : Timeline D) (state : D → State) where
     moments = weaken time state (StaysOrSame (state old)) (StopIn old deed) old new (stop_before old deed sound firm) recovers.moments;
   }
     where
-      all_same : IsSettled (state new) → AllAre (latest (recovered_views (state old))) (recovered_views (state new))
+      all_same : IsSettled (state new) → AllAre (latest_view (recovered_views (state old))) (recovered_views (state new))
       all_same settled v is =
           let from = from_views (candidates (state new)) v is in
-          from.2 ∙ settled.images from.0 (candidate_image (state new) from.0 from.1) ∙ recovers.files ∙ sym (latest-recovered_views (state old))
+          from.2 ∙ settled.images from.0 (candidate_image (state new) from.0 from.1) ∙ recovers.files ∙ sym (latest_view-recovered_views (state old))
 
       none : Sent
       none = []

@@ -1,7 +1,7 @@
 -- No reply is empty.
 use Rattle.std.proofs.Common.{◌≢◌, ℕ, ◌<◌, List, [], ◌∷◌, ◌++◌, length, refl, arith}
 use Rattle.boot_machine.specs.Disk.{Files}
-use Rattle.boot_machine.specs.Rows.{tagged}
+use Rattle.boot_machine.specs.Rows.{on_channel}
 use Rattle.boot_machine.specs.Sent.{Sent}
 use Rattle.boot_machine.specs.declared.machine.Channel.{Channel}
 use Rattle.boot_machine.specs.declared.machine.Channel.TheVariants.{Out, Err as ErrChannel}
@@ -13,7 +13,7 @@ use Rattle.boot_run.specs.Step.{NoneEmpty}
 use Rattle.boot_run.specs.declared.line.Line.{Line}
 use Rattle.boot_run.specs.declared.line.Line.TheVariants.{Plain, Numbered, Unread, TooLong}
 
-some_sent : (to : Channel) (text : List ℕ) → 0 < length text → tagged to text ≢ []
+some_sent : (to : Channel) (text : List ℕ) → 0 < length text → on_channel to text ≢ []
 some_sent to [] some = absurd (omega arith)
 some_sent to (x ∷ text) some = λ is. cc
 
@@ -23,7 +23,7 @@ some_more (x ∷ a) b some = λ is. cc
 
 some_reply : (view : Files) (line : Line) → (line_deed view line).sent ≢ []
 some_reply view (Plain command) = some_sent (channel_of (step_reply view command).outcome) (step_reply view command).text (some_text view command)
-some_reply view (Numbered number command) = some_more (deed_of view command).sent (tagged Out (acknowledgement (deed_of view command).outcome number))
+some_reply view (Numbered number command) = some_more (deed_of view command).sent (on_channel Out (acknowledgement (deed_of view command).outcome number))
     (some_sent (channel_of (step_reply view command).outcome) (step_reply view command).text (some_text view command))
 some_reply view (Unread number) = some_more _ _ (some_sent ErrChannel (no_command_text number) (omega arith))
 some_reply view TooLong = some_sent ErrChannel too_long_text (omega arith)

@@ -5,9 +5,9 @@ use Rattle.std.proofs.lemmas.List.{append-nil, take_more, drop_more, take_all}
 use Rattle.boot_machine.specs.Disk.{Files, State, IsIn, recovered_view}
 use Rattle.boot_machine.specs.Images.{IsFirm}
 use Rattle.boot_machine.specs.Moments.{Timeline, EachSince}
-use Rattle.boot_machine.specs.Sent.{Sent, Adds, latest, recovered_views, recovered_now}
+use Rattle.boot_machine.specs.Sent.{Sent, Adds, latest_view, recovered_views, recovered_now}
 use Rattle.boot_machine.proofs.Elapsing.{weaken, joined, at_once}
-use Rattle.boot_machine.proofs.Seeing.{latest-recovered_views}
+use Rattle.boot_machine.proofs.Seeing.{latest_view-recovered_views}
 use Rattle.command_plans.specs.Answers.{is_refusal}
 use Rattle.command_plans.specs.Deeds.{Deed, End, Stopped, left_by, Breaks}
 use Rattle.command_plans.specs.Performs.{end_of}
@@ -17,27 +17,27 @@ use Rattle.command_plans.proofs.Exits.{if_ok, if_err}
 use Rattle.boot_run.specs.History.{BreaksBehind, Recovers, states, printed_by, any_refused, EndsBefore, Runs}
 use Rattle.boot_run.specs.Lines.{line_deed}
 use Rattle.boot_run.specs.RunsTo.{AllDone, PerformsBehind, RunsTo}
-use Rattle.boot_run.specs.Step.{joined as end_to_end, replies}
+use Rattle.boot_run.specs.Step.{join_replies as end_to_end, replies}
 use Rattle.boot_run.specs.declared.line.Line.{Line}
 use Rattle.boot_run.proofs.Stepping.{latest_left}
 
 -- the laws of lists of lines
 pub states-append : (state : List Files) (xs ys : List Line) → states state (xs ++ ys) ≡ states (states state xs) ys
 states-append state [] ys = refl
-states-append state (x ∷ xs) ys = states-append (left_by (line_deed (latest state) x) state) xs ys
+states-append state (x ∷ xs) ys = states-append (left_by (line_deed (latest_view state) x) state) xs ys
 
 pub printed_by-append : (state : List Files) (xs ys : List Line) → printed_by state (xs ++ ys) ≡ printed_by state xs ++ printed_by (states state xs) ys
 printed_by-append state [] ys = refl
 printed_by-append state (x ∷ xs) ys =
-    ap (λ (l : Sent). (line_deed (latest state) x).sent ++ l) (printed_by-append (left_by (line_deed (latest state) x) state) xs ys)
-    ∙ sym (append_assoc (line_deed (latest state) x).sent (printed_by (left_by (line_deed (latest state) x) state) xs) _)
+    ap (λ (l : Sent). (line_deed (latest_view state) x).sent ++ l) (printed_by-append (left_by (line_deed (latest_view state) x) state) xs ys)
+    ∙ sym (append_assoc (line_deed (latest_view state) x).sent (printed_by (left_by (line_deed (latest_view state) x) state) xs) _)
 
 -- and in the words of the reference
-pub printed_by-is : (old : List Files) (lines : List Line) → printed_by old lines ≡ end_to_end (replies (latest old) lines)
+pub printed_by-is : (old : List Files) (lines : List Line) → printed_by old lines ≡ end_to_end (replies (latest_view old) lines)
 printed_by-is old [] = refl
 printed_by-is old (line ∷ lines) =
-    ap (λ (l : Sent). (line_deed (latest old) line).sent ++ l)
-    (printed_by-is (left_by (line_deed (latest old) line) old) lines ∙ ap (λ v. end_to_end (replies v lines)) (latest_left old line))
+    ap (λ (l : Sent). (line_deed (latest_view old) line).sent ++ l)
+    (printed_by-is (left_by (line_deed (latest_view old) line) old) lines ∙ ap (λ v. end_to_end (replies v lines)) (latest_left old line))
 
 or_assoc : (a b c : Bool) → ((a || b) || c) ≡ (a || (b || c))
 or_assoc true b c = refl
@@ -46,8 +46,8 @@ or_assoc false b c = refl
 pub any_refused-append : (state : List Files) (xs ys : List Line) → any_refused state (xs ++ ys) ≡ (any_refused state xs || any_refused (states state xs) ys)
 any_refused-append state [] ys = refl
 any_refused-append state (x ∷ xs) ys =
-    ap (λ b. is_refusal (line_deed (latest state) x).outcome || b) (any_refused-append (left_by (line_deed (latest state) x) state) xs ys)
-    ∙ sym (or_assoc (is_refusal (line_deed (latest state) x).outcome) (any_refused (left_by (line_deed (latest state) x) state) xs) _)
+    ap (λ b. is_refusal (line_deed (latest_view state) x).outcome || b) (any_refused-append (left_by (line_deed (latest_view state) x) state) xs ys)
+    ∙ sym (or_assoc (is_refusal (line_deed (latest_view state) x).outcome) (any_refused (left_by (line_deed (latest_view state) x) state) xs) _)
 
 or_false : (a : Bool) → (a || false) ≡ a
 or_false true = refl
@@ -58,7 +58,7 @@ module _ (state : List Files) (lines : List Line) (i : ℕ) (line : Line) (withi
   here = states state (take i lines)
 
   abbrev deed : Deed
-  deed = line_deed (latest here) line
+  deed = line_deed (latest_view here) line
 
   one_more : take (i + 1) lines ≡ take i lines ++ line ∷ []
   one_more = take_more lines i line within ∙ ap (λ (x : Line). take i lines ++ x ∷ []) line_is
@@ -115,8 +115,8 @@ module _ {D : Type 0} (time : Timeline D) (state : D → State) where
     abbrev deed_here : Deed
     deed_here = line_deed (recovered_now (state mid)) line
 
-    deed_is : deed_here ≡ line_deed (latest (states first (take i lines))) line
-    deed_is = ap (λ v. line_deed v line) (sym (latest-recovered_views (state mid)) ∙ ap latest so_far.all.state)
+    deed_is : deed_here ≡ line_deed (latest_view (states first (take i lines))) line
+    deed_is = ap (λ v. line_deed v line) (sym (latest_view-recovered_views (state mid)) ∙ ap latest_view so_far.all.state)
 
     -- what breaks off in the line
     breaks : (left : List Files) (sent part : Sent) (end : End) → sent ≡ (state mid).printed ++ part → Breaks deed_here (recovered_views (state mid)) left part end → Adds (state old).printed sent (λ sent. Runs first lines left sent end)
@@ -124,7 +124,7 @@ module _ {D : Type 0} (time : Timeline D) (state : D → State) where
       printed_by first (take i lines) ++ part,
       is ∙ ap (λ (l : Sent). l ++ part) so_far.all.printed ∙ append_assoc (state old).printed (printed_by first (take i lines)) part,
       runs_break first lines i line within line_is left part end
-          (subst (λ (s : List Files). Breaks (line_deed (latest s) line) s left part end) so_far.all.state (subst (λ d. Breaks d (recovered_views (state mid)) left part end) (ap (λ v. line_deed v line) (sym (latest-recovered_views (state mid)))) broke)),
+          (subst (λ (s : List Files). Breaks (line_deed (latest_view s) line) s left part end) so_far.all.state (subst (λ d. Breaks d (recovered_views (state mid)) left part end) (ap (λ v. line_deed v line) (sym (latest_view-recovered_views (state mid)))) broke)),
     )
 
     -- what ends before the line or in it
@@ -146,7 +146,7 @@ module _ {D : Type 0} (time : Timeline D) (state : D → State) where
     goes_on outcome performs = record {
       firm = performs.firm;
       all = record {
-        state = performs.ok.1 ∙ ap (λ d. left_by d (recovered_views (state mid))) deed_is ∙ ap (left_by (line_deed (latest (states first (take i lines))) line)) so_far.all.state ∙ sym (states_more first lines i line within line_is);
+        state = performs.ok.1 ∙ ap (λ d. left_by d (recovered_views (state mid))) deed_is ∙ ap (left_by (line_deed (latest_view (states first (take i lines))) line)) so_far.all.state ∙ sym (states_more first lines i line within line_is);
         printed = performs.ok.2 ∙ ap (λ (l : Sent). l ++ deed_here.sent) so_far.all.printed ∙ append_assoc (state old).printed (printed_by first (take i lines)) deed_here.sent
             ∙ ap (λ (d : Deed). (state old).printed ++ (printed_by first (take i lines) ++ d.sent)) deed_is ∙ ap (λ (l : Sent). (state old).printed ++ l) (sym (said_more first lines i line within line_is));
         answer = ap (λ b. b || is_refusal outcome) so_far.all.answer ∙ ap (λ o. any_refused first (take i lines) || is_refusal o) performs.ok.0

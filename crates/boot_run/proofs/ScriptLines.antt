@@ -13,13 +13,13 @@ use Rattle.tool_words.specs.declared.fault.LineFault.{LineFault}
 use Rattle.tool_words.specs.declared.fault.LineFault.TheVariants.{OpenQuote}
 use Rattle.tool_words.specs.declared.fault.UsageReason.{UsageReason}
 use Rattle.boot_commands.specs.Plain.{is_demo, is_plain, is_script}
-use Rattle.boot_run.specs.Asked.{command_in, in_script, is_passed_over, is_script_newline, line_at, lines_for, lines_from, lines_in}
+use Rattle.boot_run.specs.AskedLines.{command_in, in_script, is_passed_over, is_script_newline, line_at, lines_for, lines_from, lines_in}
 use Rattle.boot_run.specs.Lines.{IsStep, script_limit}
 use Rattle.boot_run.specs.declared.line.Line.{Line}
 use Rattle.boot_run.specs.declared.line.Line.TheVariants.{Plain, TooLong}
 
-abbrev given : (T : Type 0) → T → Result T LineFault
-given T value = Ok value
+abbrev ok_line : (T : Type 0) → T → Result T LineFault
+ok_line T value = Ok value
 
 -- what one piece adds
 abbrev pub line_of_piece : ℕ → List ℕ → List Line
@@ -74,7 +74,7 @@ without_piece pieces piece lines passed lines_are =
 pub not_open : {T : Type 0} (line : List ℕ) (result : Result T LineFault) (value : T) → result ≡ Ok value → (is_open line ≡ true → result ≡ Err OpenQuote) → is_open line ≡ false
 not_open line result value is so = elim (cases_Bool (is_open line)) [ inl opened ↦ absurd (ok_or_err value (sym is ∙ so opened)) | inr closed ↦ closed ]
   where
-    ok_or_err : {T : Type 0} (value : T) → given T value ≡ Err OpenQuote → ⊥
+    ok_or_err : {T : Type 0} (value : T) → ok_line T value ≡ Err OpenQuote → ⊥
     ok_or_err value is = cc
 
 neither : (a b : Bool) → not (a || b) ≡ true → a ≡ false

@@ -15,7 +15,7 @@ use Rattle.command_plans.specs.declared.outcome.Stop.TheVariants as stops
 use Rattle.boot_run.specs.Endings.{AllTidied, UnlessDisk, ended_by}
 use Rattle.boot_run.specs.Lines.{Prints, TidiedBy}
 use Rattle.boot_run.specs.RunsTo.{WherePrinted, at_part}
-use Rattle.boot_commands.specs.Commands.{Tidied, TidiesTo}
+use Rattle.boot_commands.specs.Commands.{LeavesTidied, TidiesTo}
 use Rattle.tool_words.specs.declared.command.Command.{Command}
 use Rattle.boot_run.specs.declared.line.Line.{Line}
 use Rattle.boot_run.specs.declared.line.Line.TheVariants.{Plain, Numbered, Unread, TooLong}
@@ -90,7 +90,7 @@ where_more (Err stops.Pipe) old mid new P Q same so p = λ differs. so (p (λ is
 where_more (Err stops.Memory) old mid new P Q same so p = tt
 
 -- of a command
-pub where_tidied : {T : Type 0} (result : Result T Stop) (c : Command) (old new : State) → TidiesTo result c old new → WherePrinted result old new (Tidied c new.files)
+pub where_tidied : {T : Type 0} (result : Result T Stop) (c : Command) (old new : State) → TidiesTo result c old new → WherePrinted result old new (LeavesTidied c new.files)
 where_tidied (Ok value) c old new tidies = tidies
 where_tidied (Err stops.Disk) c old new tidies = tt
 where_tidied (Err stops.Pipe) c old new tidies = tidies

@@ -5,22 +5,22 @@ use Rattle.boot_machine.specs.Disk.{Files, State, recovered_view}
 use Rattle.boot_machine.specs.Images.{IsImage}
 use Rattle.boot_machine.specs.Moments.{Timeline, EachSince}
 use Rattle.boot_machine.specs.Reading.{IsIdleMoment, OnlyReads}
-use Rattle.boot_machine.specs.Sent.{Sent, Adds, IsPrefix, PrintsPart, latest, recovered_views, recovered_now}
+use Rattle.boot_machine.specs.Sent.{Sent, Adds, IsPrefix, PrintsPart, latest_view, recovered_views, recovered_now}
 use Rattle.boot_machine.proofs.Elapsing.{weaken, joined}
 use Rattle.boot_machine.proofs.Printing.{prefix_behind}
-use Rattle.boot_machine.proofs.Seeing.{latest-recovered_views}
+use Rattle.boot_machine.proofs.Seeing.{latest_view-recovered_views}
 use Rattle.command_plans.specs.Deeds.{Deed, Stopped, left_by, Breaks}
 use Rattle.boot_run.specs.History.{states, printed_by}
 use Rattle.boot_run.specs.Lines.{Prints, has_command, is_unread, line_deed}
 use Rattle.boot_run.specs.RunsTo.{FromSync, IsSyncedBy, IsUnsynced, OnlyPrints, RunsAfresh, SyncsBefore}
-use Rattle.boot_run.specs.Step.{AllUnread, joined as end_to_end, replies}
+use Rattle.boot_run.specs.Step.{AllUnread, join_replies as end_to_end, replies}
 use Rattle.boot_run.specs.declared.line.Line.{Line}
 use Rattle.boot_run.specs.declared.line.Line.TheVariants.{Plain, Numbered, Unread, TooLong}
 use Rattle.boot_run.proofs.Staying.{image_stays}
 use Rattle.boot_run.proofs.Running.{SoFar, runs_break, printed_by-is, said_more, states-append}
 
 -- what is said depends on the last view alone
-said_latest : (a b : List Files) (lines : List Line) → latest a ≡ latest b → printed_by a lines ≡ printed_by b lines
+said_latest : (a b : List Files) (lines : List Line) → latest_view a ≡ latest_view b → printed_by a lines ≡ printed_by b lines
 said_latest a b lines same = printed_by-is a lines ∙ ap (λ v. end_to_end (replies v lines)) same ∙ sym (printed_by-is b lines)
 
 -- unread lines leave a state
@@ -96,15 +96,15 @@ module _ {D : Type 0} (time : Timeline D) (state : D → State) where
 
   -- the names were synced before the first command
   pub record LateRun (old now : D) (lines : List Line) (i : ℕ) : Type 0 where
-    pub same : states (latest (recovered_views (state old)) ∷ []) (take i lines) ≡ states (recovered_views (state old)) (take i lines)
+    pub same : states (latest_view (recovered_views (state old)) ∷ []) (take i lines) ≡ states (recovered_views (state old)) (take i lines)
     pub from : FromSync time state old now (IsUnsynced (state old) lines) (RunsAfresh (state old) lines)
 
-  abbrev pub Synced : D → D → List Line → ℕ → Type 0
-  Synced old now lines i = UnreadRun old now lines i ⊎ LateRun old now lines i
+  abbrev pub IsSynced : D → D → List Line → ℕ → Type 0
+  IsSynced old now lines i = UnreadRun old now lines i ⊎ LateRun old now lines i
 
   module _ (old mid new : D) (lines : List Line) (i : ℕ) (refused : Bool) (line : Line) (within : i < length lines) (line_is : get_or lines i line ≡ line) (so_far : SoFar time state old mid lines i refused) where
     abbrev start : List Files
-    start = latest (recovered_views (state old)) ∷ []
+    start = latest_view (recovered_views (state old)) ∷ []
 
     one_more_line : take (i + 1) lines ≡ take i lines ++ line ∷ []
     one_more_line = take_more lines i line within ∙ ap (λ (x : Line). take i lines ++ x ∷ []) line_is
@@ -112,12 +112,12 @@ module _ {D : Type 0} (time : Timeline D) (state : D → State) where
     said_alike : printed_by start (take i lines) ≡ printed_by (recovered_views (state old)) (take i lines)
     said_alike = said_latest start (recovered_views (state old)) (take i lines) refl
 
-    mid_latest : latest (recovered_views (state mid)) ≡ recovered_now (state mid)
-    mid_latest = latest-recovered_views (state mid)
+    mid_latest : latest_view (recovered_views (state mid)) ≡ recovered_now (state mid)
+    mid_latest = latest_view-recovered_views (state mid)
 
     -- the replies to the lines so far
     so_said : printed_by (recovered_views (state old)) (take i lines) ≡ end_to_end (replies (recovered_now (state old)) (take i lines))
-    so_said = printed_by-is (recovered_views (state old)) (take i lines) ∙ ap (λ v. end_to_end (replies v (take i lines))) (latest-recovered_views (state old))
+    so_said = printed_by-is (recovered_views (state old)) (take i lines) ∙ ap (λ v. end_to_end (replies v (take i lines))) (latest_view-recovered_views (state old))
 
     -- where no line so far is a command, what is printed so far may be before the sync
     unsynced_so_far : UnreadRun old mid lines i → (m : Files) (o : Sent) → IsIdleMoment (state mid) m o → IsUnsynced (state old) lines m o
@@ -147,9 +147,9 @@ module _ {D : Type 0} (time : Timeline D) (state : D → State) where
       where
         whole_said : printed_by (recovered_views (state old)) (take i lines) ++ (line_deed (recovered_now (state mid)) line).sent ≡ end_to_end (replies (recovered_now (state old)) (take (i + 1) lines))
         whole_said =
-            ap (λ v. printed_by (recovered_views (state old)) (take i lines) ++ (line_deed v line).sent) (sym mid_latest ∙ ap latest so_far.all.state)
+            ap (λ v. printed_by (recovered_views (state old)) (take i lines) ++ (line_deed v line).sent) (sym mid_latest ∙ ap latest_view so_far.all.state)
             ∙ sym (said_more (recovered_views (state old)) lines i line within line_is)
-            ∙ printed_by-is (recovered_views (state old)) (take (i + 1) lines) ∙ ap (λ v. end_to_end (replies v (take (i + 1) lines))) (latest-recovered_views (state old))
+            ∙ printed_by-is (recovered_views (state old)) (take (i + 1) lines) ∙ ap (λ v. end_to_end (replies v (take (i + 1) lines))) (latest_view-recovered_views (state old))
 
     -- one more line that is no command
     pub unread_moments : UnreadRun old mid lines i → is_unread line ≡ true → OnlyPrints time state mid new (line_deed (recovered_now (state mid)) line).sent → EachSince time old new (IsUnsynced (state old) lines)
@@ -164,12 +164,12 @@ module _ {D : Type 0} (time : Timeline D) (state : D → State) where
     }
 
     -- what breaks off in the line, of the run from one view
-    late_breaks : (here : List Files) → states start (take i lines) ≡ here → (m : Files) (printed part : Sent) → printed ≡ (state mid).printed ++ part → Breaks (line_deed (latest here) line) here (recovered_view m ∷ []) part Stopped
+    late_breaks : (here : List Files) → states start (take i lines) ≡ here → (m : Files) (printed part : Sent) → printed ≡ (state mid).printed ++ part → Breaks (line_deed (latest_view here) line) here (recovered_view m ∷ []) part Stopped
         → RunsAfresh (state old) lines m printed
     late_breaks here here_is m printed part is broke = (
       printed_by start (take i lines) ++ part,
       is ∙ ap (λ (l : Sent). l ++ part) (so_far.all.printed ∙ ap (λ (l : Sent). (state old).printed ++ l) (sym said_alike)) ∙ append_assoc (state old).printed (printed_by start (take i lines)) part,
-      runs_break start lines i line within line_is (recovered_view m ∷ []) part Stopped (subst (λ (s : List Files). Breaks (line_deed (latest s) line) s (recovered_view m ∷ []) part Stopped) (sym here_is) broke),
+      runs_break start lines i line within line_is (recovered_view m ∷ []) part Stopped (subst (λ (s : List Files). Breaks (line_deed (latest_view s) line) s (recovered_view m ∷ []) part Stopped) (sym here_is) broke),
     )
 
     -- a line where the run is late already
@@ -197,8 +197,8 @@ module _ {D : Type 0} (time : Timeline D) (state : D → State) where
           (weaken time state (IsIdleMoment (state mid)) (IsUnsynced (state old) lines) mid syncs.synced (unsynced_so_far run) syncs.before);
       after = weaken time state _ (RunsAfresh (state old) lines) syncs.synced new
           (λ m o adds. late_breaks start (unread_states start (take i lines) run.unread) m o adds.0 adds.1
-          (subst (λ (s : List Files). Breaks (line_deed (latest s) line) (latest s ∷ []) (recovered_view m ∷ []) adds.0 Stopped) (ap recovered_views run.same.stays)
-          (subst (λ v. Breaks (line_deed v line) (latest (recovered_views (state mid)) ∷ []) (recovered_view m ∷ []) adds.0 Stopped) (sym mid_latest) adds.2)))
+          (subst (λ (s : List Files). Breaks (line_deed (latest_view s) line) (latest_view s ∷ []) (recovered_view m ∷ []) adds.0 Stopped) (ap recovered_views run.same.stays)
+          (subst (λ v. Breaks (line_deed v line) (latest_view (recovered_views (state mid)) ∷ []) (recovered_view m ∷ []) adds.0 Stopped) (sym mid_latest) adds.2)))
           syncs.after;
     }
 
@@ -206,9 +206,9 @@ module _ {D : Type 0} (time : Timeline D) (state : D → State) where
     first_more run is syncs = record {
       same =
           ap (states start) one_more_line ∙ states-append start (take i lines) (line ∷ [])
-          ∙ ap (λ s. left_by (line_deed (latest s) line) s) (unread_states start (take i lines) run.unread)
-          ∙ left_settles start (recovered_views (state old)) (line_deed (latest (recovered_views (state old))) line) (command_settles (latest (recovered_views (state old))) line is)
-          ∙ ap (λ s. left_by (line_deed (latest s) line) s) (sym (unread_states (recovered_views (state old)) (take i lines) run.unread))
+          ∙ ap (λ s. left_by (line_deed (latest_view s) line) s) (unread_states start (take i lines) run.unread)
+          ∙ left_settles start (recovered_views (state old)) (line_deed (latest_view (recovered_views (state old))) line) (command_settles (latest_view (recovered_views (state old))) line is)
+          ∙ ap (λ s. left_by (line_deed (latest_view s) line) s) (sym (unread_states (recovered_views (state old)) (take i lines) run.unread))
           ∙ sym (states-append (recovered_views (state old)) (take i lines) (line ∷ [])) ∙ ap (states (recovered_views (state old))) (sym one_more_line);
       from = first_moments run syncs;
     }
@@ -218,6 +218,6 @@ module _ {D : Type 0} (time : Timeline D) (state : D → State) where
     first_not run reads = joined time state (IsUnsynced (state old) lines) old mid new run.moments
         (weaken time state (IsIdleMoment (state mid)) (IsUnsynced (state old) lines) mid new (unsynced_so_far run) reads.moments)
 
-  pub synced_done : (old new : D) (lines : List Line) (i : ℕ) → Synced old new lines i → IsSyncedBy time state old new lines
+  pub synced_done : (old new : D) (lines : List Line) (i : ℕ) → IsSynced old new lines i → IsSyncedBy time state old new lines
   synced_done old new lines i (inl run) = inl run.moments
   synced_done old new lines i (inr late) = inr late.from

@@ -6,7 +6,7 @@ use Rattle.tool_words.specs.declared.fault.UsageReason.{UsageReason}
 use Rattle.command_plans.specs.declared.outcome.Stop.{Stop}
 use Rattle.command_plans.specs.declared.outcome.Stop.TheVariants.{Disk as DiskStop, Pipe as PipeStop, Memory as MemoryStop}
 use Rattle.boot_commands.specs.Plain.{is_script}
-use Rattle.boot_run.specs.Asked.{lines_for, lines_to_run, taken_by}
+use Rattle.boot_run.specs.AskedLines.{lines_for, lines_to_run, taken_by}
 use Rattle.boot_run.specs.Endings.{AtEnd, FitsWords, TakesInput, UnlessDisk, ended_by, ended_of, status_of}
 use Rattle.boot_run.specs.declared.ended.Ended.{Ended}
 use Rattle.boot_run.specs.declared.ended.Ended.TheVariants.{Done, Refused, Usage, Disk, Pipe, Memory}

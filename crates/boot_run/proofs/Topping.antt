@@ -5,13 +5,13 @@ use Rattle.std.proofs.lemmas.List.{append-nil, take_all, drop_all}
 use Rattle.boot_machine.specs.Disk.{Files, State, IsIn, IsSound, candidates, recovered_view}
 use Rattle.boot_machine.specs.Images.{IsImage, IsFirm, IsSettled}
 use Rattle.boot_machine.specs.Moments.{Timeline, EachSince}
-use Rattle.boot_machine.specs.Rows.{tagged, with_printed}
-use Rattle.boot_machine.specs.Sent.{Sent, Adds, PrintsPart, SameButInput, latest, recovered_views, recovered_now}
+use Rattle.boot_machine.specs.Rows.{on_channel, with_printed}
+use Rattle.boot_machine.specs.Sent.{Sent, Adds, PrintsPart, SameButInput, latest_view, recovered_views, recovered_now}
 use Rattle.boot_machine.specs.declared.machine.Channel.TheVariants.{Err as ErrChannel}
 use Rattle.boot_machine.proofs.Elapsing.{at_once, weaken, joined}
 use Rattle.boot_machine.proofs.Printing.{tagged_part}
 use Rattle.boot_machine.proofs.Settled.{firm_of_settled}
-use Rattle.boot_machine.proofs.Seeing.{sees, recovered_now_in, latest-recovered_views, from_views, candidate_image}
+use Rattle.boot_machine.proofs.Seeing.{sees, recovered_now_in, latest_view-recovered_views, from_views, candidate_image}
 use Rattle.tool_words.specs.declared.fault.UsageReason.{UsageReason}
 use Rattle.command_plans.specs.Answers.{is_refusal}
 use Rattle.command_plans.specs.Deeds.{End, left_by, Stopped, Finished, NoMemory, DiskFails, PipeFails, Stays}
@@ -19,13 +19,13 @@ use Rattle.command_plans.specs.Performs.{end_of}
 use Rattle.command_plans.specs.declared.outcome.Stop.{Stop}
 use Rattle.command_plans.specs.declared.outcome.Stop.TheVariants.{Disk as DiskStop, Pipe as PipeStop, Memory as MemoryStop}
 use Rattle.command_plans.proofs.Exits.{if_ok, if_err, if_ok_by}
-use Rattle.boot_run.specs.Asked.{usage_line}
+use Rattle.boot_run.specs.AskedLines.{usage_line}
 use Rattle.boot_run.specs.Endings.{AnswersRefusals, AtEnd, PrintsUsage, UnlessDisk, end_at, ended_by}
 use Rattle.boot_run.specs.History.{Runs, EndsBefore, states, printed_by, any_refused}
 use Rattle.boot_run.specs.Lines.{line_deed}
 use Rattle.boot_run.specs.RunBy.{AllPrinted, LeavesFromSync, RunsLines, RunsUsage, RunsBy}
 use Rattle.boot_run.specs.RunsTo.{AllDone, IsSyncedBy, IsUnsynced, RunsAfresh, RunsTo}
-use Rattle.boot_run.specs.Step.{Step, UsageStep, Leads, StopsIn, Leaves, SeesBegun, joined as end_to_end, replies, some_refused, view_after}
+use Rattle.boot_run.specs.Step.{Step, UsageStep, Leads, StopsIn, Leaves, SeesBegun, join_replies as end_to_end, replies, some_refused, view_after}
 use Rattle.boot_run.specs.declared.ended.Ended.{Ended}
 use Rattle.boot_run.specs.declared.ended.Ended.TheVariants.{Done, Refused, Usage, Disk, Pipe, Memory}
 use Rattle.boot_run.specs.declared.line.Line.{Line}
@@ -36,10 +36,10 @@ use Rattle.boot_run.proofs.Taken.{but_disk, unless_disk}
 use Rattle.boot_run.proofs.Stepping.{latest_left, one_view_after, step_of, leaves_of_run}
 
 step : (old : List Files) (lines : List Line) (new : List Files) (sent : Sent) (end : End) → Runs old lines new sent end → Step old lines new sent end
-step old lines new sent end runs = step_of old lines new sent end (none_empty (latest old) lines) runs
+step old lines new sent end runs = step_of old lines new sent end (none_empty (latest_view old) lines) runs
 
 stops : (old : List Files) (lines : List Line) (v : Files) (sent : Sent) → Runs old lines (v ∷ []) sent Stopped → StopsIn old lines v sent
-stops old lines v sent runs = (step old lines (v ∷ []) sent Stopped runs, λ settled. leaves_of_run old lines v sent (none_empty (latest old) lines) settled runs)
+stops old lines v sent runs = (step old lines (v ∷ []) sent Stopped runs, λ settled. leaves_of_run old lines v sent (none_empty (latest_view old) lines) settled runs)
 
 -- where all candidates show one view, the machine is settled
 settled_after : (s : State) → IsSound s → IsFirm s → ((v w : Files) → IsIn v (recovered_views s) → IsIn w (recovered_views s) → v ≡ w) → IsSettled s
@@ -72,15 +72,15 @@ all_runs old lines new is = record {
 }
 
 -- what a run over lines comes to, in the words of the reference
-states-is : (old : List Files) (lines : List Line) → latest (states old lines) ≡ view_after (latest old) lines
+states-is : (old : List Files) (lines : List Line) → latest_view (states old lines) ≡ view_after (latest_view old) lines
 states-is old [] = refl
-states-is old (line ∷ lines) = states-is (left_by (line_deed (latest old) line) old) lines ∙ ap (λ v. view_after v lines) (latest_left old line)
+states-is old (line ∷ lines) = states-is (left_by (line_deed (latest_view old) line) old) lines ∙ ap (λ v. view_after v lines) (latest_left old line)
 
-refused-is : (old : List Files) (lines : List Line) → any_refused old lines ≡ some_refused (latest old) lines
+refused-is : (old : List Files) (lines : List Line) → any_refused old lines ≡ some_refused (latest_view old) lines
 refused-is old [] = refl
 refused-is old (line ∷ lines) =
-    ap (λ (b : Bool). is_refusal (line_deed (latest old) line).outcome || b)
-    (refused-is (left_by (line_deed (latest old) line) old) lines ∙ ap (λ v. some_refused v lines) (latest_left old line))
+    ap (λ (b : Bool). is_refusal (line_deed (latest_view old) line).outcome || b)
+    (refused-is (left_by (line_deed (latest_view old) line) old) lines ∙ ap (λ v. some_refused v lines) (latest_left old line))
 
 -- nothing was done for want of memory, or because a pipe failed
 stays_runs : (old : List Files) (lines : List Line) (new : List Files) (end : End) → end ≢ Finished → Stays old new end → Runs old lines new [] end
@@ -92,10 +92,10 @@ stays_runs old [] new Finished not stays = absurd (not refl)
 stays_runs old (line ∷ lines) new end not stays = record { whole = 0; within = omega arith; part = []; printed = refl; ends = inl (inl (refl, stays)) }
 
 -- on a settled machine all views are one
-one_view_of_settled : (s : State) → IsSettled s → (v : Files) → IsIn v (recovered_views s) → v ≡ latest (recovered_views s)
+one_view_of_settled : (s : State) → IsSettled s → (v : Files) → IsIn v (recovered_views s) → v ≡ latest_view (recovered_views s)
 one_view_of_settled s settled v is =
     let from = from_views (candidates s) v is in
-    from.2 ∙ settled.images from.0 (candidate_image s from.0 from.1) ∙ sym (latest-recovered_views s)
+    from.2 ∙ settled.images from.0 (candidate_image s from.0 from.1) ∙ sym (latest_view-recovered_views s)
 
 module _ {D : Type 0} (time : Timeline D) (state : D → State) where
   at_end : (old new : D) (lines : List Line) (result : Result Bool Stop) → RunsTo time state old new lines result
@@ -115,8 +115,8 @@ module _ {D : Type 0} (time : Timeline D) (state : D → State) where
 
   all_printed : (old new : D) (lines : List Line) (refused : Bool) → AllDone (state old) (state new) lines refused → AllPrinted (state old) (state new) lines
   all_printed old new lines refused all = (
-    all.printed ∙ ap (λ (l : Sent). (state old).printed ++ l) (printed_by-is (recovered_views (state old)) lines ∙ ap (λ v. end_to_end (replies v lines)) (latest-recovered_views (state old))),
-    sym (latest-recovered_views (state new)) ∙ ap latest all.state ∙ states-is (recovered_views (state old)) lines ∙ ap (λ v. view_after v lines) (latest-recovered_views (state old)),
+    all.printed ∙ ap (λ (l : Sent). (state old).printed ++ l) (printed_by-is (recovered_views (state old)) lines ∙ ap (λ v. end_to_end (replies v lines)) (latest_view-recovered_views (state old))),
+    sym (latest_view-recovered_views (state new)) ∙ ap latest_view all.state ∙ states-is (recovered_views (state old)) lines ∙ ap (λ v. view_after v lines) (latest_view-recovered_views (state old)),
   )
 
   finished : (old new : D) (lines : List Line) (result : Result Bool Stop) → RunsTo time state old new lines result → AtEnd (ended_by result) (AllPrinted (state old) (state new) lines)
@@ -132,8 +132,8 @@ module _ {D : Type 0} (time : Timeline D) (state : D → State) where
       (λ m o adds. (
         adds.0,
         adds.1,
-        subst (λ first. Leaves first lines (recovered_view m) adds.0) (latest-recovered_views (state old))
-            (leaves_of_run (latest (recovered_views (state old)) ∷ []) lines (recovered_view m) adds.0 (none_empty _ lines) (λ v is. ⊎_elim (λ here. here) (λ none. absurd none) is) adds.2),
+        subst (λ first. Leaves first lines (recovered_view m) adds.0) (latest_view-recovered_views (state old))
+            (leaves_of_run (latest_view (recovered_views (state old)) ∷ []) lines (recovered_view m) adds.0 (none_empty _ lines) (λ v is. ⊎_elim (λ here. here) (λ none. absurd none) is) adds.2),
       ))
       late)
 
@@ -141,7 +141,7 @@ module _ {D : Type 0} (time : Timeline D) (state : D → State) where
   runs_lines old new lines result sound synced runs = record {
     firm = runs.firm;
     settled = unless_disk (ended_by result) _ (λ not_disk settled. settled_after (state new) sound runs.firm (one_view_after _ lines _ _ (end_at (ended_by result)) (one_view_of_settled (state old) settled) (not_disk_at (ended_by result) not_disk) (not_stopped_at (ended_by result)) (at_end old new lines result runs).2));
-    refusals = subst (λ any. AnswersRefusals any (ended_by result)) (refused-is (recovered_views (state old)) lines ∙ ap (λ v. some_refused v lines) (latest-recovered_views (state old))) (refusals old new lines result runs);
+    refusals = subst (λ any. AnswersRefusals any (ended_by result)) (refused-is (recovered_views (state old)) lines ∙ ap (λ v. some_refused v lines) (latest_view-recovered_views (state old))) (refusals old new lines result runs);
     finished = finished old new lines result runs;
     at_end = at_end old new lines result runs;
     at_each_moment = weaken time state _ _ old new (λ m o adds. (adds.0, adds.1, stops _ lines _ adds.0 adds.2)) runs.moments;
@@ -168,7 +168,7 @@ module _ {D : Type 0} (time : Timeline D) (state : D → State) where
     at_each_moment = at_once time state _ old (λ m o left. let now = at_start m o left in ([], now.1 ∙ sym (append-nil _), stops _ _ _ [] (stays_runs _ _ _ Stopped (λ is. cc) (recovered_view m, refl, sees_each firm m now.0))));
     from_sync = inl (at_once time state _ old (λ m o left. let now = at_start m o left in unsynced_yet (state old) lines m o now));
   }
-  runs_nothing (Err reason) old at_start sees_each = usage_unsaid old (tagged ErrChannel (usage_line reason)) at_start
+  runs_nothing (Err reason) old at_start sees_each = usage_unsaid old (on_channel ErrChannel (usage_line reason)) at_start
 
   -- the input is read, and then nothing more, or a run over lines
   read_moments : (old mid : D) (lines : List Line) → ((m : Files) → IsImage (state old) m → IsIn (recovered_view m) (recovered_views (state old))) → EachSince time old mid (λ m o. IsImage (state old) m × (o ≡ (state old).printed))
@@ -247,17 +247,17 @@ module _ {D : Type 0} (time : Timeline D) (state : D → State) where
   script_unsynced old mid lines moments = inl (weaken time state _ (IsUnsynced (state old) lines) old mid (unsynced_yet (state old) lines) moments)
 
   -- the line of usage
-  pub usage_done : (old new : D) (text : List ℕ) → state new ≡ with_printed ErrChannel text (state old) → EachSince time old new (PrintsPart (state old) (tagged ErrChannel text)) → RunsUsage time state old new (tagged ErrChannel text) Usage
+  pub usage_done : (old new : D) (text : List ℕ) → state new ≡ with_printed ErrChannel text (state old) → EachSince time old new (PrintsPart (state old) (on_channel ErrChannel text)) → RunsUsage time state old new (on_channel ErrChannel text) Usage
   usage_done old new text shown moments = record {
     unchanged = shown ∙ ap (λ (s : State). record (state old) { printed = s.printed }) (sym shown);
-    at_end = (tagged ErrChannel text, ap (λ (s : State). s.printed) shown, refl);
+    at_end = (on_channel ErrChannel text, ap (λ (s : State). s.printed) shown, refl);
     at_each_moment = weaken time state _ _ old new (λ m o prints. (prints.stands, prints.part)) moments;
   }
 
-  pub usage_failed : (old new : D) (text : List ℕ) → (k : ℕ) × (state new ≡ with_printed ErrChannel (take k text) (state old)) → EachSince time old new (PrintsPart (state old) (tagged ErrChannel text)) → RunsUsage time state old new (tagged ErrChannel text) Pipe
+  pub usage_failed : (old new : D) (text : List ℕ) → (k : ℕ) × (state new ≡ with_printed ErrChannel (take k text) (state old)) → EachSince time old new (PrintsPart (state old) (on_channel ErrChannel text)) → RunsUsage time state old new (on_channel ErrChannel text) Pipe
   usage_failed old new text shown moments = record {
     unchanged = shown.1 ∙ ap (λ (s : State). record (state old) { printed = s.printed }) (sym shown.1);
-    at_end = (tagged ErrChannel (take shown.0 text), ap (λ (s : State). s.printed) shown.1, tagged_part ErrChannel shown.0 text);
+    at_end = (on_channel ErrChannel (take shown.0 text), ap (λ (s : State). s.printed) shown.1, tagged_part ErrChannel shown.0 text);
     at_each_moment = weaken time state _ _ old new (λ m o prints. (prints.stands, prints.part)) moments;
   }
 
@@ -267,7 +267,7 @@ module _ {D : Type 0} (time : Timeline D) (state : D → State) where
   headline old new lines ended settled runs = weaken time state _ _ old new (λ m o adds. (
     adds.0,
     adds.1,
-    subst (λ first. Leaves first lines (recovered_view m) adds.0) (latest-recovered_views (state old)) (adds.2.1 (one_view_of_settled (state old) settled)),
+    subst (λ first. Leaves first lines (recovered_view m) adds.0) (latest_view-recovered_views (state old)) (adds.2.1 (one_view_of_settled (state old) settled)),
   )) runs.at_each_moment
 
   -- what a moment of the headline shows of replies and their changes

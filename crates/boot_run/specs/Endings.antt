@@ -8,7 +8,7 @@ use Rattle.command_plans.specs.declared.outcome.Stop.{Stop}
 use Rattle.command_plans.specs.declared.outcome.Stop.TheVariants as stops
 use Rattle.tool_words.specs.declared.command.Command.{Command}
 use Rattle.tool_words.specs.declared.fault.UsageReason.{UsageReason}
-use Rattle.boot_run.specs.Asked.{taken_by}
+use Rattle.boot_run.specs.AskedLines.{taken_by}
 use Rattle.boot_run.specs.Lines.{TidiedBy}
 use Rattle.boot_run.specs.declared.line.Line.{Line}
 use Rattle.boot_run.specs.declared.ended.Ended.{Ended}

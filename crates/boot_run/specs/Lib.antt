@@ -1,4 +1,4 @@
-pub mod Asked
+pub mod AskedLines
 pub mod Endings
 pub mod History
 pub mod Lines

@@ -4,10 +4,10 @@ use Rattle.std.specs.Fmt.{decimal}
 use Rattle.boot_base.specs.Refusals.{line_of}
 use Rattle.boot_base.specs.declared.refusal.Refusal.TheVariants as refusals
 use Rattle.boot_machine.specs.Disk.{Files, State}
-use Rattle.boot_machine.specs.Rows.{tagged}
+use Rattle.boot_machine.specs.Rows.{on_channel}
 use Rattle.boot_machine.specs.declared.machine.Channel.TheVariants.{Out, Err}
 use Rattle.command_plans.specs.Answers.{is_refusal}
-use Rattle.boot_commands.specs.Commands.{Tidied, deed_of}
+use Rattle.boot_commands.specs.Commands.{LeavesTidied, deed_of}
 use Rattle.boot_commands.specs.Plain.{is_script}
 use Rattle.command_plans.specs.Deeds.{Deed}
 use Rattle.command_plans.specs.declared.outcome.Outcome.{Outcome}
@@ -27,17 +27,18 @@ acknowledgement_in texts Done = texts.ok
 acknowledgement_in texts (Refused number) = texts.refused
 
 -- the same, with its acknowledgement on Out behind it
-abbrev pub acknowledged : ℕ → Deed → Deed
-acknowledged number deed = record {
+abbrev pub with_acknowledgement : ℕ → Deed → Deed
+with_acknowledgement number deed = record {
   settles = deed.settles;
   outcome = deed.outcome;
   after = deed.after;
-  sent = deed.sent ++ tagged Out (acknowledgement deed.outcome number);
+  sent = deed.sent ++ on_channel Out (acknowledgement deed.outcome number);
 }
 
 -- the refusal of what is no command: nothing is settled
-abbrev pub unread : ℕ → List ℕ → Files → Deed
-unread number text view = record { settles = false; outcome = Refused number; after = view; sent = tagged Err text }
+abbrev pub unread_deed : ℕ → List ℕ → Files → Deed
+unread_deed number text view =
+    record { settles = false; outcome = Refused number; after = view; sent = on_channel Err text }
 
 -- the line of refusal 17
 abbrev pub no_command_text : ℕ → List ℕ
@@ -54,9 +55,9 @@ too_long_text = line_of (refusals.TooLarge (codes "standard input") (script_limi
 -- what a line does to the machine that shows this view
 abbrev pub line_deed : Files → Line → Deed
 line_deed view (Plain command) = deed_of view command
-line_deed view (Numbered number command) = acknowledged number (deed_of view command)
-line_deed view (Unread number) = acknowledged number (unread 17 (no_command_text number) view)
-line_deed view TooLong = unread 3 too_long_text view
+line_deed view (Numbered number command) = with_acknowledgement number (deed_of view command)
+line_deed view (Unread number) = with_acknowledgement number (unread_deed 17 (no_command_text number) view)
+line_deed view TooLong = unread_deed 3 too_long_text view
 
 -- Its command is a step of a run: `script` is none.
 abbrev pub IsStep : Line → Type 0
@@ -78,8 +79,8 @@ has_command (line ∷ lines) = not (is_unread line) || has_command lines
 
 -- what a line leaves that the view doesn't show
 abbrev pub TidiedBy : Files → Line → Type 0
-TidiedBy files (Plain command) = Tidied command files
-TidiedBy files (Numbered number command) = Tidied command files
+TidiedBy files (Plain command) = LeavesTidied command files
+TidiedBy files (Numbered number command) = LeavesTidied command files
 TidiedBy files (Unread number) = Unit {0}
 TidiedBy files TooLong = Unit {0}
 

@@ -3,15 +3,15 @@ use Rattle.std.specs.Prelude.{◌≡◌, ◌⊎◌, true, ℕ, List, ◌++◌, t
 use Rattle.boot_machine.specs.Disk.{IsRested, State, recovered_view}
 use Rattle.boot_machine.specs.Images.{IsImage, IsFirm, IsSettled}
 use Rattle.boot_machine.specs.Moments.{Timeline, EachSince}
-use Rattle.boot_machine.specs.Rows.{tagged}
+use Rattle.boot_machine.specs.Rows.{on_channel}
 use Rattle.boot_machine.specs.Sent.{Sent, Adds, IsPrefix, recovered_now, recovered_views}
 use Rattle.boot_machine.specs.declared.machine.Channel.TheVariants.{Err as ErrChannel}
 use Rattle.tool_words.specs.declared.fault.UsageReason.{UsageReason}
-use Rattle.boot_run.specs.Asked.{usage_line}
+use Rattle.boot_run.specs.AskedLines.{usage_line}
 use Rattle.boot_run.specs.Endings.{AllTidied, AnswersRefusals, AtEnd, PrintsUsage, UnlessDisk, end_at}
 use Rattle.boot_run.specs.Lines.{has_command}
 use Rattle.boot_run.specs.RunsTo.{FromSync, IsUnsynced}
-use Rattle.boot_run.specs.Step.{Acknowledges, Leaves, Step, StopsIn, joined, replies, some_refused, view_after}
+use Rattle.boot_run.specs.Step.{Acknowledges, Leaves, Step, StopsIn, join_replies, replies, some_refused, view_after}
 use Rattle.boot_run.specs.declared.line.Line.{Line}
 use Rattle.boot_run.specs.declared.ended.Ended.{Ended}
 use Rattle.boot_run.specs.declared.ended.Ended.TheVariants.{Done, Refused, Usage, Disk, Pipe, Memory}
@@ -19,7 +19,7 @@ use Rattle.boot_run.specs.declared.ended.Ended.TheVariants.{Done, Refused, Usage
 -- all replies are printed, and boot sees the view after all lines
 abbrev pub AllPrinted : State → State → List Line → Type 0
 AllPrinted old new lines =
-    (new.printed ≡ old.printed ++ joined (replies (recovered_now old) lines))
+    (new.printed ≡ old.printed ++ join_replies (replies (recovered_now old) lines))
     × (recovered_now new ≡ view_after (recovered_now old) lines)
 
 -- the folders that these lines tidied are clean, and behind a command no rename is left half done
@@ -78,4 +78,4 @@ pub record RunsUsage {M : Type 0} (time : Timeline M) (state : M → State)
 abbrev pub RunsBy : {M : Type 0} → Timeline M → (M → State) → Result (List Line) UsageReason → M → M → Ended → Type 0
 RunsBy time state (Ok lines) old new ended = IsFirm (state old) → RunsLines time state old new lines ended
 RunsBy time state (Err reason) old new ended =
-    RunsUsage time state old new (tagged ErrChannel (usage_line reason)) ended
+    RunsUsage time state old new (on_channel ErrChannel (usage_line reason)) ended

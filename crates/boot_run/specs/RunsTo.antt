@@ -4,7 +4,7 @@ use Rattle.boot_machine.specs.Disk.{Files, HasOneCandidate, State, recovered_vie
 use Rattle.boot_machine.specs.Images.{IsImage, IsFirm}
 use Rattle.boot_machine.specs.Moments.{Timeline, EachSince}
 use Rattle.boot_machine.specs.Reading.{IsIdleMoment, OnlyReads}
-use Rattle.boot_machine.specs.Sent.{Sent, Adds, PrintsPart, latest, recovered_now, recovered_views}
+use Rattle.boot_machine.specs.Sent.{Sent, Adds, PrintsPart, latest_view, recovered_now, recovered_views}
 use Rattle.command_plans.specs.Deeds.{Breaks, Deed, Stopped}
 use Rattle.command_plans.specs.Performs.{DoesDeed, end_of}
 use Rattle.command_plans.specs.declared.outcome.Outcome.{Outcome}
@@ -55,7 +55,7 @@ pub record PerformsBehind {M : Type 0} (time : Timeline M) (state : M → State)
 abbrev pub SyncsBefore : {M : Type 0} → Timeline M → (M → State) → M → M → Deed → Type 0
 SyncsBefore time state old new deed =
     FromSync time state old new (IsIdleMoment (state old)) (λ image sent. Adds (state old).printed sent
-    (λ part. Breaks deed (latest (recovered_views (state old)) ∷ []) (recovered_view image ∷ []) part Stopped))
+    (λ part. Breaks deed (latest_view (recovered_views (state old)) ∷ []) (recovered_view image ∷ []) part Stopped))
 
 -- the same of the first command of a run, by its answer: it may be given up with nothing done
 pub record SyncsFirst {M : Type 0} (time : Timeline M) (state : M → State)
@@ -90,7 +90,7 @@ pub record RunsTo {M : Type 0} (time : Timeline M) (state : M → State)
 -- a stop of a run that began with the files as they were
 abbrev pub RunsAfresh : State → List Line → Files → Sent → Type 0
 RunsAfresh s lines image printed =
-    Adds s.printed printed (λ sent. Runs (latest (recovered_views s) ∷ []) lines
+    Adds s.printed printed (λ sent. Runs (latest_view (recovered_views s) ∷ []) lines
     (recovered_view image ∷ []) sent Stopped)
 
 -- no names were synced, or from their sync on the run is one that began with the files as they were

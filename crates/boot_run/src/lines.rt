@@ -5,21 +5,21 @@ ghost use Rattle.boot_machine.specs.Counts.{CountsPipe};
 ghost use Rattle.boot_machine.specs.Disk.{IsRested};
 ghost use Rattle.boot_machine.specs.Images.{IsFirm};
 ghost use Rattle.boot_machine.specs.Moments.{EachSince};
-ghost use Rattle.boot_machine.specs.Rows.{tagged, with_printed};
+ghost use Rattle.boot_machine.specs.Rows.{on_channel, with_printed};
 ghost use Rattle.boot_machine.specs.Sent.{PrintsPart, recovered_now, seen};
 ghost use Rattle.boot_machine.specs.declared.machine.Channel.TheVariants.{Err, Out};
 ghost use Rattle.command_plans.specs.Answers.{is_refusal};
-ghost use Rattle.boot_commands.specs.Commands.{Tidied, deed_of};
+ghost use Rattle.boot_commands.specs.Commands.{LeavesTidied, deed_of};
 ghost use Rattle.boot_commands.specs.Plain.{is_script};
 ghost use Rattle.command_plans.specs.Performs.{CountsStop, LeavesNoTemp, LeavesRested, Performs, end_of};
 ghost use Rattle.boot_run.specs.Endings.{AllTidied, ended_by};
-ghost use Rattle.boot_run.specs.Lines.{IsStep, Prints, TidiedBy, acknowledged, acknowledgement, acknowledgement_in, has_command, is_unread, line_deed, no_command_text, too_long_text, unread};
+ghost use Rattle.boot_run.specs.Lines.{IsStep, Prints, TidiedBy, with_acknowledgement, acknowledgement, acknowledgement_in, has_command, is_unread, line_deed, no_command_text, too_long_text, unread_deed};
 ghost use Rattle.boot_run.specs.RunBy.{CleanBehind};
 ghost use Rattle.boot_run.specs.RunsTo.{IsSyncedBy, OnlyPrints, PerformsBehind, RunsTo, SyncsFirst, WherePrinted};
 
 use crate::input::SCRIPT_LIMIT;
 use crate::line::Line;
-use crate::recovery::recovered;
+use crate::recovery::recover_rename;
 use boot_base::{Bytes, Refusal, Text};
 use boot_commands::step;
 use boot_machine::{Channel, Machine, PipeFault, print_all};
@@ -62,7 +62,7 @@ fn acknowledge<M: Machine>(
         ≡ with_printed Out (take k (acknowledgement_in texts.now outcome)) (M.state machine.old))) }
     ensures moments { IsTrue M.tells
         → EachSince M.time machine.old machine.new
-        (PrintsPart (M.state machine.old) (tagged Out (acknowledgement_in texts.now outcome))) }
+        (PrintsPart (M.state machine.old) (on_channel Out (acknowledgement_in texts.now outcome))) }
     ensures stays { IsTrue M.tells → Prints (M.state machine.old) (M.state machine.new) }
     ensures counts { CountsPipe result (M.counts machine.old) (M.counts machine.new) }
 {
@@ -76,9 +76,9 @@ fn acknowledge<M: Machine>(
 fn refuse_unread<M: Machine>(number: u8, text: &Bytes, machine: &mut M) -> Result<Outcome, Stop>
     ensures performs { IsTrue M.tells → IsFirm (M.state machine.old)
         → Performs M.time M.state end_of machine.old machine.new
-        (unread number text.now (recovered_now (M.state machine.old))) result }
+        (unread_deed number text.now (recovered_now (M.state machine.old))) result }
     ensures moments { IsTrue M.tells → EachSince M.time machine.old machine.new
-        (PrintsPart (M.state machine.old) (tagged Err text.now)) }
+        (PrintsPart (M.state machine.old) (on_channel Err text.now)) }
     ensures stays { IsTrue M.tells → Prints (M.state machine.old) (M.state machine.new) }
     ensures counts { CountsStop result (M.counts machine.old) (M.counts machine.new) }
 {
@@ -87,7 +87,7 @@ fn refuse_unread<M: Machine>(number: u8, text: &Bytes, machine: &mut M) -> Resul
 }
 
 // A line of a script that is a command.
-fn numbered<M: Machine>(
+fn run_numbered<M: Machine>(
     alloc: Global,
     number: u64,
     command: &Command,
@@ -97,9 +97,9 @@ fn numbered<M: Machine>(
     requires rested { IsTrue M.tells → IsRested (M.state machine.old) }
     ensures performs { IsTrue M.tells → IsFirm (M.state machine.old)
         → Performs M.time M.state end_of machine.old machine.new
-        (acknowledged number (deed_of (seen (M.state machine.old)) command.now)) result }
+        (with_acknowledgement number (deed_of (seen (M.state machine.old)) command.now)) result }
     ensures tidies { IsTrue M.tells → WherePrinted result (M.state machine.old) (M.state machine.new)
-        (Tidied command.now (M.state machine.new).files) }
+        (LeavesTidied command.now (M.state machine.new).files) }
     ensures input { IsTrue M.tells → (M.state machine.new).input ≡ (M.state machine.old).input }
     ensures rests { IsTrue M.tells → LeavesRested result (M.state machine.new) }
     ensures temps { IsTrue M.tells → LeavesNoTemp result (M.state machine.old) (M.state machine.new) }
@@ -121,11 +121,13 @@ fn no_command(alloc: Global, number: u64) -> Result<Bytes, AllocError>
 fn unread_line<M: Machine>(alloc: Global, number: u64, machine: &mut M) -> Result<Outcome, Stop>
     ensures performs { IsTrue M.tells → IsFirm (M.state machine.old)
         → Performs M.time M.state end_of machine.old machine.new
-        (acknowledged number (unread 17 (no_command_text number) (recovered_now (M.state machine.old)))) result }
+        (with_acknowledgement number (unread_deed 17 (no_command_text number) (recovered_now (M.state machine.old))))
+        result }
     ensures moments { IsTrue M.tells → IsFirm (M.state machine.old)
         → EachSince M.time machine.old machine.new
         (PrintsPart (M.state machine.old)
-        (acknowledged number (unread 17 (no_command_text number) (recovered_now (M.state machine.old)))).sent) }
+        (with_acknowledgement number
+        (unread_deed 17 (no_command_text number) (recovered_now (M.state machine.old)))).sent) }
     ensures stays { IsTrue M.tells → Prints (M.state machine.old) (M.state machine.new) }
     ensures counts { CountsStop result (M.counts machine.old) (M.counts machine.new) }
 {
@@ -148,9 +150,9 @@ fn too_long_refusal(alloc: Global) -> Result<Bytes, AllocError>
 fn too_long<M: Machine>(alloc: Global, machine: &mut M) -> Result<Outcome, Stop>
     ensures performs { IsTrue M.tells → IsFirm (M.state machine.old)
         → Performs M.time M.state end_of machine.old machine.new
-        (unread 3 too_long_text (recovered_now (M.state machine.old))) result }
+        (unread_deed 3 too_long_text (recovered_now (M.state machine.old))) result }
     ensures moments { IsTrue M.tells → EachSince M.time machine.old machine.new
-        (PrintsPart (M.state machine.old) (tagged Err too_long_text)) }
+        (PrintsPart (M.state machine.old) (on_channel Err too_long_text)) }
     ensures stays { IsTrue M.tells → Prints (M.state machine.old) (M.state machine.new) }
     ensures counts { CountsStop result (M.counts machine.old) (M.counts machine.new) }
 {
@@ -177,7 +179,7 @@ fn run_line<M: Machine>(alloc: Global, line: &Line, machine: &mut M) -> Result<O
 {
     match line {
         Line::Plain(command) => step(alloc, command, machine),
-        Line::Numbered(number, command) => numbered(alloc, *number, command, machine),
+        Line::Numbered(number, command) => run_numbered(alloc, *number, command, machine),
         Line::Unread(number) => unread_line(alloc, *number, machine),
         Line::TooLong => too_long(alloc, machine),
     }
@@ -201,7 +203,7 @@ fn first_command<M: Machine>(alloc: Global, line: &Line, machine: &mut M) -> Res
     ensures temps { IsTrue M.tells → LeavesNoTemp result (M.state machine.old) (M.state machine.new) }
     ensures counts { CountsStop result (M.counts machine.old) (M.counts machine.new) }
 {
-    recovered(alloc, machine)?;
+    recover_rename(alloc, machine)?;
     run_line(alloc, line, machine)
 }
 

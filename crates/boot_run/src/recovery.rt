@@ -14,7 +14,7 @@ use std::alloc::Global;
 
 /// Finishes or undoes the rename that a stop has left half done. Where there is no memory for the intent's path
 /// nothing has changed.
-pub fn recovered<M: Machine>(alloc: Global, machine: &mut M) -> Result<(), Stop>
+pub fn recover_rename<M: Machine>(alloc: Global, machine: &mut M) -> Result<(), Stop>
     ensures recovers { IsTrue M.tells → IsFirm (M.state machine.old)
         → RecoversTo M.time M.state machine.old machine.new }
     ensures synced { OnOk result (IsTrue M.tells → IsFirm (M.state machine.old)

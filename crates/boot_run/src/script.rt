@@ -4,7 +4,7 @@ ghost use Rattle.tool_words.specs.Meaning.{meaning};
 ghost use Rattle.tool_words.specs.Shown.{texts};
 ghost use Rattle.boot_run.specs.Lines.{script_limit};
 ghost use Rattle.boot_commands.specs.Plain.{is_plain, is_script};
-ghost use Rattle.boot_run.specs.Asked.{command_in, in_script, is_passed_over, is_script_newline, line_at, lines_in, script_lines};
+ghost use Rattle.boot_run.specs.AskedLines.{command_in, in_script, is_passed_over, is_script_newline, line_at, lines_in, script_lines};
 
 use crate::input::SCRIPT_LIMIT;
 use crate::line::Line;

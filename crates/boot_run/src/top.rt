@@ -3,7 +3,7 @@ ghost use Rattle.std.specs.Prelude.{◌≡◌, ◌≤◌, ◌++◌, true, ℕ, L
 ghost use Rattle.boot_machine.specs.Disk.{IsRested, State, recovered_view};
 ghost use Rattle.boot_machine.specs.Images.{IsImage, IsFirm, IsSettled};
 ghost use Rattle.boot_machine.specs.Moments.{EachSince};
-ghost use Rattle.boot_machine.specs.Rows.{tagged};
+ghost use Rattle.boot_machine.specs.Rows.{on_channel};
 ghost use Rattle.boot_machine.specs.Sent.{Adds, SameButInput, recovered_now, recovered_views};
 ghost use Rattle.boot_machine.specs.declared.machine.Channel.TheVariants.{Err as ErrChannel};
 ghost use Rattle.install_steps.specs.Steps.{NoNewTemp};
@@ -11,7 +11,7 @@ ghost use Rattle.command_plans.specs.Deeds.{Stopped};
 ghost use Rattle.command_plans.specs.Performs.{CountsStop, LeavesNoTemp};
 ghost use Rattle.tool_words.specs.Meaning.{meaning};
 ghost use Rattle.tool_words.specs.declared.fault.UsageReason.{UsageReason};
-ghost use Rattle.boot_run.specs.Asked.{asked_of, lines_for, lines_in, usage_line};
+ghost use Rattle.boot_run.specs.AskedLines.{asked_lines_of, lines_for, lines_in, usage_line};
 ghost use Rattle.boot_run.specs.Endings.{AllTidied, AnswersRefusals, AnswersUsage, AtEnd, FitsWords, HasCause, TakesInput, UnlessDisk, end_at, ended_by, ended_of, status_of};
 ghost use Rattle.boot_run.specs.Lines.{IsStep, has_command, script_limit};
 ghost use Rattle.boot_run.specs.RunBy.{AllPrinted, CleanBehind, LeavesFromSync, RunsBy, RunsUsage};
@@ -30,7 +30,7 @@ use command_plans::Stop;
 use std::alloc::{AllocError, Global};
 use tool_words::{Command, UsageReason, WordsFault};
 
-/// The lines of a script, taken from standard input.
+// The lines of a script, taken from standard input.
 fn read_script<M: Machine>(alloc: Global, machine: &mut M) -> Result<Vec<Line>, Stop>
     ensures lines { IfOk result (λ lines. IsTrue M.tells
         → lines.items ≡ lines_in (take (script_limit + 1) (M.state machine.old).input)) }
@@ -86,7 +86,7 @@ fn usage_line(alloc: Global, reason: &UsageReason) -> Result<Text, AllocError>
 fn print_usage<M: Machine>(alloc: Global, reason: &UsageReason, machine: &mut M) -> Ended
     ensures status { AnswersUsage result }
     ensures runs { IsTrue M.tells
-        → RunsUsage M.time M.state machine.old machine.new (tagged ErrChannel (usage_line reason.now)) result }
+        → RunsUsage M.time M.state machine.old machine.new (on_channel ErrChannel (usage_line reason.now)) result }
     ensures causes { HasCause result (M.counts machine.old) (M.counts machine.new) }
 {
     let Ok(line) = usage_line(alloc, reason) else {
@@ -102,15 +102,15 @@ fn print_usage<M: Machine>(alloc: Global, reason: &UsageReason, machine: &mut M)
 fn run_to_end<M: Machine>(alloc: Global, words: &Vec<String>, machine: &mut M) -> Ended
     ensures fits { FitsWords (meaning (map string_bytes words.now.items)) result }
     ensures runs { IsTrue M.tells → RunsBy M.time M.state
-        (asked_of (map string_bytes words.now.items) (M.state machine.old)) machine.old machine.new result }
+        (asked_lines_of (map string_bytes words.now.items) (M.state machine.old)) machine.old machine.new result }
     ensures tidies { IsTrue M.tells → (lines : List Line)
-        → asked_of (map string_bytes words.now.items) (M.state machine.old) ≡ Ok lines
+        → asked_lines_of (map string_bytes words.now.items) (M.state machine.old) ≡ Ok lines
         → AtEnd result (AllTidied lines (M.state machine.new)) }
     ensures rests { IsTrue M.tells → (lines : List Line)
-        → asked_of (map string_bytes words.now.items) (M.state machine.old) ≡ Ok lines
+        → asked_lines_of (map string_bytes words.now.items) (M.state machine.old) ≡ Ok lines
         → AtEnd result (has_command lines ≡ true → IsRested (M.state machine.new)) }
     ensures behind { IsTrue M.tells → IsFirm (M.state machine.old)
-        → (lines : List Line) → asked_of (map string_bytes words.now.items) (M.state machine.old) ≡ Ok lines
+        → (lines : List Line) → asked_lines_of (map string_bytes words.now.items) (M.state machine.old) ≡ Ok lines
         → CleanBehind (M.state machine.old) (M.state machine.new) lines result }
     ensures input { IsTrue M.tells
         → TakesInput (meaning (map string_bytes words.now.items)) result
@@ -139,43 +139,45 @@ pub fn run<M: Machine>(alloc: Global, words: &Vec<String>, machine: &mut M) -> u
     // On a settled machine a stop at any moment leaves printed a prefix of the replies, and boot sees the
     // files after the acknowledged commands or one more.
     ensures headline { IsTrue M.tells → IsSettled (M.state machine.old)
-        → (lines : List Line) → asked_of (map string_bytes words.now.items) (M.state machine.old) ≡ Ok lines
+        → (lines : List Line) → asked_lines_of (map string_bytes words.now.items) (M.state machine.old) ≡ Ok lines
         → EachSince M.time machine.old machine.new (λ image printed. Adds (M.state machine.old).printed printed
         (Leaves (recovered_now (M.state machine.old)) lines (recovered_view image))) }
     // No part of a reply is printed before its change.
     ensures after_change { IsTrue M.tells → IsSettled (M.state machine.old)
-        → (lines : List Line) → asked_of (map string_bytes words.now.items) (M.state machine.old) ≡ Ok lines
+        → (lines : List Line) → asked_lines_of (map string_bytes words.now.items) (M.state machine.old) ≡ Ok lines
         → EachSince M.time machine.old machine.new (λ image printed. Adds (M.state machine.old).printed printed
         (SeesBegun (recovered_now (M.state machine.old)) lines (recovered_view image))) }
     // On a machine that is only firm, each moment is one up to the sync of the names, at which a stop leaves what it
     // would have left at the start and no more is printed than replies to leading lines that are no command, or one
     // from that sync on, at which all is as on a settled machine.
     ensures from_sync { IsTrue M.tells → IsFirm (M.state machine.old)
-        → (lines : List Line) → asked_of (map string_bytes words.now.items) (M.state machine.old) ≡ Ok lines
+        → (lines : List Line) → asked_lines_of (map string_bytes words.now.items) (M.state machine.old) ≡ Ok lines
         → LeavesFromSync M.time M.state machine.old machine.new lines }
     // Whatever the words, the run leads from the views at its start to those at its end, and a stop at any moment to
     // one view. These are the steps of a history.
     ensures leads { IsTrue M.tells → IsFirm (M.state machine.old)
         → Adds (M.state machine.old).printed (M.state machine.new).printed (λ sent. Leads
-        (recovered_views (M.state machine.old)) (asked_of (map string_bytes words.now.items) (M.state machine.old))
+        (recovered_views (M.state machine.old))
+        (asked_lines_of (map string_bytes words.now.items) (M.state machine.old))
         (recovered_views (M.state machine.new)) sent (end_at (ended_of result))) }
     ensures stops { IsTrue M.tells → IsFirm (M.state machine.old)
         → EachSince M.time machine.old machine.new (λ image printed. Adds (M.state machine.old).printed printed
         (λ sent. Leads (recovered_views (M.state machine.old))
-        (asked_of (map string_bytes words.now.items) (M.state machine.old)) (recovered_view image ∷ []) sent Stopped)) }
+        (asked_lines_of (map string_bytes words.now.items) (M.state machine.old)) (recovered_view image ∷ []) sent
+        Stopped)) }
     // At 0 and 1 all replies are printed, and boot sees the files after all lines.
     ensures finished { IsTrue M.tells → IsFirm (M.state machine.old)
-        → (lines : List Line) → asked_of (map string_bytes words.now.items) (M.state machine.old) ≡ Ok lines
+        → (lines : List Line) → asked_lines_of (map string_bytes words.now.items) (M.state machine.old) ≡ Ok lines
         → AtEnd (ended_of result) (AllPrinted (M.state machine.old) (M.state machine.new) lines) }
     // 1 exactly where some reply is a refusal, unless a fault or want of memory ended the run.
     ensures refused { IsTrue M.tells → IsFirm (M.state machine.old)
-        → (lines : List Line) → asked_of (map string_bytes words.now.items) (M.state machine.old) ≡ Ok lines
+        → (lines : List Line) → asked_lines_of (map string_bytes words.now.items) (M.state machine.old) ≡ Ok lines
         → AnswersRefusals (some_refused (recovered_now (M.state machine.old)) lines) (ended_of result) }
     // 2 exactly where the words are no command, unless a pipe failed or memory was wanting.
     ensures fits { FitsWords (meaning (map string_bytes words.now.items)) (ended_of result) }
     ensures usage { IsTrue M.tells → (reason : UsageReason) → meaning (map string_bytes words.now.items) ≡ Err reason
         → RunsUsage M.time M.state machine.old machine.new
-        (tagged ErrChannel (usage_line reason)) (ended_of result) }
+        (on_channel ErrChannel (usage_line reason)) (ended_of result) }
     // 3 and 4 only where that count rose, and every other status leaves both.
     ensures causes { HasCause (ended_of result) (M.counts machine.old) (M.counts machine.new) }
     ensures firm { IsTrue M.tells → IsFirm (M.state machine.old) → IsFirm (M.state machine.new) }
@@ -188,15 +190,15 @@ pub fn run<M: Machine>(alloc: Global, words: &Vec<String>, machine: &mut M) -> u
     ensures temps { IsTrue M.tells
         → UnlessDisk (ended_of result) (NoNewTemp (M.state machine.old) (M.state machine.new)) }
     ensures tidied { IsTrue M.tells
-        → (lines : List Line) → asked_of (map string_bytes words.now.items) (M.state machine.old) ≡ Ok lines
+        → (lines : List Line) → asked_lines_of (map string_bytes words.now.items) (M.state machine.old) ≡ Ok lines
         → AtEnd (ended_of result) (AllTidied lines (M.state machine.new)) }
     // Where a line was a command, no rename is left half done at 0 and 1.
     ensures rests { IsTrue M.tells
-        → (lines : List Line) → asked_of (map string_bytes words.now.items) (M.state machine.old) ≡ Ok lines
+        → (lines : List Line) → asked_lines_of (map string_bytes words.now.items) (M.state machine.old) ≡ Ok lines
         → AtEnd (ended_of result) (has_command lines ≡ true → IsRested (M.state machine.new)) }
     // At 4 and 5 both hold of the lines that were acknowledged.
     ensures behind { IsTrue M.tells → IsFirm (M.state machine.old)
-        → (lines : List Line) → asked_of (map string_bytes words.now.items) (M.state machine.old) ≡ Ok lines
+        → (lines : List Line) → asked_lines_of (map string_bytes words.now.items) (M.state machine.old) ≡ Ok lines
         → CleanBehind (M.state machine.old) (M.state machine.new) lines (ended_of result) }
 {
     run_to_end(alloc, words, machine).status()

@@ -8,7 +8,7 @@ use std::alloc::{AllocError, Global};
 const TEXT_LIMIT: usize = 80;
 
 // The bytes between quotes, with `\n` for a newline.
-fn quoted(alloc: Global, bytes: &[u8]) -> Result<String, AllocError> {
+fn quote_bytes(alloc: Global, bytes: &[u8]) -> Result<String, AllocError> {
     let mut text = String::from_str(alloc, "\"")?;
     for byte in bytes {
         match *byte {
@@ -35,7 +35,7 @@ pub(crate) fn content_text(
 ) -> Result<String, AllocError> {
     match sample_of(samples, bytes) {
         Some(sample) => format!(in alloc; "= {sample}"),
-        None if bytes.len() <= TEXT_LIMIT => quoted(alloc, bytes),
+        None if bytes.len() <= TEXT_LIMIT => quote_bytes(alloc, bytes),
         None => digest_text(alloc, bytes),
     }
 }

@@ -1,7 +1,7 @@
 //! What a run comes to of which one call fails.
 use crate::fault::StoryFault;
 use crate::left::left_text;
-use crate::stops::{CALL_LIMIT, StoppedRun, acknowledged, is_stopped, next_text};
+use crate::stops::{CALL_LIMIT, StoppedRun, count_acknowledged, is_stopped, next_text};
 use crate::story::Story;
 use boot_run::run;
 use memory_machine::{FailMode, MemMachine};
@@ -11,14 +11,14 @@ use std::alloc::Global;
 const MODES: [FailMode; 2] = [FailMode::Before, FailMode::After];
 
 // A copy of the story's machine after a run of which that call fails, and the status.
-fn faulty(
+fn run_failing(
     alloc: Global,
     story: &mut Story,
     words: &Vec<String>,
     call: u64,
     mode: FailMode,
 ) -> Result<(MemMachine, u8), StoryFault> {
-    let (mut machine, calls) = story.copied(alloc)?;
+    let (mut machine, calls) = story.copy_machine(alloc)?;
     machine.fail_at(calls.saturating_add(call), mode)?;
     let status = run(alloc, words, &mut machine);
     Ok((machine, status))
@@ -32,7 +32,7 @@ fn outcome_text(
     call: u64,
     mode: FailMode,
 ) -> Result<Option<String>, StoryFault> {
-    let (mut machine, status) = faulty(alloc, story, &faulted.words, call, mode)?;
+    let (mut machine, status) = run_failing(alloc, story, &faulted.words, call, mode)?;
     if !is_stopped(status) {
         return Ok(None);
     }
@@ -40,7 +40,7 @@ fn outcome_text(
         let text = next_text(alloc, faulted, words, &mut machine, &story.known)?;
         return Ok(Some(text));
     }
-    let count = acknowledged(alloc, faulted, &machine)?;
+    let count = count_acknowledged(alloc, faulted, &machine)?;
     let files = left_text(alloc, &mut machine, &story.known)?;
     let text = format!(in alloc; "{count} acknowledged, status {status}: {files}\n")?;
     Ok(Some(text))

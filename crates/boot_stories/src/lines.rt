@@ -3,7 +3,7 @@ use crate::fault::StoryFault;
 use std::alloc::Global;
 
 /// The two parts of a text before and behind its first space.
-pub(crate) fn parted(text: &str) -> Result<(&str, &str), StoryFault> {
+pub(crate) fn split_at_space(text: &str) -> Result<(&str, &str), StoryFault> {
     text.split_once(' ').ok_or(StoryFault::Unclear)
 }
 
@@ -20,7 +20,7 @@ pub(crate) fn number(text: &str) -> Result<u64, StoryFault> {
 }
 
 // The byte that stands behind a backslash, and the text behind it.
-fn escaped(text: &str) -> Result<(u8, &str), StoryFault> {
+fn read_escape(text: &str) -> Result<(u8, &str), StoryFault> {
     if let Some(rest) = text.strip_prefix('n') {
         return Ok((b'\n', rest));
     }
@@ -37,11 +37,11 @@ fn escaped(text: &str) -> Result<(u8, &str), StoryFault> {
 }
 
 /// The bytes of a text in which `\n` is a newline, and `\x` with two digits the byte of that number.
-pub(crate) fn unescaped(alloc: Global, text: &str) -> Result<Vec<u8>, StoryFault> {
+pub(crate) fn unescape(alloc: Global, text: &str) -> Result<Vec<u8>, StoryFault> {
     let mut pieces = text.split('\\');
     let mut bytes = pieces.next().unwrap_or("").as_bytes().to_vec(alloc)?;
     for piece in pieces {
-        let (byte, rest) = escaped(piece)?;
+        let (byte, rest) = read_escape(piece)?;
         bytes.push(byte)?;
         bytes.extend_from_slice(rest.as_bytes())?;
     }

@@ -7,7 +7,7 @@ use std::alloc::{AllocError, Global};
 pub(crate) type Sample = (&'static str, SampleImage);
 
 // A file of these bytes, which isn't an image.
-fn plain(bytes: &[u8]) -> SampleImage {
+fn plain_file(bytes: &[u8]) -> SampleImage {
     let mut file = SampleImage::headers(0);
     file.resize(0);
     file.put(0, bytes);
@@ -17,7 +17,7 @@ fn plain(bytes: &[u8]) -> SampleImage {
 // A kernel, a stub and an image of both; and images that are entries, or aren't for want of a title.
 fn entries() -> [Sample; 6] {
     [
-        ("k", plain(b"abc")),
+        ("k", plain_file(b"abc")),
         ("stub", SampleImage::stub()),
         (
             "u.efi",
@@ -95,7 +95,7 @@ fn images() -> [Sample; 7] {
         ("odd", odd),
         ("pe32", SampleImage::stub().with(Field::Magic, 0x10B)),
         ("image.efi", whole),
-        ("cut.efi", plain(whole.front(1535))),
+        ("cut.efi", plain_file(whole.front(1535))),
         ("u.efi", unified),
         ("sig.efi", SampleImage::image_of_two(b".pcrsig", b"1234567")),
         ("empty.efi", unified.with(Field::VirtualSize(2), 0)),
@@ -104,7 +104,7 @@ fn images() -> [Sample; 7] {
 
 // Images with a titled text behind the kernel: as many bytes of it are loaded as may be, or one more, or none of the
 // kernel.
-fn titled() -> [Sample; 3] {
+fn titled_samples() -> [Sample; 3] {
     let image = image_of(b"PRETTY_NAME=A\n");
     [
         ("fitting.efi", image.with(Field::VirtualSize(2), 65_536)),
@@ -116,11 +116,11 @@ fn titled() -> [Sample; 3] {
 fn parts(alloc: Global) -> Result<Vec<Sample>, AllocError> {
     let mut samples = Vec::new(alloc);
     for (path, bytes) in PARTS {
-        samples.push((path, plain(bytes)))?;
+        samples.push((path, plain_file(bytes)))?;
     }
     samples.extend_from_slice(&stubs())?;
     samples.extend_from_slice(&images())?;
-    samples.extend_from_slice(&titled())?;
+    samples.extend_from_slice(&titled_samples())?;
     Ok(samples)
 }
 

@@ -33,7 +33,7 @@ pub(crate) fn stopped_after(
     words: &Vec<String>,
     calls: u64,
 ) -> Result<(MemMachine, u8), StoryFault> {
-    let (machine, _) = story.copied(alloc)?;
+    let (machine, _) = story.copy_machine(alloc)?;
     let mut fuse = Fuse::new(machine, calls);
     let status = run(alloc, words, &mut fuse);
     Ok((fuse.into_inner(), status))
@@ -72,7 +72,7 @@ impl StoppedRun {
         Ok(StoppedRun {
             words,
             is_script,
-            length: machine.printed().len(),
+            length: machine.printed_bytes().len(),
             next,
             input: story.input.as_slice().to_vec(alloc)?,
         })
@@ -80,12 +80,12 @@ impl StoppedRun {
 }
 
 /// How many lines of a script are acknowledged, or whether a command is.
-pub(crate) fn acknowledged(
+pub(crate) fn count_acknowledged(
     alloc: Global,
     stopped: &StoppedRun,
     machine: &MemMachine,
 ) -> Result<usize, AllocError> {
-    let printed = machine.printed();
+    let printed = machine.printed_bytes();
     if stopped.is_script {
         return acknowledged_lines(alloc, printed);
     }
@@ -101,9 +101,9 @@ pub(crate) fn next_text(
     known: &Known,
 ) -> Result<String, StoryFault> {
     machine.set_input(stopped.input.as_slice().to_vec(alloc)?);
-    let before = machine.printed().len();
+    let before = machine.printed_bytes().len();
     let status = run(alloc, words, machine);
-    let printed = machine.printed();
+    let printed = machine.printed_bytes();
     let reply = reply_text(alloc, printed.get(before..).unwrap_or(printed), status)?;
     let files = left_text(alloc, machine, known)?;
     Ok(format!(in alloc; "{reply}left: {files}\n")?)
@@ -117,7 +117,7 @@ fn outcome_text(
     machine: MemMachine,
     candidate: u64,
 ) -> Result<String, StoryFault> {
-    let count = acknowledged(alloc, stopped, &machine)?;
+    let count = count_acknowledged(alloc, stopped, &machine)?;
     let mut left = left_by(alloc, machine, candidate)?;
     if let Some(words) = &stopped.next {
         return next_text(alloc, stopped, words, &mut left, known);

@@ -102,14 +102,14 @@ impl Story {
     /// What was printed since the last call.
     pub(crate) fn new_printed(&mut self) -> &[Printed] {
         let told = self.told;
-        let printed = self.machine.printed();
+        let printed = self.machine.printed_bytes();
         self.told = printed.len();
         printed.get(told..).unwrap_or(printed)
     }
 
     /// From now on this is the story's machine.
     pub(crate) fn go_on_with(&mut self, machine: MemMachine) {
-        self.told = machine.printed().len();
+        self.told = machine.printed_bytes().len();
         self.read = machine.reads().len();
         self.machine = machine;
     }
@@ -165,7 +165,7 @@ impl Story {
     }
 
     /// A new machine with the same files and the same input, and how many calls it has answered.
-    pub(crate) fn copied(&mut self, alloc: Global) -> Result<(MemMachine, u64), StoryFault> {
+    pub(crate) fn copy_machine(&mut self, alloc: Global) -> Result<(MemMachine, u64), StoryFault> {
         self.find_paths(alloc)?;
         let mut copy = new_machine(alloc)?;
         let mut calls = self.copy_files(alloc, &mut copy)?;
@@ -185,7 +185,7 @@ impl Story {
         call: u64,
         mode: FailMode,
     ) -> Result<(), StoryFault> {
-        let (mut copy, calls) = self.copied(alloc)?;
+        let (mut copy, calls) = self.copy_machine(alloc)?;
         copy.fail_at(calls.saturating_add(call), mode)?;
         self.go_on_with(copy);
         Ok(())

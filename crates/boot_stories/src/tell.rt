@@ -3,7 +3,7 @@ use crate::fault::StoryFault;
 use crate::faults::faults_text;
 use crate::files::folder_text;
 use crate::left::left_text;
-use crate::lines::{number, parted, parted_or_whole};
+use crate::lines::{number, parted_or_whole, split_at_space};
 use crate::replies::{bytes_text, reads_text, reply_text, sources_text};
 use crate::stops::{left_by, stopped_after, stops_text};
 use crate::story::Story;
@@ -24,7 +24,7 @@ fn take_input(alloc: Global, story: &mut Story, path: &str) -> Result<(), StoryF
 }
 
 fn fail(alloc: Global, story: &mut Story, rest: &str) -> Result<(), StoryFault> {
-    let (call, mode) = parted(rest)?;
+    let (call, mode) = split_at_space(rest)?;
     let mode = match mode {
         "before" => FailMode::Before,
         "after" => FailMode::After,
@@ -45,7 +45,7 @@ fn menu(alloc: Global, story: &mut Story) -> Result<String, StoryFault> {
     Ok(sources_text(alloc, story.new_printed())?)
 }
 
-fn left(alloc: Global, story: &mut Story) -> Result<String, StoryFault> {
+fn tell_left(alloc: Global, story: &mut Story) -> Result<String, StoryFault> {
     let files = left_text(alloc, &mut story.machine, &story.known)?;
     Ok(format!(in alloc; "{files}\n")?)
 }
@@ -55,8 +55,8 @@ fn text(alloc: Global, story: &mut Story, path: &str) -> Result<String, StoryFau
     Ok(bytes_text(alloc, bytes.as_slice())?)
 }
 
-fn same(alloc: Global, story: &mut Story, rest: &str) -> Result<String, StoryFault> {
-    let (one, other) = parted(rest)?;
+fn tell_same(alloc: Global, story: &mut Story, rest: &str) -> Result<String, StoryFault> {
+    let (one, other) = split_at_space(rest)?;
     let one = bytes_of_file(alloc, story, one)?;
     let other = bytes_of_file(alloc, story, other)?;
     let told = if one.as_slice() == other.as_slice() {
@@ -94,8 +94,8 @@ fn then(alloc: Global, story: &mut Story, rest: &str) -> Result<String, StoryFau
 }
 
 fn stop(alloc: Global, story: &mut Story, rest: &str) -> Result<(), StoryFault> {
-    let (calls, rest) = parted(rest)?;
-    let (candidate, words) = parted(rest)?;
+    let (calls, rest) = split_at_space(rest)?;
+    let (candidate, words) = split_at_space(rest)?;
     let words = split_line(alloc, words)?;
     let (machine, _) = stopped_after(alloc, story, &words, number(calls)?)?;
     let left = left_by(alloc, machine, number(candidate)?)?;
@@ -119,15 +119,15 @@ fn change(alloc: Global, verb: &str, rest: &str, story: &mut Story) -> Result<()
 }
 
 // What comes of a line.
-fn told(alloc: Global, line: &str, story: &mut Story) -> Result<String, StoryFault> {
+fn line_result(alloc: Global, line: &str, story: &mut Story) -> Result<String, StoryFault> {
     let (verb, rest) = parted_or_whole(line);
     match verb {
         "run" => run_words(alloc, story, rest),
         "menu" => menu(alloc, story),
         "reads" => Ok(reads_text(alloc, story.new_reads())?),
         "files" => folder_text(alloc, &mut story.machine, &story.known.samples, rest),
-        "left" => left(alloc, story),
-        "same" => same(alloc, story, rest),
+        "left" => tell_left(alloc, story),
+        "same" => tell_same(alloc, story, rest),
         "text" => text(alloc, story, rest),
         "total" => total(alloc, story),
         "faults" => faults(alloc, story, rest),
@@ -149,7 +149,7 @@ pub(crate) fn tell_line(
     if line.is_empty() || line.starts_with('#') {
         return Ok(format!(in alloc; "{line}\n")?);
     }
-    match told(alloc, line, story) {
+    match line_result(alloc, line, story) {
         Ok(told) => Ok(format!(in alloc; "> {line}\n{told}")?),
         Err(fault) if fault.is_unclear() => Ok(format!(in alloc; "? {line}\n")?),
         Err(fault) => Err(fault),

@@ -1,14 +1,14 @@
 //! The lines of a story that write files.
 use crate::fault::StoryFault;
 use crate::files::{bytes_at, leave, put_intent};
-use crate::lines::{number, parted, parted_or_whole, unescaped};
+use crate::lines::{number, parted_or_whole, split_at_space, unescape};
 use crate::samples::image_of;
 use crate::story::Story;
 use boot_base::{BootPath, TempPath};
 use std::alloc::{AllocError, Global};
 
 // The length is a variable, so that no proof writes out a list of that many bytes.
-fn filled(alloc: Global, count: usize, byte: u8) -> Result<Vec<u8>, AllocError> {
+fn repeat_byte(alloc: Global, count: usize, byte: u8) -> Result<Vec<u8>, AllocError> {
     vec![in alloc; byte; count]
 }
 
@@ -32,39 +32,39 @@ pub(crate) fn bytes_of_file(
 }
 
 fn copy_file(alloc: Global, story: &mut Story, rest: &str) -> Result<(), StoryFault> {
-    let (from, to) = parted(rest)?;
+    let (from, to) = split_at_space(rest)?;
     let bytes = bytes_of_file(alloc, story, from)?;
     story.write(alloc, to, bytes.as_slice())
 }
 
 fn write_text(alloc: Global, story: &mut Story, rest: &str) -> Result<(), StoryFault> {
     let (path, text) = parted_or_whole(rest);
-    let bytes = unescaped(alloc, text)?;
+    let bytes = unescape(alloc, text)?;
     story.write(alloc, path, bytes.as_slice())
 }
 
 fn write_image(alloc: Global, story: &mut Story, rest: &str) -> Result<(), StoryFault> {
     let (path, text) = parted_or_whole(rest);
-    let osrel = unescaped(alloc, text)?;
+    let osrel = unescape(alloc, text)?;
     story.write(alloc, path, image_of(osrel.as_slice()).bytes())
 }
 
 fn write_filled(alloc: Global, story: &mut Story, rest: &str) -> Result<(), StoryFault> {
-    let (path, rest) = parted(rest)?;
-    let (count, byte) = parted(rest)?;
-    let byte = *unescaped(alloc, byte)?.first().ok_or(StoryFault::Unclear)?;
-    let bytes = filled(alloc, number(count)? as usize, byte)?;
+    let (path, rest) = split_at_space(rest)?;
+    let (count, byte) = split_at_space(rest)?;
+    let byte = *unescape(alloc, byte)?.first().ok_or(StoryFault::Unclear)?;
+    let bytes = repeat_byte(alloc, number(count)? as usize, byte)?;
     story.write(alloc, path, bytes.as_slice())
 }
 
 fn write_series(alloc: Global, story: &mut Story, rest: &str) -> Result<(), StoryFault> {
-    let (path, count) = parted(rest)?;
+    let (path, count) = split_at_space(rest)?;
     let bytes = series(alloc, number(count)?)?;
     story.write(alloc, path, bytes.as_slice())
 }
 
 fn extend_file(alloc: Global, story: &mut Story, rest: &str) -> Result<(), StoryFault> {
-    let (path, count) = parted(rest)?;
+    let (path, count) = split_at_space(rest)?;
     let mut bytes = bytes_of_file(alloc, story, path)?;
     let more = series(alloc, number(count)?.saturating_sub(bytes.len() as u64))?;
     bytes.extend_from_slice(more.as_slice())?;
@@ -74,15 +74,15 @@ fn extend_file(alloc: Global, story: &mut Story, rest: &str) -> Result<(), Story
 // Writes the intent of a rename: a text, filled up with zeros to so many bytes.
 fn write_intent(alloc: Global, story: &mut Story, rest: &str) -> Result<(), StoryFault> {
     let (count, text) = parted_or_whole(rest);
-    let mut bytes = unescaped(alloc, text)?;
+    let mut bytes = unescape(alloc, text)?;
     let more = number(count)?.saturating_sub(bytes.len() as u64);
-    bytes.extend_from_slice(filled(alloc, more as usize, 0)?.as_slice())?;
+    bytes.extend_from_slice(repeat_byte(alloc, more as usize, 0)?.as_slice())?;
     put_intent(alloc, &mut story.machine, bytes.as_slice())
 }
 
 fn write_crowd(alloc: Global, story: &mut Story, rest: &str) -> Result<(), StoryFault> {
-    let (folder, rest) = parted(rest)?;
-    let (count, suffix) = parted(rest)?;
+    let (folder, rest) = split_at_space(rest)?;
+    let (count, suffix) = split_at_space(rest)?;
     for place in 0..number(count)? {
         let path = format!(in alloc; "{folder}/a{place}{suffix}")?;
         story.write(alloc, path.as_str(), b"")?;

@@ -9,7 +9,7 @@ use Rattle.std.proofs.lemmas.List.{reverse-append, take_all}
 use Rattle.std.proofs.lemmas.List.Elements.{filter-append}
 use Rattle.std.proofs.lemmas.Grind.{flat_map-append}
 use Rattle.std.proofs.lemmas.Slice.Eq.{bytes_eq-Decides}
-use Rattle.boot_texts.specs.TextLines.{is_blank, is_counted, is_newline, lines_of, trimmed, without_end_blanks, without_front_blanks}
+use Rattle.boot_texts.specs.TextLines.{is_blank, is_counted, is_newline, lines_of, trim_blanks, without_end_blanks, without_front_blanks}
 use Rattle.boot_texts.specs.KeyValues.{Pair, given_value, last_value, values_of}
 use Rattle.boot_texts.proofs.LastValue.{last_value_push}
 use Rattle.boot_texts.specs.Conf.{IsConfValue, conf_of, names_no_variable, is_seconds, is_timeout, conf_key_name, other_conf_key, conf_value, value_if}
@@ -141,7 +141,7 @@ last_of x (y ∷ ys) all =
     let found = last_of y ys (and_parts (is_ascii_graphic x) (list_all is_ascii_graphic (y ∷ ys)) all).1 in
     (x ∷ found.0, found.1, ap (λ (rest : List ℕ). x ∷ rest) found.2, found.3)
 
-trimmed_same : (first : ℕ) (xs : List ℕ) (last : ℕ) → is_blank first ≡ false → is_blank last ≡ false → trimmed (first ∷ (xs ++ last ∷ [])) ≡ first ∷ (xs ++ last ∷ [])
+trimmed_same : (first : ℕ) (xs : List ℕ) (last : ℕ) → is_blank first ≡ false → is_blank last ≡ false → trim_blanks (first ∷ (xs ++ last ∷ [])) ≡ first ∷ (xs ++ last ∷ [])
 trimmed_same first xs last begins ends =
     let line = first ∷ (xs ++ last ∷ []) in
     let front : without_front_blanks line ≡ line = rw begins refl in
@@ -157,8 +157,8 @@ reads_line first rest (x ∷ xs) begins comment key there all =
     let found = last_of x xs all in
     let line = first ∷ ((rest ++ 32 ∷ found.0) ++ found.1 ∷ []) in
     let is : (first ∷ rest) ++ 32 ∷ (x ∷ xs) ≡ line = ap (λ (v : List ℕ). first ∷ (rest ++ 32 ∷ v)) found.2 ∙ ap (λ (t : List ℕ). first ∷ t) (sym (append_assoc rest (32 ∷ found.0) (found.1 ∷ []))) in
-    let trims : trimmed ((first ∷ rest) ++ 32 ∷ (x ∷ xs)) ≡ (first ∷ rest) ++ 32 ∷ (x ∷ xs) =
-    ap trimmed is ∙ trimmed_same first (rest ++ 32 ∷ found.0) found.1 begins (graphic_not_blank found.1 found.3) ∙ sym is in
+    let trims : trim_blanks ((first ∷ rest) ++ 32 ∷ (x ∷ xs)) ≡ (first ∷ rest) ++ 32 ∷ (x ∷ xs) =
+    ap trim_blanks is ∙ trimmed_same first (rest ++ 32 ∷ found.0) found.1 begins (graphic_not_blank found.1 found.3) ∙ sym is in
     let pair : Pair = (first ∷ rest, x ∷ xs) in
     let not_gap : is_not_gap x ≡ true = let blank = or_parts (eqb x 32 || eqb x 9) (eqb x 13) (graphic_not_blank x (and_parts (is_ascii_graphic x) (list_all is_ascii_graphic xs) all).0) in not_from_false (eqb x 32 || eqb x 9) blank.0 in
     let given : EntryLine ((first ∷ rest) ++ 32 ∷ (x ∷ xs)) (first ∷ rest) (x ∷ xs) = record {

@@ -2,7 +2,7 @@
 use Rattle.std.proofs.Common.{◌≡◌, ◌≢◌, ℕ, suc, Bool, true, false, not, eqb, List, [], ◌∷◌, ◌++◌, None, length, filter, subst, sym, ap, ◌∙◌, refl, cond, arith, append-nil, inl, inr}
 use Rattle.std.specs.List.{cons_option, filter_map, list_all, onto_first, slice_split}
 use Rattle.std.proofs.lemmas.Bool.{and_from, and_parts, eqb-true, ne_eqb, not-true}
-use Rattle.boot_texts.specs.TextLines.{counted_lines, is_counted, is_newline, lines_of, trimmed}
+use Rattle.boot_texts.specs.TextLines.{counted_lines, is_counted, is_newline, lines_of, trim_blanks}
 use Rattle.boot_texts.specs.EntryLines.{entry_reading}
 use Rattle.boot_texts.specs.FileLines.{IsTextButForNewline, with_newline, raw_lines, file_line_reading, without_empty_end, text_of_lines}
 use Rattle.boot_texts.proofs.PatternSearch.{none_of_it}
@@ -73,12 +73,12 @@ file_lines_of_written lines all = ap without_empty_end (split_written lines all)
 
 counted_readings : (pieces : List (List ℕ)) → filter_map entry_reading (counted_lines pieces) ≡ filter_map file_line_reading pieces
 counted_readings [] = refl
-counted_readings (piece ∷ pieces) = by_test (counted_readings pieces) (is_counted (trimmed piece)) refl
+counted_readings (piece ∷ pieces) = by_test (counted_readings pieces) (is_counted (trim_blanks piece)) refl
   where
-    by_test : filter_map entry_reading (counted_lines pieces) ≡ filter_map file_line_reading pieces → (b : Bool) → is_counted (trimmed piece) ≡ b
-        → filter_map entry_reading (cond (is_counted (trimmed piece)) (trimmed piece ∷ counted_lines pieces) (counted_lines pieces))
-        ≡ cons_option (cond (is_counted (trimmed piece)) (entry_reading (trimmed piece)) None) (filter_map file_line_reading pieces)
-    by_test behind true e = rw e (ap (cons_option (entry_reading (trimmed piece))) behind)
+    by_test : filter_map entry_reading (counted_lines pieces) ≡ filter_map file_line_reading pieces → (b : Bool) → is_counted (trim_blanks piece) ≡ b
+        → filter_map entry_reading (cond (is_counted (trim_blanks piece)) (trim_blanks piece ∷ counted_lines pieces) (counted_lines pieces))
+        ≡ cons_option (cond (is_counted (trim_blanks piece)) (entry_reading (trim_blanks piece)) None) (filter_map file_line_reading pieces)
+    by_test behind true e = rw e (ap (cons_option (entry_reading (trim_blanks piece))) behind)
     by_test behind false e = rw e behind
 
 end_readings : (pieces : List (List ℕ)) → filter_map file_line_reading pieces ≡ filter_map file_line_reading (without_empty_end pieces)

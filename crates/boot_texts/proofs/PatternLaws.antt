@@ -7,7 +7,7 @@ use Rattle.std.proofs.lemmas.List.Elements.{Contains-append_cases, Contains-appe
 use Rattle.std.proofs.lemmas.Option.{none-some, some_pair_parts}
 use Rattle.boot_texts.specs.PatternItems.{item_reading, set_reading}
 use Rattle.boot_texts.specs.Patterns.{IsPattern, PatternItem, PatternMatches, SetMember, any_byte, any_run, escape, member_holds, is_inside_set, is_pattern_item, member_bytes, members_of, single, plain, range, set, item_bytes}
-use Rattle.boot_texts.specs.PatternLaws.{EscapeMatches, MembersAreBetween, OneItemList, PlainMatches, QuestionMatches, SetMatches, StarMatches, Unreadable}
+use Rattle.boot_texts.specs.PatternLaws.{EscapeMatches, MembersAreBetween, OneItemList, PlainMatches, QuestionMatches, SetMatches, StarMatches, UnclosedIsNoPattern}
 use Rattle.boot_texts.proofs.PatternItems.{first_complete, set_complete}
 use Rattle.boot_texts.proofs.PatternSearch.{items_end, match_from, match_parts, on_match, one_parts}
 
@@ -128,7 +128,7 @@ open_set rest all =
     let found : Option (PatternItem × List ℕ) = Some (set (take n rest), drop (n + 1) rest) in
     ap (λ (test : Bool). cond test None found) at_end
 
-pub unreadable : Unreadable
+pub unreadable : UnclosedIsNoPattern
 unreadable = (λ rest all. no_items 91 rest (open_set rest all), λ rest. no_items 91 (93 ∷ rest) refl, no_items 92 [] refl)
 
 -- ---- one reading

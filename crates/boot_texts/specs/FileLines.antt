@@ -2,7 +2,7 @@
 use Rattle.std.specs.Prelude.{◌≡◌, ℕ, ◌==◌, Bool, not, List, [], ◌∷◌, ◌++◌, length, filter, is_some, Option, None, if◌then◌else◌, ◌⊎◌}
 use Rattle.std.specs.List.{flat_map, slice_split}
 use Rattle.boot_texts.specs.EntryLines.{entry_reading}
-use Rattle.boot_texts.specs.TextLines.{is_counted, is_newline, trimmed}
+use Rattle.boot_texts.specs.TextLines.{is_counted, is_newline, trim_blanks}
 use Rattle.boot_texts.specs.KeyValues.{Pair, given_value}
 
 -- a last piece without newline is a line where it isn't empty
@@ -29,7 +29,7 @@ IsTextButForNewline whole text = (whole ≡ text) ⊎ (whole ≡ text ++ 10 ∷ 
 
 -- the key and the value of a line as it stands, which may have blanks at its ends, or be empty or a comment
 abbrev pub file_line_reading : List ℕ → Option Pair
-file_line_reading line = if is_counted (trimmed line) then entry_reading (trimmed line) else None
+file_line_reading line = if is_counted (trim_blanks line) then entry_reading (trim_blanks line) else None
 
 -- a line that gives the key no value
 abbrev pub lacks_value : List ℕ → List ℕ → Bool

@@ -48,8 +48,8 @@ PlainMatches =
     ↔ ((rest : List ℕ) × (text ≡ byte ∷ rest) × PatternMatches pattern rest)
 
 -- a set without end, or without a member, and a backslash at the end are no pattern
-abbrev pub Unreadable : Type 0
-Unreadable =
+abbrev pub UnclosedIsNoPattern : Type 0
+UnclosedIsNoPattern =
     ((rest : List ℕ) → list_all is_inside_set rest ≡ true → IsPattern (91 ∷ rest) → ⊥)
     × ((rest : List ℕ) → IsPattern (91 ∷ 93 ∷ rest) → ⊥) × (IsPattern (92 ∷ []) → ⊥)
 

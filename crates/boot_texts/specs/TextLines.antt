@@ -19,8 +19,8 @@ abbrev pub without_end_blanks : List ℕ → List ℕ
 without_end_blanks line = take (length line - suffix_len is_blank line) line
 
 -- a line without the blanks at both ends
-abbrev pub trimmed : List ℕ → List ℕ
-trimmed line = without_end_blanks (without_front_blanks line)
+abbrev pub trim_blanks : List ℕ → List ℕ
+trim_blanks line = without_end_blanks (without_front_blanks line)
 
 -- a line that counts: not empty, and no comment, which begins with `#`
 abbrev pub is_counted : List ℕ → Bool
@@ -29,7 +29,7 @@ is_counted (first ∷ _) = not (first == 35)
 
 -- the lines that count among the pieces between newlines, each trimmed
 abbrev pub counted_lines : List (List ℕ) → List (List ℕ)
-counted_lines pieces = filter is_counted (map trimmed pieces)
+counted_lines pieces = filter is_counted (map trim_blanks pieces)
 
 -- what newlines part of what is left of a text; nothing is left behind its last line
 abbrev pub pieces_of : Option (List ℕ) → List (List ℕ)

@@ -5,7 +5,7 @@ ghost use Rattle.boot_texts.specs.FileLines.{IsTextButForNewline, raw_lines, key
 
 use crate::conf::{is_default_pattern, is_timeout};
 use crate::entry_line::value_in;
-use crate::text_lines::{first_piece, is_counted, trimmed};
+use crate::text_lines::{first_piece, is_counted, trim_blanks};
 use std::alloc::{AllocError, Global};
 
 /// The lines of a file, byte for byte and each with a newline, are the file, but for a newline at its end.
@@ -134,6 +134,6 @@ fn first_line(text: &[u8]) -> (&[u8], &[u8])
 fn has_value(line: &[u8], key: &str) -> bool
     ensures { result ≡ not (lacks_value key.now line.now) }
 {
-    let line = trimmed(line);
+    let line = trim_blanks(line);
     is_counted(line) && value_in(line, key).is_some()
 }

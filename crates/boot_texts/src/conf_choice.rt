@@ -10,7 +10,7 @@ use boot_base::Bytes;
 /// The place of the entry that boots by default, of those with these ids: the first whose id the default
 /// matches, else the first of all. It takes no memory.
 #[tactic(auto, unfolding(crate::specs::ConfChoice::default_place))]
-pub fn chosen(ids: &[Bytes], conf: &LoaderConf) -> Option<usize>
+pub fn default_place(ids: &[Bytes], conf: &LoaderConf) -> Option<usize>
     ensures place { result ≡ default_place conf.now.default ids.now }
     ensures entry { MatchOption result (length ids.now ≡ 0) (λ place. IsDefaultEntry conf.now.default ids.now place) }
 {

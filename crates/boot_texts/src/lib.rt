@@ -24,11 +24,11 @@ mod text_lines;
 
 pub use conf::{LoaderConf, is_default_pattern, is_timeout};
 pub use conf_change::{ConfKey, lines_are_the_file, may_be_value, with_key};
-pub use conf_choice::chosen;
+pub use conf_choice::default_place;
 pub use entry::{EntryFault, Type1};
 pub use entry_line::{last_value, value_in};
 pub use entry_values::entry_lines_are_read_in_one_way;
 pub use os_line::os_lines_are_read_in_one_way;
 pub use os_release::OsRelease;
 pub use pattern::{is_pattern, items_match_as_the_manual_says, matches};
-pub use text_lines::{TextLines, first_piece, is_counted, trimmed};
+pub use text_lines::{TextLines, first_piece, is_counted, trim_blanks};

@@ -54,9 +54,9 @@ impl OsRelease {
     pub fn title(&self) -> Option<&[u8]>
         ensures { option_copied result ≡ title_of self.now }
     {
-        let name = self.filled("NAME").or(self.filled("ID"));
-        self.filled("PRETTY_NAME")
-            .or(self.filled("IMAGE_ID").or(name))
+        let name = self.filled_value("NAME").or(self.filled_value("ID"));
+        self.filled_value("PRETTY_NAME")
+            .or(self.filled_value("IMAGE_ID").or(name))
     }
 
     /// The version: the value of `IMAGE_VERSION`, else `VERSION`, `VERSION_ID` or `BUILD_ID`. An empty value
@@ -64,20 +64,22 @@ impl OsRelease {
     pub fn version(&self) -> Option<&[u8]>
         ensures { option_copied result ≡ version_of self.now }
     {
-        let version = self.filled("VERSION_ID").or(self.filled("BUILD_ID"));
-        self.filled("IMAGE_VERSION")
-            .or(self.filled("VERSION").or(version))
+        let version = self
+            .filled_value("VERSION_ID")
+            .or(self.filled_value("BUILD_ID"));
+        self.filled_value("IMAGE_VERSION")
+            .or(self.filled_value("VERSION").or(version))
     }
 
     /// What entries are ordered by: the value of `IMAGE_ID`, else `ID`. An empty value counts as absent.
     pub fn sort_key(&self) -> Option<&[u8]>
         ensures { option_copied result ≡ sort_key_of self.now }
     {
-        self.filled("IMAGE_ID").or(self.filled("ID"))
+        self.filled_value("IMAGE_ID").or(self.filled_value("ID"))
     }
 
     // The value of the key, if it isn't empty.
-    fn filled(&self, key: &str) -> Option<&[u8]>
+    fn filled_value(&self, key: &str) -> Option<&[u8]>
         ensures { option_copied result ≡ filled_value key.now self.now }
     {
         match self.get(key) {

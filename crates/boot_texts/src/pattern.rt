@@ -1,7 +1,7 @@
 //! Patterns and the texts that they match.
 ghost use Rattle.std.specs.Prelude.{◌≡◌, ◌↔◌, IsTrue};
 ghost use Rattle.boot_texts.specs.Patterns.{IsPattern, PatternMatches};
-ghost use Rattle.boot_texts.specs.PatternLaws.{EmptyMatches, EscapeMatches, MembersAreBetween, OneItemList, PlainMatches, QuestionMatches, SetMatches, StarMatches, Unreadable};
+ghost use Rattle.boot_texts.specs.PatternLaws.{EmptyMatches, EscapeMatches, MembersAreBetween, OneItemList, PlainMatches, QuestionMatches, SetMatches, StarMatches, UnclosedIsNoPattern};
 ghost use Rattle.boot_texts.specs.PatternSteps.{IsSearchStep};
 
 use crate::pattern_item::first_item;
@@ -17,7 +17,7 @@ pub fn items_match_as_the_manual_says()
     ensures members { MembersAreBetween }
     ensures escape { EscapeMatches }
     ensures plain { PlainMatches }
-    ensures unreadable { Unreadable }
+    ensures unreadable { UnclosedIsNoPattern }
     ensures once { OneItemList }
 {}
 

@@ -4,7 +4,7 @@
 ghost use Rattle.std.specs.Prelude.{◌≡◌, ◌∷◌, ◌<◌, length, IfSome, position};
 ghost use Rattle.std.specs.List.{slice_split};
 ghost use Rattle.std.specs.Option.{option_copied};
-ghost use Rattle.boot_texts.specs.TextLines.{is_blank, is_newline, is_counted, without_front_blanks, without_end_blanks, trimmed, pieces_of, lines_of};
+ghost use Rattle.boot_texts.specs.TextLines.{is_blank, is_newline, is_counted, without_front_blanks, without_end_blanks, trim_blanks, pieces_of, lines_of};
 
 use std::marker::Model;
 
@@ -48,7 +48,7 @@ impl<'a> Iterator for TextLines<'a> {
         while let Some(text) = self.rest {
             let (piece, rest) = first_piece(text);
             self.rest = rest;
-            let line = trimmed(piece);
+            let line = trim_blanks(piece);
             if is_counted(line) {
                 return Some(line);
             }
@@ -76,8 +76,8 @@ fn end_of_line(text: &[u8]) -> Option<usize>
 }
 
 /// The line without the spaces, tabs and carriage returns at both ends.
-pub fn trimmed(line: &[u8]) -> &[u8]
-    ensures { result.now ≡ trimmed line.now }
+pub fn trim_blanks(line: &[u8]) -> &[u8]
+    ensures { result.now ≡ trim_blanks line.now }
 {
     without_end_blanks(without_front_blanks(line))
 }

@@ -10,9 +10,9 @@ use Rattle.boot_machine.proofs.Recovering.{recovered_view-calm}
 use Rattle.image_writer.specs.Sourced.{planned_image}
 use Rattle.image_writer.specs.declared.sources.Sources.{Sources}
 use Rattle.pe_builder.specs.declared.plan.Plan.{Plan as ImagePlan}
-use Rattle.install_steps.specs.Steps.{copied, moved}
+use Rattle.install_steps.specs.Steps.{after_copy, after_move}
 use Rattle.install_steps.proofs.RefusedLemmas.{moved_there}
-use Rattle.command_plans.specs.Plans.{CanMake, duplicated, effect, view_with_image}
+use Rattle.command_plans.specs.Plans.{CanMake, with_copy, effect, view_with_image}
 use Rattle.command_plans.specs.declared.plan.Change.{Change}
 use Rattle.command_plans.specs.declared.plan.Change.TheVariants.{Copy, Leftovers, Move, Remove}
 use Rattle.command_plans.specs.declared.plan.RefusalLine.{RefusalLine}
@@ -26,12 +26,12 @@ written_rested s image sources path rested = ap (λ (v : Files). insert v path (
 pub put_rested : (s : State) (path : Path) (bytes : List ℕ) → IsRested s → insert (recovered_view s.files) path bytes ≡ insert (seen s) path bytes
 put_rested s path bytes rested = ap (λ (v : Files). insert v path bytes) (recovered_view-calm s.files rested)
 
-copied_there : (from to : Path) (view : Files) → has view from ≡ true → copied from to view ≡ duplicated from to view
+copied_there : (from to : Path) (view : Files) → has view from ≡ true → after_copy from to view ≡ with_copy from to view
 copied_there from to view there = rw there refl
 
 module _ (s : State) (from to : Path) (rested : IsRested s) where
-  pub copied_rested : has (seen s) from ≡ true → copied from to (recovered_view s.files) ≡ duplicated from to (seen s)
-  copied_rested there = ap (copied from to) (recovered_view-calm s.files rested) ∙ copied_there from to (seen s) there
+  pub copied_rested : has (seen s) from ≡ true → after_copy from to (recovered_view s.files) ≡ with_copy from to (seen s)
+  copied_rested there = ap (after_copy from to) (recovered_view-calm s.files rested) ∙ copied_there from to (seen s) there
 
   pub small_rested : length (contents (seen s) from) ≤ 268435456 → length (contents (recovered_view s.files) from) ≤ 268435456
   small_rested = subst (λ (v : Files). length (contents v from) ≤ 268435456) (sym (recovered_view-calm s.files rested))
@@ -58,8 +58,8 @@ module _ (s : State) (change : Change) (rested : IsRested s) where
     can_move : (has (seen s) from ≡ true) × (has (seen s) to ≡ false)
     can_move = subst (CanMake s) is can
 
-    pub moved_rested : moved from to (recovered_view s.files) ≡ effect (seen s) change
-    moved_rested = ap (moved from to) calm ∙ moved_there from to (seen s) can_move.0 can_move.1 ∙ ap (effect (seen s)) (sym is)
+    pub moved_rested : after_move from to (recovered_view s.files) ≡ effect (seen s) change
+    moved_rested = ap (after_move from to) calm ∙ moved_there from to (seen s) can_move.0 can_move.1 ∙ ap (effect (seen s)) (sym is)
 
     -- the file to be moved is there
     pub moves : has (recovered_view s.files) from ≡ false → ⊥

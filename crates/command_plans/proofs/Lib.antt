@@ -4,7 +4,7 @@ mod Effects
 pub mod Exits
 pub mod Freeing
 mod Known
-mod Once
+mod WithoutRepeats
 pub mod Performed
 pub mod Registers
 pub mod Sizes

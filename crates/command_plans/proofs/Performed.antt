@@ -5,12 +5,12 @@ use Rattle.std.proofs.lemmas.List.{append-nil}
 use Rattle.boot_machine.specs.Disk.{Files, State, IsIn, candidates, recovered_view}
 use Rattle.boot_machine.specs.Images.{IsImage, IsFirm}
 use Rattle.boot_machine.specs.Moments.{Timeline, EachSince}
-use Rattle.boot_machine.specs.Rows.{tagged, with_printed}
-use Rattle.boot_machine.specs.Sent.{Sent, Adds, PrintsPart, latest, recovered_views}
+use Rattle.boot_machine.specs.Rows.{on_channel, with_printed}
+use Rattle.boot_machine.specs.Sent.{Sent, Adds, PrintsPart, latest_view, recovered_views}
 use Rattle.boot_machine.specs.declared.machine.Channel.{Channel}
 use Rattle.boot_machine.proofs.Elapsing.{weaken, joined}
 use Rattle.boot_machine.proofs.Printing.{tagged_part}
-use Rattle.boot_machine.proofs.Seeing.{latest-recovered_views, one_view, recovered_now_in, from_views, candidate_image}
+use Rattle.boot_machine.proofs.Seeing.{latest_view-recovered_views, one_view, recovered_now_in, from_views, candidate_image}
 use Rattle.install_steps.specs.Steps.{Keeps, Sees, IsDone as IsInstalled}
 use Rattle.command_plans.specs.Deeds.{Deed, Stopped, Stays, Breaks}
 use Rattle.boot_machine.specs.Reading.{OnlyReads}
@@ -24,7 +24,7 @@ use Rattle.command_plans.proofs.Exits.{if_ok, if_err}
 
 module _ {D : Type 0} (time : Timeline D) (state : D → State) (old : D) (outcome : Outcome) (after : Files) (to : Channel) (bytes : (List ℕ)) where
   abbrev deed : Deed
-  deed = record { settles = true; outcome = outcome; after = after; sent = tagged to bytes }
+  deed = record { settles = true; outcome = outcome; after = after; sent = on_channel to bytes }
 
   abbrev At : Files → Sent → Type 0
   At image sent = Adds (state old).printed sent (λ part. Breaks deed (recovered_views (state old)) (recovered_view image ∷ []) part Stopped)
@@ -42,11 +42,11 @@ module _ {D : Type 0} (time : Timeline D) (state : D → State) (old : D) (outco
     nothing_more o (sees.1 ∙ keeps.printed),
     ⊎_elim
         (λ was. inl (refl, (recovered_view m, refl, subst (λ v. IsIn v (recovered_views (state old))) (sym (was ∙ ap recovered_view files)) (recovered_now_in (state old)))))
-        (λ now. inr ((tagged to bytes, refl), (recovered_view m, refl, inl now)))
+        (λ now. inr ((on_channel to bytes, refl), (recovered_view m, refl, inl now)))
         sees.0,
   )) moments
 
-  reply_moments : (mid new : D) → (state mid).printed ≡ (state old).printed → IsInstalled (state mid) after → EachSince time mid new (PrintsPart (state mid) (tagged to bytes)) → EachSince time mid new At
+  reply_moments : (mid new : D) → (state mid).printed ≡ (state old).printed → IsInstalled (state mid) after → EachSince time mid new (PrintsPart (state mid) (on_channel to bytes)) → EachSince time mid new At
   reply_moments mid new printed installed moments = weaken time state _ At mid new (λ m o prints.
       (prints.part.0, prints.part.1 ∙ ap (λ (l : Sent). l ++ prints.part.0) printed, inr (prints.part.2, (recovered_view m, refl, inl (installed.images m prints.stands))))) moments
 
@@ -74,17 +74,17 @@ module _ {D : Type 0} (time : Timeline D) (state : D → State) (old : D) (outco
     moments = joined time state At old mid new (settle_moments mid sees settling) (apply_moments mid new keeps files moments);
   }
     where
-      one_of_two : (v : Files) → IsIn v (recovered_views (state new)) → (v ≡ latest (recovered_views (state old))) ⊎ (v ≡ after)
+      one_of_two : (v : Files) → IsIn v (recovered_views (state new)) → (v ≡ latest_view (recovered_views (state old))) ⊎ (v ≡ after)
       one_of_two v is =
           let from = from_views (candidates (state new)) v is in
           let seen_then = moments.each from.0 _ (counts_now from.0 (candidate_image (state new) from.0 from.1)) in
-          ⊎_elim (λ was. inl (from.2 ∙ was ∙ ap recovered_view files ∙ sym (latest-recovered_views (state old)))) (λ now. inr (from.2 ∙ now)) seen_then.0
+          ⊎_elim (λ was. inl (from.2 ∙ was ∙ ap recovered_view files ∙ sym (latest_view-recovered_views (state old)))) (λ now. inr (from.2 ∙ now)) seen_then.0
 
   -- up to the reply, all is done
   until_reply : (mid done new : D) → ((m : Files) → IsImage (state old) m → IsIn (recovered_view m) (recovered_views (state old)))
       → Keeps (state old) (state mid) → (state mid).files ≡ (state old).files → EachSince time old mid (λ m o. IsImage (state old) m × (o ≡ (state old).printed))
       → Keeps (state mid) (state done) → IsInstalled (state done) after → EachSince time mid done (Sees (state mid) after)
-      → EachSince time done new (PrintsPart (state done) (tagged to bytes)) → EachSince time old new At
+      → EachSince time done new (PrintsPart (state done) (on_channel to bytes)) → EachSince time old new At
   until_reply mid done new sees keeps files settling keeps_too installed moments printing =
       joined time state At old done new
       (joined time state At old mid done (settle_moments mid sees settling) (apply_moments mid done keeps files moments))
@@ -100,14 +100,14 @@ module _ {D : Type 0} (time : Timeline D) (state : D → State) (old : D) (outco
   pub reply_failed : (mid done new : D) (result : Result Outcome MachineFault) → IsErr result → IsErrAnd result (λ stop. stop ≡ Pipe) → ((m : Files) → IsImage (state old) m → IsIn (recovered_view m) (recovered_views (state old)))
       → Keeps (state old) (state mid) → (state mid).files ≡ (state old).files → EachSince time old mid (λ m o. IsImage (state old) m × (o ≡ (state old).printed))
       → Keeps (state mid) (state done) → IsInstalled (state done) after → EachSince time mid done (Sees (state mid) after)
-      → EachSince time done new (PrintsPart (state done) (tagged to bytes)) → (k : ℕ) × (state new ≡ with_printed to (take k bytes) (state done))
+      → EachSince time done new (PrintsPart (state done) (on_channel to bytes)) → (k : ℕ) × (state new ≡ with_printed to (take k bytes) (state done))
       → Performs time state end_by old new deed result
   reply_failed mid done new result failed is sees keeps files settling keeps_too installed moments printing shown = record {
     firm = subst IsFirm (sym shown.1) (same_firm (state done) (take shown.0 bytes) installed.firm);
     ok = if_ok result _ failed;
     err = if_err result Pipe _ is (
-      tagged to (take shown.0 bytes),
-      ap (λ (s : State). s.printed) shown.1 ∙ ap (λ (l : Sent). l ++ tagged to (take shown.0 bytes)) (keeps_too.printed ∙ keeps.printed),
+      on_channel to (take shown.0 bytes),
+      ap (λ (s : State). s.printed) shown.1 ∙ ap (λ (l : Sent). l ++ on_channel to (take shown.0 bytes)) (keeps_too.printed ∙ keeps.printed),
       inr (tagged_part to shown.0 bytes, one_left done new (take shown.0 bytes) installed shown.1),
     );
     moments = until_reply mid done new sees keeps files settling keeps_too installed moments printing;
@@ -117,11 +117,11 @@ module _ {D : Type 0} (time : Timeline D) (state : D → State) (old : D) (outco
   pub all_done : (mid done new : D) → ((m : Files) → IsImage (state old) m → IsIn (recovered_view m) (recovered_views (state old)))
       → Keeps (state old) (state mid) → (state mid).files ≡ (state old).files → EachSince time old mid (λ m o. IsImage (state old) m × (o ≡ (state old).printed))
       → Keeps (state mid) (state done) → IsInstalled (state done) after → EachSince time mid done (Sees (state mid) after)
-      → EachSince time done new (PrintsPart (state done) (tagged to bytes)) → state new ≡ with_printed to bytes (state done)
+      → EachSince time done new (PrintsPart (state done) (on_channel to bytes)) → state new ≡ with_printed to bytes (state done)
       → Performs time state end_by old new deed (Ok outcome)
   all_done mid done new sees keeps files settling keeps_too installed moments printing shown = record {
     firm = subst IsFirm (sym shown) (same_firm (state done) bytes installed.firm);
-    ok = (refl, one_left done new bytes installed shown, ap (λ (s : State). s.printed) shown ∙ ap (λ (l : Sent). l ++ tagged to bytes) (keeps_too.printed ∙ keeps.printed));
+    ok = (refl, one_left done new bytes installed shown, ap (λ (s : State). s.printed) shown ∙ ap (λ (l : Sent). l ++ on_channel to bytes) (keeps_too.printed ∙ keeps.printed));
     err = tt;
     moments = until_reply mid done new sees keeps files settling keeps_too installed moments printing;
   }

@@ -10,7 +10,7 @@ use Rattle.command_plans.specs.declared.declined.Declined.{Declined}
 use Rattle.command_plans.specs.declared.declined.Declined.TheVariants as declines
 use Rattle.command_plans.specs.declared.unsaid.Unsaid.{Unsaid}
 use Rattle.command_plans.specs.declared.unsaid.Unsaid.TheVariants as unsaid
-use Rattle.command_plans.specs.Answers.{Answer, answer_of_read, answered, refusal}
+use Rattle.command_plans.specs.Answers.{Answer, answer_of_read, answer_or_refusal, refusal}
 use Rattle.command_plans.specs.Plans.{Plans, PlansAs}
 use Rattle.command_plans.specs.Refusing.{DeclinesWords, PlansDeclined, PlansUnsaid, RefusesWords}
 use Rattle.command_plans.specs.declared.outcome.Stop.{Stop}
@@ -39,7 +39,7 @@ said_words read shown (Err fault) (Ok plan) plans declines = λ why is s. plans 
 
 -- of a command that may change something
 pub answered_words : {W : Type 0} (read : Result W Refusal) (planned : Result Plan Unsaid) (result : Result Plan Stop)
-    → IfOk result (λ plan. (s : State) (meant : Result Answer Refusal) → PlansAs s planned meant → Plans s plan (answered (seen s) meant))
+    → IfOk result (λ plan. (s : State) (meant : Result Answer Refusal) → PlansAs s planned meant → Plans s plan (answer_or_refusal (seen s) meant))
     → DeclinesWords read planned → RefusesWords read result
 answered_words read planned (Err stop) plans declines = λ why is. tt
 answered_words read (Ok made) (Ok plan) plans declines = λ why is. absurd (declines why is)

@@ -28,15 +28,15 @@ abbrev pub refusal : Files → Refusal → Answer
 refusal view why = record { outcome = Refused (number_of why); after = view; text = line_of why }
 
 -- a command that is done
-abbrev pub done : Files → List ℕ → Answer
-done after text = record { outcome = Done; after = after; text = text }
+abbrev pub done_answer : Files → List ℕ → Answer
+done_answer after text = record { outcome = Done; after = after; text = text }
 
 -- what a command says that changes nothing: its text, or the refusal
 abbrev pub answer_of_read : Files → Result (List ℕ) Refusal → Answer
-answer_of_read view (Ok text) = done view text
+answer_of_read view (Ok text) = done_answer view text
 answer_of_read view (Err why) = refusal view why
 
 -- what a command comes to that may be refused
-abbrev pub answered : Files → Result Answer Refusal → Answer
-answered view (Ok answer) = answer
-answered view (Err why) = refusal view why
+abbrev pub answer_or_refusal : Files → Result Answer Refusal → Answer
+answer_or_refusal view (Ok answer) = answer
+answer_or_refusal view (Err why) = refusal view why

@@ -2,8 +2,8 @@
 -- that a stop may leave, the last that of the files.
 use Rattle.std.specs.Prelude.{◌≡◌, ◌⊎◌, Bool, true, List, [], ◌∷◌, if◌then◌else◌}
 use Rattle.boot_machine.specs.Disk.{Files, IsIn}
-use Rattle.boot_machine.specs.Rows.{tagged}
-use Rattle.boot_machine.specs.Sent.{Sent, IsPrefix, latest}
+use Rattle.boot_machine.specs.Rows.{on_channel}
+use Rattle.boot_machine.specs.Sent.{Sent, IsPrefix, latest_view}
 use Rattle.command_plans.specs.declared.outcome.Outcome.{Outcome}
 use Rattle.command_plans.specs.Answers.{Answer, channel_of}
 
@@ -15,12 +15,12 @@ pub record Deed : Type 0 where
   pub sent : Sent
 
 -- each command settles the machine, and prints its reply on the channel of its outcome
-abbrev pub made : Answer → Deed
-made answer = record {
+abbrev pub deed_of_answer : Answer → Deed
+deed_of_answer answer = record {
   settles = true;
   outcome = answer.outcome;
   after = answer.after;
-  sent = tagged (channel_of answer.outcome) answer.text;
+  sent = on_channel (channel_of answer.outcome) answer.text;
 }
 
 -- how a run ends, or that it is stopped
@@ -50,7 +50,7 @@ Acts deed old new part Stopped =
     IsPrefix part deed.sent × ((view : Files) × (new ≡ view ∷ []) × IsIn view (left_by deed old))
 Acts deed old new part PipeFails = IsPrefix part deed.sent × (new ≡ left_by deed old)
 Acts deed old new part DiskFails =
-    (part ≡ []) × ((view : Files) → IsIn view new → (view ≡ latest old) ⊎ (view ≡ deed.after))
+    (part ≡ []) × ((view : Files) → IsIn view new → (view ≡ latest_view old) ⊎ (view ≡ deed.after))
 Acts deed old new part NoMemory = ⊥
 Acts deed old new part Finished = ⊥
 

@@ -12,13 +12,13 @@ use Rattle.pe_reader.specs.declared.fault.FailedCheck.{FailedCheck}
 use Rattle.command_plans.specs.Declining.{◌>>=◌, printed_path}
 
 -- the bytes that stand at a path, or why they aren't read
-abbrev pub readable : Path → Option (List ℕ) → Result (List ℕ) Refusal
-readable path None = Err (refusals.NotFound (printed_path path))
-readable path (Some bytes) =
+abbrev pub readable_bytes : Path → Option (List ℕ) → Result (List ℕ) Refusal
+readable_bytes path None = Err (refusals.NotFound (printed_path path))
+readable_bytes path (Some bytes) =
     if nat_lt file_limit (length bytes) then Err (refusals.TooLarge (printed_path path) (length bytes)) else Ok bytes
 
 abbrev pub bytes_at : Files → Path → Result (List ℕ) Refusal
-bytes_at view path = readable path (get view path)
+bytes_at view path = readable_bytes path (get view path)
 
 -- what was read as a PE32+ file, or the first check that fails
 abbrev pub headers_or : Result Headers FailedCheck → Result Headers Refusal

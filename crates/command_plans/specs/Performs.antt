@@ -4,7 +4,7 @@ use Rattle.boot_machine.specs.Disk.{Files, IsRested, State, recovered_view}
 use Rattle.boot_machine.specs.Images.{IsFirm}
 use Rattle.boot_machine.specs.Moments.{Timeline, EachSince}
 use Rattle.boot_machine.specs.Counts.{Counts, DiskFailed, PipeFailed}
-use Rattle.boot_machine.specs.Sent.{Sent, Adds, latest, recovered_views}
+use Rattle.boot_machine.specs.Sent.{Sent, Adds, latest_view, recovered_views}
 use Rattle.boot_machine.specs.declared.machine.NamesFault.{NamesFault}
 use Rattle.boot_machine.specs.declared.machine.NamesFault.TheVariants as names
 use Rattle.install_steps.specs.Steps.{NoNewTemp}
@@ -56,7 +56,7 @@ abbrev pub LateFrom : {M : Type 0} → Timeline M → (M → State) → M → M 
 LateFrom time state old new deed =
     (t : ℕ) × (time.clock old ≤ t) × (t ≤ time.clock new)
     × ((image : Files) (sent : Sent) → time.since new t image sent
-    → Adds (state old).printed sent (λ part. Breaks deed (latest (recovered_views (state old)) ∷ [])
+    → Adds (state old).printed sent (λ part. Breaks deed (latest_view (recovered_views (state old)) ∷ [])
     (recovered_view image ∷ []) part Stopped))
 
 -- a deed that settles is late from some moment on, unless it was given up with nothing changed

@@ -27,8 +27,8 @@ abbrev pub view_with_image : ImagePlan → Sources → Path → Files → Files
 view_with_image plan sources path view = insert view path (planned_image plan sources view)
 
 -- the view with the bytes of the file at one path at another too
-abbrev pub duplicated : Path → Path → Files → Files
-duplicated from to view = insert view to (contents view from)
+abbrev pub with_copy : Path → Path → Files → Files
+with_copy from to view = insert view to (contents view from)
 
 -- the view after a change
 abbrev pub effect : Files → Change → Files
@@ -37,7 +37,7 @@ effect view (Remove path gone) = remove view path
 effect view (Leftovers temps) = view
 effect view (Write image sources target) = view_with_image image sources target.path view
 effect view (Put target bytes) = insert view target.path bytes
-effect view (Copy from target gone) = duplicated from target.path view
+effect view (Copy from target gone) = with_copy from target.path view
 effect view (Move from to intent gone exists) = move_in from to view
 
 -- The change can be made on any machine: it names the intent in no other way than a move does, and the temporary files
@@ -101,16 +101,16 @@ abbrev pub IsIdleIfRefused : Plan → Type 0
 IsIdleIfRefused plan = is_refusal plan.outcome ≡ true → plan.change ≡ Nothing
 
 -- what a plan comes to
-abbrev pub planned : Files → Plan → Answer
-planned view plan = record { outcome = plan.outcome; after = effect view plan.change; text = plan.text }
+abbrev pub answer_of_plan : Files → Plan → Answer
+answer_of_plan view plan = record { outcome = plan.outcome; after = effect view plan.change; text = plan.text }
 
 -- the plan comes to this answer on the state's view, or this is what it is refused for
 abbrev pub PlansAs : State → Result Plan Unsaid → Result Answer Refusal → Type 0
 PlansAs s result meant = MatchResult result
-    (λ plan. (meant ≡ Ok (planned (seen s) plan)) × CanMake s plan.change)
+    (λ plan. (meant ≡ Ok (answer_of_plan (seen s) plan)) × CanMake s plan.change)
     (λ unsaid. UnsaidFor unsaid meant)
 
 -- the plan comes to this answer on the state's view, and can be carried out
 pub record Plans (s : State) (plan : Plan) (answer : Answer) : Type 0 where
-  pub answer_is : planned (seen s) plan ≡ answer
+  pub answer_is : answer_of_plan (seen s) plan ≡ answer
   pub can_make : CanMake s plan.change

@@ -5,7 +5,7 @@ ghost use Rattle.std.specs.Cmp.Lexicographic.{pointwise};
 ghost use Rattle.pcr_values.specs.Banks.{bank_named};
 ghost use Rattle.pcr_values.specs.declared.bank.Bank.{Bank};
 ghost use Rattle.pcr_values.specs.Phases.{HasDistinctPaths, phase_words};
-ghost use Rattle.command_plans.specs.Choices.{banks_of, once, paths_of};
+ghost use Rattle.command_plans.specs.Choices.{banks_of, without_repeats, paths_of};
 
 use boot_base::Text;
 use pcr_values::{Bank, PhasePath, default_paths};
@@ -14,8 +14,8 @@ use std::collections::BTreeSet;
 
 // The items without repetitions: the first of those that are equal keeps its place. Each item is compared with those
 // that are kept, which are few.
-fn once<T: Eq + Drop>(alloc: Global, items: Vec<T>) -> Result<Vec<T>, AllocError>
-    ensures value { IfOk result (λ kept. kept.items ≡ once T.eq items.items) }
+fn without_repeats<T: Eq + Drop>(alloc: Global, items: Vec<T>) -> Result<Vec<T>, AllocError>
+    ensures value { IfOk result (λ kept. kept.items ≡ without_repeats T.eq items.items) }
     ensures distinct { IfOk result (λ kept. AllPairs (λ one other. T.eq other one ≡ false) kept.items) }
 {
     let mut kept = Vec::new(alloc);
@@ -33,7 +33,7 @@ fn banks_named(alloc: Global, names: &[Text]) -> Result<Vec<Bank>, AllocError>
 {
     let mut banks = Vec::new(alloc);
     for name in names {
-        if let Some(bank) = Bank::named(name.as_str()) {
+        if let Some(bank) = Bank::from_name(name.as_str()) {
             banks.push(bank)?;
         }
     }
@@ -49,13 +49,14 @@ pub fn banks_of(alloc: Global, names: &[Text]) -> Result<Vec<Bank>, AllocError>
         return Vec::from_slice(alloc, &Bank::ALL);
     }
     let banks = banks_named(alloc, names)?;
-    once(alloc, banks)
+    without_repeats(alloc, banks)
 }
 
 // The phase paths of these texts, each once: the first text of a path gives its place. A set tells which paths are
 // there, so that many different ones take no time that grows with their square.
 fn paths_named(alloc: Global, texts: &[Text]) -> Result<Vec<PhasePath>, AllocError>
-    ensures value { IfOk result (λ paths. paths.items ≡ once (pointwise bytes_eq) (map phase_words texts.now)) }
+    ensures value { IfOk result
+        (λ paths. paths.items ≡ without_repeats (pointwise bytes_eq) (map phase_words texts.now)) }
     ensures distinct { IfOk result (λ paths. HasDistinctPaths paths.items) }
 {
     let mut seen = BTreeSet::new(alloc);

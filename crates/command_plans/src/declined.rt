@@ -61,7 +61,7 @@ pub fn path_under(alloc: Global, folder: &BootPath, below: &str) -> Result<BootP
 }
 
 /// A path's text as it is printed, with a leading `/`.
-pub fn printed(alloc: Global, path: &BootPath) -> Result<Text, AllocError>
+pub fn printed_path(alloc: Global, path: &BootPath) -> Result<Text, AllocError>
     ensures { IfOk result (λ text. text ≡ printed_path path.now) }
 {
     Ok(Text::from(path.to_string(alloc)?))
@@ -71,6 +71,6 @@ pub fn printed(alloc: Global, path: &BootPath) -> Result<Text, AllocError>
 pub fn not_there(alloc: Global, path: &BootPath) -> Result<Refusal, AllocError>
     ensures { IfOk result (λ why. why ≡ Refusal.NotFound (printed_path path.now)) }
 {
-    let path = printed(alloc, path)?;
+    let path = printed_path(alloc, path)?;
     Ok(Refusal::NotFound { path })
 }

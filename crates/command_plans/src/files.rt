@@ -2,7 +2,7 @@
 ghost use Rattle.std.specs.Prelude.{◌≡◌, ◌≤◌, ◌<◌, ◌+◌, ◌^◌, IfOk, IsTrue, OnOk, Ok, Result, drop, length, true, vec_len};
 ghost use Rattle.boot_machine.specs.Counts.{Counts};
 ghost use Rattle.boot_machine.specs.Disk.{has};
-ghost use Rattle.boot_machine.specs.Reading.{OnlyReads, TakesAtMost, zero_filled};
+ghost use Rattle.boot_machine.specs.Reading.{OnlyReads, TakesAtMost, fill_with_zeros};
 ghost use Rattle.boot_machine.specs.Rows.{contents};
 ghost use Rattle.boot_machine.specs.Sent.{seen};
 ghost use Rattle.pe_reader.specs.Grammar.{Headers, pe_of};
@@ -14,7 +14,7 @@ ghost use Rattle.boot_base.specs.Limits.{file_limit};
 ghost use Rattle.command_plans.specs.Files.{bytes_at, headers_or, image_at};
 ghost use Rattle.command_plans.specs.Unsaying.{CountsUnsaid, Says, UnsaidFor, unsaid_counts};
 
-use crate::declined::{not_there, printed};
+use crate::declined::{not_there, printed_path};
 use crate::reading::seen_size;
 use crate::unsaid::Unsaid;
 use boot_base::{BootPath, FILE_LIMIT, PeText, Refusal};
@@ -25,13 +25,17 @@ use std::alloc::{AllocError, Global};
 fn too_large(alloc: Global, path: &BootPath, size: u64) -> Result<Refusal, AllocError>
     ensures { IfOk result (λ why. why ≡ Refusal.TooLarge (printed_path path.now) size) }
 {
-    let path = printed(alloc, path)?;
+    let path = printed_path(alloc, path)?;
     Ok(Refusal::TooLarge { path, size })
 }
 
 /// The size in bytes of the file at a path, which is refused unless it is there and has no more than are read. None of
 /// its bytes are read.
-pub fn readable<M: Machine>(alloc: Global, path: &BootPath, machine: &mut M) -> Result<u64, Unsaid>
+pub fn readable_size<M: Machine>(
+    alloc: Global,
+    path: &BootPath,
+    machine: &mut M,
+) -> Result<u64, Unsaid>
     ensures file { IsTrue M.tells → Says (λ _. contents (M.state machine.old).files path.now) result
         (bytes_at (seen (M.state machine.old)) path.now) }
     ensures size { IfOk result (λ size. IsTrue M.tells
@@ -62,7 +66,7 @@ pub fn not_pe(alloc: Global, reason: PeReason, offset: u64) -> Result<Refusal, A
 }
 
 // What the failure to read headers comes to.
-fn headless(alloc: Global, fault: HeadFault) -> Unsaid
+fn head_unsaid(alloc: Global, fault: HeadFault) -> Unsaid
     ensures meant { (read : Result Headers FailedCheck) → FailsFrom fault read → UnsaidFor result (headers_or read) }
     ensures counts { (old new : Counts) → head_counts fault old new → unsaid_counts result old new }
 {
@@ -87,10 +91,10 @@ pub fn image_head<M: Machine>(alloc: Global, path: &BootPath, machine: &mut M) -
     ensures counts { CountsUnsaid result (M.counts machine.old) (M.counts machine.new) }
     ensures taken { IsTrue M.tells → TakesAtMost 69463 (M.taken machine.old) (M.taken machine.new) }
 {
-    readable(alloc, path, machine)?;
+    readable_size(alloc, path, machine)?;
     match Pe::read_head(alloc, machine, path) {
         Ok(head) => Ok(head),
-        Err(fault) => Err(headless(alloc, fault)),
+        Err(fault) => Err(head_unsaid(alloc, fault)),
     }
 }
 
@@ -134,7 +138,7 @@ pub fn sized_head<M: Machine>(
 {
     match head_of_size(alloc, path, size, machine) {
         Ok(head) => Ok(head),
-        Err(fault) => Err(headless(alloc, fault)),
+        Err(fault) => Err(head_unsaid(alloc, fault)),
     }
 }
 
@@ -155,7 +159,7 @@ pub fn file_part<M: Machine>(
 ) -> Result<Vec<u8>, Unsaid>
     requires { place + count < 2 ^ 64 }
     ensures says { IsTrue M.tells → Says (λ bytes. bytes.items) result
-        (Ok (zero_filled (drop place (contents (seen (M.state machine.old)) path.now)) count)) }
+        (Ok (fill_with_zeros (drop place (contents (seen (M.state machine.old)) path.now)) count)) }
     ensures reads { IsTrue M.tells → OnlyReads M.time M.state machine.old machine.new }
     ensures counts { CountsUnsaid result (M.counts machine.old) (M.counts machine.new) }
     ensures taken { IsTrue M.tells → TakesAtMost count (M.taken machine.old) (M.taken machine.new) }
@@ -180,6 +184,6 @@ pub fn file_bytes<M: Machine>(
         → TakesAtMost (length (contents (seen (M.state machine.old)) path.now)) (M.taken machine.old)
         (M.taken machine.new) }
 {
-    let size = readable(alloc, path, machine)?;
+    let size = readable_size(alloc, path, machine)?;
     file_part(alloc, path, 0, size, machine)
 }

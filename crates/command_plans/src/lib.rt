@@ -23,14 +23,16 @@ mod saying;
 mod unsaid;
 
 pub use choices::{banks_of, paths_of};
-pub use declined::{Declined, not_there, path_in, path_under, printed};
-pub use files::{file_bytes, file_part, head_of_size, image_head, not_pe, readable, sized_head};
+pub use declined::{Declined, not_there, path_in, path_under, printed_path};
+pub use files::{
+    file_bytes, file_part, head_of_size, image_head, not_pe, readable_size, sized_head,
+};
 pub use lists::push;
 pub use names::shown_name;
 pub use outcome::{MachineFault, Outcome, Stop};
 pub use performing::perform;
 pub use plan::{Change, Plan, RefusalLine};
 pub use reading::seen_size;
-pub use refusing::{plan_declined, refusal_line, refused};
-pub use saying::{answered, plan_unsaid, said};
+pub use refusing::{plan_declined, refusal_line, refusal_plan};
+pub use saying::{answer_or_refusal, plan_unsaid, text_or_refusal};
 pub use unsaid::Unsaid;

@@ -13,9 +13,9 @@ ghost use Rattle.boot_machine.specs.Taken.{TakesNone};
 ghost use Rattle.image_writer.specs.Sourced.{IsSourced};
 ghost use Rattle.image_writer.specs.Taken.{writing_length};
 ghost use Rattle.install_steps.specs.Steps.{CountsStep, IsDone, Keeps, NoNewTemp, RestsUnless, StepsTo};
-ghost use Rattle.command_plans.specs.Deeds.{made};
+ghost use Rattle.command_plans.specs.Deeds.{deed_of_answer};
 ghost use Rattle.command_plans.specs.Performs.{CountsFault, LeavesNoTempBy, LeavesRestedBy, Performs, Syncs, end_by};
-ghost use Rattle.command_plans.specs.Plans.{CanMake, Drops, DropsBy, IsMakeable, duplicated, effect, making_length, planned, view_with_image};
+ghost use Rattle.command_plans.specs.Plans.{CanMake, Drops, DropsBy, IsMakeable, with_copy, effect, making_length, answer_of_plan, view_with_image};
 
 use crate::outcome::{MachineFault, Outcome};
 use crate::plan::{Change, Plan, RefusalLine};
@@ -26,8 +26,8 @@ use install_steps::{
     MoveFault, StepFault, drop_leftovers, drop_name, move_name, settle, write_bytes, write_whole,
 };
 
-/// Writes the finished image by a plan of these sources at the target. The buffer stands here, so that no other change
-/// has to make room for it.
+// Writes the finished image by a plan of these sources at the target. The buffer stands here, so that no other change
+// has to make room for it.
 #[inline(never)]
 fn write<M: Machine>(
     image: &pe_builder::Plan,
@@ -55,7 +55,7 @@ fn write<M: Machine>(
     write_planned(machine, image, sources, target, &mut buffer)
 }
 
-/// Writes these bytes at the target.
+// Writes these bytes at the target.
 fn put<M: Machine>(bytes: &[u8], target: &Target, machine: &mut M) -> Result<(), DiskFault>
     requires free { IsFree target.now.path }
     requires one { IsTrue M.tells → HasOneCandidate (M.state machine.old) }
@@ -73,7 +73,7 @@ fn put<M: Machine>(bytes: &[u8], target: &Target, machine: &mut M) -> Result<(),
     write_bytes(machine, target, bytes)
 }
 
-/// Writes the bytes of the file at `from` at the target. The buffer stands here, as in `write`.
+// Writes the bytes of the file at `from` at the target. The buffer stands here, as in `write`.
 #[inline(never)]
 fn copy<M: Machine>(from: &BootPath, target: &Target, machine: &mut M) -> Result<(), StepFault>
     requires free { IsFree target.now.path }
@@ -82,9 +82,9 @@ fn copy<M: Machine>(from: &BootPath, target: &Target, machine: &mut M) -> Result
     requires there { IsTrue M.tells → has (seen (M.state machine.old)) from.now ≡ true }
     requires small { IsTrue M.tells → length (contents (seen (M.state machine.old)) from.now) ≤ file_limit }
     ensures done { OnOk result (IsTrue M.tells → IsFirm (M.state machine.old)
-        → IsDone (M.state machine.new) (duplicated from.now target.now.path (seen (M.state machine.old)))) }
+        → IsDone (M.state machine.new) (with_copy from.now target.now.path (seen (M.state machine.old)))) }
     ensures step { IsTrue M.tells → IsFirm (M.state machine.old) → StepsTo M.time M.state
-        (duplicated from.now target.now.path (seen (M.state machine.old))) machine.old machine.new }
+        (with_copy from.now target.now.path (seen (M.state machine.old))) machine.old machine.new }
     ensures found { IsErrOf result StepFault.NotFound → IsTrue M.tells → ⊥ }
     ensures keeps { IsTrue M.tells → Keeps (M.state machine.old) (M.state machine.new) }
     ensures rests { IsTrue M.tells → RestsUnless StepFault.Disk result (M.state machine.new) }
@@ -106,9 +106,9 @@ enum Applied<'a> {
     Refused(&'a RefusalLine),
 }
 
-/// Makes a change on a settled machine. Where the file to be removed, copied or moved is gone, or one stands where it
-/// is to be moved, which no machine comes to that tells its files, it gives the refusal to print, and nothing is
-/// changed.
+// Makes a change on a settled machine. Where the file to be removed, copied or moved is gone, or one stands where it
+// is to be moved, which no machine comes to that tells its files, it gives the refusal to print, and nothing is
+// changed.
 fn apply<'a, M: Machine>(change: &'a Change, machine: &mut M) -> Result<Applied<'a>, DiskFault>
     requires one { IsTrue M.tells → HasOneCandidate (M.state machine.old) }
     requires rested { IsTrue M.tells → IsRested (M.state machine.old) }
@@ -178,10 +178,10 @@ pub fn perform<M: Machine>(plan: &Plan, machine: &mut M) -> Result<Outcome, Mach
     requires there { IsTrue M.tells → CanMake (M.state machine.old) plan.now.change }
     ensures performs { IsTrue M.tells → IsFirm (M.state machine.old)
         → Performs M.time M.state end_by machine.old machine.new
-        (made (planned (seen (M.state machine.old)) plan.now)) result }
+        (deed_of_answer (answer_of_plan (seen (M.state machine.old)) plan.now)) result }
     ensures syncs { IsTrue M.tells → IsFirm (M.state machine.old)
         → Syncs M.time M.state machine.old machine.new
-        (made (planned (seen (M.state machine.old)) plan.now)) result }
+        (deed_of_answer (answer_of_plan (seen (M.state machine.old)) plan.now)) result }
     ensures drops { IsTrue M.tells → DropsBy result plan.now.change (M.state machine.old).files
         (M.state machine.new).files }
     ensures input { IsTrue M.tells → (M.state machine.new).input ≡ (M.state machine.old).input }

@@ -35,7 +35,7 @@ impl RefusalLine {
 }
 
 /// The plan of a refusal: nothing is changed, and its line is the reply.
-pub fn refused(alloc: Global, why: &Refusal) -> Result<Plan, AllocError>
+pub fn refusal_plan(alloc: Global, why: &Refusal) -> Result<Plan, AllocError>
     ensures plans { IfOk result (λ plan. (s : State) → Plans s plan (refusal (seen s) why.now)) }
     ensures makeable { IfOk result (λ plan. IsMakeable plan.change) }
     ensures idle { IfOk result (λ plan. plan.change ≡ Change.Nothing) }
@@ -57,6 +57,6 @@ pub fn plan_declined(alloc: Global, declined: Declined) -> Result<Plan, AllocErr
 {
     match declined {
         Declined::Memory => Err(AllocError),
-        Declined::Refused(why) => refused(alloc, &why),
+        Declined::Refused(why) => refusal_plan(alloc, &why),
     }
 }

@@ -5,14 +5,14 @@ ghost use Rattle.boot_machine.specs.Counts.{Counts};
 ghost use Rattle.boot_machine.specs.Disk.{State};
 ghost use Rattle.boot_machine.specs.Sent.{seen};
 ghost use Rattle.command_plans.specs.Unsaying.{CountsUnsaid, Says, unsaid_counts};
-ghost use Rattle.command_plans.specs.Answers.{Answer, answer_of_read, answered};
+ghost use Rattle.command_plans.specs.Answers.{Answer, answer_of_read, answer_or_refusal};
 ghost use Rattle.command_plans.specs.Performs.{CountsStop};
 ghost use Rattle.command_plans.specs.Plans.{IsIdleIfRefused, IsMakeable, Plans, PlansAs};
 ghost use Rattle.command_plans.specs.Refusing.{PlansUnsaid};
 
 use crate::outcome::{Outcome, Stop};
 use crate::plan::{Change, Plan};
-use crate::refusing::refused;
+use crate::refusing::refusal_plan;
 use crate::unsaid::Unsaid;
 use boot_base::Bytes;
 use std::alloc::Global;
@@ -27,12 +27,12 @@ pub fn plan_unsaid(alloc: Global, unsaid: Unsaid) -> Result<Plan, Stop>
     match unsaid {
         Unsaid::Memory => Err(Stop::Memory),
         Unsaid::Disk => Err(Stop::Disk),
-        Unsaid::Refused(why) => Ok(refused(alloc, &why)?),
+        Unsaid::Refused(why) => Ok(refusal_plan(alloc, &why)?),
     }
 }
 
 /// The plan of a command that changes nothing: its text, or the refusal.
-pub fn said(alloc: Global, text: Result<Vec<u8>, Unsaid>) -> Result<Plan, Stop>
+pub fn text_or_refusal(alloc: Global, text: Result<Vec<u8>, Unsaid>) -> Result<Plan, Stop>
     ensures plans { IfOk result (λ plan. (s : State) (meant : Result (List ℕ) Refusal)
         → Says (λ text. text.items) text meant → Plans s plan (answer_of_read (seen s) meant)) }
     ensures makeable { IfOk result (λ plan. IsMakeable plan.change) }
@@ -50,9 +50,9 @@ pub fn said(alloc: Global, text: Result<Vec<u8>, Unsaid>) -> Result<Plan, Stop>
 }
 
 /// The plan of a command: what was planned, or the refusal.
-pub fn answered(alloc: Global, plan: Result<Plan, Unsaid>) -> Result<Plan, Stop>
+pub fn answer_or_refusal(alloc: Global, plan: Result<Plan, Unsaid>) -> Result<Plan, Stop>
     ensures plans { IfOk result (λ made. (s : State) (meant : Result Answer Refusal)
-        → PlansAs s plan meant → Plans s made (answered (seen s) meant)) }
+        → PlansAs s plan meant → Plans s made (answer_or_refusal (seen s) meant)) }
     ensures makeable { IfOk plan (λ made. IsMakeable made.change) → IfOk result (λ made. IsMakeable made.change) }
     ensures idle { IfOk plan IsIdleIfRefused → IfOk result IsIdleIfRefused }
     ensures counts { (old new : Counts) → CountsUnsaid plan old new → CountsStop result old new }

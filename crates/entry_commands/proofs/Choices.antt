@@ -4,7 +4,7 @@ use Rattle.std.specs.Prelude.{find}
 use Rattle.std.proofs.lemmas.Bool.{cases_Bool, cond-false, cond-true}
 use Rattle.menu_order.specs.Bless.{Name, GoodName, CountedName, BadName, choice_from, choice_of, is_there, bless_sources, target_of}
 use Rattle.menu_order.specs.declared.bless.BlessVerb.{BlessVerb}
-use Rattle.menu_order.specs.declared.bless.Choice.TheVariants.{Nothing}
+use Rattle.menu_order.specs.declared.bless.BlessChoice.TheVariants.{Nothing}
 use Rattle.menu_order.specs.declared.bless.Present.{Present}
 use Rattle.boot_machine.specs.Disk.{Files, has}
 use Rattle.entry_commands.specs.Blessing.{path_at, present_at}

@@ -11,8 +11,8 @@ use Rattle.menu_order.specs.Renames.{booted_name_of}
 use Rattle.menu_order.specs.Splits.{has_suffix, split_of}
 use Rattle.menu_order.specs.declared.bless.BlessVerb.{BlessVerb}
 use Rattle.menu_order.specs.declared.bless.BlessVerb.TheVariants as verbs
-use Rattle.menu_order.specs.declared.bless.Choice.{Choice}
-use Rattle.menu_order.specs.declared.bless.Choice.TheVariants as choices
+use Rattle.menu_order.specs.declared.bless.BlessChoice.{BlessChoice}
+use Rattle.menu_order.specs.declared.bless.BlessChoice.TheVariants as choices
 use Rattle.menu_order.specs.declared.counted.Suffix.{Suffix}
 use Rattle.menu_order.specs.declared.counted.Suffix.TheVariants.{Conf, Efi}
 use Rattle.menu_order.proofs.Splitting.{split_none}
@@ -23,22 +23,22 @@ use Rattle.boot_folder.proofs.Places.{file_name_under, name_parts, own_some}
 use Rattle.boot_machine.specs.Disk.{Files, has}
 use Rattle.boot_machine.specs.Maps.{cases_same, get-insert_apart, get-insert_here, get-remove_apart}
 use Rattle.boot_machine.specs.Rows.{contents, move_in}
-use Rattle.command_plans.specs.Answers.{Answer, answered, done}
+use Rattle.command_plans.specs.Answers.{Answer, answer_or_refusal, done_answer}
 use Rattle.command_plans.specs.Declining.{path_under, printed_path}
 use Rattle.menu_order.specs.declared.item.MenuItem.{MenuItem}
 use Rattle.tool_words.specs.declared.command.BlessWord.{BlessWord}
 use Rattle.tool_words.specs.declared.command.BlessWord.TheVariants as words
-use Rattle.entry_commands.specs.Blessing.{bless_answer, bless_entry, bless_meant, blessed_by, path_at, present_at, reported_paths, status_said}
-use Rattle.entry_commands.specs.Booting.{boot_answer, boot_meant, booted_entry, booted_text, first_of, renamed_entry}
+use Rattle.entry_commands.specs.Blessing.{bless_answer, bless_entry, bless_result, blessed_by, path_at, present_at, reported_paths, status_result}
+use Rattle.entry_commands.specs.Booting.{boot_answer, boot_result, booted_entry, booted_text, first_of, renamed_entry}
 use Rattle.entry_commands.specs.Folders.{folders_of}
 use Rattle.entry_commands.specs.GoodEntries.{HasGoodEntry, SparesGoodName}
-use Rattle.entry_commands.specs.Installing.{install_answer, install_meant, installation_of, installed_image}
+use Rattle.entry_commands.specs.Installing.{install_answer, install_result, installation_of, installed_image}
 use Rattle.entry_commands.specs.Listing.{menu_at}
 use Rattle.entry_commands.specs.Unlinking.{removal, unlink_answer}
 use Rattle.entry_commands.specs.declared.bless.EntryPaths.{EntryPaths}
 use Rattle.entry_commands.proofs.Choices.{can_bless}
 use Rattle.entry_commands.proofs.Steps.{after_answered, after_said, clash, done_by, err_ok, none_some, ok_is}
-use Rattle.entry_commands.proofs.Installed.{image_is, target_of_type}
+use Rattle.entry_commands.proofs.InstalledEntry.{image_is, target_of_type}
 use Rattle.entry_commands.proofs.Reported.{AreReported, bad_is_counted, reported, reported_counted}
 
 module _ (folders : Folders) (path : Path) (view : Files) (e : HasGoodEntry folders path view) where
@@ -137,7 +137,7 @@ module _ (folders : Folders) (path : Path) (view : Files) (e : HasGoodEntry fold
   pub kept_install : (file name : List ℕ) (tries : Option (List ℕ)) (esp : List ℕ)
       → HasGoodEntry folders path (install_answer view file name tries esp).after
   kept_install file name tries esp =
-      after_answered (HasGoodEntry folders path) view (install_meant view file name tries esp) e (λ answer is.
+      after_answered (HasGoodEntry folders path) view (install_result view file name tries esp) e (λ answer is.
       let words = done_by (installation_of file name tries esp) _ answer is in
       let image = done_by (installed_image view words.0) _ answer words.2 in
       let valid = image_is view words.0 image.0 image.1 in
@@ -172,7 +172,7 @@ module _ (folders : Folders) (path : Path) (view : Files) (e : HasGoodEntry fold
     where
       by : (taken : Bool) → has view to ≡ taken
           → (if taken then Err (refusals.TargetExists (printed_path to))
-          else Ok (done (move_in from to view) (booted_text to))) ≡ Ok answer
+          else Ok (done_answer (move_in from to view) (booted_text to))) ≡ Ok answer
           → HasGoodEntry folders path answer.after
       by true taken is = absurd (err_ok (refusals.TargetExists (printed_path to)) answer is)
       by false gone is =
@@ -195,7 +195,7 @@ module _ (folders : Folders) (path : Path) (view : Files) (e : HasGoodEntry fold
           unbooted none = rw none refl
 
   pub kept_boot : (esp : List ℕ) → HasGoodEntry folders path (boot_answer view esp).after
-  kept_boot esp = after_answered (HasGoodEntry folders path) view (boot_meant view esp) e (λ answer is.
+  kept_boot esp = after_answered (HasGoodEntry folders path) view (boot_result view esp) e (λ answer is.
       let read = done_by (folders_of esp) _ answer is in
       let menu = done_by (menu_at view read.0) _ answer read.2 in
       let first = done_by (first_of menu.0) _ answer menu.2 in
@@ -206,7 +206,7 @@ module _ (folders : Folders) (path : Path) (view : Files) (e : HasGoodEntry fold
   -- a blessing: only the good name may be taken away
   kept_choice : (verb : BlessVerb) (paths : EntryPaths) → AreReported paths
       → (has view paths.good ≡ true → has view (path_at paths (target_of verb)) ≡ false → paths.good ≢ path)
-      → (choice : Choice) → choice_of verb (present_at view paths) ≡ choice → (answer : Answer)
+      → (choice : BlessChoice) → choice_of verb (present_at view paths) ≡ choice → (answer : Answer)
       → blessed_by view verb paths (path_at paths (target_of verb)) choice ≡ Ok answer
       → HasGoodEntry folders path answer.after
   kept_choice verb paths are good choices.Nothing at answer is =
@@ -231,9 +231,9 @@ module _ (folders : Folders) (path : Path) (view : Files) (e : HasGoodEntry fold
   kept_meant : (verb : BlessVerb) (word esp : List ℕ)
       → ((paths : EntryPaths) → reported_paths word esp ≡ Ok paths
       → has view paths.good ≡ true → has view (path_at paths (target_of verb)) ≡ false → paths.good ≢ path)
-      → HasGoodEntry folders path (answered view (bless_meant view verb word esp)).after
+      → HasGoodEntry folders path (answer_or_refusal view (bless_result view verb word esp)).after
   kept_meant verb word esp good =
-      after_answered (HasGoodEntry folders path) view (bless_meant view verb word esp) e (λ answer is.
+      after_answered (HasGoodEntry folders path) view (bless_result view verb word esp) e (λ answer is.
       let paths = done_by (reported_paths word esp) (bless_entry view verb) answer is in
       let choice = choice_of verb (present_at view paths.0) in
       kept_choice verb paths.0 (reported word esp paths.0 paths.1) (good paths.0 paths.1) choice refl answer paths.2)
@@ -251,4 +251,4 @@ module _ (folders : Folders) (path : Path) (view : Files) (e : HasGoodEntry fold
       kept_meant verbs.Bad word esp (λ paths is there gone. spared word esp spares paths is)
   kept_bless words.Indeterminate word esp spares =
       kept_meant verbs.Indeterminate word esp (λ paths is there gone. spared word esp spares paths is)
-  kept_bless words.Status word esp spares = after_said (HasGoodEntry folders path) view (status_said view word esp) e
+  kept_bless words.Status word esp spares = after_said (HasGoodEntry folders path) view (status_result view word esp) e

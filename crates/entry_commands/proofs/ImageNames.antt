@@ -5,7 +5,7 @@ use Rattle.std.specs.Fmt.{decimal}
 use Rattle.std.specs.List.{list_all, list_any}
 use Rattle.std.proofs.lemmas.Bool.{and_parts, cases_Bool, cond-false, cond-true, eqb-true}
 use Rattle.boot_base.specs.Paths.{Path, components, file_name_of, is_kept, is_path, is_slash, normal_of, path_below, path_of, under}
-use Rattle.boot_base.proofs.Joined.{adding, is_kept-long, joined, joined-kept}
+use Rattle.boot_base.proofs.Joined.{add_piece, is_kept-long, join_filtered, join_filtered-kept}
 use Rattle.boot_base.proofs.Normal.{path-some}
 use Rattle.boot_base.specs.declared.refusal.Refusal.{Refusal}
 use Rattle.boot_base.specs.declared.refusal.Refusal.TheVariants as refusals
@@ -45,7 +45,7 @@ file_name_kept name tries =
 -- ---- the path
 
 module _ (name : List ℕ) (kept : is_kept name ≡ true) (none : list_any is_slash name ≡ false) where
-  added_last : (text : List ℕ) → file_name_of (adding 47 text name) ≡ name
+  added_last : (text : List ℕ) → file_name_of (add_piece 47 text name) ≡ name
   added_last text = elim (cases_Bool (length text == 0)) [
     | inl empty ↦
         ap file_name_of (cond-true (length text == 0) name (under text name) empty) ∙ file_name_whole name none
@@ -56,8 +56,8 @@ module _ (name : List ℕ) (kept : is_kept name ≡ true) (none : list_any is_sl
   -- a name that counts is the last component of what its path reads as
   read_last : (folder : List ℕ) → file_name_of (normal_of (under folder name)) ≡ name
   read_last folder =
-      ap (λ (ps : List (List ℕ)). file_name_of (joined 47 is_kept ps)) (one_more folder name none)
-      ∙ ap file_name_of (joined-kept 47 is_kept is_kept-long (components folder) name kept)
+      ap (λ (ps : List (List ℕ)). file_name_of (join_filtered 47 is_kept ps)) (one_more folder name none)
+      ∙ ap file_name_of (join_filtered-kept 47 is_kept is_kept-long (components folder) name kept)
       ∙ added_last (normal_of folder)
 
 there : (b : Bool) (read : Option Path) (target : Path) → (if b then read else None) ≡ Some target → read ≡ Some target

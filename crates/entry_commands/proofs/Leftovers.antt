@@ -17,7 +17,7 @@ use Rattle.std.specs.Cmp.Lexicographic.{slice_cmp}
 use Rattle.boot_base.specs.Paths.{Path, is_temp, under}
 use Rattle.boot_machine.specs.Disk.{Files, has}
 use Rattle.boot_machine.specs.Listed.{is_listed}
-use Rattle.boot_machine.specs.Maps.{same-true}
+use Rattle.boot_machine.specs.Maps.{is_same_path-true}
 use Rattle.boot_machine.specs.Rows.{IsNamesOf}
 use Rattle.install_steps.specs.Steps.{Lacks}
 use Rattle.entry_commands.specs.Tidying.{HasLeftovers, IsClean, leftovers_among}
@@ -29,7 +29,7 @@ same_path-is : same_path ≡ bytes_eq
 same_path-is i x y = is_eq-slice_cmp x y i
 
 exact : (x y : Path) → same_path x y ≡ true → x ≡ y
-exact x y is = same-true x y is
+exact x y is = is_same_path-true x y is
 
 -- sorted, and then each once
 module _ (given sorted kept : List Path) (moved : IsPermutation given sorted) (order : IsSorted (slice_cmp nat_cmp) sorted) (cut : IsFiltered (DiffersFromLast same_path) [] sorted kept) where

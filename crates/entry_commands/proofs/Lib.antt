@@ -4,7 +4,7 @@ mod Firsts
 mod Freeing
 pub mod GoodEntries
 mod ImageNames
-mod Installed
+mod InstalledEntry
 mod Leftovers
 pub mod Replies
 mod Reported

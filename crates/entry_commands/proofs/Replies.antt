@@ -9,20 +9,20 @@ use Rattle.boot_base.specs.declared.refusal.Refusal.TheVariants as refusals
 use Rattle.menu_order.specs.Renames.{booted_name_of}
 use Rattle.menu_order.specs.declared.bless.BlessVerb.{BlessVerb}
 use Rattle.menu_order.specs.declared.bless.BlessVerb.TheVariants as verbs
-use Rattle.menu_order.specs.declared.bless.Choice.{Choice}
-use Rattle.menu_order.specs.declared.bless.Choice.TheVariants as choices
+use Rattle.menu_order.specs.declared.bless.BlessChoice.{BlessChoice}
+use Rattle.menu_order.specs.declared.bless.BlessChoice.TheVariants as choices
 use Rattle.menu_order.specs.declared.bless.Present.{Present}
 use Rattle.boot_folder.specs.Entries.{folder_of}
 use Rattle.boot_folder.specs.Listing.{behind_newline, boot_lines, counter_lines, file_lines, item_text, key_lines, title_lines}
 use Rattle.boot_machine.specs.Disk.{Files, has}
 use Rattle.boot_machine.specs.Rows.{move_in}
-use Rattle.command_plans.specs.Answers.{Answer, answer_of_read, answered, done}
+use Rattle.command_plans.specs.Answers.{Answer, answer_of_read, answer_or_refusal, done_answer}
 use Rattle.command_plans.specs.Declining.{◌>>=◌, path_under, printed_path}
-use Rattle.entry_commands.specs.Blessing.{bless_answer, bless_entry, bless_meant, blessed_by, blessed_text, present_at, reported_paths, status_by, status_said, verb_text}
-use Rattle.entry_commands.specs.Booting.{boot_answer, boot_entry, boot_meant, booted_entry, booted_text, first_of, renamed_entry}
+use Rattle.entry_commands.specs.Blessing.{bless_answer, bless_entry, bless_result, blessed_by, blessed_text, present_at, reported_paths, status_by, status_result, verb_text}
+use Rattle.entry_commands.specs.Booting.{boot_answer, boot_entry, boot_result, booted_entry, booted_text, first_of, renamed_entry}
 use Rattle.entry_commands.specs.Folders.{folders_of}
-use Rattle.entry_commands.specs.Installing.{install_answer, install_meant, installation_of, installed_image}
-use Rattle.entry_commands.specs.Listing.{list_said, menu_at, menu_said}
+use Rattle.entry_commands.specs.Installing.{install_answer, install_result, installation_of, installed_image}
+use Rattle.entry_commands.specs.Listing.{list_result, menu_at, menu_result}
 use Rattle.entry_commands.specs.declared.bless.EntryPaths.{EntryPaths}
 use Rattle.menu_order.specs.declared.item.MenuItem.{MenuItem}
 use Rattle.tool_words.specs.declared.command.BlessWord.{BlessWord}
@@ -57,7 +57,7 @@ unfolding file_lines
 some_file item = omega arith
 
 -- a menu with entries has lines
-some_menu : (menu : List MenuItem) → HasText (menu_said menu)
+some_menu : (menu : List MenuItem) → HasText (menu_result menu)
 some_menu [] = tt
 some_menu (item ∷ items) =
     some_before (item_text item) (flat_map behind_newline items)
@@ -73,14 +73,14 @@ answers_next : {X : Type 0} (first : Result X Refusal) (next : X → Result Answ
 answers_next (Ok x) next some = some x
 answers_next (Err why) next some = tt
 
-some_answer : (view : Files) (meant : Result Answer Refusal) → Answers meant → 0 < length (answered view meant).text
+some_answer : (view : Files) (meant : Result Answer Refusal) → Answers meant → 0 < length (answer_or_refusal view meant).text
 some_answer view (Ok answer) some = some
 some_answer view (Err why) some = some_line why
 
 some_renamed : (view : Files) (from to : Path) → Answers (renamed_entry view from to)
 some_renamed view from to = by_target (has view to)
   where
-    by_target : (there : Bool) → Answers (cond there (Err (refusals.TargetExists (printed_path to))) (Ok (done (move_in from to view) (booted_text to))))
+    by_target : (there : Bool) → Answers (cond there (Err (refusals.TargetExists (printed_path to))) (Ok (done_answer (move_in from to view) (booted_text to))))
     by_target true = tt
     by_target false = omega arith
 
@@ -93,16 +93,16 @@ some_verb verbs.Good later = omega arith
 some_verb verbs.Bad later = omega arith
 some_verb verbs.Indeterminate later = omega arith
 
-some_blessed : (view : Files) (verb : BlessVerb) (paths : EntryPaths) (target : Path) (choice : Choice) → Answers (blessed_by view verb paths target choice)
+some_blessed : (view : Files) (verb : BlessVerb) (paths : EntryPaths) (target : Path) (choice : BlessChoice) → Answers (blessed_by view verb paths target choice)
 some_blessed view verb paths target choices.Nothing = some_before (blessed_text verb target) _ (some_verb verb _)
 some_blessed view verb paths target choices.FromGood = some_before (blessed_text verb target) _ (some_verb verb _)
 some_blessed view verb paths target choices.FromCounted = some_before (blessed_text verb target) _ (some_verb verb _)
 some_blessed view verb paths target choices.FromBad = some_before (blessed_text verb target) _ (some_verb verb _)
 some_blessed view verb paths target choices.NoSource = tt
 
-some_blessing : (view : Files) (verb : BlessVerb) (word esp : List ℕ) → 0 < length (answered view (bless_meant view verb word esp)).text
+some_blessing : (view : Files) (verb : BlessVerb) (word esp : List ℕ) → 0 < length (answer_or_refusal view (bless_result view verb word esp)).text
 some_blessing view verb word esp =
-    some_answer view (bless_meant view verb word esp) (answers_next (reported_paths word esp) (bless_entry view verb) (λ paths. some_blessed view verb paths _ _))
+    some_answer view (bless_result view verb word esp) (answers_next (reported_paths word esp) (bless_entry view verb) (λ paths. some_blessed view verb paths _ _))
 
 some_status : (paths : EntryPaths) (present : Present) → HasText (status_by paths present)
 some_status paths present = by_counted present.counted
@@ -124,17 +124,17 @@ some_marked view words.Good word esp = some_blessing view verbs.Good word esp
 some_marked view words.Bad word esp = some_blessing view verbs.Bad word esp
 some_marked view words.Indeterminate word esp = some_blessing view verbs.Indeterminate word esp
 some_marked view words.Status word esp =
-    some_said view (status_said view word esp) (text_next (reported_paths word esp) _ (λ paths. some_status paths (present_at view paths)))
+    some_said view (status_result view word esp) (text_next (reported_paths word esp) _ (λ paths. some_status paths (present_at view paths)))
 
-pub some_list : (view : Files) (esp : List ℕ) → 0 < length (answer_of_read view (list_said view esp)).text
+pub some_list : (view : Files) (esp : List ℕ) → 0 < length (answer_of_read view (list_result view esp)).text
 some_list view esp =
-    some_said view (list_said view esp) (text_next (folders_of esp) _ (λ folders. text_next (menu_at view folders) menu_said some_menu))
+    some_said view (list_result view esp) (text_next (folders_of esp) _ (λ folders. text_next (menu_at view folders) menu_result some_menu))
 
 pub some_boot : (view : Files) (esp : List ℕ) → 0 < length (boot_answer view esp).text
 some_boot view esp =
-    some_answer view (boot_meant view esp)
+    some_answer view (boot_result view esp)
     (answers_next (folders_of esp) _ (λ folders. answers_next (menu_at view folders) _ (λ menu. answers_next (first_of menu) (boot_entry view folders) (λ item. some_booted view (folder_of folders item.suffix) item.path (booted_name_of (file_name_of item.path))))))
 
 pub some_install : (view : Files) (file name : List ℕ) (tries : Option (List ℕ)) (esp : List ℕ) → 0 < length (install_answer view file name tries esp).text
 some_install view file name tries esp =
-    some_answer view (install_meant view file name tries esp) (answers_next (installation_of file name tries esp) _ (λ words. answers_next (installed_image view words) _ (λ bytes. omega arith)))
+    some_answer view (install_result view file name tries esp) (answers_next (installation_of file name tries esp) _ (λ words. answers_next (installed_image view words) _ (λ bytes. omega arith)))

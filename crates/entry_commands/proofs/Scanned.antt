@@ -12,7 +12,7 @@ use Rattle.boot_folder.specs.declared.fault.ScanFault.TheVariants as scans
 use Rattle.boot_folder.specs.declared.folders.Folders.{Folders}
 use Rattle.boot_folder.proofs.EntryFiles.{view_count}
 use Rattle.command_plans.specs.Unsaying.{UnsaidFor}
-use Rattle.entry_commands.specs.Listing.{menu_at, unlisted}
+use Rattle.entry_commands.specs.Listing.{menu_at, scan_unsaid}
 
 not_many : (n : ℕ) → n ≤ 4096 → nat_lt 4096 n ≡ false
 not_many n few = grind (arith, nat_tests)
@@ -34,7 +34,7 @@ many_said files folders count many is = rw (view_count files folders, is, are_ma
 -- what a fault of the scan is told as
 pub unsaid_menu : (Told : Type 0) (files : Files) (folders : Folders) (fault : ScanFault) → Told
     → fault_many fault (λ count. (4096 < count) × (Told → entry_count files folders ≡ count))
-    → UnsaidFor (unlisted fault) (menu_at (view files) folders)
+    → UnsaidFor (scan_unsaid fault) (menu_at (view files) folders)
 unsaid_menu Told files folders scans.Memory told many = tt
 unsaid_menu Told files folders scans.Disk told many = tt
 unsaid_menu Told files folders scans.LongEsp told many = tt

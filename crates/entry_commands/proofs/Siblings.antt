@@ -16,7 +16,7 @@ use Rattle.std.proofs.lemmas.List.Splits.{join_with_byte-slice_split, length-sli
 use Rattle.std.proofs.lemmas.List.Sums.{sum_by-cons}
 use Rattle.std.proofs.lemmas.Slice.Eq.{bytes_eq-Decides, ends_is}
 use Rattle.boot_base.specs.Paths.{Path, beside, components, file_name_of, intent, is_component, is_form, is_kept, is_normal, is_refused, is_slash, is_temp, normal_of, path_of, sibling_of, temp_end, under}
-use Rattle.boot_base.proofs.Joined.{adding, is_kept-long, joined, joined-kept, joined-left_out}
+use Rattle.boot_base.proofs.Joined.{add_piece, is_kept-long, join_filtered, join_filtered-kept, join_filtered-left_out}
 use Rattle.boot_base.proofs.LastComponent.{file_name_of-from}
 use Rattle.boot_base.proofs.Normal.{normal-no_nul, normal-short}
 use Rattle.menu_order.specs.declared.counted.Counted.{Counted}
@@ -187,7 +187,7 @@ module _ (path : Path) (normal : is_normal path ≡ true) where
   itself = (bytes_eq-Decides (normal_of path) path).0 tests.1
 
 -- what a last component was added to is the folder before it
-added_to : (text front last : List ℕ) → adding 47 text last ≡ under front last
+added_to : (text front last : List ℕ) → add_piece 47 text last ≡ under front last
     → (text ≡ front) × ((length text == 0) ≡ false)
 added_to text front last is = elim (cases_Bool (length text == 0)) [
   | inl none ↦
@@ -199,8 +199,8 @@ added_to text front last is = elim (cases_Bool (length text == 0)) [
 ]
 
 normal_more : (folder name : List ℕ) → is_kept name ≡ true → list_any is_slash name ≡ false
-    → normal_of (under folder name) ≡ adding 47 (normal_of folder) name
-normal_more folder name kept one = ap (joined 47 is_kept) (one_more folder name one) ∙ joined-kept 47 is_kept is_kept-long (components folder) name kept
+    → normal_of (under folder name) ≡ add_piece 47 (normal_of folder) name
+normal_more folder name kept one = ap (join_filtered 47 is_kept) (one_more folder name one) ∙ join_filtered-kept 47 is_kept is_kept-long (components folder) name kept
 
 module _ (front last : List ℕ) (one : list_any is_slash last ≡ false)
     (normal : normal_of (under front last) ≡ under front last) where
@@ -209,7 +209,7 @@ module _ (front last : List ℕ) (one : list_any is_slash last ≡ false)
   last_kept = elim (cases_Bool (is_kept last)) [
     | inl kept ↦ kept
     | inr left ↦
-        let shorter = ap (joined 47 is_kept) (one_more front last one) ∙ joined-left_out 47 is_kept (components front) last left in
+        let shorter = ap (join_filtered 47 is_kept) (one_more front last one) ∙ join_filtered-left_out 47 is_kept (components front) last left in
         let same : normal_of front ≡ under front last = sym shorter ∙ normal in
         absurd (omega (arith, ap length same, length_normal front, length-append front (47 ∷ last)))
   ]
@@ -226,7 +226,7 @@ module _ (front last : List ℕ) (one : list_any is_slash last ≡ false)
       ∙ ap (λ (t : List ℕ). under t name) front_normal.0
 
 normal_whole : (name : List ℕ) → is_kept name ≡ true → list_any is_slash name ≡ false → normal_of name ≡ name
-normal_whole name kept one = ap (joined 47 is_kept) (one_component name one) ∙ rw kept refl
+normal_whole name kept one = ap (join_filtered 47 is_kept) (one_component name one) ∙ rw kept refl
 
 -- ---- paths in the same folder
 

@@ -2,7 +2,7 @@
 use Rattle.std.proofs.Common.{◌≡◌, ℕ, Bool, true, false, List, Some, None, Result, Ok, Err, refl}
 use Rattle.boot_base.specs.declared.refusal.Refusal.{Refusal}
 use Rattle.boot_machine.specs.Disk.{Files}
-use Rattle.command_plans.specs.Answers.{Answer, answer_of_read, answered}
+use Rattle.command_plans.specs.Answers.{Answer, answer_of_read, answer_or_refusal}
 use Rattle.command_plans.specs.Declining.{◌>>=◌}
 
 -- what a step that is done went through
@@ -25,7 +25,7 @@ clash is is_not = cc
 
 -- a command that may be refused leaves what its answer does, or the view
 pub after_answered : (P : Files → Type 0) (view : Files) (meant : Result Answer Refusal) → P view
-    → ((answer : Answer) → meant ≡ Ok answer → P answer.after) → P (answered view meant).after
+    → ((answer : Answer) → meant ≡ Ok answer → P answer.after) → P (answer_or_refusal view meant).after
 after_answered P view (Ok answer) stays each = each answer refl
 after_answered P view (Err why) stays each = stays
 

@@ -8,12 +8,12 @@ use Rattle.menu_order.specs.Renames.{bad_name_of, good_name_of}
 use Rattle.menu_order.specs.Splits.{split_of}
 use Rattle.menu_order.specs.declared.bless.BlessVerb.{BlessVerb}
 use Rattle.menu_order.specs.declared.bless.BlessVerb.TheVariants as verbs
-use Rattle.menu_order.specs.declared.bless.Choice.{Choice}
-use Rattle.menu_order.specs.declared.bless.Choice.TheVariants as choices
+use Rattle.menu_order.specs.declared.bless.BlessChoice.{BlessChoice}
+use Rattle.menu_order.specs.declared.bless.BlessChoice.TheVariants as choices
 use Rattle.menu_order.specs.declared.bless.Present.{Present}
 use Rattle.boot_machine.specs.Disk.{Files, has}
 use Rattle.boot_machine.specs.Rows.{move_in}
-use Rattle.command_plans.specs.Answers.{Answer, answer_of_read, answered, done}
+use Rattle.command_plans.specs.Answers.{Answer, answer_of_read, answer_or_refusal, done_answer}
 use Rattle.command_plans.specs.Declining.{◌>>=◌, path_in, path_under, printed_path}
 use Rattle.entry_commands.specs.declared.bless.EntryPaths.{EntryPaths}
 use Rattle.tool_words.specs.declared.command.BlessWord.{BlessWord}
@@ -73,12 +73,12 @@ blessed_text verb target = verb_text verb ++ (codes " " ++ printed_path target)
 
 -- the file at a path gets the name that the verb wants
 abbrev pub blessed_from : Files → BlessVerb → Path → Path → Answer
-blessed_from view verb target from = done (move_in from target view) (blessed_text verb target ++ codes "\n")
+blessed_from view verb target from = done_answer (move_in from target view) (blessed_text verb target ++ codes "\n")
 
 -- what becomes of an entry by the choice of what is renamed
-abbrev pub blessed_by : Files → BlessVerb → EntryPaths → Path → Choice → Result Answer Refusal
+abbrev pub blessed_by : Files → BlessVerb → EntryPaths → Path → BlessChoice → Result Answer Refusal
 blessed_by view verb paths target choices.Nothing =
-    Ok (done view (blessed_text verb target ++ codes ", nothing to do\n"))
+    Ok (done_answer view (blessed_text verb target ++ codes ", nothing to do\n"))
 blessed_by view verb paths target choices.FromGood = Ok (blessed_from view verb target paths.good)
 blessed_by view verb paths target choices.FromCounted = Ok (blessed_from view verb target paths.counted)
 blessed_by view verb paths target choices.FromBad = Ok (blessed_from view verb target paths.bad)
@@ -88,8 +88,8 @@ abbrev pub bless_entry : Files → BlessVerb → EntryPaths → Result Answer Re
 bless_entry view verb paths =
     blessed_by view verb paths (path_at paths (target_of verb)) (choice_of verb (present_at view paths))
 
-abbrev pub bless_meant : Files → BlessVerb → List ℕ → List ℕ → Result Answer Refusal
-bless_meant view verb word esp = reported_paths word esp >>= bless_entry view verb
+abbrev pub bless_result : Files → BlessVerb → List ℕ → List ℕ → Result Answer Refusal
+bless_result view verb word esp = reported_paths word esp >>= bless_entry view verb
 
 -- how an entry is marked: the first of its names that is there
 abbrev pub status_by : EntryPaths → Present → Result (List ℕ) Refusal
@@ -99,11 +99,11 @@ status_by paths present =
     else (if present.bad then Ok (codes "bad\n")
     else Err (refusals.NoSource (printed_path paths.counted))))
 
-abbrev pub status_said : Files → List ℕ → List ℕ → Result (List ℕ) Refusal
-status_said view word esp = reported_paths word esp >>= λ paths. status_by paths (present_at view paths)
+abbrev pub status_result : Files → List ℕ → List ℕ → Result (List ℕ) Refusal
+status_result view word esp = reported_paths word esp >>= λ paths. status_by paths (present_at view paths)
 
 abbrev pub bless_answer : Files → BlessWord → List ℕ → List ℕ → Answer
-bless_answer view words.Good word esp = answered view (bless_meant view verbs.Good word esp)
-bless_answer view words.Bad word esp = answered view (bless_meant view verbs.Bad word esp)
-bless_answer view words.Indeterminate word esp = answered view (bless_meant view verbs.Indeterminate word esp)
-bless_answer view words.Status word esp = answer_of_read view (status_said view word esp)
+bless_answer view words.Good word esp = answer_or_refusal view (bless_result view verbs.Good word esp)
+bless_answer view words.Bad word esp = answer_or_refusal view (bless_result view verbs.Bad word esp)
+bless_answer view words.Indeterminate word esp = answer_or_refusal view (bless_result view verbs.Indeterminate word esp)
+bless_answer view words.Status word esp = answer_of_read view (status_result view word esp)

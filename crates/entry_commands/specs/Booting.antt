@@ -9,7 +9,7 @@ use Rattle.boot_folder.specs.Entries.{folder_of}
 use Rattle.boot_folder.specs.declared.folders.Folders.{Folders}
 use Rattle.boot_machine.specs.Disk.{Files, has}
 use Rattle.boot_machine.specs.Rows.{move_in}
-use Rattle.command_plans.specs.Answers.{Answer, answered, done}
+use Rattle.command_plans.specs.Answers.{Answer, answer_or_refusal, done_answer}
 use Rattle.command_plans.specs.Declining.{◌>>=◌, path_under, printed_path}
 use Rattle.entry_commands.specs.Folders.{folders_of}
 use Rattle.entry_commands.specs.Listing.{menu_at}
@@ -27,11 +27,11 @@ booted_text path = codes "booted " ++ (printed_path path ++ codes "\n")
 abbrev pub renamed_entry : Files → Path → Path → Result Answer Refusal
 renamed_entry view from to =
     if has view to then Err (refusals.TargetExists (printed_path to))
-    else Ok (done (move_in from to view) (booted_text to))
+    else Ok (done_answer (move_in from to view) (booted_text to))
 
 -- what becomes of the entry at a path in a folder, by its name after the boot
 abbrev pub booted_entry : Files → Path → Path → Option (List ℕ) → Result Answer Refusal
-booted_entry view folder path None = Ok (done view (booted_text path))
+booted_entry view folder path None = Ok (done_answer view (booted_text path))
 booted_entry view folder path (Some name) = path_under folder name >>= renamed_entry view path
 
 abbrev pub boot_entry : Files → Folders → MenuItem → Result Answer Refusal
@@ -39,9 +39,9 @@ boot_entry view folders item =
     booted_entry view (folder_of folders item.suffix) item.path (booted_name_of (file_name_of item.path))
 
 -- a boot of an ESP by its word
-abbrev pub boot_meant : Files → List ℕ → Result Answer Refusal
-boot_meant view word =
+abbrev pub boot_result : Files → List ℕ → Result Answer Refusal
+boot_result view word =
     folders_of word >>= λ folders. menu_at view folders >>= λ menu. first_of menu >>= boot_entry view folders
 
 abbrev pub boot_answer : Files → List ℕ → Answer
-boot_answer view word = answered view (boot_meant view word)
+boot_answer view word = answer_or_refusal view (boot_result view word)

@@ -12,7 +12,7 @@ use Rattle.menu_order.specs.declared.counted.Suffix.TheVariants.{Efi}
 use Rattle.boot_folder.specs.Missing.{missing_text}
 use Rattle.boot_folder.specs.Records.{Unfit, NotPe, NotUki, uki_of}
 use Rattle.boot_machine.specs.Disk.{Files}
-use Rattle.command_plans.specs.Answers.{Answer, answered, done}
+use Rattle.command_plans.specs.Answers.{Answer, answer_or_refusal, done_answer}
 use Rattle.command_plans.specs.Files.{bytes_at, if_given}
 use Rattle.command_plans.specs.Declining.{◌>>=◌, path_in, path_under, printed_path}
 use Rattle.command_plans.specs.Unsaying.{UnsaidFor}
@@ -91,14 +91,14 @@ installed_image view words =
 abbrev pub installed_text : Path → List ℕ
 installed_text target = codes "installed " ++ (printed_path target ++ codes "\n")
 
-abbrev pub installed : Files → Installation → List ℕ → Answer
-installed view words bytes = done (insert view words.target bytes) (installed_text words.target)
+abbrev pub installed_entry : Files → Installation → List ℕ → Answer
+installed_entry view words bytes = done_answer (insert view words.target bytes) (installed_text words.target)
 
-abbrev pub install_meant : Files → List ℕ → List ℕ → Option (List ℕ) → List ℕ → Result Answer Refusal
-install_meant view file name tries esp =
+abbrev pub install_result : Files → List ℕ → List ℕ → Option (List ℕ) → List ℕ → Result Answer Refusal
+install_result view file name tries esp =
     installation_of file name tries esp >>= λ words.
     installed_image view words >>= λ bytes.
-    Ok (installed view words bytes)
+    Ok (installed_entry view words bytes)
 
 abbrev pub install_answer : Files → List ℕ → List ℕ → Option (List ℕ) → List ℕ → Answer
-install_answer view file name tries esp = answered view (install_meant view file name tries esp)
+install_answer view file name tries esp = answer_or_refusal view (install_result view file name tries esp)

@@ -21,16 +21,16 @@ menu_at view folders =
     else Ok (boot_menu view folders)
 
 -- what is said of a menu: its text, or that it is empty
-abbrev pub menu_said : List MenuItem → Result (List ℕ) Refusal
-menu_said [] = Err refusals.NoEntries
-menu_said (item ∷ items) = Ok (list_text (item ∷ items))
+abbrev pub menu_result : List MenuItem → Result (List ℕ) Refusal
+menu_result [] = Err refusals.NoEntries
+menu_result (item ∷ items) = Ok (list_text (item ∷ items))
 
-abbrev pub list_said : Files → List ℕ → Result (List ℕ) Refusal
-list_said view word = folders_of word >>= λ folders. menu_at view folders >>= menu_said
+abbrev pub list_result : Files → List ℕ → Result (List ℕ) Refusal
+list_result view word = folders_of word >>= λ folders. menu_at view folders >>= menu_result
 
 -- why nothing is said where there is no menu; folders that are at hand have paths
-abbrev pub unlisted : ScanFault → Unsaid
-unlisted scans.Memory = unsaid.Memory
-unlisted scans.Disk = unsaid.Disk
-unlisted scans.LongEsp = unsaid.Memory
-unlisted (scans.TooMany count) = unsaid.Refused (refusals.TooMany count)
+abbrev pub scan_unsaid : ScanFault → Unsaid
+scan_unsaid scans.Memory = unsaid.Memory
+scan_unsaid scans.Disk = unsaid.Disk
+scan_unsaid scans.LongEsp = unsaid.Memory
+scan_unsaid (scans.TooMany count) = unsaid.Refused (refusals.TooMany count)

@@ -3,13 +3,13 @@ use Rattle.std.specs.Prelude.{◌≡◌, ℕ, true, false, List, codes, Result, 
 use Rattle.boot_base.specs.Paths.{Path, under, is_file_name, is_temp}
 use Rattle.boot_base.specs.declared.refusal.Refusal.{Refusal}
 use Rattle.boot_machine.specs.Disk.{Files, has}
-use Rattle.command_plans.specs.Answers.{Answer, done}
+use Rattle.command_plans.specs.Answers.{Answer, done_answer}
 use Rattle.entry_commands.specs.Folders.{folders_of}
 use Rattle.boot_folder.specs.declared.folders.Folders.{Folders}
 
 -- the view stays
 abbrev pub tidy_answer : Files → Folders → Answer
-tidy_answer view folders = done view (codes "cleaned\n")
+tidy_answer view folders = done_answer view (codes "cleaned\n")
 
 -- no temporary file is directly in the folder
 abbrev pub IsClean : Files → Path → Type 0

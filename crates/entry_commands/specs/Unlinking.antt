@@ -6,7 +6,7 @@ use Rattle.boot_base.specs.Paths.{Path, is_file_name}
 use Rattle.boot_base.specs.declared.refusal.Refusal.{Refusal}
 use Rattle.boot_base.specs.declared.refusal.Refusal.TheVariants as refusals
 use Rattle.boot_machine.specs.Disk.{Files}
-use Rattle.command_plans.specs.Answers.{Answer, refusal, done}
+use Rattle.command_plans.specs.Answers.{Answer, refusal, done_answer}
 use Rattle.command_plans.specs.Declining.{◌>>=◌, path_in, path_under, printed_path}
 
 -- an entry of type 1 (UAPI Boot Loader Specification)
@@ -34,7 +34,7 @@ unlinked_text path = codes "unlinked " ++ (printed_path path ++ codes "\n")
 -- the file at the path goes, if one is there
 abbrev pub removal : Files → Path → Option (List ℕ) → Answer
 removal view path None = refusal view (refusals.NotFound (printed_path path))
-removal view path (Some bytes) = done (remove view path) (unlinked_text path)
+removal view path (Some bytes) = done_answer (remove view path) (unlinked_text path)
 
 abbrev pub unlink_answer : Files → Path → Answer
 unlink_answer view path = removal view path (get view path)

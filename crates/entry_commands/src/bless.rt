@@ -14,13 +14,16 @@ ghost use Rattle.command_plans.specs.Plans.{IsIdleIfRefused, IsMakeable, Plans, 
 ghost use Rattle.command_plans.specs.Refusing.{DeclinesWords, RefusesWords};
 ghost use Rattle.command_plans.specs.Declining.{Means, printed_path};
 ghost use Rattle.command_plans.specs.Unsaying.{CountsUnsaid, Says};
-ghost use Rattle.entry_commands.specs.Blessing.{AreFree, bad_name_in, bless_answer, bless_entry, bless_meant, blessed_by, blessed_from, blessed_text, entry_paths, good_name_in, name_or, path_at, present_at, reported_paths, status_by, status_said, verb_text};
+ghost use Rattle.entry_commands.specs.Blessing.{AreFree, bad_name_in, bless_answer, bless_entry, bless_result, blessed_by, blessed_from, blessed_text, entry_paths, good_name_in, name_or, path_at, present_at, reported_paths, status_by, status_result, verb_text};
 
 use crate::moves::{is_there, plan_move, plan_nothing};
 use boot_base::{BootPath, PathFault, Refusal, Text};
 use boot_machine::{DiskFault, Machine};
-use command_plans::{Declined, Plan, Stop, Unsaid, answered, path_in, path_under, printed, said};
-use menu_order::{BlessVerb, Choice, Counted, Present, bless_choice};
+use command_plans::{
+    Declined, Plan, Stop, Unsaid, answer_or_refusal, path_in, path_under, printed_path,
+    text_or_refusal,
+};
+use menu_order::{BlessChoice, BlessVerb, Counted, Present, bless_choice};
 use std::alloc::{AllocError, Global};
 use tool_words::BlessWord;
 
@@ -42,7 +45,7 @@ fn name_or(alloc: Global, path: &BootPath, name: Option<String>) -> Result<Strin
     match name {
         Some(name) => Ok(name),
         None => {
-            let path = printed(alloc, path)?;
+            let path = printed_path(alloc, path)?;
             Err(Declined::Refused(Refusal::NoCounter { path }))
         }
     }
@@ -106,7 +109,7 @@ fn reported_paths(alloc: Global, word: &str, esp: &str) -> Result<EntryPaths, De
 }
 
 // Which of an entry's names are there.
-fn present<M: Machine>(paths: &EntryPaths, machine: &mut M) -> Result<Present, DiskFault>
+fn present_names<M: Machine>(paths: &EntryPaths, machine: &mut M) -> Result<Present, DiskFault>
     ensures present { IfOk result (λ present. IsTrue M.tells
         → present ≡ present_at (seen (M.state machine.old)) paths.now) }
     ensures reads { IsTrue M.tells → OnlyReads M.time M.state machine.old machine.new }
@@ -187,21 +190,21 @@ fn bless_entry(
 {
     let target = target_of(paths, verb);
     match bless_choice(verb, present) {
-        Choice::Nothing => {
+        BlessChoice::Nothing => {
             let text = blessed_text(alloc, verb, target, ", nothing to do\n")?;
             Ok(plan_nothing(text))
         }
-        Choice::FromGood => Ok(bless_from(alloc, verb, target, &paths.good)?),
-        Choice::FromCounted => Ok(bless_from(alloc, verb, target, &paths.counted)?),
-        Choice::FromBad => Ok(bless_from(alloc, verb, target, &paths.bad)?),
-        Choice::NoSource => Err(Unsaid::Refused(no_source(alloc, &paths.counted)?)),
+        BlessChoice::FromGood => Ok(bless_from(alloc, verb, target, &paths.good)?),
+        BlessChoice::FromCounted => Ok(bless_from(alloc, verb, target, &paths.counted)?),
+        BlessChoice::FromBad => Ok(bless_from(alloc, verb, target, &paths.bad)?),
+        BlessChoice::NoSource => Err(Unsaid::Refused(no_source(alloc, &paths.counted)?)),
     }
 }
 
 fn no_source(alloc: Global, path: &BootPath) -> Result<Refusal, AllocError>
     ensures { IfOk result (λ why. why ≡ Refusal.NoSource (printed_path path.now)) }
 {
-    let path = printed(alloc, path)?;
+    let path = printed_path(alloc, path)?;
     Ok(Refusal::NoSource { path })
 }
 
@@ -213,7 +216,7 @@ fn bless<M: Machine>(
     machine: &mut M,
 ) -> Result<Plan, Unsaid>
     ensures plans { IsTrue M.tells → PlansAs (M.state machine.old) result
-        (bless_meant (seen (M.state machine.old)) verb word.now esp.now) }
+        (bless_result (seen (M.state machine.old)) verb word.now esp.now) }
     ensures makeable { IfOk result (λ plan. IsMakeable plan.change) }
     ensures idle { IfOk result IsIdleIfRefused }
     ensures reads { IsTrue M.tells → OnlyReads M.time M.state machine.old machine.new }
@@ -222,7 +225,7 @@ fn bless<M: Machine>(
     ensures words { DeclinesWords (reported_paths word.now esp.now) result }
 {
     let paths = reported_paths(alloc, word, esp)?;
-    let present = present(&paths, machine)?;
+    let present = present_names(&paths, machine)?;
     bless_entry(alloc, verb, &paths, present)
 }
 
@@ -250,14 +253,14 @@ fn status<M: Machine>(
     machine: &mut M,
 ) -> Result<Vec<u8>, Unsaid>
     ensures says { IsTrue M.tells → Says (λ text. text.items) result
-        (status_said (seen (M.state machine.old)) word.now esp.now) }
+        (status_result (seen (M.state machine.old)) word.now esp.now) }
     ensures reads { IsTrue M.tells → OnlyReads M.time M.state machine.old machine.new }
     ensures counts { CountsUnsaid result (M.counts machine.old) (M.counts machine.new) }
     ensures taken { IsTrue M.tells → TakesAtMost 0 (M.taken machine.old) (M.taken machine.new) }
     ensures words { DeclinesWords (reported_paths word.now esp.now) result }
 {
     let paths = reported_paths(alloc, word, esp)?;
-    let present = present(&paths, machine)?;
+    let present = present_names(&paths, machine)?;
     status_text(alloc, &paths, present)
 }
 
@@ -280,14 +283,20 @@ pub fn plan_bless<M: Machine>(
     ensures words { RefusesWords (reported_paths word.now esp.now) result }
 {
     match verb {
-        BlessWord::Good => answered(alloc, bless(alloc, BlessVerb::Good, word, esp, machine)),
-        BlessWord::Bad => answered(alloc, bless(alloc, BlessVerb::Bad, word, esp, machine)),
+        BlessWord::Good => answer_or_refusal(
+            alloc,
+            bless(alloc, BlessVerb::Good, word, esp, machine),
+        ),
+        BlessWord::Bad => answer_or_refusal(
+            alloc,
+            bless(alloc, BlessVerb::Bad, word, esp, machine),
+        ),
         BlessWord::Indeterminate => {
-            answered(
+            answer_or_refusal(
                 alloc,
                 bless(alloc, BlessVerb::Indeterminate, word, esp, machine),
             )
         }
-        BlessWord::Status => said(alloc, status(alloc, word, esp, machine)),
+        BlessWord::Status => text_or_refusal(alloc, status(alloc, word, esp, machine)),
     }
 }

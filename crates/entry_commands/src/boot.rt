@@ -10,7 +10,7 @@ ghost use Rattle.command_plans.specs.Performs.{CountsStop};
 ghost use Rattle.command_plans.specs.Plans.{IsIdleIfRefused, IsMakeable, Plans, PlansAs};
 ghost use Rattle.command_plans.specs.Refusing.{DeclinesWords, RefusesWords};
 ghost use Rattle.command_plans.specs.Unsaying.{CountsUnsaid};
-ghost use Rattle.entry_commands.specs.Booting.{boot_answer, boot_entry, boot_meant, booted_entry, booted_text, renamed_entry};
+ghost use Rattle.entry_commands.specs.Booting.{boot_answer, boot_entry, boot_result, booted_entry, booted_text, renamed_entry};
 ghost use Rattle.entry_commands.specs.Folders.{folders_of};
 ghost use Rattle.entry_commands.specs.Taking.{menu_limit};
 
@@ -20,7 +20,7 @@ use crate::moves::{already_there, is_there, plan_move, plan_nothing};
 use boot_base::{BootPath, Refusal};
 use boot_folder::Folders;
 use boot_machine::Machine;
-use command_plans::{Plan, Stop, Unsaid, answered, path_in, path_under};
+use command_plans::{Plan, Stop, Unsaid, answer_or_refusal, path_in, path_under};
 use menu_order::{Counted, MenuItem, Suffix};
 use std::alloc::{AllocError, Global};
 
@@ -116,7 +116,7 @@ fn boot_entry<M: Machine>(
 
 fn boot<M: Machine>(alloc: Global, esp: &str, machine: &mut M) -> Result<Plan, Unsaid>
     ensures plans { IsTrue M.tells
-        → PlansAs (M.state machine.old) result (boot_meant (seen (M.state machine.old)) esp.now) }
+        → PlansAs (M.state machine.old) result (boot_result (seen (M.state machine.old)) esp.now) }
     ensures makeable { IfOk result (λ plan. IsMakeable plan.change) }
     ensures idle { IfOk result IsIdleIfRefused }
     ensures reads { IsTrue M.tells → OnlyReads M.time M.state machine.old machine.new }
@@ -148,5 +148,5 @@ pub fn plan_boot<M: Machine>(alloc: Global, esp: &str, machine: &mut M) -> Resul
     ensures words { RefusesWords (folders_of esp.now) result }
 {
     let plan = boot(alloc, esp, machine);
-    answered(alloc, plan)
+    answer_or_refusal(alloc, plan)
 }

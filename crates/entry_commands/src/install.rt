@@ -19,7 +19,7 @@ ghost use Rattle.command_plans.specs.Refusing.{DeclinesWords, RefusesWords};
 ghost use Rattle.command_plans.specs.Files.{if_given};
 ghost use Rattle.command_plans.specs.Declining.{Means};
 ghost use Rattle.command_plans.specs.Unsaying.{CountsUnsaid, Says, UnsaidFor, unsaid_counts};
-ghost use Rattle.entry_commands.specs.Installing.{IsImageName, ShowsEntry, entry_or, image_name, image_name_in, image_path, install_answer, install_meant, install_name, installation_of, installed, installed_image, installed_text, is_entry_name_byte, is_install_name, is_name_text, tries_in};
+ghost use Rattle.entry_commands.specs.Installing.{IsImageName, ShowsEntry, entry_or, image_name, image_name_in, image_path, install_answer, install_result, install_name, installation_of, installed_entry, installed_image, installed_text, is_entry_name_byte, is_install_name, is_name_text, tries_in};
 ghost use Rattle.entry_commands.specs.Moving.{IsCopy};
 ghost use Rattle.menu_order.specs.declared.item.MenuItem.{MenuItem};
 
@@ -28,7 +28,8 @@ use boot_base::{BootPath, Bytes, PeText, Refusal, Target, Text};
 use boot_folder::{ItemFault, Missing, uki_item};
 use boot_machine::Machine;
 use command_plans::{
-    Change, Declined, Outcome, Plan, Stop, Unsaid, answered, not_pe, path_in, path_under, readable,
+    Change, Declined, Outcome, Plan, Stop, Unsaid, answer_or_refusal, not_pe, path_in, path_under,
+    readable_size,
 };
 use menu_order::{Counted, Suffix, read_count};
 use std::alloc::{AllocError, Global};
@@ -112,7 +113,7 @@ fn image_name(alloc: Global, name: &str, tries: Option<u32>) -> Result<String, A
     ensures { IfOk result (λ file. string_bytes file ≡ image_name name.now tries) }
 {
     match tries {
-        Some(tries) => Counted::joined(alloc, name, tries, 0, Suffix::Efi),
+        Some(tries) => Counted::join_name(alloc, name, tries, 0, Suffix::Efi),
         None => format!(in alloc; "{name}.efi"),
     }
 }
@@ -160,7 +161,7 @@ fn not_uki(alloc: Global, missing: Missing) -> Result<Refusal, AllocError>
 }
 
 // Why nothing is installed of a file that is no entry.
-fn unfit(alloc: Global, fault: ItemFault) -> Unsaid
+fn unfit_unsaid(alloc: Global, fault: ItemFault) -> Unsaid
     ensures meant { (entry : Result MenuItem Unfit) → FailsAs fault entry → UnsaidFor result (entry_or entry) }
     ensures counts { (old new : Counts) → item_counts fault old new → unsaid_counts result old new }
 {
@@ -196,7 +197,7 @@ fn check_entry<M: Machine>(
     let target = words.target.copy(alloc)?;
     match uki_item(alloc, machine, &words.from, target) {
         Ok(_) => Ok(()),
-        Err(fault) => Err(unfit(alloc, fault)),
+        Err(fault) => Err(unfit_unsaid(alloc, fault)),
     }
 }
 
@@ -214,7 +215,7 @@ fn check_image<M: Machine>(
     ensures counts { CountsUnsaid result (M.counts machine.old) (M.counts machine.new) }
     ensures taken { IsTrue M.tells → TakesAtMost 134999 (M.taken machine.old) (M.taken machine.new) }
 {
-    readable(alloc, &words.from, machine)?;
+    readable_size(alloc, &words.from, machine)?;
     check_entry(alloc, words, machine)
 }
 
@@ -239,7 +240,7 @@ fn copy_of(alloc: Global, from: BootPath, target: BootPath) -> Result<Change, Al
 fn plan_copy(alloc: Global, words: Installation) -> Result<Plan, AllocError>
     requires { IsFree words.target }
     ensures plans { IfOk result (λ plan. (s : State) → CanCopy s words.from
-        → Plans s plan (installed (seen s) words (contents (seen s) words.from))) }
+        → Plans s plan (installed_entry (seen s) words (contents (seen s) words.from))) }
     ensures makeable { IfOk result (λ plan. IsMakeable plan.change) }
     ensures idle { IfOk result IsIdleIfRefused }
 {
@@ -262,7 +263,7 @@ fn install<M: Machine>(
     machine: &mut M,
 ) -> Result<Plan, Unsaid>
     ensures plans { IsTrue M.tells → PlansAs (M.state machine.old) result
-        (install_meant (seen (M.state machine.old)) file.now name.now
+        (install_result (seen (M.state machine.old)) file.now name.now
         (option_map (λ text. text.now) tries.entry) esp.now) }
     ensures makeable { IfOk result (λ plan. IsMakeable plan.change) }
     ensures idle { IfOk result IsIdleIfRefused }
@@ -300,5 +301,5 @@ pub fn plan_install<M: Machine>(
         (installation_of file.now name.now (option_map (λ text. text.now) tries.entry) esp.now) result }
 {
     let plan = install(alloc, file, name, tries, esp, machine);
-    answered(alloc, plan)
+    answer_or_refusal(alloc, plan)
 }

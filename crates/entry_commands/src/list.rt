@@ -10,7 +10,7 @@ ghost use Rattle.command_plans.specs.Refusing.{DeclinesWords, RefusesWords};
 ghost use Rattle.command_plans.specs.declared.plan.Change.TheVariants.{Nothing};
 ghost use Rattle.command_plans.specs.Unsaying.{CountsUnsaid, Says};
 ghost use Rattle.entry_commands.specs.Folders.{folders_of};
-ghost use Rattle.entry_commands.specs.Listing.{list_said, menu_said};
+ghost use Rattle.entry_commands.specs.Listing.{list_result, menu_result};
 ghost use Rattle.entry_commands.specs.Taking.{menu_limit};
 
 use crate::folders::folders_in;
@@ -18,13 +18,13 @@ use crate::menus::menu_at;
 use boot_base::Refusal;
 use boot_folder::list_text;
 use boot_machine::Machine;
-use command_plans::{Plan, Stop, Unsaid, said};
+use command_plans::{Plan, Stop, Unsaid, text_or_refusal};
 use menu_order::MenuItem;
 use std::alloc::Global;
 
 // The text of a menu.
 fn menu_text(alloc: Global, menu: &[MenuItem]) -> Result<Vec<u8>, Unsaid>
-    ensures says { Says (λ text. text.items) result (menu_said menu.now) }
+    ensures says { Says (λ text. text.items) result (menu_result menu.now) }
     ensures counts { (counts : Counts) → CountsUnsaid result counts counts }
 {
     if menu.is_empty() {
@@ -33,8 +33,9 @@ fn menu_text(alloc: Global, menu: &[MenuItem]) -> Result<Vec<u8>, Unsaid>
     Ok(list_text(alloc, menu)?)
 }
 
-fn listed<M: Machine>(alloc: Global, esp: &str, machine: &mut M) -> Result<Vec<u8>, Unsaid>
-    ensures says { IsTrue M.tells → Says (λ text. text.items) result (list_said (seen (M.state machine.old)) esp.now) }
+fn list_result<M: Machine>(alloc: Global, esp: &str, machine: &mut M) -> Result<Vec<u8>, Unsaid>
+    ensures says { IsTrue M.tells
+        → Says (λ text. text.items) result (list_result (seen (M.state machine.old)) esp.now) }
     ensures reads { IsTrue M.tells → OnlyReads M.time M.state machine.old machine.new }
     ensures counts { CountsUnsaid result (M.counts machine.old) (M.counts machine.new) }
     ensures taken { IsTrue M.tells
@@ -51,7 +52,7 @@ fn listed<M: Machine>(alloc: Global, esp: &str, machine: &mut M) -> Result<Vec<u
 /// (UAPI Boot Loader Specification). Only headers and texts are read.
 pub fn plan_list<M: Machine>(alloc: Global, esp: &str, machine: &mut M) -> Result<Plan, Stop>
     ensures plans { IfOk result (λ plan. IsTrue M.tells → Plans (M.state machine.old) plan
-        (answer_of_read (seen (M.state machine.old)) (list_said (seen (M.state machine.old)) esp.now))) }
+        (answer_of_read (seen (M.state machine.old)) (list_result (seen (M.state machine.old)) esp.now))) }
     ensures makeable { IfOk result (λ plan. IsMakeable plan.change) }
     ensures idle { IfOk result (λ plan. plan.change ≡ Nothing) }
     ensures reads { IsTrue M.tells → OnlyReads M.time M.state machine.old machine.new }
@@ -61,6 +62,6 @@ pub fn plan_list<M: Machine>(alloc: Global, esp: &str, machine: &mut M) -> Resul
         (M.taken machine.new) }
     ensures words { RefusesWords (folders_of esp.now) result }
 {
-    let text = listed(alloc, esp, machine);
-    said(alloc, text)
+    let text = list_result(alloc, esp, machine);
+    text_or_refusal(alloc, text)
 }

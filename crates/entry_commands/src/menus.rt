@@ -7,7 +7,7 @@ ghost use Rattle.boot_machine.specs.Counts.{Counts};
 ghost use Rattle.boot_machine.specs.Reading.{OnlyReads, TakesAtMost};
 ghost use Rattle.boot_machine.specs.Sent.{seen};
 ghost use Rattle.command_plans.specs.Unsaying.{CountsUnsaid, Says, unsaid_counts};
-ghost use Rattle.entry_commands.specs.Listing.{menu_at, unlisted};
+ghost use Rattle.entry_commands.specs.Listing.{menu_at, scan_unsaid};
 ghost use Rattle.menu_order.specs.Menu.{IsMenu};
 
 use boot_base::Refusal;
@@ -18,9 +18,9 @@ use menu_order::MenuItem;
 use std::alloc::Global;
 
 // Why nothing is said of folders that have no menu.
-fn unlisted(fault: ScanFault) -> Unsaid
+fn scan_unsaid(fault: ScanFault) -> Unsaid
     requires { fault ≢ scans.LongEsp }
-    ensures { result ≡ unlisted fault }
+    ensures { result ≡ scan_unsaid fault }
 {
     match fault {
         ScanFault::Memory => Unsaid::Memory,
@@ -47,6 +47,6 @@ pub(crate) fn menu_at<M: Machine>(
 {
     match scan_folders(alloc, machine, folders) {
         Ok(menu) => Ok(menu),
-        Err(fault) => Err(unlisted(fault)),
+        Err(fault) => Err(scan_unsaid(fault)),
     }
 }

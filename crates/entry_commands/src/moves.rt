@@ -7,14 +7,14 @@ ghost use Rattle.boot_machine.specs.Reading.{OnlyReads, TakesAtMost};
 ghost use Rattle.boot_machine.specs.Rows.{move_in};
 ghost use Rattle.boot_machine.specs.Sent.{seen};
 ghost use Rattle.boot_machine.specs.Counts.{CountsDisk};
-ghost use Rattle.command_plans.specs.Answers.{done};
+ghost use Rattle.command_plans.specs.Answers.{done_answer};
 ghost use Rattle.command_plans.specs.Plans.{IsIdleIfRefused, IsMakeable, Plans};
 ghost use Rattle.command_plans.specs.Declining.{printed_path};
 ghost use Rattle.entry_commands.specs.Moving.{IsMove};
 
 use boot_base::{BootPath, Bytes, Refusal, Target};
 use boot_machine::{DiskFault, Machine};
-use command_plans::{Change, Outcome, Plan, RefusalLine, not_there, printed, seen_size};
+use command_plans::{Change, Outcome, Plan, RefusalLine, not_there, printed_path, seen_size};
 use std::alloc::{AllocError, Global};
 
 /// Whether a boot file stands at a path.
@@ -32,7 +32,7 @@ pub(crate) fn is_there<M: Machine>(path: &BootPath, machine: &mut M) -> Result<b
 pub(crate) fn already_there(alloc: Global, path: &BootPath) -> Result<Refusal, AllocError>
     ensures { IfOk result (λ why. why ≡ Refusal.TargetExists (printed_path path.now)) }
 {
-    let path = printed(alloc, path)?;
+    let path = printed_path(alloc, path)?;
     Ok(Refusal::TargetExists { path })
 }
 
@@ -70,7 +70,7 @@ pub(crate) fn plan_move(
     requires free_from { IsFree from.now }
     requires free_to { IsFree to.now }
     ensures plans { IfOk result (λ plan. (s : State) → has (seen s) from.now ≡ true → has (seen s) to.now ≡ false
-        → Plans s plan (done (move_in from.now to.now (seen s)) (string_bytes text))) }
+        → Plans s plan (done_answer (move_in from.now to.now (seen s)) (string_bytes text))) }
     ensures makeable { IfOk result (λ plan. IsMakeable plan.change) }
     ensures idle { IfOk result IsIdleIfRefused }
 {
@@ -83,7 +83,7 @@ pub(crate) fn plan_move(
 
 /// The plan of a command that has nothing to change, and is told by this text.
 pub(crate) fn plan_nothing(text: String) -> Plan
-    ensures plans { (s : State) → Plans s result (done (seen s) (string_bytes text)) }
+    ensures plans { (s : State) → Plans s result (done_answer (seen s) (string_bytes text)) }
     ensures makeable { IsMakeable result.change }
     ensures idle { IsIdleIfRefused result }
 {

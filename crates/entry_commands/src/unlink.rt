@@ -18,7 +18,7 @@ use boot_base::{BootPath, Bytes, FileName, PathFault, Refusal, Text};
 use boot_machine::Machine;
 use command_plans::{
     Change, Declined, Outcome, Plan, Stop, Unsaid, not_there, path_in, path_under, plan_unsaid,
-    refused, seen_size,
+    refusal_plan, seen_size,
 };
 use std::alloc::{AllocError, Global};
 
@@ -98,7 +98,7 @@ fn removal_missing(alloc: Global, path: &BootPath) -> Result<Plan, AllocError>
     ensures makeable { IfOk result (λ plan. IsMakeable plan.change) }
     ensures idle { IfOk result (λ plan. plan.change ≡ Change.Nothing) }
 {
-    refused(alloc, &not_there(alloc, path)?)
+    refusal_plan(alloc, &not_there(alloc, path)?)
 }
 
 // The plan for the entry at a path, by the length of the file there.

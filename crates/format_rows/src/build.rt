@@ -1,11 +1,11 @@
 //! Images that are built in memory.
 ghost use Rattle.std.specs.Prelude.{◌≡◌, ◌≤◌, length, map, IfOk};
-ghost use Rattle.pe_builder.specs.Refusals.{wide};
+ghost use Rattle.pe_builder.specs.Refusals.{wide_size};
 
 use crate::case::Case;
 use crate::fault::RowFault;
 use crate::refusal::{fault_text, in_place, part_flags, part_name};
-use crate::words::{bytes_of, parted};
+use crate::words::{bytes_of, split_at_mark};
 use pe_builder::{PartSize, Plan, image_bytes};
 use pe_reader::Pe;
 use std::alloc::Global;
@@ -26,7 +26,7 @@ fn parts_of(alloc: Global, rest: &str) -> Result<Parts, RowFault> {
     let mut names = Vec::new(alloc);
     let mut contents = Vec::new(alloc);
     for word in rest.split_whitespace() {
-        let (name, bytes) = parted(word, '=')?;
+        let (name, bytes) = split_at_mark(word, '=')?;
         names.push(part_name(name)?)?;
         contents.push(bytes_of(alloc, bytes)?)?;
     }
@@ -41,7 +41,7 @@ fn sizes_of(
 ) -> Result<Vec<PartSize>, RowFault>
     requires { length contents.now ≤ 16777216 }
     ensures { IfOk result (λ sizes. map length (map (λ c. c.items) contents.now)
-        ≡ map (λ p. p.length) (map wide sizes.items)) }
+        ≡ map (λ p. p.length) (map wide_size sizes.items)) }
 {
     let mut sizes = Vec::new(alloc);
     for i in 0..contents.len() {

@@ -2,14 +2,14 @@
 use crate::case::Case;
 use crate::fault::RowFault;
 use crate::image::field_of_word;
-use crate::words::{number, parted, quoted};
+use crate::words::{number, quote_bytes, split_at_mark};
 use pcr_values::{Bank, Digest};
 use sample_images::field_of;
 use std::alloc::Global;
 
 /// Adds so many bytes to the file.
 pub(crate) fn fill(alloc: Global, case: &mut Case, rest: &str) -> Result<(), RowFault> {
-    let (count, byte) = parted(rest, ' ')?;
+    let (count, byte) = split_at_mark(rest, ' ')?;
     let byte = u8::try_from(number(byte)?).ok().ok_or(RowFault::Unclear)?;
     let mut bytes = case.file().to_vec(alloc)?;
     let length = bytes.len().saturating_add(number(count)? as usize);
@@ -32,14 +32,14 @@ pub(crate) fn fields_text(alloc: Global, case: &Case, rest: &str) -> Result<Stri
 
 // So many bytes of the file from a place on.
 fn range_of<'a>(case: &'a Case, rest: &str) -> Result<&'a [u8], RowFault> {
-    let (place, count) = parted(rest, ' ')?;
+    let (place, count) = split_at_mark(rest, ' ')?;
     let place = number(place)? as usize;
     let end = place.saturating_add(number(count)? as usize);
     case.file().get(place..end).ok_or(RowFault::Unclear)
 }
 
 pub(crate) fn bytes_text(alloc: Global, case: &Case, rest: &str) -> Result<String, RowFault> {
-    Ok(quoted(alloc, range_of(case, rest)?)?)
+    Ok(quote_bytes(alloc, range_of(case, rest)?)?)
 }
 
 pub(crate) fn sha256_text(alloc: Global, case: &Case, rest: &str) -> Result<String, RowFault> {

@@ -1,7 +1,7 @@
 //! Sample images, and changes of them.
 use crate::case::Case;
 use crate::fault::RowFault;
-use crate::words::{bytes_of, number, parted, short_number};
+use crate::words::{bytes_of, number, short_number, split_at_mark};
 use sample_images::{Field, SampleImage, Section};
 use std::alloc::Global;
 
@@ -82,7 +82,7 @@ fn edit(
 
 // Makes the change of a word.
 fn change(alloc: Global, image: &mut SampleImage, word: &str) -> Result<(), RowFault> {
-    let (key, value) = parted(word, '=')?;
+    let (key, value) = split_at_mark(word, '=')?;
     let (verb, place) = key.split_once('.').unwrap_or((key, ""));
     match verb {
         "name" | "put" | "empty" => edit(alloc, image, verb, place, value),

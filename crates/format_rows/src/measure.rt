@@ -25,7 +25,7 @@ fn piece_buffer() -> Piece {
 }
 
 // The register of SHA-256 after that file.
-fn replayed(alloc: Global, machine: &mut MemMachine, path: &BootPath) -> Result<Pcr, HeadFault> {
+fn replay_file(alloc: Global, machine: &mut MemMachine, path: &BootPath) -> Result<Pcr, HeadFault> {
     let head = head_there(alloc, machine, path)?;
     let pcr = replay(machine, path, &head, Bank::Sha256, &mut piece_buffer())?;
     Ok(pcr)
@@ -35,7 +35,7 @@ fn replayed(alloc: Global, machine: &mut MemMachine, path: &BootPath) -> Result<
 pub(crate) fn machine_replay_text(alloc: Global, case: &mut Case) -> Result<String, RowFault> {
     let path = file_path(alloc)?;
     let mut machine = case.machine(alloc)?;
-    let told = match replayed(alloc, &mut machine, &path) {
+    let told = match replay_file(alloc, &mut machine, &path) {
         Ok(pcr) => hex::encode(alloc, pcr.bytes())?,
         Err(fault) => format!(in alloc; "{fault}")?,
     };

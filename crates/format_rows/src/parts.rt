@@ -1,6 +1,6 @@
 //! Names, command lines, initrds and SBAT texts of parts.
 use crate::fault::RowFault;
-use crate::words::{bytes_of, number, parted, quoted};
+use crate::words::{bytes_of, number, quote_bytes, split_at_mark};
 use boot_base::BootPath;
 use std::alloc::{AllocError, Global};
 use uki_parts::{Piece, SectionName, clean_cmdline, join_initrds, merge_sbat, pieces_length};
@@ -8,7 +8,7 @@ use uki_parts::{Piece, SectionName, clean_cmdline, join_initrds, merge_sbat, pie
 /// The name that a user may give with this text.
 pub(crate) fn name_text(alloc: Global, text: &str) -> Result<String, AllocError> {
     match SectionName::read(text) {
-        Some(name) => quoted(alloc, name.bytes()),
+        Some(name) => quote_bytes(alloc, name.bytes()),
         None => String::from_str(alloc, "none"),
     }
 }
@@ -16,11 +16,11 @@ pub(crate) fn name_text(alloc: Global, text: &str) -> Result<String, AllocError>
 /// The command line as it is measured.
 pub(crate) fn cmdline_text(alloc: Global, text: &str) -> Result<String, RowFault> {
     let text = String::from_utf8_lossy(alloc, &bytes_of(alloc, text)?)?;
-    Ok(quoted(alloc, &clean_cmdline(alloc, text.as_str())?)?)
+    Ok(quote_bytes(alloc, &clean_cmdline(alloc, text.as_str())?)?)
 }
 
 // The bytes that pieces stand for, `f` for each of a file's.
-fn written(alloc: Global, pieces: &[Piece]) -> Result<Vec<u8>, AllocError> {
+fn bytes_of_pieces(alloc: Global, pieces: &[Piece]) -> Result<Vec<u8>, AllocError> {
     let mut bytes = Vec::new(alloc);
     for piece in pieces {
         let byte = if matches!(piece, Piece::File { .. }) {
@@ -44,17 +44,17 @@ pub(crate) fn initrds_text(alloc: Global, rest: &str) -> Result<String, RowFault
     }
     let pieces = join_initrds(alloc, files)?;
     let count = pieces_length(&pieces);
-    let bytes = quoted(alloc, &written(alloc, &pieces)?)?;
+    let bytes = quote_bytes(alloc, &bytes_of_pieces(alloc, &pieces)?)?;
     Ok(format!(in alloc; "{count} bytes: {bytes}")?)
 }
 
 /// The merged SBAT text of a stub, a kernel without one and what is given.
 pub(crate) fn merge_text(alloc: Global, rest: &str) -> Result<String, RowFault> {
-    let (stub, given) = parted(rest, '|')?;
+    let (stub, given) = split_at_mark(rest, '|')?;
     let stub = bytes_of(alloc, stub)?;
     let given = bytes_of(alloc, given)?;
     let merged = merge_sbat(alloc, &stub, b"", &given)?;
     let count = merged.len();
-    let text = quoted(alloc, &merged)?;
+    let text = quote_bytes(alloc, &merged)?;
     Ok(format!(in alloc; "{count} bytes: {text}")?)
 }

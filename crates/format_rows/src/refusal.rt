@@ -6,7 +6,7 @@ ghost use Rattle.pe_builder.specs.Planned.{sbat_if_in_place};
 
 use crate::case::Case;
 use crate::fault::RowFault;
-use crate::words::{number, parted, quoted};
+use crate::words::{number, quote_bytes, split_at_mark};
 use pe_builder::{PlanFault, WideSize, plan_refusal};
 use pe_reader::Pe;
 use sample_images::{DATA, READ_ONLY_CODE};
@@ -42,7 +42,7 @@ pub(crate) fn part_flags(name: &SectionName) -> u32 {
 fn wide_size(word: &str) -> Result<WideSize, RowFault>
     ensures { IfOk result (λ size. size.length ≤ 2 ^ 40) }
 {
-    let (name, length) = parted(word, ':')?;
+    let (name, length) = split_at_mark(word, ':')?;
     let name = part_name(name)?;
     let length = number(length)?;
     if length > LENGTH_LIMIT {
@@ -86,7 +86,7 @@ pub(crate) fn fault_text(alloc: Global, fault: PlanFault) -> Result<String, Allo
     let PlanFault::SectionTwice { name } = fault else {
         return format!(in alloc; "{fault}");
     };
-    let name = quoted(alloc, name.bytes())?;
+    let name = quote_bytes(alloc, name.bytes())?;
     format!(in alloc; "{fault}: {name}")
 }
 

@@ -52,7 +52,7 @@ fn told_of_file(
 }
 
 // What comes of a row; of one that changes what rows are about nothing is told.
-fn told(alloc: Global, line: &str, case: &mut Case) -> Result<String, RowFault> {
+fn row_result(alloc: Global, line: &str, case: &mut Case) -> Result<String, RowFault> {
     let (verb, rest) = line.split_once(' ').unwrap_or((line, ""));
     match verb {
         "image" => set_image(alloc, case, rest)?,
@@ -69,7 +69,7 @@ pub(crate) fn tell_line(alloc: Global, line: &str, case: &mut Case) -> Result<St
     if line.is_empty() || line.starts_with('#') {
         return Ok(format!(in alloc; "{line}\n")?);
     }
-    match told(alloc, line, case) {
+    match row_result(alloc, line, case) {
         Ok(told) if told.is_empty() => Ok(format!(in alloc; "> {line}\n")?),
         Ok(told) => Ok(format!(in alloc; "> {line}\n{told}\n")?),
         Err(fault) if fault.is_unclear() => Ok(format!(in alloc; "? {line}\n")?),

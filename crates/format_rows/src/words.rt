@@ -18,7 +18,7 @@ pub(crate) fn short_number(text: &str) -> Result<u32, RowFault> {
 }
 
 /// The two parts of a text before and behind the first mark.
-pub(crate) fn parted(text: &str, mark: char) -> Result<(&str, &str), RowFault> {
+pub(crate) fn split_at_mark(text: &str, mark: char) -> Result<(&str, &str), RowFault> {
     text.split_once(mark).ok_or(RowFault::Unclear)
 }
 
@@ -27,13 +27,13 @@ fn push_escaped(bytes: &mut Vec<u8>, text: &[u8]) -> Result<(), RowFault> {
     let [letter, rest @ ..] = text else {
         return Err(RowFault::Unclear);
     };
-    bytes.push(escaped(*letter)?)?;
+    bytes.push(escaped_byte(*letter)?)?;
     bytes.extend_from_slice(rest)?;
     Ok(())
 }
 
 // The byte that a letter behind a backslash stands for, as in C.
-fn escaped(letter: u8) -> Result<u8, RowFault> {
+fn escaped_byte(letter: u8) -> Result<u8, RowFault> {
     match letter {
         b'0' => Ok(0),
         b'a' => Ok(7),
@@ -79,7 +79,7 @@ pub(crate) fn bytes_of(alloc: Global, text: &str) -> Result<Vec<u8>, RowFault> {
 }
 
 /// The bytes as a text in quotes.
-pub(crate) fn quoted(alloc: Global, bytes: &[u8]) -> Result<String, AllocError> {
+pub(crate) fn quote_bytes(alloc: Global, bytes: &[u8]) -> Result<String, AllocError> {
     let text = String::from_utf8_lossy(alloc, bytes)?;
     format!(in alloc; "{text:?}")
 }

@@ -71,7 +71,7 @@ impl<R: Runtime<File = File> + AllocGlobal, E: Print + Drop> HostMachine<R, E> {
         ensures once { CountsDiskOnce result (counts_of self.old.faults) (counts_of self.new.faults) }
         ensures value { IfOk result (λ value. answer ≡ Ok value) }
     {
-        let answer = self.reports.told(call, path, answer);
+        let answer = self.reports.report(call, path, answer);
         self.faults.disk(answer)
     }
 
@@ -86,7 +86,7 @@ impl<R: Runtime<File = File> + AllocGlobal, E: Print + Drop> HostMachine<R, E> {
         ensures once { CountsPipeOnce result (counts_of self.old.faults) (counts_of self.new.faults) }
         ensures value { IfOk result (λ value. answer ≡ Ok value) }
     {
-        let answer = self.reports.told(call, path, answer);
+        let answer = self.reports.report(call, path, answer);
         self.faults.pipe(answer)
     }
 }

@@ -25,7 +25,7 @@ impl KeptFile {
     }
 
     // The same file at its new path.
-    pub(crate) fn renamed(self, path: String) -> Self {
+    pub(crate) fn with_path(self, path: String) -> Self {
         KeptFile {
             path,
             file: self.file,

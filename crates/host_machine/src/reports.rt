@@ -37,7 +37,7 @@ impl<E: Print + Drop> Reports<E> {
 
     // Passes an answer on, and tells of a failure: which call, on what path, and the system's own words. No
     // memory is taken for it, and whether it can be printed changes nothing.
-    pub(crate) fn told<T: Drop>(
+    pub(crate) fn report<T: Drop>(
         &self,
         call: &str,
         path: &str,

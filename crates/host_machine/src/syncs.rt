@@ -25,7 +25,7 @@ pub(crate) fn sync_changed<R: Files<File = File>, E: Print + Drop>(
             Some(kept) if kept.is_at(path) => kept.file.sync_all(),
             _ => sync_file(rt, path),
         };
-        reports.told("sync", path, answer)?;
+        reports.report("sync", path, answer)?;
     }
     sync_folders(rt, &named.changed, reports)
 }
@@ -37,10 +37,10 @@ fn sync_folders<R: Files<File = File>, E: Print + Drop>(
 ) -> io::Result<()> {
     for folder in folders.below.as_slice() {
         let folder = folder.as_str();
-        reports.told("sync", folder, sync_folder(rt, folder))?;
+        reports.report("sync", folder, sync_folder(rt, folder))?;
     }
     if folders.has_root {
-        reports.told("sync", ".", sync_folder(rt, "."))?;
+        reports.report("sync", ".", sync_folder(rt, "."))?;
     }
     Ok(())
 }

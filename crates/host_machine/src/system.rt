@@ -149,7 +149,7 @@ impl<R: Runtime<File = File> + AllocGlobal> System<R> {
         let kept = copy_path(self.rt.alloc(), to)?;
         let written = self.take_written(from)?;
         self.move_file(from, to)?;
-        self.moved = Some(written.renamed(kept));
+        self.moved = Some(written.with_path(kept));
         Ok(())
     }
 
@@ -205,7 +205,7 @@ impl<R: Runtime<File = File> + AllocGlobal> System<R> {
     // done, the folders that were looked at. After a failure all of it is still to be synced.
     pub(crate) fn sync_names<E: Print + Drop>(&mut self, reports: &Reports<E>) -> io::Result<()> {
         self.looked = None;
-        reports.told("sync", ".", self.require_no_loss())?;
+        reports.report("sync", ".", self.require_no_loss())?;
         let answer = sync_changed(&self.rt, &self.named, self.moved.as_ref(), reports);
         self.has_lost = answer.is_err();
         answer?;

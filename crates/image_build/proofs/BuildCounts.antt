@@ -14,7 +14,7 @@ use Rattle.tool_words.specs.declared.command.Given.TheVariants.{Inline, File}
 use Rattle.tool_words.specs.declared.fault.UsageReason.{UsageReason}
 use Rattle.tool_words.specs.declared.fault.UsageReason.TheVariants as reason
 use Rattle.tool_words.specs.Items.{Item, all_values, items, last_option_value, operands}
-use Rattle.tool_words.specs.Meaning.{Gathered, all_required, are_too_long, build_words, command_of, command_with, counted, command_from, found_name, found_verb, gathered, inline_or_file, is_long, meaning, read_words, repeats, with_verb}
+use Rattle.tool_words.specs.Meaning.{GatheredItems, all_required, are_too_long, build_words, command_of, command_with, check_count, command_from, found_name, found_verb, gather_items, inline_or_file, is_long, meaning, read_words, repeats, with_verb}
 use Rattle.uki_parts.specs.declared.kind.PartKind.TheVariants as kinds
 use Rattle.uki_parts.specs.declared.name.SectionName.{SectionName}
 use Rattle.word_grammar.specs.declared.grammar.CommandName.{CommandName}
@@ -22,7 +22,7 @@ use Rattle.word_grammar.specs.declared.grammar.CommandName.TheVariants as name
 use Rattle.word_grammar.specs.Grammar.{Word, row}
 use Rattle.image_build.specs.declared.source.Source.{Source}
 use Rattle.image_build.specs.declared.source.Source.TheVariants as sources
-use Rattle.image_build.specs.Building.{Named, clean, extra, given_once, named_of, section_of, source_of, sources_of, wanted_parts}
+use Rattle.image_build.specs.Building.{NamedFiles, clean, extra_part, given_list, named_files, section_of, source_of, sources_of, wanted_parts}
 use Rattle.image_build.proofs.Countable.{AreBounded, AreLight, bounded, light_more, light_sections, light_wanted, sections_short}
 use Rattle.image_build.proofs.OptionCounts.{AreApart, AreShort, IsShortGiven, given_of, given_short, once_short, short_map, values_count, values_few, values_short}
 use Rattle.image_build.proofs.Lines.{cleaned_short}
@@ -84,7 +84,7 @@ behind [] c rest verbs is = cc
 behind (first ∷ words) c rest verbs is = behind_found _ first words c rest verbs is
 
 -- only one command is a build
-filled_build : (c : CommandName) (g : Gathered) (build : BuildWords) → command_from c g ≡ command.Build build → (c ≡ name.Build) × (build_words g ≡ build)
+filled_build : (c : CommandName) (g : GatheredItems) (build : BuildWords) → command_from c g ≡ command.Build build → (c ≡ name.Build) × (build_words g ≡ build)
 filled_build name.Build g build is = (refl, cc is)
 filled_build name.Inspect g build is = cc
 filled_build name.Calculate g build is = cc
@@ -106,11 +106,11 @@ filled_build name.Script g build is = cc
 filled_build name.Demo g build is = cc
 
 -- what is inline_or_file once
-once_of : (f : Word → Given) (value : Option Word) → given_once (option_map f value) ≡ given_of f value
+once_of : (f : Word → Given) (value : Option Word) → given_list (option_map f value) ≡ given_of f value
 once_of f None = refl
 once_of f (Some value) = refl
 
-cleaned_of : (value : Option Word) → given_once (option_map clean (option_map inline_or_file value)) ≡ given_of (λ w. clean (inline_or_file w)) value
+cleaned_of : (value : Option Word) → given_list (option_map clean (option_map inline_or_file value)) ≡ given_of (λ w. clean (inline_or_file w)) value
 cleaned_of None = refl
 cleaned_of (Some value) = refl
 
@@ -148,8 +148,8 @@ said_short : (value : Word) → IsShort value → IsShortGiven (inline_or_file v
 said_short value short = given_short value (omega (arith, short))
 
 -- the parts that are wanted are as few as the items
-wanted_light : (found : List Item) (sections : List (SectionName × Given)) → AllByRecursion GivesShort found → each section_of (build_words (gathered name.Build found)).sections ≡ Ok sections
-    → AreLight (values_count part_options found) (wanted_parts (build_words (gathered name.Build found)) sections)
+wanted_light : (found : List Item) (sections : List (SectionName × Given)) → AllByRecursion GivesShort found → each section_of (build_words (gather_items name.Build found)).sections ≡ Ok sections
+    → AreLight (values_count part_options found) (wanted_parts (build_words (gather_items name.Build found)) sections)
 wanted_light found sections short is =
     let f = λ (o : Word). length (all_values o found) in
     let values = λ (o : Word). values_short o found short in
@@ -158,7 +158,7 @@ wanted_light found sections short is =
     let text = λ (w : Word) (le : IsShort w). said_short w le in
     let file = λ (w : Word) (le : IsShort w). (let t : IsShortGiven (File w) = tt in t) in
     let bare = λ (w : Word) (le : IsShort w). (let t : IsShortGiven (Inline w) = omega (arith, le) in t) in
-    let line : AreShort (f (codes "--cmdline")) (given_once (option_map clean (option_map inline_or_file (last_option_value (codes "--cmdline") found)))) =
+    let line : AreShort (f (codes "--cmdline")) (given_list (option_map clean (option_map inline_or_file (last_option_value (codes "--cmdline") found)))) =
     subst (AreShort (f (codes "--cmdline"))) (sym (cleaned_of (last_option_value (codes "--cmdline") found)))
     (once_short (λ (w : Word). clean (inline_or_file w)) (all_values (codes "--cmdline") found) clean_short (values (codes "--cmdline"))) in
     let initrds = if repeats name.Build (codes "--initrd") then all_values (codes "--initrd") found else [] in
@@ -166,11 +166,11 @@ wanted_light found sections short is =
     at_least (length initrds) (f (codes "--initrd")) (map File initrds) (repeated_few (repeats name.Build (codes "--initrd")) (all_values (codes "--initrd") found))
     (short_map File initrds file (repeated_short (repeats name.Build (codes "--initrd")) (all_values (codes "--initrd") found) (values (codes "--initrd")))) in
     let extras = if repeats name.Build (codes "--section") then all_values (codes "--section") found else [] in
-    let more : AreLight (f (codes "--section")) (map extra sections) =
+    let more : AreLight (f (codes "--section")) (map extra_part sections) =
     light_sections (f (codes "--section")) sections
     (omega (arith, each_length section_of extras sections is, repeated_few (repeats name.Build (codes "--section")) (all_values (codes "--section") found)))
     (sections_short extras sections (repeated_short (repeats name.Build (codes "--section")) (all_values (codes "--section") found) (values (codes "--section"))) is) in
-    subst (λ (n : ℕ). AreLight n (wanted_parts (build_words (gathered name.Build found)) sections))
+    subst (λ (n : ℕ). AreLight n (wanted_parts (build_words (gather_items name.Build found)) sections))
     (sym (nine f (codes "--os-release") (codes "--cmdline") (codes "--devicetree") (codes "--uname") (codes "--splash") (codes "--pcrpkey") (codes "--initrd") (codes "--microcode") (codes "--section")))
     (light_more _ _ _ _
     (light_more _ _ _ _
@@ -196,13 +196,13 @@ record IsBuiltOf (words : List Word) (build : BuildWords) : Type 0 where
   found : List Item
   behind_is : AreBehind words rest
   items_are : items name.Build rest ≡ Ok found
-  words_are : build_words (gathered name.Build found) ≡ build
+  words_are : build_words (gather_items name.Build found) ≡ build
 
 built_with : (c : CommandName) (words rest : List Word) (build : BuildWords) (found : List Item) → command_of words ≡ Ok (c, rest) → items c rest ≡ Ok found → command_with c found ≡ Ok (command.Build build) → IsBuiltOf words build
 built_with c words rest build found chosen read is =
-    let count = bound (counted (row c).operands (length (operands found))) _ (command.Build build) is in
-    let required = bound (all_required c (gathered c found).last) _ (command.Build build) count.2 in
-    let same = filled_build c (gathered c found) build (cc required.2) in
+    let count = bound (check_count (row c).operands (length (operands found))) _ (command.Build build) is in
+    let required = bound (all_required c (gather_items c found).last) _ (command.Build build) count.2 in
+    let same = filled_build c (gather_items c found) build (cc required.2) in
     let items_are : items name.Build rest ≡ Ok found = subst (λ (d : CommandName). items d rest ≡ Ok found) same.0 read in
     let chosen_is : command_of words ≡ Ok (name.Build, rest) = subst (λ (d : CommandName). command_of words ≡ Ok (d, rest)) same.0 chosen in
     record {
@@ -210,7 +210,7 @@ built_with c words rest build found chosen read is =
       found = found;
       behind_is = behind words name.Build rest refl chosen_is;
       items_are = items_are;
-      words_are = subst (λ (d : CommandName). build_words (gathered d found) ≡ build) same.0 same.1;
+      words_are = subst (λ (d : CommandName). build_words (gather_items d found) ≡ build) same.0 same.1;
     }
 
 built_of : (words : List Word) (build : BuildWords) → read_words words ≡ Ok (command.Build build) → IsBuiltOf words build
@@ -224,7 +224,7 @@ read_within true words c is = cc
 read_within false words c is = (refl, is)
 
 -- what the words name
-named_parts : (build : BuildWords) (named : Named) → named_of build ≡ Ok named
+named_parts : (build : BuildWords) (named : NamedFiles) → named_files build ≡ Ok named
     → (sections : List (SectionName × Given)) × (each section_of build.sections ≡ Ok sections) × (each sources_of (wanted_parts build sections) ≡ Ok named.parts)
     × (if_given source_of build.sbat ≡ Ok named.sbat)
 named_parts build named is =
@@ -235,7 +235,7 @@ named_parts build named is =
     let sbat = bind_ok (if_given source_of build.sbat) _ named parts.2 in
     let output = bind_ok (path_in build.output) _ named sbat.2 in
     let same : record { stub = stub.0; linux = linux.0; parts = parts.0; sbat = sbat.0; output = output.0 } ≡ named = cc output.2 in
-    (sections.0, sections.1, parts.1 ∙ ap (λ (n : Named). Ok n.parts) same, sbat.1 ∙ ap (λ (n : Named). Ok n.sbat) same)
+    (sections.0, sections.1, parts.1 ∙ ap (λ (n : NamedFiles). Ok n.parts) same, sbat.1 ∙ ap (λ (n : NamedFiles). Ok n.sbat) same)
 
 -- the text of `--sbat` is short
 abbrev pub SourceIsShort : Option Source → Type 0
@@ -266,11 +266,11 @@ sbat_short (Some word) source short is =
     subst SourceIsShort same (given_source (inline_or_file word) found.0 (said_short word short) found.1)
 
 -- The words of a build name at most 16,777,214 parts, and no long text of `--sbat`.
-pub record IsBounded (named : Named) : Type 0 where
+pub record IsBounded (named : NamedFiles) : Type 0 where
   pub parts : AreBounded 16777214 named.parts
   pub sbat : SourceIsShort named.sbat
 
-pub build_bounded : (words : List Word) (build : BuildWords) (named : Named) → meaning words ≡ Ok (command.Build build) → named_of build ≡ Ok named → IsBounded named
+pub build_bounded : (words : List Word) (build : BuildWords) (named : NamedFiles) → meaning words ≡ Ok (command.Build build) → named_files build ≡ Ok named → IsBounded named
 build_bounded words build named is names =
     let read = read_within (are_too_long words) words (command.Build build) is in
     let within = within_by (nat_lt 16777216 (length words)) (list_any is_long words) words refl refl read.0 in
@@ -278,15 +278,15 @@ build_bounded words build named is names =
     let short = built.behind_is.short within.short in
     let few = few_items name.Build built.rest built.found short built.items_are in
     let parts = named_parts build named names in
-    let sections : each section_of (build_words (gathered name.Build built.found)).sections ≡ Ok parts.0 =
+    let sections : each section_of (build_words (gather_items name.Build built.found)).sections ≡ Ok parts.0 =
     subst (λ (w : BuildWords). each section_of w.sections ≡ Ok parts.0) (sym built.words_are) parts.1 in
-    let sourced : each sources_of (wanted_parts (build_words (gathered name.Build built.found)) parts.0) ≡ Ok named.parts =
+    let sourced : each sources_of (wanted_parts (build_words (gather_items name.Build built.found)) parts.0) ≡ Ok named.parts =
     subst (λ (w : BuildWords). each sources_of (wanted_parts w parts.0) ≡ Ok named.parts) (sym built.words_are) parts.2 in
     let bounds = bounded (values_count part_options built.found) _ named.parts (wanted_light built.found parts.0 few.short sections) sourced in
     let fewer = built.behind_is.fewer in
     let most : values_count part_options built.found ≤ 16777214 =
     omega (arith, values_few part_options built.found options_apart, few.few, fewer, within.few) in
-    let said : if_given source_of (build_words (gathered name.Build built.found)).sbat ≡ Ok named.sbat =
+    let said : if_given source_of (build_words (gather_items name.Build built.found)).sbat ≡ Ok named.sbat =
     subst (λ (w : BuildWords). if_given source_of w.sbat ≡ Ok named.sbat) (sym built.words_are) parts.3 in
     record {
       parts = record { few = omega (arith, bounds.few, most); light = omega (arith, bounds.light, most) };

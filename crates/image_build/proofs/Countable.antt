@@ -18,7 +18,7 @@ use Rattle.word_grammar.specs.Grammar.{Word}
 use Rattle.image_build.specs.declared.source.PartSources.{PartSources}
 use Rattle.image_build.specs.declared.source.Source.{Source}
 use Rattle.image_build.specs.declared.source.Source.TheVariants as sources
-use Rattle.image_build.specs.Building.{NamedPart, Wanted, extra, named_part, part_named, section_cut, section_name, section_of, source_of, sources_of, wanted}
+use Rattle.image_build.specs.Building.{NamedPart, WantedPart, extra_part, named_part, part_named, section_cut, section_name, section_of, source_of, sources_of, optional_part}
 use Rattle.image_build.specs.Imaged.{is_filled}
 use Rattle.image_build.specs.Reads.{PartFrom, source_limit, sources_limit}
 use Rattle.image_build.proofs.OptionCounts.{AreShort, IsShortGiven, given_short}
@@ -28,11 +28,11 @@ abbrev pub given_limit : Given → ℕ
 given_limit (Inline text) = length text
 given_limit (File word) = 268435456
 
-abbrev pub wanted_limit : Wanted → ℕ
+abbrev pub wanted_limit : WantedPart → ℕ
 wanted_limit part = sum_by given_limit part.sources + 3 * length part.sources
 
 -- at most so many parts, of at most so many bytes
-pub record AreLight (count : ℕ) (wants : List Wanted) : Type 0 where
+pub record AreLight (count : ℕ) (wants : List WantedPart) : Type 0 where
   pub few : length wants ≤ count
   pub light : sum_by wanted_limit wants ≤ count * 268435459
 
@@ -47,14 +47,14 @@ limits_short (source ∷ givens) short = omega (arith, sum_by-cons given_limit s
 pub light_none : AreLight 0 []
 light_none = record { few = omega arith; light = omega arith }
 
-pub light_wanted : (kind : PartKind) (name : List ℕ) (count : ℕ) (givens : List Given) → AreShort count givens → AreLight count (wanted kind name givens)
+pub light_wanted : (kind : PartKind) (name : List ℕ) (count : ℕ) (givens : List Given) → AreShort count givens → AreLight count (optional_part kind name givens)
 light_wanted kind name count [] short = record { few = omega arith; light = omega arith }
 light_wanted kind name count (source ∷ givens) short =
     let limits = limits_short (source ∷ givens) short.short in
     let few = short.few in
     record { few = omega (arith, few); light = omega (arith, few, limits, sum_by-cons wanted_limit (record { kind = kind; name = padded_name name; sources = source ∷ givens }) []) }
 
-pub light_more : (a b : ℕ) (xs ys : List Wanted) → AreLight a xs → AreLight b ys → AreLight (a + b) (xs ++ ys)
+pub light_more : (a b : ℕ) (xs ys : List WantedPart) → AreLight a xs → AreLight b ys → AreLight (a + b) (xs ++ ys)
 light_more a b xs ys first second = record {
   few = omega (arith, first.few, second.few, length-append xs ys);
   light = omega (arith, first.light, second.light, sum_by-append wanted_limit xs ys);
@@ -63,7 +63,7 @@ light_more a b xs ys first second = record {
 abbrev pub SectionIsShort : SectionName × Given → Type 0
 SectionIsShort section = IsShortGiven section.1
 
-pub light_sections : (count : ℕ) (sections : List (SectionName × Given)) → length sections ≤ count → AllByRecursion SectionIsShort sections → AreLight count (map extra sections)
+pub light_sections : (count : ℕ) (sections : List (SectionName × Given)) → length sections ≤ count → AllByRecursion SectionIsShort sections → AreLight count (map extra_part sections)
 light_sections count [] few short = record { few = omega arith; light = omega arith }
 light_sections count (section ∷ sections) few short =
     let rest = light_sections (length sections) sections (omega arith) short.1 in
@@ -71,7 +71,7 @@ light_sections count (section ∷ sections) few short =
     let one = sum_by-cons given_limit section.1 [] in
     record {
       few = omega (arith, few, rest.few);
-      light = omega (arith, few, rest.light, here, one, sum_by-cons wanted_limit (extra section) (map extra sections));
+      light = omega (arith, few, rest.light, here, one, sum_by-cons wanted_limit (extra_part section) (map extra_part sections));
     }
 
 -- a section's text is no longer than its word
@@ -113,13 +113,13 @@ sources_same (from ∷ givens) found is =
 abbrev pub named_limit : NamedPart → ℕ
 named_limit part = sources_limit part.sources
 
-part_same : (want : Wanted) (part : NamedPart) → sources_of want ≡ Ok part → named_limit part ≡ wanted_limit want
+part_same : (want : WantedPart) (part : NamedPart) → sources_of want ≡ Ok part → named_limit part ≡ wanted_limit want
 part_same want part is =
     let found = bind_ok (each source_of want.sources) _ part is in
     let same : named_part want.kind want.name found.0 ≡ part = cc found.2 in
     omega (arith, ap named_limit same, sources_same want.sources found.0 found.1, each_length source_of want.sources found.0 found.1)
 
-parts_same : (wants : List Wanted) (parts : List NamedPart) → each sources_of wants ≡ Ok parts → sum_by named_limit parts ≡ sum_by wanted_limit wants
+parts_same : (wants : List WantedPart) (parts : List NamedPart) → each sources_of wants ≡ Ok parts → sum_by named_limit parts ≡ sum_by wanted_limit wants
 parts_same [] parts is = ap (sum_by named_limit) (sym (none_made sources_of parts is))
 parts_same (want ∷ wants) parts is =
     let cut = each_cut sources_of want wants parts is in
@@ -137,7 +137,7 @@ pub record AreBounded (count : ℕ) (parts : List NamedPart) : Type 0 where
   pub few : length parts ≤ count
   pub light : sum_by named_limit parts ≤ count * 268435459
 
-pub bounded : (count : ℕ) (wants : List Wanted) (parts : List NamedPart) → AreLight count wants → each sources_of wants ≡ Ok parts → AreBounded count parts
+pub bounded : (count : ℕ) (wants : List WantedPart) (parts : List NamedPart) → AreLight count wants → each sources_of wants ≡ Ok parts → AreBounded count parts
 bounded count wants parts light is = record {
   few = omega (arith, light.few, each_length sources_of wants parts is);
   light = omega (arith, light.light, parts_same wants parts is);

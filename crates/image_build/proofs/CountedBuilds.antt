@@ -10,12 +10,12 @@ use Rattle.boot_base.specs.Paths.{Path}
 use Rattle.boot_base.specs.declared.refusal.Refusal.{Refusal}
 use Rattle.boot_machine.specs.Disk.{Files}
 use Rattle.boot_machine.specs.Rows.{contents}
-use Rattle.command_plans.specs.Files.{bytes_at, each, headers_or, readable}
+use Rattle.command_plans.specs.Files.{bytes_at, each, headers_or, readable_bytes}
 use Rattle.command_plans.proofs.Each.{bind_ok}
 use Rattle.pe_builder.specs.Replaced.{sbat_name}
 use Rattle.pe_reader.specs.Fields.{part}
 use Rattle.pe_reader.specs.Grammar.{Headers, pe_of}
-use Rattle.pe_reader.specs.Loaded.{loaded, loaded_in, loaded_of, range_of, is_named}
+use Rattle.pe_reader.specs.LoadedBytes.{loaded_bytes, loaded_in, loaded_of, range_of, is_named}
 use Rattle.pe_reader.specs.declared.fault.FailedCheck.{FailedCheck}
 use Rattle.pe_reader.specs.declared.section.Section.{Section}
 use Rattle.uki_parts.specs.Sbat.{sbat_entries}
@@ -28,14 +28,14 @@ use Rattle.image_build.proofs.BuildCounts.{SourceIsShort, build_bounded}
 use Rattle.image_build.proofs.Countable.{counted}
 use Rattle.image_build.proofs.Lines.{entries_before, entries_long, merged_long}
 
-abbrev ended : List ℕ → ℕ
-ended piece = length piece + 1
+abbrev ended_length : List ℕ → ℕ
+ended_length piece = length piece + 1
 
 in_limit : (b : Bool) (why : Refusal) (bytes found : List ℕ) → nat_lt file_limit (length bytes) ≡ b → (let r : Result (List ℕ) Refusal = if b then Err why else Ok bytes in r) ≡ Ok found → length found ≤ 268435456
 in_limit true why bytes found small is = cc
 in_limit false why bytes found small is = subst (λ (l : List ℕ). length l ≤ 268435456) (cc is) (ltb-false 268435456 (length bytes) small)
 
-read_limit : (path : Path) (there : Option (List ℕ)) (found : List ℕ) → readable path there ≡ Ok found → length found ≤ 268435456
+read_limit : (path : Path) (there : Option (List ℕ)) (found : List ℕ) → readable_bytes path there ≡ Ok found → length found ≤ 268435456
 read_limit path None found is = cc
 read_limit path (Some bytes) found is = in_limit (nat_lt file_limit (length bytes)) _ bytes found refl is
 
@@ -47,17 +47,17 @@ given_limit view (Some (sources.At path)) found short is = read_limit path (get 
 part_long : (file : List ℕ) (place count : ℕ) → length (part file place count) ≤ length file
 part_long file place count = omega (arith, length-take count (drop place file), length-drop place file)
 
-section_entries : (file : List ℕ) (found : Option Section) → sum_by ended (sbat_entries (loaded_of file found)) ≤ length file + 1
+section_entries : (file : List ℕ) (found : Option Section) → sum_by ended_length (sbat_entries (loaded_of file found)) ≤ length file + 1
 section_entries file None = omega (arith, entries_before [] 0)
 section_entries file (Some s) =
     let r = range_of s in
     omega (arith, entries_before (part file r.place r.length) r.zeros, part_long file r.place r.length)
 
-file_entries : (file : List ℕ) (read : Result Headers FailedCheck) → sum_by ended (sbat_entries (loaded_in file sbat_name read)) ≤ length file + 1
+file_entries : (file : List ℕ) (read : Result Headers FailedCheck) → sum_by ended_length (sbat_entries (loaded_in file sbat_name read)) ≤ length file + 1
 file_entries file (Err check) = omega (arith, entries_before [] 0)
 file_entries file (Ok headers) = section_entries file (find (is_named sbat_name) headers.sections)
 
-text_entries : (text : List ℕ) → sum_by ended (sbat_entries text) ≤ length text + 1
+text_entries : (text : List ℕ) → sum_by ended_length (sbat_entries text) ≤ length text + 1
 text_entries text = omega (arith, entries_long text, length-take (position_or_len (λ byte. byte == 0) text) text)
 
 -- The SBAT text of an image is shorter than 4 GiB.
@@ -68,7 +68,7 @@ sbat_long contents stub linux given =
       stub,
       linux,
       given,
-      merged_long (loaded contents.stub sbat_name) (loaded contents.linux sbat_name) contents.sbat,
+      merged_long (loaded_bytes contents.stub sbat_name) (loaded_bytes contents.linux sbat_name) contents.sbat,
       file_entries contents.stub (pe_of contents.stub),
       file_entries contents.linux (pe_of contents.linux),
       text_entries contents.sbat,

@@ -21,7 +21,7 @@ use Rattle.uki_parts.specs.Pieces.{Reading, HasSizes, bytes_of, piece_bytes, pie
 use Rattle.pe_builder.specs.declared.fault.PlanFault.{PlanFault}
 use Rattle.pe_builder.specs.declared.fault.PlanFault.TheVariants as faults
 use Rattle.pe_builder.specs.declared.size.WideSize.{WideSize}
-use Rattle.pe_builder.specs.Image.{finished}
+use Rattle.pe_builder.specs.Image.{finished_image}
 use Rattle.pe_builder.specs.Planned.{Makes, PlansImage, sbat_if_in_place}
 use Rattle.pe_builder.specs.Refusals.{first_refusal}
 use Rattle.pe_builder.specs.Replaced.{sbat_name}
@@ -31,8 +31,8 @@ use Rattle.image_writer.specs.declared.sources.Sources.{Sources}
 use Rattle.pe_builder.specs.declared.plan.Plan.{Plan}
 use Rattle.image_writer.proofs.PlannedImages.{planned_image-is}
 use Rattle.image_build.specs.declared.build_plan.ImagePlan.{ImagePlan}
-use Rattle.image_build.specs.Building.{Built, builder_refusal, has_bytes, has_sbat, image_of_parts, image_or, size_of_part}
-use Rattle.image_build.specs.Imaged.{AreOrdered, Images, IsPlanOf, IsSbatPart, PlansParts, image_meant, is_filled}
+use Rattle.image_build.specs.Building.{BuiltImage, builder_refusal, has_bytes, has_sbat, image_of_parts, image_or, size_of_part}
+use Rattle.image_build.specs.Imaged.{AreOrdered, Images, IsPlanOf, IsSbatPart, PlansParts, image_result, is_filled}
 use Rattle.image_build.specs.Reads.{part_as}
 
 -- On a view the stub at a path has this length and reads with these headers, and the pieces of all parts have the sizes
@@ -96,7 +96,7 @@ sourced_for plan sources view h in_place reads pieced len plans = record {
   pieced = pieced;
 }
 
-abbrev built : Path → List ℕ → Result Built Refusal
+abbrev built : Path → List ℕ → Result BuiltImage Refusal
 built output image = Ok (record { output = output; image = image })
 
 -- of parts that are read, the first refusal goes by the sizes that they say
@@ -106,7 +106,7 @@ refusal_read : (output : Path) (h : Headers) (files : Reading) (stub : List ℕ)
     ≡ image_or output h stub (map (part_as files) parts) (sbat_if_in_place in_place sbat) (option_and_then (builder_refusal output) refused)
 refusal_read output h files stub parts in_place sbat refused pieced len is =
     let read = map (part_as files) parts in
-    let or : Option PlanFault → Result Built Refusal = λ o. image_or output h stub read (sbat_if_in_place in_place sbat) (option_and_then (builder_refusal output) o) in
+    let or : Option PlanFault → Result BuiltImage Refusal = λ o. image_or output h stub read (sbat_if_in_place in_place sbat) (option_and_then (builder_refusal output) o) in
     ap (λ (l : List WideSize). or (first_refusal h (length stub) l (option_map length (sbat_if_in_place in_place sbat)))) (sizes_read files parts pieced)
     ∙ ap (λ (o : Option ℕ). or (first_refusal h (length stub) (map any_size parts) o)) len
     ∙ ap or is
@@ -121,12 +121,12 @@ image_for output plan sources view h in_place reads pieced len plans =
     let parts = part_list sources in
     let sbat = sbat_if_in_place in_place (new_sbat sources) in
     refusal_read output h files stub parts in_place (new_sbat sources) None pieced len plans.buildable.not_refused
-    ∙ ap (λ (l : List WideSize). built output (finished h l (map (λ p. p.1) (map (part_as files) parts)) sbat stub)) (sizes_read files parts pieced)
-    ∙ ap (λ (l : List (List ℕ)). built output (finished h (map any_size parts) l sbat stub)) (contents_read files parts)
+    ∙ ap (λ (l : List WideSize). built output (finished_image h l (map (λ p. p.1) (map (part_as files) parts)) sbat stub)) (sizes_read files parts pieced)
+    ∙ ap (λ (l : List (List ℕ)). built output (finished_image h (map any_size parts) l sbat stub)) (contents_read files parts)
     ∙ ap (λ (l : List ℕ). built output l) (sym (planned_image-is plan sources view h (map any_size parts) in_place reads plans len))
 
 -- the image of parts and a `.sbat` in place, where it is said
-abbrev pub parts_meant : Files → Headers → Path → List Part → Option ℕ → List ℕ → Path → Result Built Refusal
+abbrev pub parts_meant : Files → Headers → Path → List Part → Option ℕ → List ℕ → Path → Result BuiltImage Refusal
 parts_meant view h stub parts in_place sbat output =
     image_of_parts output h (contents view stub) (map (part_as (contents view)) parts) (sbat_if_in_place in_place sbat)
 
@@ -166,7 +166,7 @@ images_refused view h n stub parts in_place sbat fault read is output why told =
     ∙ ap (λ (o : Option Refusal). image_or output h (contents view stub) (map (part_as (contents view)) parts) (sbat_if_in_place in_place sbat) o) told
 
 -- so a refusal is the one that is meant
-pub refused_as : (view : Files) (meant : Path → Result Built Refusal) (fault : PlanFault) (output : Path) (why : Refusal) → builder_refusal output fault ≡ Some why → Images view meant (Err fault)
+pub refused_as : (view : Files) (meant : Path → Result BuiltImage Refusal) (fault : PlanFault) (output : Path) (why : Refusal) → builder_refusal output fault ≡ Some why → Images view meant (Err fault)
     → meant output ≡ Err why
 refused_as view meant faults.Memory output why told images = absurd (cc told)
 refused_as view meant fault output why told images = images output why told
@@ -178,7 +178,7 @@ images_parts view h n stub parts in_place sbat (Ok image) read is = images_made 
 images_parts view h n stub parts in_place sbat (Err faults.Memory) read is = tt
 images_parts view h n stub parts in_place sbat (Err fault) read is = images_refused view h n stub parts in_place sbat fault read is
 
-pub images_as : (view : Files) (meant other : Path → Result Built Refusal) (result : Result ImagePlan PlanFault) → ((output : Path) → other output ≡ meant output) → Images view meant result → Images view other result
+pub images_as : (view : Files) (meant other : Path → Result BuiltImage Refusal) (result : Result ImagePlan PlanFault) → ((output : Path) → other output ≡ meant output) → Images view meant result → Images view other result
 images_as view meant other (Ok image) same is = (is.0, λ output. same output ∙ is.1 output)
 images_as view meant other (Err faults.Memory) same is = tt
 images_as view meant other (Err fault) same is = λ output why told. same output ∙ is output why told
@@ -211,7 +211,7 @@ filled_are_read view h n stub parts all list linux in_place sbat read pieced is 
 }
 
 meant_without : (view : Files) (h : Headers) (stub : Path) (parts : List Part) (linux : Part) (sbat : List ℕ) (output : Path) → length sbat ≡ 0
-    → image_meant view h stub parts linux sbat output
+    → image_result view h stub parts linux sbat output
     ≡ image_of_parts output h (contents view stub) (filter has_bytes (map (part_as (contents view)) parts ++ (padded_name (codes ".linux"), bytes_of (contents view) linux.pieces.items) ∷ [])) None
 meant_without view h stub parts linux [] output none = refl
 meant_without view h stub parts linux (byte ∷ text) output none = absurd (omega arith)
@@ -219,17 +219,17 @@ meant_without view h stub parts linux (byte ∷ text) output none = absurd (omeg
 -- without an SBAT text
 pub images_without : (view : Files) (h : Headers) (n : ℕ) (stub : Path) (parts list : List Part) (linux : Part) (sbat : List ℕ) (result : Result ImagePlan PlanFault) → AreOrdered parts linux
     → list ≡ filter is_filled (parts ++ linux ∷ []) → length sbat ≡ 0 → PlansParts h n stub list None sbat result → AreRead view h n stub parts linux
-    → Images view (image_meant view h stub parts linux sbat) result
+    → Images view (image_result view h stub parts linux sbat) result
 images_without view h n stub parts list linux sbat result are is none planned read =
     let pieced = all_pieced view h n stub parts linux read in
-    images_as view (parts_meant view h stub list None sbat) (image_meant view h stub parts linux sbat) result
+    images_as view (parts_meant view h stub list None sbat) (image_result view h stub parts linux sbat) result
     (λ output.
     meant_without view h stub parts linux sbat output none
     ∙ ap (λ (l : List (SectionName × List ℕ)). image_of_parts output h (contents view stub) l None) (listed_read (contents view) parts linux are.name pieced ∙ ap (map (part_as (contents view))) (sym is)))
     (images_parts view h n stub list None sbat result (filled_are_read view h n stub parts (parts ++ linux ∷ []) list linux None sbat read pieced is refl) planned)
 
 meant_in_place : (view : Files) (h : Headers) (stub : Path) (parts : List Part) (linux : Part) (sbat : List ℕ) (output : Path) → 0 < length sbat → has_sbat h ≡ true
-    → image_meant view h stub parts linux sbat output
+    → image_result view h stub parts linux sbat output
     ≡ image_of_parts output h (contents view stub) (filter has_bytes (map (part_as (contents view)) parts ++ (padded_name (codes ".linux"), bytes_of (contents view) linux.pieces.items) ∷ [])) (Some sbat)
 meant_in_place view h stub parts linux [] output some has = absurd (omega arith)
 meant_in_place view h stub parts linux (byte ∷ text) output some has = rw has refl
@@ -237,10 +237,10 @@ meant_in_place view h stub parts linux (byte ∷ text) output some has = rw has 
 -- with one in the place of the stub's
 pub images_in_place : (view : Files) (h : Headers) (n : ℕ) (stub : Path) (parts list : List Part) (linux : Part) (sbat : List ℕ) (count : ℕ) (result : Result ImagePlan PlanFault) → AreOrdered parts linux
     → list ≡ filter is_filled (parts ++ linux ∷ []) → 0 < length sbat → has_sbat h ≡ true → length sbat ≡ count → PlansParts h n stub list (Some count) sbat result → AreRead view h n stub parts linux
-    → Images view (image_meant view h stub parts linux sbat) result
+    → Images view (image_result view h stub parts linux sbat) result
 images_in_place view h n stub parts list linux sbat count result are is some has len planned read =
     let pieced = all_pieced view h n stub parts linux read in
-    images_as view (parts_meant view h stub list (Some count) sbat) (image_meant view h stub parts linux sbat) result
+    images_as view (parts_meant view h stub list (Some count) sbat) (image_result view h stub parts linux sbat) result
     (λ output.
     meant_in_place view h stub parts linux sbat output some has
     ∙ ap (λ (l : List (SectionName × List ℕ)). image_of_parts output h (contents view stub) l (Some sbat)) (listed_read (contents view) parts linux are.name pieced ∙ ap (map (part_as (contents view))) (sym is)))
@@ -259,7 +259,7 @@ text_read files part text is =
     ∙ ap (λ (l : List ℕ). (padded_name sbat_name, l)) (append-nil text)
 
 meant_as_part : (view : Files) (h : Headers) (stub : Path) (parts : List Part) (linux : Part) (sbat : List ℕ) (output : Path) → 0 < length sbat → has_sbat h ≡ false
-    → image_meant view h stub parts linux sbat output
+    → image_result view h stub parts linux sbat output
     ≡ image_of_parts output h (contents view stub) (filter has_bytes (map (part_as (contents view)) parts ++ (padded_name sbat_name, sbat) ∷ (padded_name (codes ".linux"), bytes_of (contents view) linux.pieces.items) ∷ [])) None
 meant_as_part view h stub parts linux [] output some has = absurd (omega arith)
 meant_as_part view h stub parts linux (byte ∷ text) output some has = rw has refl
@@ -276,12 +276,12 @@ text_listed files parts linux part text is =
 -- with one as a part
 pub images_as_part : (view : Files) (h : Headers) (n : ℕ) (stub : Path) (parts list : List Part) (linux part : Part) (sbat none : List ℕ) (result : Result ImagePlan PlanFault) → AreOrdered parts linux → IsSbatPart part sbat
     → list ≡ filter is_filled ((parts ++ part ∷ []) ++ linux ∷ []) → 0 < length sbat → has_sbat h ≡ false → PlansParts h n stub list None none result → AreRead view h n stub parts linux
-    → Images view (image_meant view h stub parts linux sbat) result
+    → Images view (image_result view h stub parts linux sbat) result
 images_as_part view h n stub parts list linux part sbat none result are holds is some has planned read =
     let files = contents view in
     let more = parts ++ part ∷ [] in
     let pieced = All-push (IsPieced files) more linux (All-push (IsPieced files) parts part read.pieced (text_pieced files part sbat holds)) read.linux_pieced in
-    images_as view (parts_meant view h stub list None none) (image_meant view h stub parts linux sbat) result
+    images_as view (parts_meant view h stub list None none) (image_result view h stub parts linux sbat) result
     (λ output.
     meant_as_part view h stub parts linux sbat output some has
     ∙ ap (λ (l : List (SectionName × List ℕ)). image_of_parts output h (files stub) (filter has_bytes l) None) (text_listed files parts linux part sbat holds)

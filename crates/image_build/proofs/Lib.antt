@@ -1,5 +1,5 @@
 mod BuildCounts
-mod Built
+mod BuiltImage
 mod Countable
 mod CountedBuilds
 mod Imaged

@@ -87,18 +87,18 @@ text_added parts list more most linux part text are holds before one two =
     two ∙ ap (with_part linux) seen ∙ with_part-last linux (parts ++ part ∷ []) both
 
 -- how many parts there are, and how many bytes they have
-pub record Counted (list : List Part) : Type 0 where
+pub record FitsCounts (list : List Part) : Type 0 where
   pub few : length list ≤ 16777216
   pub total : sum_by (λ part. part.length) list ≤ 2 ^ 62
 
 abbrev is_empty : Part → Bool
 is_empty part = part.length == 0
 
-counted : (all list : List Part) → list ≡ filter is_filled all → count_by is_filled all ≤ 16777216 → sum_by (λ part. part.length) all ≤ 2 ^ 62 → Counted list
+counted : (all list : List Part) → list ≡ filter is_filled all → count_by is_filled all ≤ 16777216 → sum_by (λ part. part.length) all ≤ 2 ^ 62 → FitsCounts list
 counted all list is few total =
     let count = length-filter is_filled all in
     let sum = sum_by-filter_both is_empty is_filled (λ part. refl) (λ part. part.length) all in
-    subst Counted (sym is) (record { few = omega (arith, count); total = omega (arith, sum) })
+    subst FitsCounts (sym is) (record { few = omega (arith, count); total = omega (arith, sum) })
 
 one_more : (parts : List Part) (part : Part) → count_by is_filled (parts ++ part ∷ []) ≤ count_by is_filled parts + 1
 one_more parts part =
@@ -108,7 +108,7 @@ one_more parts part =
     let both = ap length (filter-append is_filled parts (part ∷ [])) in
     omega (arith, whole, front, last, both, length-append (filter is_filled parts) (filter is_filled (part ∷ [])), count_by-le-length is_filled (part ∷ []))
 
-pub linux_counted : (parts list more : List Part) (linux : Part) (sbat : List ℕ) → AreOrdered parts linux → IsCountable parts sbat → list ≡ filter is_filled parts → more ≡ with_part linux list → Counted more
+pub linux_counted : (parts list more : List Part) (linux : Part) (sbat : List ℕ) → AreOrdered parts linux → IsCountable parts sbat → list ≡ filter is_filled parts → more ≡ with_part linux list → FitsCounts more
 linux_counted parts list more linux sbat are few before is =
     let small = are.small in
     let filled = few.few in
@@ -118,7 +118,7 @@ linux_counted parts list more linux sbat are few before is =
     (omega (arith, sum_by-append (λ (part : Part). part.length) parts (linux ∷ []), sum_by-cons (λ (part : Part). part.length) linux []))
 
 pub text_counted : (parts list more most : List Part) (linux part : Part) (text : List ℕ) → AreOrdered parts linux → IsSbatPart part text → IsCountable parts text → list ≡ filter is_filled parts
-    → more ≡ with_part part list → most ≡ with_part linux more → Counted most
+    → more ≡ with_part part list → most ≡ with_part linux more → FitsCounts most
 text_counted parts list more most linux part text are holds few before one two =
     let filled = few.few in
     let total = few.total in

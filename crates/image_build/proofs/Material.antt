@@ -7,7 +7,7 @@ use Rattle.boot_machine.specs.Sent.{seen}
 use Rattle.pe_reader.specs.Grammar.{Headers, pe_of}
 use Rattle.command_plans.specs.Declining.{◌>>=◌}
 use Rattle.image_build.specs.declared.build_reads.BuildFiles.{BuildFiles}
-use Rattle.image_build.specs.Building.{Contents, Material, Named, contents_of, material, material_of, sbat_of}
+use Rattle.image_build.specs.Building.{Contents, Material, NamedFiles, contents_of, material, material_of, sbat_of}
 use Rattle.command_plans.specs.Files.{headers_or}
 use Rattle.image_build.specs.Reads.{contents_as}
 
@@ -20,7 +20,7 @@ text_ok text = Ok text
 inner : (a b : List ℕ) → text_ok a ≡ text_ok b → a ≡ b
 inner a b same = cc
 
-made_is : (view : Files) (named : Named) (c : Contents) (headers : Headers) (linux text : List ℕ) → contents_of view named ≡ Ok c → pe_of c.stub ≡ Ok headers → text ≡ sbat_of c → linux ≡ c.linux
+made_is : (view : Files) (named : NamedFiles) (c : Contents) (headers : Headers) (linux text : List ℕ) → contents_of view named ≡ Ok c → pe_of c.stub ≡ Ok headers → text ≡ sbat_of c → linux ≡ c.linux
     → material_of view named ≡ Ok (made_of c headers linux text)
 made_is view named c headers linux text found reads merged kernel =
     ap (λ r. r >>= material) found
@@ -29,7 +29,7 @@ made_is view named c headers linux text found reads merged kernel =
     ∙ ap (λ (l : List ℕ). Ok (made_of c headers linux l)) (sym merged)
 
 -- the state stands while the headers and the SBAT text are read
-pub material_is : (s mid last : State) (named : Named) (found : BuildFiles) (headers : Headers) (linux text : List ℕ) → mid ≡ s → last ≡ mid → contents_of (seen s) named ≡ Ok (contents_as (contents (seen s)) found)
+pub material_is : (s mid last : State) (named : NamedFiles) (found : BuildFiles) (headers : Headers) (linux text : List ℕ) → mid ≡ s → last ≡ mid → contents_of (seen s) named ≡ Ok (contents_as (contents (seen s)) found)
     → pe_of (contents (seen mid) found.stub) ≡ Ok headers → text_ok (sbat_of (contents_as (contents (seen last)) found)) ≡ text_ok text → linux ≡ contents (seen s) found.linux
     → material_of (seen s) named ≡ Ok (made_of (contents_as (contents (seen s)) found) headers linux text)
 material_is s mid last named found headers linux text first second is reads merged kernel =

@@ -19,7 +19,7 @@ use Rattle.uki_parts.specs.declared.kind.PartKind.{PartKind}
 use Rattle.uki_parts.specs.declared.kind.PartKind.TheVariants as kinds
 use Rattle.uki_parts.specs.declared.name.SectionName.{SectionName}
 use Rattle.uki_parts.specs.declared.part.Part.{Part}
-use Rattle.image_build.specs.Building.{Named, NamedPart, Wanted, clean, extra, given_once, named_as, named_of, named_part, part_named, section_of, source_of, sources_of, wanted, wanted_parts}
+use Rattle.image_build.specs.Building.{NamedFiles, NamedPart, WantedPart, clean, extra_part, given_list, named_as, named_files, named_part, part_named, section_of, source_of, sources_of, optional_part, wanted_parts}
 use Rattle.image_build.specs.Reads.{PartFrom}
 use Rattle.image_build.specs.declared.source.BuildSources.{BuildSources}
 use Rattle.image_build.specs.declared.source.PartSources.{PartSources}
@@ -58,42 +58,42 @@ in_order n (x ∷ xs) low high rises (suc i) zero d before inside = absurd (omeg
 in_order n (x ∷ xs) low high rises (suc i) (suc j) d before inside = in_order n xs (n x) high rises.1 i j d (omega (arith, before)) (omega (arith, inside))
 
 -- the places of what is wanted
-abbrev wanted_place : Wanted → ℕ
+abbrev wanted_place : WantedPart → ℕ
 wanted_place part = append_place part.kind
 
-one_more : (low : ℕ) (kind : PartKind) (name : List ℕ) (sources : List Given) (before : List Wanted) → low ≤ append_place kind → Rises 0 (map wanted_place before) low
-    → Rises 0 (map wanted_place (before ++ wanted kind name sources)) (append_place kind)
+one_more : (low : ℕ) (kind : PartKind) (name : List ℕ) (sources : List Given) (before : List WantedPart) → low ≤ append_place kind → Rises 0 (map wanted_place before) low
+    → Rises 0 (map wanted_place (before ++ optional_part kind name sources)) (append_place kind)
 one_more low kind name sources before next rises =
-    subst (λ l. Rises 0 l (append_place kind)) (sym (map-append wanted_place before (wanted kind name sources)))
-    (joined 0 low (append_place kind) (map wanted_place before) (map wanted_place (wanted kind name sources)) rises (here sources))
+    subst (λ l. Rises 0 l (append_place kind)) (sym (map-append wanted_place before (optional_part kind name sources)))
+    (joined 0 low (append_place kind) (map wanted_place before) (map wanted_place (optional_part kind name sources)) rises (here sources))
   where
-    here : (sources : List Given) → Rises low (map wanted_place (wanted kind name sources)) (append_place kind)
+    here : (sources : List Given) → Rises low (map wanted_place (optional_part kind name sources)) (append_place kind)
     here [] = next
     here (source ∷ more) = (next, omega arith)
 
-extras : (sections : List (SectionName × Given)) → Rises (append_place kinds.Extra) (map wanted_place (map extra sections)) (append_place kinds.Extra)
+extras : (sections : List (SectionName × Given)) → Rises (append_place kinds.Extra) (map wanted_place (map extra_part sections)) (append_place kinds.Extra)
 extras [] = omega arith
 extras (section ∷ sections) = (omega arith, extras sections)
 
-with_extras : (low : ℕ) (before : List Wanted) (sections : List (SectionName × Given)) → low ≤ append_place kinds.Extra → Rises 0 (map wanted_place before) low
-    → Rises 0 (map wanted_place (before ++ map extra sections)) (append_place kinds.Extra)
+with_extras : (low : ℕ) (before : List WantedPart) (sections : List (SectionName × Given)) → low ≤ append_place kinds.Extra → Rises 0 (map wanted_place before) low
+    → Rises 0 (map wanted_place (before ++ map extra_part sections)) (append_place kinds.Extra)
 with_extras low before sections next rises =
     let last = append_place kinds.Extra in
-    subst (λ l. Rises 0 l last) (sym (map-append wanted_place before (map extra sections)))
-    (joined 0 low last (map wanted_place before) (map wanted_place (map extra sections)) rises (lower low last last (map wanted_place (map extra sections)) next (extras sections)))
+    subst (λ l. Rises 0 l last) (sym (map-append wanted_place before (map extra_part sections)))
+    (joined 0 low last (map wanted_place before) (map wanted_place (map extra_part sections)) rises (lower low last last (map wanted_place (map extra_part sections)) next (extras sections)))
 
 -- all of them rise
 wanted_rise : (words : BuildWords) (sections : List (SectionName × Given)) → Rises 0 (map wanted_place (wanted_parts words sections)) (append_place kinds.Extra)
 unfolding append_place
 wanted_rise words sections =
-    let osrel = one_more 0 kinds.Osrel (codes ".osrel") (given_once words.osrel) [] (omega arith) (omega arith) in
-    let cmdline = one_more _ kinds.Cmdline (codes ".cmdline") (given_once (option_map clean words.cmdline)) _ (omega arith) osrel in
-    let dtb = one_more _ kinds.Dtb (codes ".dtb") (given_once (option_map File words.dtb)) _ (omega arith) cmdline in
-    let uname = one_more _ kinds.Uname (codes ".uname") (given_once (option_map Inline words.uname)) _ (omega arith) dtb in
-    let splash = one_more _ kinds.Splash (codes ".splash") (given_once (option_map File words.splash)) _ (omega arith) uname in
-    let pcrpkey = one_more _ kinds.Pcrpkey (codes ".pcrpkey") (given_once (option_map File words.pcrpkey)) _ (omega arith) splash in
+    let osrel = one_more 0 kinds.Osrel (codes ".osrel") (given_list words.osrel) [] (omega arith) (omega arith) in
+    let cmdline = one_more _ kinds.Cmdline (codes ".cmdline") (given_list (option_map clean words.cmdline)) _ (omega arith) osrel in
+    let dtb = one_more _ kinds.Dtb (codes ".dtb") (given_list (option_map File words.dtb)) _ (omega arith) cmdline in
+    let uname = one_more _ kinds.Uname (codes ".uname") (given_list (option_map Inline words.uname)) _ (omega arith) dtb in
+    let splash = one_more _ kinds.Splash (codes ".splash") (given_list (option_map File words.splash)) _ (omega arith) uname in
+    let pcrpkey = one_more _ kinds.Pcrpkey (codes ".pcrpkey") (given_list (option_map File words.pcrpkey)) _ (omega arith) splash in
     let initrd = one_more _ kinds.Initrd (codes ".initrd") (map File words.initrds) _ (omega arith) pcrpkey in
-    let ucode = one_more _ kinds.Ucode (codes ".ucode") (given_once (option_map File words.ucode)) _ (omega arith) initrd in
+    let ucode = one_more _ kinds.Ucode (codes ".ucode") (given_list (option_map File words.ucode)) _ (omega arith) initrd in
     with_extras _ _ sections (omega arith) ucode
 
 -- what is named has the places of what is wanted
@@ -106,13 +106,13 @@ kept f m n keeps (x ∷ xs) ys done =
 abbrev named_place : NamedPart → ℕ
 named_place part = append_place part.kind
 
-kind_kept : (part : Wanted) (made : NamedPart) → sources_of part ≡ Ok made → named_place made ≡ wanted_place part
+kind_kept : (part : WantedPart) (made : NamedPart) → sources_of part ≡ Ok made → named_place made ≡ wanted_place part
 kind_kept part made is =
     let found = bind_ok (each source_of part.sources) (λ found. Ok (named_part part.kind part.name found)) made is in
     let same : named_part part.kind part.name found.0 ≡ made = cc found.2 in
     sym (ap named_place same)
 
-parts_found : (words : BuildWords) (named : Named) → named_of words ≡ Ok named → (sections : List (SectionName × Given)) × (each sources_of (wanted_parts words sections) ≡ Ok named.parts)
+parts_found : (words : BuildWords) (named : NamedFiles) → named_files words ≡ Ok named → (sections : List (SectionName × Given)) × (each sources_of (wanted_parts words sections) ≡ Ok named.parts)
 parts_found words named is =
     let sections = bind_ok (each section_of words.sections) _ named is in
     let stub = bind_ok (path_in words.stub) _ named sections.2 in
@@ -120,8 +120,8 @@ parts_found words named is =
     let parts = bind_ok (each sources_of (wanted_parts words sections.0)) _ named linux.2 in
     let sbat = bind_ok (if_given source_of words.sbat) _ named parts.2 in
     let output = bind_ok (path_in words.output) _ named sbat.2 in
-    let same : (let all : Named = record { stub = stub.0; linux = linux.0; parts = parts.0; sbat = sbat.0; output = output.0 } in all) ≡ named = cc output.2 in
-    (sections.0, parts.1 ∙ ap (λ (n : Named). Ok n.parts) same)
+    let same : (let all : NamedFiles = record { stub = stub.0; linux = linux.0; parts = parts.0; sbat = sbat.0; output = output.0 } in all) ≡ named = cc output.2 in
+    (sections.0, parts.1 ∙ ap (λ (n : NamedFiles). Ok n.parts) same)
 
 -- and so do the parts that are read of it
 zipped : (sources : List PartSources) (parts : List Part) → AllZip PartFrom sources parts → map part_place parts ≡ map named_place (map part_named sources)
@@ -131,7 +131,7 @@ zipped (source ∷ sources) [] all = absurd all
 zipped (source ∷ sources) (part ∷ parts) all =
     ap (λ (kind : PartKind). append_place kind ∷ map part_place parts) all.0.kind ∙ ap (λ (l : List ℕ). append_place source.kind ∷ l) (zipped sources parts all.1)
 
-pub parts_rise : (words : BuildWords) (found : BuildSources) (parts : List Part) → named_of words ≡ Ok (named_as found) → AllZip PartFrom found.parts.items parts → Rises 0 (map part_place parts) (append_place kinds.Extra)
+pub parts_rise : (words : BuildWords) (found : BuildSources) (parts : List Part) → named_files words ≡ Ok (named_as found) → AllZip PartFrom found.parts.items parts → Rises 0 (map part_place parts) (append_place kinds.Extra)
 parts_rise words found parts is all =
     let named = parts_found words (named_as found) is in
     let same = zipped found.parts.items parts all ∙ kept sources_of wanted_place named_place kind_kept (wanted_parts words named.0) (map part_named found.parts.items) named.1 in

@@ -13,7 +13,7 @@ use Rattle.pe_builder.specs.Replaced.{sbat_name}
 use Rattle.tool_words.specs.declared.command.BuildWords.{BuildWords}
 use Rattle.command_plans.specs.Files.{each, if_given}
 use Rattle.command_plans.specs.Declining.{◌>>=◌, path_in}
-use Rattle.image_build.specs.Building.{Built, Named, build_of, builder_refusal, has_bytes, has_sbat, image_of, image_of_parts, image_or, material_of, named_of, section_of, size_of_part, source_of, sources_of, wanted_parts, with_sbat_text}
+use Rattle.image_build.specs.Building.{BuiltImage, NamedFiles, build_of, builder_refusal, has_bytes, has_sbat, image_of, image_of_parts, image_or, material_of, named_files, section_of, size_of_part, source_of, sources_of, wanted_parts, with_sbat_text}
 
 -- what is so of each outcome of the next step is so of both together
 bind_if : {A B : Type 0} (r : Result A Refusal) (f : A → Result B Refusal) (Q : B → Type 0)
@@ -21,7 +21,7 @@ bind_if : {A B : Type 0} (r : Result A Refusal) (f : A → Result B Refusal) (Q 
 bind_if (Ok a) f Q next = next a refl
 bind_if (Err why) f Q next = tt
 
-named_output : (words : BuildWords) → IfOk (named_of words) (λ named. path_in words.output ≡ Ok named.output)
+named_output : (words : BuildWords) → IfOk (named_files words) (λ named. path_in words.output ≡ Ok named.output)
 named_output words =
     bind_if (each section_of words.sections) _ _ λ sections is.
     bind_if (path_in words.stub) _ _ λ stub is.
@@ -31,7 +31,7 @@ named_output words =
     bind_if (path_in words.output) _ _ λ output is. is
 
 module _ (output : Path) (headers : Headers) (stub : List ℕ) where
-  abbrev AtOutput : Result Built Refusal → Type 0
+  abbrev AtOutput : Result BuiltImage Refusal → Type 0
   AtOutput result = IfOk result (λ built. built.output ≡ output)
 
   or_output : (parts : List (SectionName × List ℕ)) (sbat : Option (List ℕ)) (refused : Option Refusal)
@@ -45,7 +45,7 @@ module _ (output : Path) (headers : Headers) (stub : List ℕ) where
       or_output parts sbat
       (option_and_then (builder_refusal output) (first_refusal headers (length stub) (map size_of_part parts) (option_map length sbat)))
 
-  either : (b : Bool) (x y : Result Built Refusal) → AtOutput x → AtOutput y → AtOutput (if b then x else y)
+  either : (b : Bool) (x y : Result BuiltImage Refusal) → AtOutput x → AtOutput y → AtOutput (if b then x else y)
   either true x y p q = p
   either false x y p q = q
 
@@ -65,14 +65,14 @@ module _ (output : Path) (headers : Headers) (stub : List ℕ) where
 pub build_output : (view : Files) (words : BuildWords)
     → IfOk (build_of view words) (λ built. path_in words.output ≡ Ok built.output)
 build_output view words =
-    bind_if (named_of words) _ _ λ named is.
+    bind_if (named_files words) _ _ λ named is.
     bind_if (material_of view named) _ _ λ m made.
     at (image_of named.output m)
-    (subst (λ (r : Result Named Refusal). IfOk r (λ named. path_in words.output ≡ Ok named.output)) is
+    (subst (λ (r : Result NamedFiles Refusal). IfOk r (λ named. path_in words.output ≡ Ok named.output)) is
     (named_output words))
     (sbat_output named.output m.headers m.stub m.parts m.linux m.sbat)
   where
-    at : {output : Path} (r : Result Built Refusal) → path_in words.output ≡ Ok output
+    at : {output : Path} (r : Result BuiltImage Refusal) → path_in words.output ≡ Ok output
         → IfOk r (λ built. built.output ≡ output) → IfOk r (λ built. path_in words.output ≡ Ok built.output)
     at (Ok built) is p = is ∙ ap Ok (sym p)
     at (Err why) is p = tt

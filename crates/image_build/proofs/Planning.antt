@@ -10,7 +10,7 @@ use Rattle.boot_base.specs.declared.path.Target.{Target}
 use Rattle.boot_machine.specs.Disk.{Files, State}
 use Rattle.boot_machine.specs.Sent.{seen}
 use Rattle.std.specs.FinMap.{insert}
-use Rattle.command_plans.specs.Answers.{done}
+use Rattle.command_plans.specs.Answers.{done_answer}
 use Rattle.command_plans.specs.Plans.{Plans}
 use Rattle.command_plans.specs.declared.plan.Plan.{Plan as CommandPlan}
 use Rattle.command_plans.specs.declared.plan.Change.TheVariants as changes
@@ -34,7 +34,7 @@ use Rattle.uki_parts.specs.declared.kind.PartKind.TheVariants as kinds
 use Rattle.uki_parts.specs.Parts.{part_place}
 use Rattle.uki_parts.specs.Pieces.{Reading}
 use Rattle.uki_parts.specs.declared.part.Part.{Part}
-use Rattle.image_build.specs.Building.{Built, build_answer, build_of, built_answer, built_line, built_text, Material, Named, contents_of, material, material_of, build_named, named_as, named_of, sbat_of}
+use Rattle.image_build.specs.Building.{BuiltImage, build_answer, build_of, built_answer, built_line, built_text, Material, NamedFiles, contents_of, material, material_of, build_named, named_as, named_files, sbat_of}
 use Rattle.pe_builder.specs.Sizes.{any_size}
 use Rattle.image_build.specs.Imaged.{AreFound, AreOrdered, Images, IsCountable, IsOwnPlan, IsPlanOf, IsSized}
 use Rattle.image_build.proofs.Imaged.{AreRead}
@@ -82,7 +82,7 @@ lengths_from [] (part ∷ parts) all = absurd all
 lengths_from (source ∷ sources) [] all = absurd all
 lengths_from (source ∷ sources) (part ∷ parts) all = All-cons HasItsLength part parts all.0.length_is (lengths_from sources parts all.1)
 
-pub plannable : (words : BuildWords) (found : BuildSources) (built : BuildParts) → named_of words ≡ Ok (named_as found) → BuiltFrom found built → IsPlannable built
+pub plannable : (words : BuildWords) (found : BuildSources) (built : BuildParts) → named_files words ≡ Ok (named_as found) → BuiltFrom found built → IsPlannable built
 plannable words found built is from =
     let rise = parts_rise words found built.parts.items is from.parts in
     record {
@@ -116,7 +116,7 @@ read_or : (read : Result Headers FailedCheck) (headers : Headers) → headers_or
 read_or (Ok found) headers is = cc
 read_or (Err check) headers is = cc
 
-pub head_read : (view : Files) (files : Reading) (named : Named) (built : BuildParts) → material_of view named ≡ Ok (material_as files built) → pe_of (files built.stub) ≡ Ok (headers_of built.head)
+pub head_read : (view : Files) (files : Reading) (named : NamedFiles) (built : BuildParts) → material_of view named ≡ Ok (material_as files built) → pe_of (files built.stub) ≡ Ok (headers_of built.head)
 head_read view files named built is =
     let found = bind_ok (contents_of view named) material (material_as files built) is in
     let headers = bind_ok (headers_or (pe_of found.0.stub)) _ (material_as files built) found.2 in
@@ -140,12 +140,12 @@ pub written_plan : (s : State) (plan : PlannedBuild) (target : Target) (measure 
 written_plan s plan target measure text sourced path_is text_is =
     let image = planned_image plan.image.plan plan.image.sources (seen s) in
     record {
-      answer_is = ap (λ (path : Path). done (insert (seen s) path image) text) path_is ∙ ap (done (insert (seen s) plan.output image)) text_is;
+      answer_is = ap (λ (path : Path). done_answer (insert (seen s) path image) text) path_is ∙ ap (done_answer (insert (seen s) plan.output image)) text_is;
       can_make = sourced;
     }
 
 -- the image of a plan is meant, and its plan was made for its sources
-pub image_meant_by : (view : Files) (meant : Path → Result Built Refusal) (image : ImagePlan) (output : Path) → Images view meant (Ok image) → meant output ≡ Ok (record { output = output; image = planned_image image.plan image.sources view })
+pub image_meant_by : (view : Files) (meant : Path → Result BuiltImage Refusal) (image : ImagePlan) (output : Path) → Images view meant (Ok image) → meant output ≡ Ok (record { output = output; image = planned_image image.plan image.sources view })
 image_meant_by view meant image output images = images.1 output
 
 -- a plan is its own, whatever it was made of
@@ -179,29 +179,29 @@ ok_weaker (Ok x) weaker holds = weaker x holds
 ok_weaker (Err fault) weaker holds = tt
 
 -- what the words mean is built of what they name
-pub build_by_name : (view : Files) (words : BuildWords) (found : BuildSources) → named_of words ≡ Ok (named_as found) → build_of view words ≡ build_named view (named_as found)
-build_by_name view words found named = ap (λ (r : Result Named Refusal). r >>= build_named view) named
+pub build_by_name : (view : Files) (words : BuildWords) (found : BuildSources) → named_files words ≡ Ok (named_as found) → build_of view words ≡ build_named view (named_as found)
+build_by_name view words found named = ap (λ (r : Result NamedFiles Refusal). r >>= build_named view) named
 
 -- a refusal of what is built is the answer
-pub unsaid_plan : (s : State) (words : BuildWords) (found : BuildSources) (why : Unsaid) (plan : CommandPlan) → named_of words ≡ Ok (named_as found)
+pub unsaid_plan : (s : State) (words : BuildWords) (found : BuildSources) (why : Unsaid) (plan : CommandPlan) → named_files words ≡ Ok (named_as found)
     → UnsaidFor why (build_named (seen s) (named_as found)) → PlansUnsaid why plan → Plans s plan (build_answer (seen s) words)
 unsaid_plan s words found unsaid.Memory plan named meant plans = absurd plans
 unsaid_plan s words found unsaid.Disk plan named meant plans = absurd plans
 unsaid_plan s words found (unsaid.Refused why) plan named meant plans =
-    subst (λ (r : Result Built Refusal). Plans s plan (built_answer (seen s) words.measure r)) (sym (build_by_name (seen s) words found named ∙ meant)) (plans s)
+    subst (λ (r : Result BuiltImage Refusal). Plans s plan (built_answer (seen s) words.measure r)) (sym (build_by_name (seen s) words found named ∙ meant)) (plans s)
 
 -- and so is that of the words
-pub declined_plan : (s : State) (words : BuildWords) (declined : Declined) (plan : CommandPlan) → DeclinedFor declined (named_of words) → PlansDeclined declined plan → Plans s plan (build_answer (seen s) words)
+pub declined_plan : (s : State) (words : BuildWords) (declined : Declined) (plan : CommandPlan) → DeclinedFor declined (named_files words) → PlansDeclined declined plan → Plans s plan (build_answer (seen s) words)
 declined_plan s words declines.Memory plan meant plans = absurd plans
 declined_plan s words (declines.Refused why) plan meant plans =
-    subst (λ (r : Result Built Refusal). Plans s plan (built_answer (seen s) words.measure r)) (sym (ap (λ (r : Result Named Refusal). r >>= build_named (seen s)) meant)) (plans s)
+    subst (λ (r : Result BuiltImage Refusal). Plans s plan (built_answer (seen s) words.measure r)) (sym (ap (λ (r : Result NamedFiles Refusal). r >>= build_named (seen s)) meant)) (plans s)
 
-pub declined_as : (words : BuildWords) (declined : Declined) (why : Refusal) (plan : CommandPlan) → named_of words ≡ Err why → DeclinedFor declined (named_of words) → PlansDeclined declined plan → PlansDeclined (declines.Refused why) plan
+pub declined_as : (words : BuildWords) (declined : Declined) (why : Refusal) (plan : CommandPlan) → named_files words ≡ Err why → DeclinedFor declined (named_files words) → PlansDeclined declined plan → PlansDeclined (declines.Refused why) plan
 declined_as words declines.Memory why plan is meant plans = absurd plans
 declined_as words (declines.Refused first) why plan is meant plans = subst (λ (r : Refusal). PlansDeclined (declines.Refused r) plan) (cc (is, meant)) plans
 
 -- words that name what is built are not declined
-pub not_declined : (words : BuildWords) (found : BuildSources) (why : Refusal) → named_of words ≡ Ok (named_as found) → named_of words ≡ Err why → ⊥
+pub not_declined : (words : BuildWords) (found : BuildSources) (why : Refusal) → named_files words ≡ Ok (named_as found) → named_files words ≡ Err why → ⊥
 not_declined words found why named is = absurd (cc (named, is))
 
 -- what is said of a plan
@@ -228,4 +228,4 @@ pub meant_plan : (s now : State) (words : BuildWords) (build : PlannedBuild) (pl
 meant_plan s now words build plan text same meant on said plans =
     let here : built_text words.measure (built_as (seen s) build) ≡ text =
     cc (subst (λ (t : State). IsPlannedOn (seen t) build → ◌≡◌ {A = Result (List ℕ) Refusal} (Ok (built_text words.measure (built_as (seen t) build))) (Ok text)) same said on) in
-    subst (λ (r : Result Built Refusal). Plans s plan (built_answer (seen s) words.measure r)) (sym meant) (plans s words.measure on.sourced (sym here))
+    subst (λ (r : Result BuiltImage Refusal). Plans s plan (built_answer (seen s) words.measure r)) (sym meant) (plans s words.measure on.sourced (sym here))

@@ -11,15 +11,15 @@ use Rattle.pcr_values.specs.ValueLines.{value_lines}
 use Rattle.pcr_values.specs.Banks.{all_banks}
 use Rattle.stub_replay.specs.Measured.{stub_pcr}
 use Rattle.tool_words.specs.declared.command.BuildWords.{BuildWords}
-use Rattle.image_build.specs.Building.{Built, build_answer, build_of, built_answer, built_line}
+use Rattle.image_build.specs.Building.{BuiltImage, build_answer, build_of, built_answer, built_line}
 
 -- what stands at a path afterwards
 there : (view : Files) (path : Path) (image : List ℕ) → contents (insert view path image) path ≡ image
 there view path image = ap (λ (o : Option (List ℕ)). unwrap_or o []) (get-insert_here view path image)
 
-pub built_values : (view : Files) (words : BuildWords) (built : Built) → words.measure ≡ true → build_of view words ≡ Ok built
+pub built_values : (view : Files) (words : BuildWords) (built : BuiltImage) → words.measure ≡ true → build_of view words ≡ Ok built
     → (build_answer view words).text ≡ built_line built.output (length built.image) ++ value_lines (stub_pcr (contents (build_answer view words).after built.output)) all_banks default_phase_paths
 built_values view words built asked is =
-    subst (λ (r : Result Built Refusal). (built_answer view words.measure r).text ≡ built_line built.output (length built.image) ++ value_lines (stub_pcr (contents (built_answer view words.measure r).after built.output)) all_banks default_phase_paths) (sym is)
+    subst (λ (r : Result BuiltImage Refusal). (built_answer view words.measure r).text ≡ built_line built.output (length built.image) ++ value_lines (stub_pcr (contents (built_answer view words.measure r).after built.output)) all_banks default_phase_paths) (sym is)
     (subst (λ (m : Bool). (built_answer view m (Ok built)).text ≡ built_line built.output (length built.image) ++ value_lines (stub_pcr (contents (built_answer view m (Ok built)).after built.output)) all_banks default_phase_paths) (sym asked)
     (ap (λ (image : List ℕ). built_line built.output (length built.image) ++ value_lines (stub_pcr image) all_banks default_phase_paths) (sym (there view built.output built.image))))

@@ -10,8 +10,8 @@ use Rattle.boot_machine.specs.Disk.{Files}
 use Rattle.pcr_values.specs.ValueLines.{value_lines}
 use Rattle.pcr_values.specs.Phases.{default_phase_paths}
 use Rattle.command_plans.proofs.Registers.{AreSaid}
-use Rattle.pcr_values.specs.Banks.{all_banks, fold_of, folded}
-use Rattle.pcr_values.specs.Values.{shown}
+use Rattle.pcr_values.specs.Banks.{all_banks, fold_of, fold_pcr}
+use Rattle.pcr_values.specs.Values.{pcr_value}
 use Rattle.pcr_values.specs.declared.pcr.Pcr.{Pcr}
 use Rattle.pcr_values.specs.declared.bank.Bank.{Bank}
 use Rattle.stub_replay.specs.Parts.{content_or, given_part, items_of, named_bytes}
@@ -23,17 +23,17 @@ use Rattle.boot_machine.specs.Rows.{contents}
 use Rattle.image_writer.specs.Sourced.{IsPieced, new_sbat, part_list, parts_bytes, planned_image}
 use Rattle.image_writer.proofs.PlannedImages.{planned_image-is}
 use Rattle.stub_replay.specs.declared.measurable.Content.TheVariants as content
-use Rattle.pe_builder.specs.Image.{finished}
+use Rattle.pe_builder.specs.Image.{finished_image}
 use Rattle.pe_builder.specs.Laws.{HasFinished}
 use Rattle.pe_builder.specs.Planned.{sbat_if_in_place, sbat_place}
 use Rattle.pe_builder.specs.Refusals.{IsBuildable}
 use Rattle.pe_builder.specs.Replaced.{sbat_name}
 use Rattle.pe_builder.specs.declared.plan.SbatPlace.{SbatPlace}
 use Rattle.pe_reader.specs.Grammar.{Headers, pe_of}
-use Rattle.pe_reader.specs.Loaded.{is_named, loaded, range_of, section_at_index}
+use Rattle.pe_reader.specs.LoadedBytes.{is_named, loaded_bytes, range_of, section_at_index}
 use Rattle.pe_reader.specs.Reads.{headers_of}
 use Rattle.pe_reader.specs.declared.section.LoadedRange.{LoadedRange}
-use Rattle.pe_reader.proofs.Finding.{loaded-none}
+use Rattle.pe_reader.proofs.Finding.{loaded_bytes-none}
 use Rattle.stub_replay.specs.Laws.{find_content, kept_of, or_kept}
 use Rattle.stub_replay.specs.Measured.{measured_by, measured_length, measured_list, measured_names, section_items, stub_pcr}
 use Rattle.stub_replay.proofs.Predicting.{image_shows, same_items}
@@ -49,11 +49,11 @@ use Rattle.image_build.proofs.Imaged.{lengths_read}
 use Rattle.image_build.proofs.Taken.{same_lengths}
 
 -- what the stub has of a name
-pub stub_none : (files : Reading) (stub : Path) (name : List ℕ) (h : Headers) → pe_of (files stub) ≡ Ok h → position (is_named name) h.sections ≡ None → IsContent files None (loaded (files stub) name)
-stub_none files stub name h reads at = record { bytes_are = sym (loaded-none (files stub) name h reads at); whole = tt }
+pub stub_none : (files : Reading) (stub : Path) (name : List ℕ) (h : Headers) → pe_of (files stub) ≡ Ok h → position (is_named name) h.sections ≡ None → IsContent files None (loaded_bytes (files stub) name)
+stub_none files stub name h reads at = record { bytes_are = sym (loaded_bytes-none (files stub) name h reads at); whole = tt }
 
 pub stub_some : (files : Reading) (stub : Bor Path) (name : List ℕ) (h : Headers) (i : ℕ) (r : LoadedRange) → pe_of (files stub.now) ≡ Ok h → position (is_named name) h.sections ≡ Some i → i < length h.sections
-    → r ≡ range_of (section_at_index h.sections i) → IsContent files (Some (content.Loaded stub r)) (loaded (files stub.now) name)
+    → r ≡ range_of (section_at_index h.sections i) → IsContent files (Some (content.Loaded stub r)) (loaded_bytes (files stub.now) name)
 stub_some files stub name h i r reads at inside is =
     let range = found_range (files stub.now) name h i r reads at inside is in
     record { bytes_are = sym range.bytes; whole = range.inside }
@@ -66,19 +66,19 @@ no_place h place (Some size) is none = absurd (false≢true (sym none ∙ ap is_
     false≢true : false ≡ true → ⊥
     false≢true e = cc
 
-kept_without : (in_place : Option ℕ) (sbat stub name : List ℕ) → in_place ≡ None → loaded stub name ≡ kept_of (sbat_if_in_place in_place sbat) stub name
+kept_without : (in_place : Option ℕ) (sbat stub name : List ℕ) → in_place ≡ None → loaded_bytes stub name ≡ kept_of (sbat_if_in_place in_place sbat) stub name
 kept_without None sbat stub name is = refl
 kept_without (Some size) sbat stub name is = cc
 
-kept_beside : (in_place : Option ℕ) (sbat stub name : List ℕ) → bytes_eq sbat_name name ≡ false → loaded stub name ≡ kept_of (sbat_if_in_place in_place sbat) stub name
+kept_beside : (in_place : Option ℕ) (sbat stub name : List ℕ) → bytes_eq sbat_name name ≡ false → loaded_bytes stub name ≡ kept_of (sbat_if_in_place in_place sbat) stub name
 kept_beside None sbat stub name other = refl
-kept_beside (Some size) sbat stub name other = sym (ap (λ (b : Bool). cond b sbat (loaded stub name)) other)
+kept_beside (Some size) sbat stub name other = sym (ap (λ (b : Bool). cond b sbat (loaded_bytes stub name)) other)
 
-pub kept_not_placed : (view : Files) (plan : PlannedBuild) (on : IsPlannedOn view plan) (name : List ℕ) → is_some plan.image.plan.sbat ≡ false → loaded (stub_bytes view plan) name ≡ kept_bytes view plan on.own.in_place name
+pub kept_not_placed : (view : Files) (plan : PlannedBuild) (on : IsPlannedOn view plan) (name : List ℕ) → is_some plan.image.plan.sbat ≡ false → loaded_bytes (stub_bytes view plan) name ≡ kept_bytes view plan on.own.in_place name
 kept_not_placed view plan on name none =
     kept_without on.own.in_place (new_sbat plan.image.sources) (stub_bytes view plan) name (no_place (headers_of plan.head) plan.image.plan.sbat on.own.in_place on.own.plans.sbat_is none)
 
-pub kept_not_named : (view : Files) (plan : PlannedBuild) (on : IsPlannedOn view plan) (name : List ℕ) → bytes_eq sbat_name name ≡ false → loaded (stub_bytes view plan) name ≡ kept_bytes view plan on.own.in_place name
+pub kept_not_named : (view : Files) (plan : PlannedBuild) (on : IsPlannedOn view plan) (name : List ℕ) → bytes_eq sbat_name name ≡ false → loaded_bytes (stub_bytes view plan) name ≡ kept_bytes view plan on.own.in_place name
 kept_not_named view plan on name other = kept_beside on.own.in_place (new_sbat plan.image.sources) (stub_bytes view plan) name other
 
 -- the first part of a name
@@ -152,7 +152,7 @@ image_items view plan on =
     let stub = stub_bytes view plan in
     let shows = image_shows h sizes bytes sbat stub (has_finished view plan on) in
     let image_is = planned_image-is plan.image.plan plan.image.sources view h sizes on.own.in_place on.reads on.own.plans on.own.sbat_length in
-    sym (same_items (loaded (finished h sizes bytes sbat stub)) (section_bytes view plan on.own.in_place) measured_names shows.same)
+    sym (same_items (loaded_bytes (finished_image h sizes bytes sbat stub)) (section_bytes view plan on.own.in_place) measured_names shows.same)
     ∙ ap (λ (image : List ℕ). measured_list image) (sym image_is)
 
 -- their bytes are as many as its measured sections have loaded
@@ -167,22 +167,22 @@ image_long view plan on =
     let stub = stub_bytes view plan in
     let shows = image_shows h sizes bytes sbat stub (has_finished view plan on) in
     let image_is = planned_image-is plan.image.plan plan.image.sources view h sizes on.own.in_place on.reads on.own.plans on.own.sbat_length in
-    same_lengths (loaded (finished h sizes bytes sbat stub)) (section_bytes view plan on.own.in_place) measured_names shows.same
-    ∙ ap (λ (image : List ℕ). sum_by (λ name. length (loaded image name)) measured_names) (sym image_is)
+    same_lengths (loaded_bytes (finished_image h sizes bytes sbat stub)) (section_bytes view plan on.own.in_place) measured_names shows.same
+    ∙ ap (λ (image : List ℕ). sum_by (λ name. length (loaded_bytes image name)) measured_names) (sym image_is)
 
 -- the registers after them
 pub registers_are : (files : Reading) (parts seen_parts : List Measurable) (items : List (List ℕ)) (banks : List Bank) (starts : List (Bank × List ℕ)) → seen_parts ≡ parts
-    → items_of (map (named_bytes files) parts) ≡ items → starts ≡ map (folded (items_of (map (named_bytes files) seen_parts))) banks → AreSaid (map (folded items) banks) starts
+    → items_of (map (named_bytes files) parts) ≡ items → starts ≡ map (fold_pcr (items_of (map (named_bytes files) seen_parts))) banks → AreSaid (map (fold_pcr items) banks) starts
 registers_are files parts seen_parts items banks starts are_parts are_items is =
-    ap Ok (sym (is ∙ ap (λ (ps : List Measurable). map (folded (items_of (map (named_bytes files) ps))) banks) are_parts ∙ ap (λ (l : List (List ℕ)). map (folded l) banks) are_items))
+    ap Ok (sym (is ∙ ap (λ (ps : List Measurable). map (fold_pcr (items_of (map (named_bytes files) ps))) banks) are_parts ∙ ap (λ (l : List (List ℕ)). map (fold_pcr l) banks) are_items))
 
 -- and the lines of all of them
-pub values_said : (image : List ℕ) (starts : List Pcr) (banks : List Bank) (paths : List (List (List ℕ))) (text : List ℕ) → AreSaid (map (folded (measured_list image)) banks) (map shown starts)
+pub values_said : (image : List ℕ) (starts : List Pcr) (banks : List Bank) (paths : List (List (List ℕ))) (text : List ℕ) → AreSaid (map (fold_pcr (measured_list image)) banks) (map pcr_value starts)
     → banks ≡ all_banks → paths ≡ default_phase_paths
-    → ((items : Bank → List (List ℕ)) (bs : List Bank) → map shown starts ≡ map (λ (bank : Bank). folded (items bank) bank) bs → text ≡ value_lines (λ bank path. fold_of bank (items bank ++ path)) bs paths)
+    → ((items : Bank → List (List ℕ)) (bs : List Bank) → map pcr_value starts ≡ map (λ (bank : Bank). fold_pcr (items bank) bank) bs → text ≡ value_lines (λ bank path. fold_of bank (items bank ++ path)) bs paths)
     → ◌≡◌ {A = Result (List ℕ) Refusal} (Ok (value_lines (stub_pcr image) all_banks default_phase_paths)) (Ok text)
 values_said image starts banks paths text are_starts are_banks are_paths is =
-    let found : map (folded (measured_list image)) banks ≡ map shown starts = cc are_starts in
+    let found : map (fold_pcr (measured_list image)) banks ≡ map pcr_value starts = cc are_starts in
     ap Ok (sym (is (λ bank. measured_list image) banks (sym found)
     ∙ ap (λ (bs : List Bank). value_lines (stub_pcr image) bs paths) are_banks
     ∙ ap (value_lines (stub_pcr image) all_banks) are_paths))

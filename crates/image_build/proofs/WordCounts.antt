@@ -6,7 +6,7 @@ use Rattle.std.proofs.lemmas.List.{length-drop}
 use Rattle.word_grammar.specs.declared.grammar.CommandName.{CommandName}
 use Rattle.word_grammar.specs.Grammar.{Word, OptionRule}
 use Rattle.tool_words.specs.declared.fault.UsageReason.{UsageReason}
-use Rattle.tool_words.specs.Items.{◌>>=◌, Item, Value, Operand, Said, Ends, Plain, Whole, Open, last_items, more_items, items, onto, word_meaning, option_said, option_of, with_value, without_value, valued, has_equals, is_equals_sign, is_flag}
+use Rattle.tool_words.specs.Items.{◌>>=◌, Item, Value, Operand, Said, Ends, Plain, Whole, Open, last_items, more_items, items, onto, word_meaning, option_said, option_of, with_value, without_value, check_value, has_equals, is_equals_sign, is_flag}
 
 pub bound : {A B : Type 0} (r : Result A UsageReason) (f : A → Result B UsageReason) (b : B) → (r >>= f) ≡ Ok b → (a : A) × (r ≡ Ok a) × (f a ≡ Ok b)
 bound (Ok a) f b is = (a, refl, is)
@@ -72,7 +72,7 @@ value_short : (option : OptionRule) (value : Word) (s : Said) → length value �
 value_short option value s short =
     by_test (is_flag option.takes) _ _ s (none_short _ s)
     (λ is.
-    let taken = bound (valued option value) _ s is in
+    let taken = bound (check_value option value) _ s is in
     ok_short (Whole option.text taken.0) s (subst IsShort (valued_same _ _ value taken.0 taken.1) short) taken.2)
 
 bare_short : (b : Bool) (option : OptionRule) → SaysShort (if b then Whole option.text [] else Open option)
@@ -112,7 +112,7 @@ few_items_more word next words Plain later latest found short says first second 
 few_items_more word next words (Whole text value) later latest found short says first second is =
     few_up (length words + 1 + 1) (length words + 2) found (omega arith) (few_onto (length words + 1) (Value text value) later found says first is)
 few_items_more word next words (Open option) later latest found short says first second is =
-    let taken = bound (valued option next) _ found is in
+    let taken = bound (check_value option next) _ found is in
     few_up (length words + 1) (length words + 2) found (omega arith)
     (few_onto (length words) (Value option.text taken.0) latest found (subst IsShort (valued_same _ _ next taken.0 taken.1) short.1.0) second taken.2)
 

@@ -9,8 +9,8 @@ use Rattle.boot_base.specs.declared.refusal.Refusal.{Refusal}
 use Rattle.boot_base.specs.declared.refusal.Refusal.TheVariants as refusals
 use Rattle.boot_machine.specs.Disk.{Files}
 use Rattle.pe_reader.specs.Grammar.{Headers, pe_of}
-use Rattle.pe_reader.specs.Loaded.{loaded}
-use Rattle.uki_parts.specs.Cmdlines.{cleaned}
+use Rattle.pe_reader.specs.LoadedBytes.{loaded_bytes}
+use Rattle.uki_parts.specs.Cmdlines.{clean_cmdline}
 use Rattle.uki_parts.specs.Initrds.{joined_bytes}
 use Rattle.uki_parts.specs.Names.{name_bytes, padded_name, read_name}
 use Rattle.uki_parts.specs.Sbat.{merged_sbat}
@@ -20,7 +20,7 @@ use Rattle.uki_parts.specs.declared.name.SectionName.{SectionName}
 use Rattle.pe_builder.specs.declared.fault.PlanFault.{PlanFault}
 use Rattle.pe_builder.specs.declared.fault.PlanFault.TheVariants as faults
 use Rattle.pe_builder.specs.declared.size.WideSize.{WideSize}
-use Rattle.pe_builder.specs.Image.{finished}
+use Rattle.pe_builder.specs.Image.{finished_image}
 use Rattle.pe_builder.specs.Refusals.{first_refusal}
 use Rattle.pe_builder.specs.Replaced.{sbat_index, sbat_name}
 use Rattle.pe_builder.specs.Sizes.{part_flags}
@@ -28,7 +28,7 @@ use Rattle.tool_words.specs.declared.command.BuildWords.{BuildWords}
 use Rattle.tool_words.specs.declared.command.Given.{Given}
 use Rattle.tool_words.specs.declared.command.Given.TheVariants.{Inline, File}
 use Rattle.tool_words.specs.Meaning.{inline_or_file}
-use Rattle.command_plans.specs.Answers.{Answer, done, refusal}
+use Rattle.command_plans.specs.Answers.{Answer, done_answer, refusal}
 use Rattle.command_plans.specs.Declining.{◌>>=◌, path_in, printed_path}
 use Rattle.image_build.specs.declared.source.Source.{Source}
 use Rattle.image_build.specs.declared.source.PartSources.{PartSources}
@@ -57,40 +57,40 @@ abbrev pub section_of : List ℕ → Result (SectionName × Given) Refusal
 section_of value = section_cut value (position (λ byte. byte == 58) value)
 
 -- a part that is wanted: its name, and where its bytes come from, one behind the other
-pub record Wanted : Type 0 where
+pub record WantedPart : Type 0 where
   pub kind : PartKind
   pub name : SectionName
   pub sources : List Given
 
-abbrev pub wanted : PartKind → List ℕ → List Given → List Wanted
-wanted kind name [] = []
-wanted kind name (source ∷ more) = record { kind = kind; name = padded_name name; sources = source ∷ more } ∷ []
+abbrev pub optional_part : PartKind → List ℕ → List Given → List WantedPart
+optional_part kind name [] = []
+optional_part kind name (source ∷ more) = record { kind = kind; name = padded_name name; sources = source ∷ more } ∷ []
 
-abbrev pub given_once : Option Given → List Given
-given_once None = []
-given_once (Some source) = source ∷ []
+abbrev pub given_list : Option Given → List Given
+given_list None = []
+given_list (Some source) = source ∷ []
 
 -- whitespace of a command line that is said is cleaned, a file is taken as it is
 abbrev pub clean : Given → Given
-clean (Inline text) = Inline (cleaned text)
+clean (Inline text) = Inline (clean_cmdline text)
 clean (File word) = File word
 
 -- a section of the user's own
-abbrev pub extra : SectionName × Given → Wanted
-extra section = record { kind = kinds.Extra; name = section.0; sources = section.1 ∷ [] }
+abbrev pub extra_part : SectionName × Given → WantedPart
+extra_part section = record { kind = kinds.Extra; name = section.0; sources = section.1 ∷ [] }
 
 -- the parts but for the SBAT text and the kernel, in append order
-abbrev pub wanted_parts : BuildWords → List (SectionName × Given) → List Wanted
+abbrev pub wanted_parts : BuildWords → List (SectionName × Given) → List WantedPart
 wanted_parts words sections =
-    wanted kinds.Osrel (codes ".osrel") (given_once words.osrel)
-    ++ wanted kinds.Cmdline (codes ".cmdline") (given_once (option_map clean words.cmdline))
-    ++ wanted kinds.Dtb (codes ".dtb") (given_once (option_map File words.dtb))
-    ++ wanted kinds.Uname (codes ".uname") (given_once (option_map Inline words.uname))
-    ++ wanted kinds.Splash (codes ".splash") (given_once (option_map File words.splash))
-    ++ wanted kinds.Pcrpkey (codes ".pcrpkey") (given_once (option_map File words.pcrpkey))
-    ++ wanted kinds.Initrd (codes ".initrd") (map File words.initrds)
-    ++ wanted kinds.Ucode (codes ".ucode") (given_once (option_map File words.ucode))
-    ++ map extra sections
+    optional_part kinds.Osrel (codes ".osrel") (given_list words.osrel)
+    ++ optional_part kinds.Cmdline (codes ".cmdline") (given_list (option_map clean words.cmdline))
+    ++ optional_part kinds.Dtb (codes ".dtb") (given_list (option_map File words.dtb))
+    ++ optional_part kinds.Uname (codes ".uname") (given_list (option_map Inline words.uname))
+    ++ optional_part kinds.Splash (codes ".splash") (given_list (option_map File words.splash))
+    ++ optional_part kinds.Pcrpkey (codes ".pcrpkey") (given_list (option_map File words.pcrpkey))
+    ++ optional_part kinds.Initrd (codes ".initrd") (map File words.initrds)
+    ++ optional_part kinds.Ucode (codes ".ucode") (given_list (option_map File words.ucode))
+    ++ map extra_part sections
 
 -- where bytes come from: a text, or a file whose word is read as a path
 abbrev pub source_of : Given → Result Source Refusal
@@ -106,11 +106,11 @@ pub record NamedPart : Type 0 where
 abbrev pub named_part : PartKind → SectionName → List Source → NamedPart
 named_part kind name sources = record { kind = kind; name = name; sources = sources }
 
-abbrev pub sources_of : Wanted → Result NamedPart Refusal
+abbrev pub sources_of : WantedPart → Result NamedPart Refusal
 sources_of part = each source_of part.sources >>= λ found. Ok (named_part part.kind part.name found)
 
 -- the parts that are there, and behind them those that are wanted
-abbrev pub with_parts : List NamedPart → List Wanted → Result (List NamedPart) Refusal
+abbrev pub with_parts : List NamedPart → List WantedPart → Result (List NamedPart) Refusal
 with_parts made wants = each sources_of wants >>= λ more. Ok (made ++ more)
 
 -- the bytes of a source on a view
@@ -133,7 +133,7 @@ builder_refusal output (faults.ImageTooLarge size) = Some (refusals.TooLarge (pr
 builder_refusal output faults.Memory = None
 
 -- what is built, and where it is to stand
-pub record Built : Type 0 where
+pub record BuiltImage : Type 0 where
   pub output : Path
   pub image : List ℕ
 
@@ -145,17 +145,17 @@ size_of_part part = record { name = part.0; length = length part.1; flags = part
 
 -- the refusal, or else the image of these parts and of a `.sbat` that takes the place of the stub's
 abbrev pub image_or : Path → Headers → List ℕ → List (SectionName × List ℕ) → Option (List ℕ) → Option Refusal
-    → Result Built Refusal
+    → Result BuiltImage Refusal
 image_or output headers stub parts sbat (Some why) = Err why
 image_or output headers stub parts sbat None =
     Ok (record {
       output = output;
-      image = finished headers (map size_of_part parts)
+      image = finished_image headers (map size_of_part parts)
           (map (λ part. part.1) parts) sbat stub;
     })
 
 abbrev pub image_of_parts : Path → Headers → List ℕ → List (SectionName × List ℕ) → Option (List ℕ)
-    → Result Built Refusal
+    → Result BuiltImage Refusal
 image_of_parts output headers stub parts sbat =
     image_or output headers stub parts sbat
     (option_and_then (builder_refusal output)
@@ -167,7 +167,7 @@ has_sbat headers = nat_lt (sbat_index headers) (length headers.sections)
 
 -- the image with an SBAT text that isn't empty: in the place of the stub's, or as a part before the kernel
 abbrev pub with_sbat_text : Path → Headers → List ℕ → List (SectionName × List ℕ) → List ℕ → List ℕ
-    → Result Built Refusal
+    → Result BuiltImage Refusal
 with_sbat_text output headers stub parts kernel [] =
     image_of_parts output headers stub (filter has_bytes (parts ++ (padded_name (codes ".linux"), kernel) ∷ [])) None
 with_sbat_text output headers stub parts kernel (byte ∷ text) =
@@ -177,7 +177,7 @@ with_sbat_text output headers stub parts kernel (byte ∷ text) =
     (parts ++ (padded_name sbat_name, byte ∷ text) ∷ (padded_name (codes ".linux"), kernel) ∷ [])) None
 
 -- what the words of a build name: the files, the texts, and where the image is to stand
-pub record Named : Type 0 where
+pub record NamedFiles : Type 0 where
   pub stub : Path
   pub linux : Path
   pub parts : List NamedPart
@@ -186,8 +186,8 @@ pub record Named : Type 0 where
 
 -- The refusals of the words in their order: names of sections, and then words that are no paths, of the stub, the
 -- kernel, the other parts in append order, and the output.
-abbrev pub named_of : BuildWords → Result Named Refusal
-named_of words =
+abbrev pub named_files : BuildWords → Result NamedFiles Refusal
+named_files words =
     each section_of words.sections >>= λ sections.
     path_in words.stub >>= λ stub.
     path_in words.linux >>= λ linux.
@@ -209,7 +209,7 @@ given_sbat view None = Ok []
 given_sbat view (Some source) = source_bytes view source
 
 -- the refusals of the files in the same order: each that isn't there or is too large
-abbrev pub contents_of : Files → Named → Result Contents Refusal
+abbrev pub contents_of : Files → NamedFiles → Result Contents Refusal
 contents_of view named =
     bytes_at view named.stub >>= λ stub.
     bytes_at view named.linux >>= λ linux.
@@ -219,7 +219,8 @@ contents_of view named =
 
 -- the SBAT text of an image: the entries of the stub's section, the kernel's and the given text
 abbrev pub sbat_of : Contents → List ℕ
-sbat_of contents = merged_sbat (loaded contents.stub sbat_name) (loaded contents.linux sbat_name) contents.sbat
+sbat_of contents =
+    merged_sbat (loaded_bytes contents.stub sbat_name) (loaded_bytes contents.linux sbat_name) contents.sbat
 
 -- what an image is made of: the stub with its headers, the kernel, the other parts and the image's SBAT text
 pub record Material : Type 0 where
@@ -241,14 +242,14 @@ material contents =
       sbat = sbat_of contents;
     })
 
-abbrev pub material_of : Files → Named → Result Material Refusal
+abbrev pub material_of : Files → NamedFiles → Result Material Refusal
 material_of view named = contents_of view named >>= material
 
 -- what was found in the words
 abbrev pub part_named : PartSources → NamedPart
 part_named part = named_part part.kind part.name part.sources.items
 
-abbrev pub named_as : BuildSources → Named
+abbrev pub named_as : BuildSources → NamedFiles
 named_as found = record {
   stub = found.stub;
   linux = found.linux;
@@ -259,19 +260,19 @@ named_as found = record {
 
 -- these are what some words name
 abbrev pub AreNamed : BuildSources → Type 0
-AreNamed found = (words : BuildWords) × (named_of words ≡ Ok (named_as found))
+AreNamed found = (words : BuildWords) × (named_files words ≡ Ok (named_as found))
 
 -- the image that is built of these, and where it is to stand
-abbrev pub image_of : Path → Material → Result Built Refusal
+abbrev pub image_of : Path → Material → Result BuiltImage Refusal
 image_of output m = with_sbat_text output m.headers m.stub m.parts m.linux m.sbat
 
 -- what the words name is found and read, and the image is built of it
-abbrev pub build_named : Files → Named → Result Built Refusal
+abbrev pub build_named : Files → NamedFiles → Result BuiltImage Refusal
 build_named view named = material_of view named >>= image_of named.output
 
 -- `ukify build`: what its words name is built
-abbrev pub build_of : Files → BuildWords → Result Built Refusal
-build_of view words = named_of words >>= build_named view
+abbrev pub build_of : Files → BuildWords → Result BuiltImage Refusal
+build_of view words = named_files words >>= build_named view
 
 -- the path of the image and its number of bytes
 abbrev pub built_line : Path → ℕ → List ℕ
@@ -282,13 +283,13 @@ abbrev pub asked_values : Bool → List ℕ → List ℕ
 asked_values measure image = if measure then value_lines (stub_pcr image) all_banks default_phase_paths else []
 
 -- what is said of a finished image
-abbrev pub built_text : Bool → Built → List ℕ
+abbrev pub built_text : Bool → BuiltImage → List ℕ
 built_text measure built = built_line built.output (length built.image) ++ asked_values measure built.image
 
 -- the image stands at its path afterwards
-abbrev pub built_answer : Files → Bool → Result Built Refusal → Answer
+abbrev pub built_answer : Files → Bool → Result BuiltImage Refusal → Answer
 built_answer view measure (Err why) = refusal view why
-built_answer view measure (Ok built) = done (insert view built.output built.image) (built_text measure built)
+built_answer view measure (Ok built) = done_answer (insert view built.output built.image) (built_text measure built)
 
 abbrev pub build_answer : Files → BuildWords → Answer
 build_answer view words = built_answer view words.measure (build_of view words)

@@ -21,7 +21,7 @@ use Rattle.pe_builder.specs.Replaced.{sbat_name}
 use Rattle.pe_builder.specs.Sizes.{any_size}
 use Rattle.image_writer.specs.Sourced.{IsPieced, IsSourced, new_sbat, part_list, planned_image, stub_path}
 use Rattle.image_build.specs.declared.build_plan.ImagePlan.{ImagePlan}
-use Rattle.image_build.specs.Building.{Built, builder_refusal, with_sbat_text}
+use Rattle.image_build.specs.Building.{BuiltImage, builder_refusal, with_sbat_text}
 use Rattle.image_build.specs.Reads.{part_as}
 
 -- whether a part adds a section, as one without bytes doesn't
@@ -65,14 +65,14 @@ pub record AreFound (view : Files) (headers : Headers) (stub_length : ℕ) (stub
   pub linux_pieced : IsPieced (contents view) linux
 
 -- what these parts and an SBAT text come to on a view
-abbrev pub image_meant : Files → Headers → Path → List Part → Part → List ℕ → Path → Result Built Refusal
-image_meant view headers stub parts linux sbat output =
+abbrev pub image_result : Files → Headers → Path → List Part → Part → List ℕ → Path → Result BuiltImage Refusal
+image_result view headers stub parts linux sbat output =
     with_sbat_text output headers (contents view stub) (map (part_as (contents view)) parts)
     (bytes_of (contents view) linux.pieces.items) sbat
 
 -- The plan was made for its sources on a view, and the image by it is the one that is meant; or the refusal is meant.
 -- Without memory nothing is told.
-abbrev pub Images : Files → (Path → Result Built Refusal) → Result ImagePlan PlanFault → Type 0
+abbrev pub Images : Files → (Path → Result BuiltImage Refusal) → Result ImagePlan PlanFault → Type 0
 Images view meant (Ok image) =
     IsSourced image.plan image.sources view
     × ((output : Path)

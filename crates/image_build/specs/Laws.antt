@@ -11,7 +11,7 @@ use Rattle.tool_words.specs.declared.command.BuildWords.{BuildWords}
 use Rattle.tool_words.specs.declared.command.Command.TheVariants.{Build}
 use Rattle.tool_words.specs.Meaning.{meaning}
 use Rattle.word_grammar.specs.Grammar.{Word}
-use Rattle.image_build.specs.Building.{Built, build_answer, build_of, built_line, material_of, named_as, named_of}
+use Rattle.image_build.specs.Building.{BuiltImage, build_answer, build_of, built_line, material_of, named_as, named_files}
 use Rattle.image_build.specs.Imaged.{IsCountable}
 use Rattle.image_build.specs.Reads.{BuiltFrom, material_as}
 use Rattle.image_build.specs.declared.build_reads.BuildParts.{BuildParts}
@@ -20,7 +20,7 @@ use Rattle.image_build.specs.declared.source.BuildSources.{BuildSources}
 -- A build that measures prints the values of the bytes that stand at its output afterwards.
 abbrev pub ValuesOfBuilds : Type 0
 ValuesOfBuilds =
-    (view : Files) (words : BuildWords) (built : Built) → words.measure ≡ true → build_of view words ≡ Ok built →
+    (view : Files) (words : BuildWords) (built : BuiltImage) → words.measure ≡ true → build_of view words ≡ Ok built →
     (build_answer view words).text ≡ built_line built.output (length built.image)
     ++ value_lines (stub_pcr (contents (build_answer view words).after built.output)) all_banks default_phase_paths
 
@@ -28,6 +28,6 @@ ValuesOfBuilds =
 -- most 16,777,216 words, each other one adds at most one file or text, and no file or text has more than 256 MiB.
 abbrev pub BuildsAreCountable : Type 0
 BuildsAreCountable = (words : List Word) (build : BuildWords) (from : BuildSources) (built : BuildParts) (view : Files)
-    → meaning words ≡ Ok (Build build) → named_of build ≡ Ok (named_as from)
+    → meaning words ≡ Ok (Build build) → named_files build ≡ Ok (named_as from)
     → BuiltFrom from built → material_of view (named_as from) ≡ Ok (material_as (contents view) built)
     → IsCountable built.parts.items built.sbat.items

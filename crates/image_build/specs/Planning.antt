@@ -17,7 +17,7 @@ use Rattle.uki_parts.specs.declared.kind.PartKind.TheVariants as kinds
 use Rattle.uki_parts.specs.declared.part.Part.{Part}
 use Rattle.boot_base.specs.declared.refusal.Refusal.{Refusal}
 use Rattle.stub_replay.specs.Measured.{measured_length}
-use Rattle.image_build.specs.Building.{Built, Named, build_named}
+use Rattle.image_build.specs.Building.{BuiltImage, NamedFiles, build_named}
 use Rattle.pe_builder.specs.Sizes.{any_size}
 use Rattle.image_build.specs.Imaged.{IsOwnPlan}
 use Rattle.image_build.specs.Reads.{IsKernel, reading_length}
@@ -25,7 +25,7 @@ use Rattle.image_build.specs.declared.build_reads.BuildParts.{BuildParts}
 use Rattle.image_build.specs.declared.planned.PlannedBuild.{PlannedBuild}
 
 -- the image by a plan on a view, and where it is to stand
-abbrev pub built_as : Files → PlannedBuild → Built
+abbrev pub built_as : Files → PlannedBuild → BuiltImage
 built_as view plan = record { output = plan.output; image = planned_image plan.image.plan plan.image.sources view }
 
 -- a part has the length of its pieces, or the highest number of 64 bits
@@ -72,17 +72,17 @@ pub record IsContent (files : Reading) (content : Option Content) (bytes : List 
 abbrev pub measuring_length : Bool → List ℕ → ℕ
 measuring_length measure image = if measure then measured_length image else 0
 
-abbrev pub built_measuring : Bool → Result Built Refusal → ℕ
+abbrev pub built_measuring : Bool → Result BuiltImage Refusal → ℕ
 built_measuring measure (Err why) = 0
 built_measuring measure (Ok built) = measuring_length measure built.image
 
 -- how many bytes of files are read to plan what the words name, at most
-abbrev pub planning_length : Files → Bool → Result Named Refusal → ℕ
+abbrev pub planning_length : Files → Bool → Result NamedFiles Refusal → ℕ
 planning_length view measure (Err why) = 0
 planning_length view measure (Ok named) =
     reading_length (contents view) named + built_measuring measure (build_named view named)
 
 -- how many bytes of files are read to write what was built, at most: as many as it has
-abbrev pub built_length : Result Built Refusal → ℕ
+abbrev pub built_length : Result BuiltImage Refusal → ℕ
 built_length (Err why) = 0
 built_length (Ok built) = length built.image

@@ -1,7 +1,7 @@
 -- What was read of the files that the words of a build name.
 use Rattle.std.specs.Prelude.{◌≡◌, ◌≤◌, ℕ, ◌+◌, ◌-◌, ◌*◌, ◌^◌, All, List, Option, Some, None, codes, length, map, min, sum_by}
 use Rattle.boot_base.specs.Paths.{Path}
-use Rattle.pe_reader.specs.Loaded.{loaded}
+use Rattle.pe_reader.specs.LoadedBytes.{loaded_bytes}
 use Rattle.pe_builder.specs.Replaced.{sbat_name}
 use Rattle.std.specs.List.{AllZip}
 use Rattle.pe_reader.specs.Reads.{ReadFrom, headers_of}
@@ -16,7 +16,7 @@ use Rattle.image_build.specs.declared.source.BuildSources.{BuildSources}
 use Rattle.image_build.specs.declared.source.PartSources.{PartSources}
 use Rattle.image_build.specs.declared.source.Source.{Source}
 use Rattle.image_build.specs.declared.source.Source.TheVariants as sources
-use Rattle.image_build.specs.Building.{Contents, Material, Named}
+use Rattle.image_build.specs.Building.{Contents, Material, NamedFiles}
 use Rattle.boot_base.specs.Limits.{file_limit}
 
 -- what was read, by the bytes of the files that it names
@@ -102,11 +102,11 @@ source_file_length files (Some (sources.At path)) = length (files path)
 
 -- how many bytes the file at a path has loaded of `.sbat`
 abbrev pub loaded_sbat_length : Reading → Path → ℕ
-loaded_sbat_length files path = length (loaded (files path) sbat_name)
+loaded_sbat_length files path = length (loaded_bytes (files path) sbat_name)
 
 -- How many bytes of files are read before an image is planned, at most: the file of `--sbat`, and of the stub and the
 -- kernel the headers, which are at most 69,463 bytes, and what they have loaded of `.sbat`.
-abbrev pub reading_length : Reading → Named → ℕ
+abbrev pub reading_length : Reading → NamedFiles → ℕ
 reading_length files named =
     source_file_length files named.sbat
     + (69463 + loaded_sbat_length files named.stub)

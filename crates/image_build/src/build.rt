@@ -16,7 +16,7 @@ ghost use Rattle.image_writer.specs.Sourced.{IsSourced, planned_image};
 ghost use Rattle.command_plans.specs.Names.{shown_byte};
 ghost use Rattle.command_plans.specs.declared.declined.Declined.TheVariants as declines;
 ghost use Rattle.command_plans.specs.Unsaying.{CountsUnsaid, Says, UnsaidFor};
-ghost use Rattle.image_build.specs.Building.{AreNamed, Built, build_answer, build_named, build_of, builder_refusal, named_as, named_of, built_answer, built_line, built_text, image_of};
+ghost use Rattle.image_build.specs.Building.{AreNamed, BuiltImage, build_answer, build_named, build_of, builder_refusal, named_as, named_files, built_answer, built_line, built_text, image_of};
 ghost use Rattle.image_build.specs.Imaged.{Images};
 ghost use Rattle.image_build.specs.Planning.{built_as, built_length, IsPlannable, IsPlannedOn, measuring_length, planning_length};
 ghost use Rattle.image_build.specs.Reads.{BuiltHasSizes, material_as, reading_length};
@@ -33,7 +33,7 @@ use crate::source::BuildSources;
 use boot_base::{BootPath, Bytes, Refusal, Target, Text};
 use boot_machine::Machine;
 use command_plans::{
-    Change, Outcome, Plan, Stop, Unsaid, plan_declined, plan_unsaid, printed, shown_name,
+    Change, Outcome, Plan, Stop, Unsaid, plan_declined, plan_unsaid, printed_path, shown_name,
 };
 use pe_builder::PlanFault;
 use std::alloc::{AllocError, Global};
@@ -50,7 +50,7 @@ fn section_twice(alloc: Global, name: SectionName) -> Result<Refusal, AllocError
 fn image_too_large(alloc: Global, output: &BootPath, size: u64) -> Result<Refusal, AllocError>
     ensures { IfOk result (λ why. why ≡ Refusal.TooLarge (printed_path output.now) size) }
 {
-    let path = printed(alloc, output)?;
+    let path = printed_path(alloc, output)?;
     Ok(Refusal::TooLarge { path, size })
 }
 
@@ -105,7 +105,7 @@ fn plan_parts(alloc: Global, built: BuildParts) -> Result<PlannedBuild, Unsaid>
 }
 
 // The plan of the image that is built of what words name, made by reads alone.
-fn planned<M: Machine>(
+fn planned_build<M: Machine>(
     alloc: Global,
     sources: BuildSources,
     machine: &mut M,
@@ -160,7 +160,7 @@ fn reply<M: Machine>(
 }
 
 // The plan that writes the image and says this.
-fn writing(alloc: Global, build: PlannedBuild, text: Vec<u8>) -> Result<Plan, AllocError>
+fn writing_plan(alloc: Global, build: PlannedBuild, text: Vec<u8>) -> Result<Plan, AllocError>
     requires free { IsFree build.output }
     ensures plans { IfOk result (λ plan. (s : State) (measure : Bool)
         → IsSourced build.image.plan build.image.sources (seen s)
@@ -184,13 +184,13 @@ fn writing(alloc: Global, build: PlannedBuild, text: Vec<u8>) -> Result<Plan, Al
 }
 
 // The plan of the build of what the words name, or why there is none.
-fn building<M: Machine>(
+fn plan_or_unsaid<M: Machine>(
     alloc: Global,
     words: &BuildWords,
     sources: BuildSources,
     machine: &mut M,
 ) -> Result<Plan, Unsaid>
-    requires named { named_of words.now ≡ Ok (named_as sources) }
+    requires named { named_files words.now ≡ Ok (named_as sources) }
     requires free { IsFree sources.output }
     ensures plans { IfOk result (λ plan. IsTrue M.tells → Plans (M.state machine.old) plan
         (build_answer (seen (M.state machine.old)) words.now)) }
@@ -206,9 +206,9 @@ fn building<M: Machine>(
         (planning_length (seen (M.state machine.old)) words.now.measure (Ok (named_as sources)))
         (M.taken machine.old) (M.taken machine.new) }
 {
-    let build = planned(alloc, sources, machine)?;
+    let build = planned_build(alloc, sources, machine)?;
     let text = reply(alloc, &build, words.measure, machine)?;
-    Ok(writing(alloc, build, text)?)
+    Ok(writing_plan(alloc, build, text)?)
 }
 
 // The plan of the build of what the words name.
@@ -218,7 +218,7 @@ fn plan_sources<M: Machine>(
     sources: BuildSources,
     machine: &mut M,
 ) -> Result<Plan, Stop>
-    requires named { named_of words.now ≡ Ok (named_as sources) }
+    requires named { named_files words.now ≡ Ok (named_as sources) }
     requires free { IsFree sources.output }
     ensures plans { IfOk result (λ plan. IsTrue M.tells → Plans (M.state machine.old) plan
         (build_answer (seen (M.state machine.old)) words.now)) }
@@ -232,7 +232,7 @@ fn plan_sources<M: Machine>(
         (planning_length (seen (M.state machine.old)) words.now.measure (Ok (named_as sources)))
         (M.taken machine.old) (M.taken machine.new) }
 {
-    match building(alloc, words, sources, machine) {
+    match plan_or_unsaid(alloc, words, sources, machine) {
         Ok(plan) => Ok(plan),
         Err(unsaid) => plan_unsaid(alloc, unsaid),
     }
@@ -249,7 +249,7 @@ pub fn plan_build<M: Machine>(
 ) -> Result<Plan, Stop>
     ensures plans { IfOk result (λ plan. IsTrue M.tells → Plans (M.state machine.old) plan
         (build_answer (seen (M.state machine.old)) words.now)) }
-    ensures declined { (why : Refusal) → named_of words.now ≡ Err why
+    ensures declined { (why : Refusal) → named_files words.now ≡ Err why
         → IfOk result (PlansDeclined (declines.Refused why)) }
     ensures makeable { IfOk result (λ plan. IsMakeable plan.change) }
     ensures writes { IfOk result (λ plan. IsTrue M.tells → making_length (seen (M.state machine.old)) plan.change
@@ -258,7 +258,7 @@ pub fn plan_build<M: Machine>(
     ensures reads { IsTrue M.tells → OnlyReads M.time M.state machine.old machine.new }
     ensures counts { CountsStop result (M.counts machine.old) (M.counts machine.new) }
     ensures taken { IsTrue M.tells → TakesAtMost
-        (planning_length (seen (M.state machine.old)) words.now.measure (named_of words.now))
+        (planning_length (seen (M.state machine.old)) words.now.measure (named_files words.now))
         (M.taken machine.old) (M.taken machine.new) }
 {
     match build_sources(alloc, words) {

@@ -9,7 +9,7 @@ ghost use Rattle.pe_builder.specs.Layout.{FitsPart};
 ghost use Rattle.pe_builder.specs.Sizes.{any_size};
 ghost use Rattle.uki_parts.specs.Parts.{part_place};
 ghost use Rattle.image_build.specs.Building.{has_sbat};
-ghost use Rattle.image_build.specs.Imaged.{AreFound, AreOrdered, IsCountable, IsOwnPlan, Images, IsSbatPart, PlansParts, image_meant, is_filled};
+ghost use Rattle.image_build.specs.Imaged.{AreFound, AreOrdered, IsCountable, IsOwnPlan, Images, IsSbatPart, PlansParts, image_result, is_filled};
 
 use boot_base::{BootPath, Bytes};
 use image_writer::Sources;
@@ -45,7 +45,7 @@ fn any_sizes(alloc: Global, parts: &[Part]) -> Result<Vec<WideSize>, AllocError>
 }
 
 // The plan of an image of these parts, with an SBAT text in the place of the stub's where its length is given.
-fn planned(
+fn image_plan(
     alloc: Global,
     head: &Pe,
     stub_length: u32,
@@ -69,7 +69,7 @@ fn planned(
 }
 
 // The parts that have bytes.
-fn listed(alloc: Global, parts: Vec<Part>) -> Result<PartList, AllocError>
+fn list_of_parts(alloc: Global, parts: Vec<Part>) -> Result<PartList, AllocError>
     requires { IsNonDecreasingBy part_place parts.items }
     ensures { IfOk result (λ list. list ≡ filter is_filled parts.items) }
 {
@@ -143,22 +143,22 @@ fn counted_plan(
     requires parts { AreOrdered parts.items linux }
     requires counted { IsCountable parts.items sbat.items }
     ensures images { (view : Files) → AreFound view (headers_of head.now) stub_length stub parts.items linux
-        → Images view (image_meant view (headers_of head.now) stub parts.items linux sbat.items) result }
+        → Images view (image_result view (headers_of head.now) stub parts.items linux sbat.items) result }
     ensures own { IfOk result (λ image. IsOwnPlan image (headers_of head.now) stub_length stub) }
 {
-    let mut list = listed(alloc, parts)?;
+    let mut list = list_of_parts(alloc, parts)?;
     if sbat.is_empty() {
         list.add(linux)?;
-        return planned(alloc, head, stub_length, stub, list, None, sbat);
+        return image_plan(alloc, head, stub_length, stub, list, None, sbat);
     }
     if has_sbat(head) {
         list.add(linux)?;
         let length = sbat.len() as u32;
-        return planned(alloc, head, stub_length, stub, list, Some(length), sbat);
+        return image_plan(alloc, head, stub_length, stub, list, Some(length), sbat);
     }
     list.add(sbat_part(alloc, sbat)?)?;
     list.add(linux)?;
-    planned(alloc, head, stub_length, stub, list, None, Vec::new(alloc))
+    image_plan(alloc, head, stub_length, stub, list, None, Vec::new(alloc))
 }
 
 /// The plan of an image of the stub at a path, which has these headers and this length, of parts in append order, a
@@ -182,7 +182,7 @@ pub fn plan_image_of(
     requires read { ReadFrom head.now stub_length }
     requires parts { AreOrdered parts.items linux }
     ensures images { (view : Files) → AreFound view (headers_of head.now) stub_length stub parts.items linux
-        → Images view (image_meant view (headers_of head.now) stub parts.items linux sbat.items) result }
+        → Images view (image_result view (headers_of head.now) stub parts.items linux sbat.items) result }
     ensures own { IfOk result (λ image. IsOwnPlan image (headers_of head.now) stub_length stub) }
 {
     if !is_countable(&parts, &sbat) {

@@ -6,7 +6,7 @@ ghost use Rattle.boot_machine.specs.Rows.{contents};
 ghost use Rattle.boot_machine.specs.Sent.{seen};
 ghost use Rattle.pe_builder.specs.Replaced.{sbat_name};
 ghost use Rattle.pe_reader.specs.Grammar.{pe_of};
-ghost use Rattle.pe_reader.specs.Loaded.{bytes_in, loaded};
+ghost use Rattle.pe_reader.specs.LoadedBytes.{bytes_in, loaded_bytes};
 ghost use Rattle.pe_reader.specs.Reads.{headers_of};
 ghost use Rattle.uki_parts.specs.Pieces.{HasSizes, Reading, bytes_of, piece_bytes, piece_length, total_length};
 ghost use Rattle.image_build.specs.Building.{contents_of, given_sbat, material_of, named_as, part_bytes, part_named, sbat_of, source_bytes};
@@ -18,7 +18,7 @@ ghost use Rattle.command_plans.specs.Unsaying.{CountsUnsaid, Says};
 use crate::source::{BuildSources, PartSources, Source};
 use boot_base::BootPath;
 use boot_machine::Machine;
-use command_plans::{Unsaid, file_bytes, file_part, head_of_size, readable, sized_head};
+use command_plans::{Unsaid, file_bytes, file_part, head_of_size, readable_size, sized_head};
 use pe_reader::{HeadFault, LoadedRange, Pe};
 use std::alloc::{AllocError, Global};
 use uki_parts::{
@@ -71,7 +71,7 @@ fn source_piece<M: Machine>(alloc: Global, source: Source, machine: &mut M) -> R
     match source {
         Source::Said(bytes) => Ok(Piece::Bytes(bytes)),
         Source::At(path) => {
-            let size = readable(alloc, &path, machine)?;
+            let size = readable_size(alloc, &path, machine)?;
             Ok(Piece::File { path, size })
         }
     }
@@ -188,7 +188,7 @@ fn loaded_sbat<M: Machine>(
 ) -> Result<Vec<u8>, Unsaid>
     requires { IsTrue M.tells → pe_of (contents (seen (M.state machine.old)) path.now) ≡ Ok (headers_of head.now) }
     ensures says { IsTrue M.tells → Says (λ content. content.items) result
-        (Ok (loaded (contents (seen (M.state machine.old)) path.now) sbat_name)) }
+        (Ok (loaded_bytes (contents (seen (M.state machine.old)) path.now) sbat_name)) }
     ensures reads { IsTrue M.tells → OnlyReads M.time M.state machine.old machine.new }
     ensures counts { CountsUnsaid result (M.counts machine.old) (M.counts machine.new) }
     ensures taken { IsTrue M.tells → TakesAtMost
@@ -211,7 +211,7 @@ fn kernel_sbat<M: Machine>(
     requires small { size ≤ 268435456 }
     requires size { IsTrue M.tells → size ≡ length (contents (seen (M.state machine.old)) path.now) }
     ensures says { IsTrue M.tells → Says (λ content. content.items) result
-        (Ok (loaded (contents (seen (M.state machine.old)) path.now) sbat_name)) }
+        (Ok (loaded_bytes (contents (seen (M.state machine.old)) path.now) sbat_name)) }
     ensures reads { IsTrue M.tells → OnlyReads M.time M.state machine.old machine.new }
     ensures counts { CountsUnsaid result (M.counts machine.old) (M.counts machine.new) }
     ensures taken { IsTrue M.tells → TakesAtMost
@@ -270,8 +270,8 @@ fn build_files<M: Machine>(
         sbat,
         output,
     } = sources;
-    let stub_length = readable(alloc, &stub, machine)?;
-    let linux_length = readable(alloc, &linux, machine)?;
+    let stub_length = readable_size(alloc, &stub, machine)?;
+    let linux_length = readable_size(alloc, &linux, machine)?;
     let parts = parts_of_sources(alloc, parts, machine)?;
     let sbat = given_sbat(alloc, sbat, machine)?;
     Ok(BuildFiles {

@@ -9,11 +9,11 @@ ghost use Rattle.boot_machine.specs.Sent.{seen};
 ghost use Rattle.pcr_values.specs.ValueLines.{value_lines};
 ghost use Rattle.pcr_values.specs.Phases.{default_phase_paths};
 ghost use Rattle.image_writer.specs.Sourced.{planned_image};
-ghost use Rattle.pcr_values.specs.Banks.{all_banks, folded};
-ghost use Rattle.pcr_values.specs.Values.{pcr_bank, shown};
+ghost use Rattle.pcr_values.specs.Banks.{all_banks, fold_pcr};
+ghost use Rattle.pcr_values.specs.Values.{pcr_bank, pcr_value};
 ghost use Rattle.stub_replay.specs.Parts.{HaveSizes, IsPlaced, files_length, items_of, named_bytes};
 ghost use Rattle.pe_reader.specs.Grammar.{pe_of};
-ghost use Rattle.pe_reader.specs.Loaded.{loaded};
+ghost use Rattle.pe_reader.specs.LoadedBytes.{loaded_bytes};
 ghost use Rattle.pe_reader.specs.Reads.{headers_of};
 ghost use Rattle.stub_replay.specs.Measured.{measured_length, measured_list, stub_pcr};
 ghost use Rattle.uki_parts.specs.Names.{name_bytes};
@@ -41,7 +41,7 @@ fn part_named<'a>(parts: &'a [Part], name: &[u8]) -> Option<&'a Part>
 // What the stub at a path has loaded of that name, by what it reads as.
 fn stub_content<'a>(head: &Pe, stub: &'a BootPath, name: &[u8]) -> Option<Content<'a>>
     ensures holds { (files : Reading) → pe_of (files stub.now) ≡ Ok (headers_of head.now)
-        → IsContent files result (loaded (files stub.now) name.now) }
+        → IsContent files result (loaded_bytes (files stub.now) name.now) }
     ensures placed { IfSome result IsPlaced }
 {
     let index = head.find(name)?;
@@ -104,8 +104,8 @@ fn registers<M: Machine>(
 ) -> Result<Vec<Pcr>, Unsaid>
     ensures banks { IfOk result (λ registers. map pcr_bank registers.items ≡ banks.now) }
     ensures says { IsTrue M.tells → IsPlannedOn (seen (M.state machine.old)) plan.now
-        → Says (λ registers. map shown registers.items) result
-        (Ok (map (folded
+        → Says (λ registers. map pcr_value registers.items) result
+        (Ok (map (fold_pcr
         (measured_list (planned_image plan.now.image.plan plan.now.image.sources (seen (M.state machine.old)))))
         banks.now)) }
     ensures reads { IsTrue M.tells → OnlyReads M.time M.state machine.old machine.new }

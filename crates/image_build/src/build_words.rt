@@ -6,14 +6,14 @@ ghost use Rattle.command_plans.specs.Declining.{Means};
 ghost use Rattle.tool_words.specs.declared.command.Given.TheVariants.{Inline, File};
 ghost use Rattle.uki_parts.specs.declared.kind.PartKind.TheVariants as kinds;
 ghost use Rattle.uki_parts.specs.Names.{fixed_name, padded_name, read_name};
-ghost use Rattle.image_build.specs.Building.{clean, extra, given_once, named_as, named_of, named_part, part_named, section_name, section_of, source_of, sources_of, wanted, wanted_parts, with_parts};
+ghost use Rattle.image_build.specs.Building.{clean, extra_part, given_list, named_as, named_files, named_part, part_named, section_name, section_of, source_of, sources_of, optional_part, wanted_parts, with_parts};
 ghost use Rattle.command_plans.specs.Files.{each, if_given};
 
 use crate::source::{BuildSources, PartSources, Source};
 use boot_base::{Bytes, Refusal, Text};
 use command_plans::{Declined, path_in, push};
 use std::alloc::{AllocError, Global};
-use tool_words::{BuildWords, Given, given};
+use tool_words::{BuildWords, Given, inline_or_file};
 use uki_parts::{PartKind, SectionName, clean_cmdline};
 
 fn bad_name(alloc: Global, text: &str) -> Result<Declined, AllocError>
@@ -40,7 +40,7 @@ fn section_of(alloc: Global, value: &str) -> Result<(SectionName, Given), Declin
         None => Err(bad_name(alloc, value)?),
         Some((name, source)) => {
             let name = section_name(alloc, name)?;
-            let source = given(alloc, source)?;
+            let source = inline_or_file(alloc, source)?;
             Ok((name, source))
         }
     }
@@ -148,7 +148,7 @@ fn append_given(
     requires { IsTrue (is_some (fixed_name kind)) }
     ensures { (name : List ℕ) → fixed_name kind ≡ Some (padded_name name)
         → Means (λ _. map part_named parts.new.items) result
-        (with_parts (map part_named parts.old.items) (wanted kind name (given_once given.now))) }
+        (with_parts (map part_named parts.old.items) (optional_part kind name (given_list given.now))) }
 {
     match given {
         None => Ok(()),
@@ -168,7 +168,7 @@ fn append_cmdline(
 ) -> Result<(), Declined>
     ensures { Means (λ _. map part_named parts.new.items) result
         (with_parts (map part_named parts.old.items)
-        (wanted kinds.Cmdline (codes ".cmdline") (given_once (option_map clean given.now)))) }
+        (optional_part kinds.Cmdline (codes ".cmdline") (given_list (option_map clean given.now)))) }
 {
     match given {
         None => Ok(()),
@@ -190,7 +190,8 @@ fn append_file(
     requires { IsTrue (is_some (fixed_name kind)) }
     ensures { (name : List ℕ) → fixed_name kind ≡ Some (padded_name name)
         → Means (λ _. map part_named parts.new.items) result
-        (with_parts (map part_named parts.old.items) (wanted kind name (given_once (option_map File word.now)))) }
+        (with_parts (map part_named parts.old.items)
+        (optional_part kind name (given_list (option_map File word.now)))) }
 {
     match word {
         None => Ok(()),
@@ -210,7 +211,7 @@ fn append_uname(
 ) -> Result<(), Declined>
     ensures { Means (λ _. map part_named parts.new.items) result
         (with_parts (map part_named parts.old.items)
-        (wanted kinds.Uname (codes ".uname") (given_once (option_map Inline text.now)))) }
+        (optional_part kinds.Uname (codes ".uname") (given_list (option_map Inline text.now)))) }
 {
     match text {
         None => Ok(()),
@@ -240,7 +241,8 @@ fn append_initrds(
     parts: &mut Vec<PartSources>,
 ) -> Result<(), Declined>
     ensures { Means (λ _. map part_named parts.new.items) result
-        (with_parts (map part_named parts.old.items) (wanted kinds.Initrd (codes ".initrd") (map File words.now))) }
+        (with_parts (map part_named parts.old.items)
+        (optional_part kinds.Initrd (codes ".initrd") (map File words.now))) }
 {
     if words.is_empty() {
         return Ok(());
@@ -257,7 +259,7 @@ fn append_section(
     parts: &mut Vec<PartSources>,
 ) -> Result<(), Declined>
     ensures { Means (λ _. map part_named parts.new.items) result
-        (with_parts (map part_named parts.old.items) (extra section.now ∷ [])) }
+        (with_parts (map part_named parts.old.items) (extra_part section.now ∷ [])) }
 {
     let source = source_of(alloc, &section.1)?;
     let sources = one_source(alloc, source)?;
@@ -277,7 +279,7 @@ fn append_sections(
     parts: &mut Vec<PartSources>,
 ) -> Result<(), Declined>
     ensures { Means (λ _. map part_named parts.new.items) result
-        (with_parts (map part_named parts.old.items) (map extra sections.now)) }
+        (with_parts (map part_named parts.old.items) (map extra_part sections.now)) }
 {
     for section in sections {
         append_section(alloc, section, parts)?;
@@ -319,7 +321,7 @@ fn optional_source(alloc: Global, given: &Option<Given>) -> Result<Option<Source
 /// The files and texts that the words of a build name, and the path of its output, or the first refusal: of a value of
 /// `--section=`, and then of a word that is no path.
 pub fn build_sources(alloc: Global, words: &BuildWords) -> Result<BuildSources, Declined>
-    ensures means { Means named_as result (named_of words.now) }
+    ensures means { Means named_as result (named_files words.now) }
     ensures free { IfOk result (λ sources. IsFree sources.output) }
 {
     let sections = sections_of(alloc, words.sections.as_slice())?;

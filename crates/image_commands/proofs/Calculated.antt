@@ -7,9 +7,9 @@ use Rattle.boot_machine.specs.Rows.{contents}
 use Rattle.boot_machine.specs.Sent.{seen}
 use Rattle.pcr_values.specs.declared.bank.Bank.{Bank}
 use Rattle.pcr_values.specs.declared.pcr.Pcr.{Pcr}
-use Rattle.pcr_values.specs.Banks.{folded}
-use Rattle.pcr_values.specs.Values.{shown}
-use Rattle.stub_replay.specs.Ordered.{present}
+use Rattle.pcr_values.specs.Banks.{fold_pcr}
+use Rattle.pcr_values.specs.Values.{pcr_value}
+use Rattle.stub_replay.specs.Ordered.{present_parts}
 use Rattle.stub_replay.specs.Parts.{HaveSizes, files_length, items_of, named_bytes}
 use Rattle.stub_replay.specs.declared.measurable.Measurable.{Measurable}
 use Rattle.tool_words.specs.declared.command.CalculateWords.{CalculateWords}
@@ -41,24 +41,24 @@ registers_of s now files seen_files banks seen_banks pcrs same is_files is_banks
 
 -- and how many bytes of them are read
 pub taken_of : (s now : State) (words : CalculateWords) (paths : List (List ℕ × Path)) (files seen_files : List File) (start middle after : ℕ) → now ≡ s → seen_files ≡ files
-    → each (under_name path_in) (present (part_words words)) ≡ Ok paths → each (under_name (bytes_at (seen s))) paths ≡ Ok (map (named_file (contents (seen s))) files)
+    → each (under_name path_in) (present_parts (part_words words)) ≡ Ok paths → each (under_name (bytes_at (seen s))) paths ≡ Ok (map (named_file (contents (seen s))) files)
     → All (HasItsSize (contents (seen s))) files → middle ≤ start + 0
     → (All (HasItsSize (contents (seen now))) seen_files → after ≤ middle + sum_by (λ part. length part.1) (map (named_file (contents (seen now))) seen_files))
     → after ≤ start + named_length (seen s) words
 taken_of s now words paths files seen_files start middle after same is_files paths_are parts_are sizes first second =
     let P = λ (t : State) (fs : List File) (bs : List Bank). All (HasItsSize (contents (seen t))) fs → after ≤ middle + sum_by (λ (part : List ℕ × List ℕ). length part.1) (map (named_file (contents (seen t))) fs) in
     let found = moved P s now files seen_files [] [] same is_files refl second sizes in
-    omega (arith, first, found, lengths_made (seen s) (present (part_words words)) paths (map (named_file (contents (seen s))) files) paths_are parts_are)
+    omega (arith, first, found, lengths_made (seen s) (present_parts (part_words words)) paths (map (named_file (contents (seen s))) files) paths_are parts_are)
 
 -- the registers that are predicted from the parts of files
 pub registers_predicted : (reading : Reading) (files : List File) (parts seen_parts : List Measurable) (banks : List Bank) (pcrs : List Pcr) → seen_parts ≡ parts
     → map (named_bytes reading) parts ≡ map (named_file reading) files → HaveSizes reading parts
-    → (HaveSizes reading seen_parts → map shown pcrs ≡ map (folded (items_of (map (named_bytes reading) seen_parts))) banks)
+    → (HaveSizes reading seen_parts → map pcr_value pcrs ≡ map (fold_pcr (items_of (map (named_bytes reading) seen_parts))) banks)
     → AreSaid (items_of (map (named_file reading) files)) banks pcrs
 registers_predicted reading files parts seen_parts banks pcrs same are sized found =
     let here = found (subst (HaveSizes reading) (sym same) sized) in
-    ap Ok (sym (here ∙ ap (λ (ps : List Measurable). map (folded (items_of (map (named_bytes reading) ps))) banks) same
-    ∙ ap (λ (l : List (List ℕ × List ℕ)). map (folded (items_of l)) banks) are))
+    ap Ok (sym (here ∙ ap (λ (ps : List Measurable). map (fold_pcr (items_of (map (named_bytes reading) ps))) banks) same
+    ∙ ap (λ (l : List (List ℕ × List ℕ)). map (fold_pcr (items_of l)) banks) are))
 
 -- and how many bytes of them are read
 pub taken_predicted : (reading : Reading) (files : List File) (parts seen_parts : List Measurable) (before after : ℕ) → seen_parts ≡ parts

@@ -11,7 +11,7 @@ use Rattle.pe_reader.specs.declared.section.Section.{Section}
 use Rattle.pe_reader.specs.declared.section.LoadedRange.{LoadedRange}
 use Rattle.pe_reader.specs.Grammar.{Headers, pe_of}
 use Rattle.boot_base.specs.Names.{short_name}
-use Rattle.pe_reader.specs.Loaded.{bytes_in, loaded_by, no_section, range_of}
+use Rattle.pe_reader.specs.LoadedBytes.{bytes_in, loaded_by, no_section, range_of}
 use Rattle.pe_reader.proofs.Ranges.{length-bytes_in, range_inside}
 use Rattle.command_plans.specs.Names.{shown_byte}
 use Rattle.image_commands.specs.Said.{measures, section_lines}

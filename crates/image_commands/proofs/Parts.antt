@@ -12,7 +12,7 @@ use Rattle.boot_machine.specs.Disk.{State}
 use Rattle.boot_machine.specs.Rows.{contents}
 use Rattle.boot_machine.specs.Sent.{seen}
 use Rattle.stub_replay.specs.Measured.{measured_names}
-use Rattle.stub_replay.specs.Ordered.{InMeasuredOrder, as_part, present}
+use Rattle.stub_replay.specs.Ordered.{InMeasuredOrder, as_part, present_parts}
 use Rattle.stub_replay.specs.Parts.{HaveSizes, IsPlaced, IsWhole, named_bytes}
 use Rattle.stub_replay.specs.declared.measurable.Content.TheVariants as sources
 use Rattle.stub_replay.specs.declared.measurable.Measurable.{Measurable}
@@ -38,14 +38,14 @@ Word = Bor (List ℕ) × Option (Bor (List ℕ))
 
 -- the words that are given
 abbrev pub given_of : List Word → List (List ℕ × List ℕ)
-given_of words = present (map named_word words)
+given_of words = present_parts (map named_word words)
 
 split_at : {A : Type 0} (xs : List A) (i : ℕ) (d : A) → i < length xs → xs ≡ take i xs ++ get_or xs i d ∷ drop (i + 1) xs
 split_at xs i d inside = sym (take-append-drop i xs) ∙ ap (λ l. take i xs ++ l) (drop_more xs i d inside)
 
 given_append : (xs ys : List Word) → given_of (xs ++ ys) ≡ given_of xs ++ given_of ys
 given_append xs ys =
-    ap present (map-append named_word xs ys)
+    ap present_parts (map-append named_word xs ys)
     ∙ flat_map-append (λ (part : List ℕ × Option (List ℕ)). as_part part.0 part.1) (map named_word xs) (map named_word ys)
 
 given_item : (words : List Word) (i : ℕ) (d : Word) → i < length words
@@ -168,23 +168,23 @@ zipped (x ∷ xs) = ap (λ l. x ∷ l) (zipped xs)
 
 -- what is made of parts in an order is in that order
 made_in_order : (f : List ℕ → Result (List ℕ) Refusal) (names : List (List ℕ)) (given : List (Option (List ℕ))) (made : List (List ℕ × List ℕ))
-    → each (under_name f) (present (zip names given)) ≡ Ok made → (more : List (Option (List ℕ))) × (made ≡ present (zip names more))
+    → each (under_name f) (present_parts (zip names given)) ≡ Ok made → (more : List (Option (List ℕ))) × (made ≡ present_parts (zip names more))
 made_in_order f [] given made done = ([], sym (none_made (under_name f) made done))
 made_in_order f (name ∷ names) [] made done = ([], sym (none_made (under_name f) made done))
 made_in_order f (name ∷ names) (None ∷ given) made done =
     let rest = made_in_order f names given made done in
     (None ∷ rest.0, rest.1)
 made_in_order f (name ∷ names) (Some x ∷ given) made done =
-    let cut = each_cut (under_name f) (name, x) (present (zip names given)) made done in
+    let cut = each_cut (under_name f) (name, x) (present_parts (zip names given)) made done in
     let first = bind_ok (f x) (λ y. Ok (name, y)) cut.0 cut.2 in
     let rest = made_in_order f names given cut.1 cut.3 in
     let head : cut.0 ≡ (name, first.0) = cc first.2 in
     (Some first.0 ∷ rest.0, cut.4 ∙ ap (λ (p : List ℕ × List ℕ). p ∷ cut.1) head ∙ ap (λ (l : List (List ℕ × List ℕ)). (name, first.0) ∷ l) rest.1)
 
-pub words_in_order : (words : CalculateWords) → InMeasuredOrder (present (part_words words))
+pub words_in_order : (words : CalculateWords) → InMeasuredOrder (present_parts (part_words words))
 words_in_order words =
     let given : List (Option (List ℕ)) = map (λ part. part.1) (part_words words) in
-    (given, ap present (zipped (part_words words) ∙ ap (λ (names : List (List ℕ)). zip names given) (names_of_parts words)))
+    (given, ap present_parts (zipped (part_words words) ∙ ap (λ (names : List (List ℕ)). zip names given) (names_of_parts words)))
 
 pub parts_in_order : (f : List ℕ → Result (List ℕ) Refusal) (parts made : List (List ℕ × List ℕ)) → InMeasuredOrder parts → each (under_name f) parts ≡ Ok made → InMeasuredOrder made
 parts_in_order f parts made ordered done =

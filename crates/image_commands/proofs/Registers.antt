@@ -7,11 +7,11 @@ use Rattle.pcr_values.specs.ValueLines.{value_lines}
 use Rattle.pcr_values.specs.declared.bank.Bank.{Bank}
 use Rattle.pcr_values.specs.declared.bank.Bank.TheVariants as bank_names
 use Rattle.pcr_values.specs.declared.pcr.Pcr.{Pcr}
-use Rattle.pcr_values.specs.Banks.{fold_of, folded}
-use Rattle.pcr_values.specs.Values.{shown}
+use Rattle.pcr_values.specs.Banks.{fold_of, fold_pcr}
+use Rattle.pcr_values.specs.Values.{pcr_value}
 use Rattle.pe_reader.specs.Grammar.{Headers}
 use Rattle.stub_replay.specs.Measured.{measured_list, stub_pcr}
-use Rattle.stub_replay.specs.Ordered.{present}
+use Rattle.stub_replay.specs.Ordered.{present_parts}
 use Rattle.stub_replay.specs.Parts.{items_of}
 use Rattle.stub_replay.proofs.Ordered.{predicted_in_order}
 use Rattle.tool_words.specs.declared.command.CalculateWords.{CalculateWords}
@@ -20,24 +20,24 @@ use Rattle.command_plans.specs.Files.{bytes_at, each, image_at}
 use Rattle.command_plans.specs.Declining.{path_in}
 use Rattle.command_plans.specs.Choices.{banks_of, paths_of}
 use Rattle.image_commands.proofs.Parts.{parts_in_order, words_in_order}
-use Rattle.image_commands.specs.Calculating.{calculate_said, part_words, under_name}
+use Rattle.image_commands.specs.Calculating.{calculate_result, part_words, under_name}
 use Rattle.image_commands.specs.Said.{values_at}
 
 -- the text is the lines of the registers, whatever items have extended them
 abbrev pub AreLines : List ℕ → List Pcr → List (List (List ℕ)) → Type 0
-AreLines text starts paths = (items : Bank → List (List ℕ)) (banks : List Bank) → map shown starts ≡ map (λ bank. folded (items bank) bank) banks
+AreLines text starts paths = (items : Bank → List (List ℕ)) (banks : List Bank) → map pcr_value starts ≡ map (λ bank. fold_pcr (items bank) bank) banks
     → text ≡ value_lines (λ bank path. fold_of bank (items bank ++ path)) banks paths
 
 -- what was said of registers is found
 abbrev pub AreSaid : List (List ℕ) → List Bank → List Pcr → Type 0
-AreSaid items banks pcrs = ◌≡◌ {A = Result (List (Bank × List ℕ)) Refusal} (Ok (map (folded items) banks)) (Ok (map shown pcrs))
+AreSaid items banks pcrs = ◌≡◌ {A = Result (List (Bank × List ℕ)) Refusal} (Ok (map (fold_pcr items) banks)) (Ok (map pcr_value pcrs))
 
 -- lines of the registers that the same items have extended in all banks
 lines_are : (items : List (List ℕ)) (banks chosen : List Bank) (paths said : List (List (List ℕ))) (pcrs starts : List Pcr) (text : List ℕ) → AreLines text starts paths → starts ≡ pcrs → AreSaid items banks pcrs
     → banks ≡ chosen → paths ≡ said → text ≡ value_lines (λ bank path. fold_of bank (items ++ path)) chosen said
 lines_are items banks chosen paths said pcrs starts text lines same are is_banks is_paths =
-    let found : map (folded items) banks ≡ map shown pcrs = cc are in
-    lines (λ bank. items) banks (ap (map shown) same ∙ sym found)
+    let found : map (fold_pcr items) banks ≡ map pcr_value pcrs = cc are in
+    lines (λ bank. items) banks (ap (map pcr_value) same ∙ sym found)
     ∙ ap (λ (bs : List Bank). value_lines (λ bank path. fold_of bank (items ++ path)) bs paths) is_banks
     ∙ ap (value_lines (λ bank path. fold_of bank (items ++ path)) chosen) is_paths
 
@@ -52,12 +52,12 @@ values_are view path names texts file now headers banks paths pcrs starts text i
 
 -- the whole text of a calculation
 pub calculation_is : (view : Files) (words : CalculateWords) (paths : List (List ℕ × Path)) (parts : List (List ℕ × List ℕ)) (banks : List Bank) (phases : List (List (List ℕ))) (pcrs starts : List Pcr) (text : List ℕ)
-    → each (under_name path_in) (present (part_words words)) ≡ Ok paths → each (under_name (bytes_at view)) paths ≡ Ok parts
+    → each (under_name path_in) (present_parts (part_words words)) ≡ Ok paths → each (under_name (bytes_at view)) paths ≡ Ok parts
     → AreSaid (items_of parts) banks pcrs → starts ≡ pcrs → banks ≡ banks_of words.banks → phases ≡ paths_of words.phases → AreLines text starts phases
-    → calculate_said view words ≡ Ok text
+    → calculate_result view words ≡ Ok text
 calculation_is view words paths parts banks phases pcrs starts text paths_are parts_are are same_starts are_banks are_phases lines =
-    let ordered = parts_in_order (bytes_at view) paths parts (parts_in_order path_in (present (part_words words)) paths (words_in_order words) paths_are) parts_are in
-    done_next (each (under_name path_in) (present (part_words words))) paths _ paths_are
+    let ordered = parts_in_order (bytes_at view) paths parts (parts_in_order path_in (present_parts (part_words words)) paths (words_in_order words) paths_are) parts_are in
+    done_next (each (under_name path_in) (present_parts (part_words words))) paths _ paths_are
     ∙ done_next (each (under_name (bytes_at view)) paths) parts _ parts_are
     ∙ ap Ok (sym (lines_are (items_of parts) banks (banks_of words.banks) phases (paths_of words.phases) pcrs starts text lines same_starts are are_banks are_phases
     ∙ ap (λ (items : List (List ℕ)). value_lines (λ bank path. fold_of bank (items ++ path)) (banks_of words.banks) (paths_of words.phases))

@@ -4,7 +4,7 @@ use Rattle.boot_base.specs.declared.refusal.Refusal.{Refusal}
 use Rattle.boot_machine.specs.Disk.{Files}
 use Rattle.pcr_values.specs.ValueLines.{value_lines}
 use Rattle.stub_replay.specs.Measured.{predicted_pcr}
-use Rattle.stub_replay.specs.Ordered.{part_of, present}
+use Rattle.stub_replay.specs.Ordered.{part_of, present_parts}
 use Rattle.tool_words.specs.declared.command.CalculateWords.{CalculateWords}
 use Rattle.command_plans.specs.Declining.{◌>>=◌, path_in}
 use Rattle.command_plans.specs.Files.{bytes_at, each}
@@ -27,15 +27,15 @@ part_words words =
 
 -- the words that are given, each under the name of its part
 abbrev pub given_words : CalculateWords → List (List ℕ × List ℕ)
-given_words words = present (part_words words)
+given_words words = present_parts (part_words words)
 
 -- what is made of a part, under the part's name, or the refusal
 abbrev pub under_name : {A B : Type 0} → (A → Result B Refusal) → List ℕ × A → Result (List ℕ × B) Refusal
 under_name f part = f part.1 >>= λ made. Ok (part.0, made)
 
 -- all words that are given are read as paths, then each part's file is read, then the values are printed
-abbrev pub calculate_said : Files → CalculateWords → Result (List ℕ) Refusal
-calculate_said view words =
+abbrev pub calculate_result : Files → CalculateWords → Result (List ℕ) Refusal
+calculate_result view words =
     each (under_name path_in) (given_words words) >>= λ paths.
     each (under_name (bytes_at view)) paths >>= λ parts.
     Ok (value_lines (predicted_pcr (part_of parts)) (banks_of words.banks) (paths_of words.phases))

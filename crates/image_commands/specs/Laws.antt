@@ -9,7 +9,7 @@ use Rattle.command_plans.specs.Choices.{banks_of, paths_of}
 use Rattle.stub_replay.specs.Measured.{Shows, measured_names, stub_pcr}
 use Rattle.stub_replay.specs.Ordered.{part_of}
 use Rattle.tool_words.specs.declared.command.CalculateWords.{CalculateWords}
-use Rattle.image_commands.specs.Calculating.{calculate_said, given_words, part_words, under_name}
+use Rattle.image_commands.specs.Calculating.{calculate_result, given_words, part_words, under_name}
 
 -- A calculation has a part for each measured section, under the section's name, in the order of measurement.
 abbrev pub PartsOfCalculations : Type 0
@@ -22,4 +22,4 @@ ValuesOfCalculations = (view : Files) (words : CalculateWords)
     each (under_name path_in) (given_words words) ≡ Ok paths →
     each (under_name (bytes_at view)) paths ≡ Ok parts →
     Shows image (part_of parts) →
-    calculate_said view words ≡ Ok (value_lines (stub_pcr image) (banks_of words.banks) (paths_of words.phases))
+    calculate_result view words ≡ Ok (value_lines (stub_pcr image) (banks_of words.banks) (paths_of words.phases))

@@ -13,7 +13,7 @@ use Rattle.pe_reader.specs.declared.fault.FailedCheck.{FailedCheck}
 use Rattle.pe_reader.specs.declared.section.Section.{Section}
 use Rattle.pe_reader.specs.Grammar.{Headers, pe_of}
 use Rattle.boot_base.specs.Names.{short_name}
-use Rattle.pe_reader.specs.Loaded.{loaded, loaded_by}
+use Rattle.pe_reader.specs.LoadedBytes.{loaded_bytes, loaded_by}
 use Rattle.stub_replay.specs.Measured.{stub_pcr}
 use Rattle.command_plans.specs.Declining.{◌>>=◌, path_in, printed_path}
 use Rattle.command_plans.specs.Files.{bytes_at, image_at}
@@ -43,12 +43,12 @@ inspection path bytes headers =
 abbrev pub inspection_at : Files → Path → Result (List ℕ) Refusal
 inspection_at view path = image_at view path >>= λ image. Ok (inspection path image.0 image.1)
 
-abbrev pub inspect_said : Files → List ℕ → Result (List ℕ) Refusal
-inspect_said view file = path_in file >>= inspection_at view
+abbrev pub inspect_result : Files → List ℕ → Result (List ℕ) Refusal
+inspect_result view file = path_in file >>= inspection_at view
 
 -- whether the first section of a name has loaded bytes
 abbrev pub has_loaded : List ℕ → List ℕ → Bool
-has_loaded bytes name = not (length (loaded bytes name) == 0)
+has_loaded bytes name = not (length (loaded_bytes bytes name) == 0)
 
 -- `bootctl kernel-identify`: a unified image has loaded bytes of a kernel and of an os-release text
 abbrev pub kind_of : List ℕ → Result Headers FailedCheck → List ℕ
@@ -59,13 +59,13 @@ kind_of bytes (Err check) = codes "unknown\n"
 abbrev pub kind_at : Files → Path → Result (List ℕ) Refusal
 kind_at view path = bytes_at view path >>= λ bytes. Ok (kind_of bytes (pe_of bytes))
 
-abbrev pub identify_said : Files → List ℕ → Result (List ℕ) Refusal
-identify_said view file = path_in file >>= kind_at view
+abbrev pub identify_result : Files → List ℕ → Result (List ℕ) Refusal
+identify_result view file = path_in file >>= kind_at view
 
 -- `measure image`: what a stub that measures the image comes to, in each bank and after each phase path
 abbrev pub values_at : Files → List (List ℕ) → List (List ℕ) → Path → Result (List ℕ) Refusal
 values_at view bank_names phase_texts path =
     image_at view path >>= λ image. Ok (value_lines (stub_pcr image.0) (banks_of bank_names) (paths_of phase_texts))
 
-abbrev pub image_said : Files → List ℕ → List (List ℕ) → List (List ℕ) → Result (List ℕ) Refusal
-image_said view file bank_names phase_texts = path_in file >>= values_at view bank_names phase_texts
+abbrev pub measure_result : Files → List ℕ → List (List ℕ) → List (List ℕ) → Result (List ℕ) Refusal
+measure_result view file bank_names phase_texts = path_in file >>= values_at view bank_names phase_texts

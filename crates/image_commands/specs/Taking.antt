@@ -5,7 +5,7 @@ use Rattle.boot_machine.specs.Disk.{Files}
 use Rattle.pe_reader.specs.declared.fault.FailedCheck.{FailedCheck}
 use Rattle.pe_reader.specs.declared.section.Section.{Section}
 use Rattle.pe_reader.specs.Grammar.{Headers}
-use Rattle.pe_reader.specs.Loaded.{range_of}
+use Rattle.pe_reader.specs.LoadedBytes.{range_of}
 use Rattle.tool_words.specs.declared.command.CalculateWords.{CalculateWords}
 use Rattle.command_plans.specs.Declining.{◌>>=◌, path_in}
 use Rattle.command_plans.specs.Files.{bytes_at}

@@ -5,9 +5,9 @@ ghost use Rattle.boot_machine.specs.Reading.{OnlyReads, TakesAtMost};
 ghost use Rattle.boot_machine.specs.Rows.{contents};
 ghost use Rattle.boot_machine.specs.Sent.{seen};
 ghost use Rattle.uki_parts.specs.Pieces.{Reading, piece_bytes, piece_length};
-ghost use Rattle.pcr_values.specs.Banks.{folded};
-ghost use Rattle.pcr_values.specs.Values.{pcr_bank, shown};
-ghost use Rattle.stub_replay.specs.Ordered.{present};
+ghost use Rattle.pcr_values.specs.Banks.{fold_pcr};
+ghost use Rattle.pcr_values.specs.Values.{pcr_bank, pcr_value};
+ghost use Rattle.stub_replay.specs.Ordered.{present_parts};
 ghost use Rattle.stub_replay.specs.Parts.{HaveSizes, IsPlaced, items_of, named_bytes};
 ghost use Rattle.command_plans.specs.Answers.{answer_of_read};
 ghost use Rattle.command_plans.specs.Performs.{CountsStop};
@@ -17,14 +17,14 @@ ghost use Rattle.command_plans.specs.declared.plan.Change.TheVariants.{Nothing};
 ghost use Rattle.command_plans.specs.Files.{bytes_at, each};
 ghost use Rattle.command_plans.specs.Declining.{Means, path_in};
 ghost use Rattle.command_plans.specs.Unsaying.{CountsUnsaid, Says};
-ghost use Rattle.image_commands.specs.Calculating.{calculate_said, given_words, under_name};
+ghost use Rattle.image_commands.specs.Calculating.{calculate_result, given_words, under_name};
 ghost use Rattle.image_commands.specs.Parts.{HasItsSize, named_file, named_path, named_word};
 ghost use Rattle.image_commands.specs.Taking.{named_length};
 
 use boot_base::{BootPath, PIECE_SIZE, Text};
 use boot_machine::Machine;
 use command_plans::{
-    Declined, Plan, Stop, Unsaid, banks_of, path_in, paths_of, push, readable, said,
+    Declined, Plan, Stop, Unsaid, banks_of, path_in, paths_of, push, readable_size, text_or_refusal,
 };
 use pcr_values::{Bank, Pcr, result_lines};
 use std::alloc::{AllocError, Global};
@@ -49,7 +49,7 @@ fn given_paths(
     words: &[(&'static [u8], Option<&str>)],
 ) -> Result<Vec<(&'static [u8], BootPath)>, Declined>
     ensures { Means (λ paths. map named_path paths.items) result
-        (each (under_name path_in) (present (map named_word words.now))) }
+        (each (under_name path_in) (present_parts (map named_word words.now))) }
 {
     let mut paths = Vec::new(alloc);
     for (name, word) in words {
@@ -97,7 +97,7 @@ fn part_file<M: Machine>(alloc: Global, path: BootPath, machine: &mut M) -> Resu
     ensures counts { CountsUnsaid result (M.counts machine.old) (M.counts machine.new) }
     ensures taken { IsTrue M.tells → TakesAtMost 0 (M.taken machine.old) (M.taken machine.new) }
 {
-    let size = readable(alloc, &path, machine)?;
+    let size = readable_size(alloc, &path, machine)?;
     Ok(Piece::File { path, size })
 }
 
@@ -152,8 +152,9 @@ fn registers<M: Machine>(
 ) -> Result<Vec<Pcr>, Unsaid>
     ensures banks { IfOk result (λ registers. map pcr_bank registers.items ≡ banks.now) }
     ensures says { IsTrue M.tells → All (HasItsSize (contents (seen (M.state machine.old)))) files.now
-        → Says (λ registers. map shown registers.items) result
-        (Ok (map (folded (items_of (map (named_file (contents (seen (M.state machine.old)))) files.now))) banks.now)) }
+        → Says (λ registers. map pcr_value registers.items) result
+        (Ok (map (fold_pcr (items_of (map (named_file (contents (seen (M.state machine.old)))) files.now)))
+        banks.now)) }
     ensures reads { IsTrue M.tells → OnlyReads M.time M.state machine.old machine.new }
     ensures counts { CountsUnsaid result (M.counts machine.old) (M.counts machine.new) }
     ensures taken { IsTrue M.tells → All (HasItsSize (contents (seen (M.state machine.old)))) files.now
@@ -171,13 +172,13 @@ fn registers<M: Machine>(
 }
 
 // What the calculation says, or why there is nothing to say.
-fn calculated<M: Machine>(
+fn calculate_result<M: Machine>(
     alloc: Global,
     words: &CalculateWords,
     machine: &mut M,
 ) -> Result<Vec<u8>, Unsaid>
     ensures says { IsTrue M.tells → Says (λ text. text.items) result
-        (calculate_said (seen (M.state machine.old)) words.now) }
+        (calculate_result (seen (M.state machine.old)) words.now) }
     ensures reads { IsTrue M.tells → OnlyReads M.time M.state machine.old machine.new }
     ensures counts { CountsUnsaid result (M.counts machine.old) (M.counts machine.new) }
     ensures words { DeclinesWords (each (under_name path_in) (given_words words.now)) result }
@@ -201,7 +202,7 @@ pub fn plan_calculate<M: Machine>(
     machine: &mut M,
 ) -> Result<Plan, Stop>
     ensures plans { IfOk result (λ plan. IsTrue M.tells → Plans (M.state machine.old) plan
-        (answer_of_read (seen (M.state machine.old)) (calculate_said (seen (M.state machine.old)) words.now))) }
+        (answer_of_read (seen (M.state machine.old)) (calculate_result (seen (M.state machine.old)) words.now))) }
     ensures makeable { IfOk result (λ plan. IsMakeable plan.change) }
     ensures idle { IfOk result (λ plan. plan.change ≡ Nothing) }
     ensures reads { IsTrue M.tells → OnlyReads M.time M.state machine.old machine.new }
@@ -211,6 +212,6 @@ pub fn plan_calculate<M: Machine>(
         → TakesAtMost (named_length (seen (M.state machine.old)) words.now)
         (M.taken machine.old) (M.taken machine.new) }
 {
-    let text = calculated(alloc, words, machine);
-    said(alloc, text)
+    let text = calculate_result(alloc, words, machine);
+    text_or_refusal(alloc, text)
 }

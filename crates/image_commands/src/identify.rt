@@ -9,13 +9,13 @@ ghost use Rattle.command_plans.specs.Performs.{CountsStop};
 ghost use Rattle.command_plans.specs.Plans.{IsMakeable, Plans};
 ghost use Rattle.command_plans.specs.Refusing.{DeclinesWords, RefusesWords};
 ghost use Rattle.command_plans.specs.declared.plan.Change.TheVariants.{Nothing};
-ghost use Rattle.image_commands.specs.Said.{has_loaded, identify_said, kind_at, kind_of};
+ghost use Rattle.image_commands.specs.Said.{has_loaded, identify_result, kind_at, kind_of};
 ghost use Rattle.command_plans.specs.Declining.{path_in};
 ghost use Rattle.command_plans.specs.Unsaying.{CountsUnsaid, Says};
 
 use boot_base::BootPath;
 use boot_machine::Machine;
-use command_plans::{Plan, Stop, Unsaid, path_in, readable, said};
+use command_plans::{Plan, Stop, Unsaid, path_in, readable_size, text_or_refusal};
 use pe_reader::{HeadFault, Pe};
 use std::alloc::Global;
 
@@ -49,7 +49,7 @@ fn kind<M: Machine>(alloc: Global, path: &BootPath, machine: &mut M) -> Result<&
     ensures counts { CountsUnsaid result (M.counts machine.old) (M.counts machine.new) }
     ensures taken { IsTrue M.tells → TakesAtMost 69463 (M.taken machine.old) (M.taken machine.new) }
 {
-    readable(alloc, path, machine)?;
+    readable_size(alloc, path, machine)?;
     match Pe::read_head(alloc, machine, path) {
         Ok(head) => Ok(pe_kind(&head)),
         Err(HeadFault::NotPe { .. }) => Ok("unknown\n"),
@@ -59,9 +59,13 @@ fn kind<M: Machine>(alloc: Global, path: &BootPath, machine: &mut M) -> Result<&
 }
 
 // What is told of the file that a word names.
-fn identified<M: Machine>(alloc: Global, file: &str, machine: &mut M) -> Result<Vec<u8>, Unsaid>
+fn identify_result<M: Machine>(
+    alloc: Global,
+    file: &str,
+    machine: &mut M,
+) -> Result<Vec<u8>, Unsaid>
     ensures says { IsTrue M.tells → Says (λ text. text.items) result
-        (identify_said (seen (M.state machine.old)) file.now) }
+        (identify_result (seen (M.state machine.old)) file.now) }
     ensures reads { IsTrue M.tells → OnlyReads M.time M.state machine.old machine.new }
     ensures counts { CountsUnsaid result (M.counts machine.old) (M.counts machine.new) }
     ensures words { DeclinesWords (path_in file.now) result }
@@ -76,7 +80,7 @@ fn identified<M: Machine>(alloc: Global, file: &str, machine: &mut M) -> Result<
 /// `unknown` of the rest. Its headers alone are read, which are at most 69,463 bytes.
 pub fn plan_identify<M: Machine>(alloc: Global, file: &str, machine: &mut M) -> Result<Plan, Stop>
     ensures plans { IfOk result (λ plan. IsTrue M.tells → Plans (M.state machine.old) plan
-        (answer_of_read (seen (M.state machine.old)) (identify_said (seen (M.state machine.old)) file.now))) }
+        (answer_of_read (seen (M.state machine.old)) (identify_result (seen (M.state machine.old)) file.now))) }
     ensures makeable { IfOk result (λ plan. IsMakeable plan.change) }
     ensures idle { IfOk result (λ plan. plan.change ≡ Nothing) }
     ensures reads { IsTrue M.tells → OnlyReads M.time M.state machine.old machine.new }
@@ -84,6 +88,6 @@ pub fn plan_identify<M: Machine>(alloc: Global, file: &str, machine: &mut M) -> 
     ensures words { RefusesWords (path_in file.now) result }
     ensures taken { IsTrue M.tells → TakesAtMost 69463 (M.taken machine.old) (M.taken machine.new) }
 {
-    let text = identified(alloc, file, machine);
-    said(alloc, text)
+    let text = identify_result(alloc, file, machine);
+    text_or_refusal(alloc, text)
 }

@@ -3,8 +3,8 @@ ghost use Rattle.std.specs.Prelude.{◌≡◌, ◌+◌, IfOk, IsTrue, Ok, map};
 ghost use Rattle.boot_machine.specs.Reading.{OnlyReads, TakesAtMost};
 ghost use Rattle.boot_machine.specs.Rows.{contents};
 ghost use Rattle.boot_machine.specs.Sent.{seen};
-ghost use Rattle.pcr_values.specs.Banks.{folded};
-ghost use Rattle.pcr_values.specs.Values.{pcr_bank, shown};
+ghost use Rattle.pcr_values.specs.Banks.{fold_pcr};
+ghost use Rattle.pcr_values.specs.Values.{pcr_bank, pcr_value};
 ghost use Rattle.pe_reader.specs.Grammar.{pe_of};
 ghost use Rattle.pe_reader.specs.Reads.{headers_of};
 ghost use Rattle.stub_replay.specs.Measured.{measured_length, measured_list};
@@ -13,7 +13,7 @@ ghost use Rattle.command_plans.specs.Performs.{CountsStop};
 ghost use Rattle.command_plans.specs.Plans.{IsMakeable, Plans};
 ghost use Rattle.command_plans.specs.Refusing.{DeclinesWords, RefusesWords};
 ghost use Rattle.command_plans.specs.declared.plan.Change.TheVariants.{Nothing};
-ghost use Rattle.image_commands.specs.Said.{image_said, values_at};
+ghost use Rattle.image_commands.specs.Said.{measure_result, values_at};
 ghost use Rattle.image_commands.specs.Taking.{found_bytes, named_content};
 ghost use Rattle.command_plans.specs.Declining.{path_in};
 ghost use Rattle.command_plans.specs.Unsaying.{CountsUnsaid, Says};
@@ -21,7 +21,7 @@ ghost use Rattle.command_plans.specs.Files.{bytes_at};
 
 use boot_base::{BootPath, PIECE_SIZE, Text};
 use boot_machine::Machine;
-use command_plans::{Plan, Stop, Unsaid, banks_of, image_head, path_in, paths_of, said};
+use command_plans::{Plan, Stop, Unsaid, banks_of, image_head, path_in, paths_of, text_or_refusal};
 use pcr_values::{Bank, Pcr, result_lines};
 use pe_reader::Pe;
 use std::alloc::Global;
@@ -37,8 +37,8 @@ fn registers<M: Machine>(
 ) -> Result<Vec<Pcr>, Unsaid>
     requires { IsTrue M.tells → pe_of (contents (M.state machine.old).files path.now) ≡ Ok (headers_of head.now) }
     ensures banks { IfOk result (λ registers. map pcr_bank registers.items ≡ banks.now) }
-    ensures says { IsTrue M.tells → Says (λ registers. map shown registers.items) result
-        (Ok (map (folded (measured_list (contents (M.state machine.old).files path.now))) banks.now)) }
+    ensures says { IsTrue M.tells → Says (λ registers. map pcr_value registers.items) result
+        (Ok (map (fold_pcr (measured_list (contents (M.state machine.old).files path.now))) banks.now)) }
     ensures reads { IsTrue M.tells → OnlyReads M.time M.state machine.old machine.new }
     ensures counts { CountsUnsaid result (M.counts machine.old) (M.counts machine.new) }
     ensures taken { IsTrue M.tells
@@ -77,7 +77,7 @@ fn values<M: Machine>(
 }
 
 // The lines of the image that a word names.
-fn measured<M: Machine>(
+fn measure_result<M: Machine>(
     alloc: Global,
     file: &str,
     banks: &[Text],
@@ -85,7 +85,7 @@ fn measured<M: Machine>(
     machine: &mut M,
 ) -> Result<Vec<u8>, Unsaid>
     ensures says { IsTrue M.tells → Says (λ text. text.items) result
-        (image_said (seen (M.state machine.old)) file.now banks.now phases.now) }
+        (measure_result (seen (M.state machine.old)) file.now banks.now phases.now) }
     ensures reads { IsTrue M.tells → OnlyReads M.time M.state machine.old machine.new }
     ensures counts { CountsUnsaid result (M.counts machine.old) (M.counts machine.new) }
     ensures words { DeclinesWords (path_in file.now) result }
@@ -109,7 +109,7 @@ pub fn plan_image<M: Machine>(
 ) -> Result<Plan, Stop>
     ensures plans { IfOk result (λ plan. IsTrue M.tells → Plans (M.state machine.old) plan
         (answer_of_read (seen (M.state machine.old))
-        (image_said (seen (M.state machine.old)) file.now banks.now phases.now))) }
+        (measure_result (seen (M.state machine.old)) file.now banks.now phases.now))) }
     ensures makeable { IfOk result (λ plan. IsMakeable plan.change) }
     ensures idle { IfOk result (λ plan. plan.change ≡ Nothing) }
     ensures reads { IsTrue M.tells → OnlyReads M.time M.state machine.old machine.new }
@@ -119,6 +119,6 @@ pub fn plan_image<M: Machine>(
         (69463 + measured_length (named_content (seen (M.state machine.old)) file.now))
         (M.taken machine.old) (M.taken machine.new) }
 {
-    let text = measured(alloc, file, banks, phases, machine);
-    said(alloc, text)
+    let text = measure_result(alloc, file, banks, phases, machine);
+    text_or_refusal(alloc, text)
 }

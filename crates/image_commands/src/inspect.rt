@@ -7,7 +7,7 @@ ghost use Rattle.boot_machine.specs.Rows.{contents};
 ghost use Rattle.boot_machine.specs.Sent.{seen};
 ghost use Rattle.pcr_values.specs.Values.{bytes_of_digest};
 ghost use Rattle.pe_reader.specs.Grammar.{pe_of};
-ghost use Rattle.pe_reader.specs.Loaded.{range_of};
+ghost use Rattle.pe_reader.specs.LoadedBytes.{range_of};
 ghost use Rattle.pe_reader.specs.Reads.{headers_of};
 ghost use Rattle.command_plans.specs.Answers.{answer_of_read};
 ghost use Rattle.command_plans.specs.Performs.{CountsStop};
@@ -17,13 +17,13 @@ ghost use Rattle.command_plans.specs.declared.plan.Change.TheVariants.{Nothing};
 ghost use Rattle.command_plans.specs.Files.{bytes_at};
 ghost use Rattle.command_plans.specs.Declining.{path_in, printed_path};
 ghost use Rattle.command_plans.specs.Names.{shown_byte};
-ghost use Rattle.image_commands.specs.Said.{first_line, inspect_said, inspection_at, measures, section_lines};
+ghost use Rattle.image_commands.specs.Said.{first_line, inspect_result, inspection_at, measures, section_lines};
 ghost use Rattle.image_commands.specs.Taking.{all_raw_length, found_bytes, named_content, raw_length};
 ghost use Rattle.command_plans.specs.Unsaying.{CountsUnsaid, Says};
 
 use boot_base::{BootPath, PIECE_SIZE, short_name};
 use boot_machine::Machine;
-use command_plans::{Plan, Stop, Unsaid, image_head, path_in, said, shown_name};
+use command_plans::{Plan, Stop, Unsaid, image_head, path_in, shown_name, text_or_refusal};
 use pcr_values::{Bank, Digest};
 use pe_reader::{Pe, Section};
 use std::alloc::{AllocError, Global};
@@ -122,9 +122,9 @@ fn inspection<M: Machine>(
 }
 
 // The lines of the image that a word names.
-fn inspected<M: Machine>(alloc: Global, file: &str, machine: &mut M) -> Result<Vec<u8>, Unsaid>
+fn inspect_result<M: Machine>(alloc: Global, file: &str, machine: &mut M) -> Result<Vec<u8>, Unsaid>
     ensures says { IsTrue M.tells → Says (λ text. text.items) result
-        (inspect_said (seen (M.state machine.old)) file.now) }
+        (inspect_result (seen (M.state machine.old)) file.now) }
     ensures reads { IsTrue M.tells → OnlyReads M.time M.state machine.old machine.new }
     ensures counts { CountsUnsaid result (M.counts machine.old) (M.counts machine.new) }
     ensures words { DeclinesWords (path_in file.now) result }
@@ -140,7 +140,7 @@ fn inspected<M: Machine>(alloc: Global, file: &str, machine: &mut M) -> Result<V
 /// the SHA-256 digest of its loaded bytes. The headers are read, and each section's raw data once.
 pub fn plan_inspect<M: Machine>(alloc: Global, file: &str, machine: &mut M) -> Result<Plan, Stop>
     ensures plans { IfOk result (λ plan. IsTrue M.tells → Plans (M.state machine.old) plan
-        (answer_of_read (seen (M.state machine.old)) (inspect_said (seen (M.state machine.old)) file.now))) }
+        (answer_of_read (seen (M.state machine.old)) (inspect_result (seen (M.state machine.old)) file.now))) }
     ensures makeable { IfOk result (λ plan. IsMakeable plan.change) }
     ensures idle { IfOk result (λ plan. plan.change ≡ Nothing) }
     ensures reads { IsTrue M.tells → OnlyReads M.time M.state machine.old machine.new }
@@ -150,6 +150,6 @@ pub fn plan_inspect<M: Machine>(alloc: Global, file: &str, machine: &mut M) -> R
         (69463 + all_raw_length (pe_of (named_content (seen (M.state machine.old)) file.now)))
         (M.taken machine.old) (M.taken machine.new) }
 {
-    let text = inspected(alloc, file, machine);
-    said(alloc, text)
+    let text = inspect_result(alloc, file, machine);
+    text_or_refusal(alloc, text)
 }

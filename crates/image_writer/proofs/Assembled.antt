@@ -7,7 +7,7 @@ use Rattle.byteorder.specs.Endian.{little_bytes}
 use Rattle.pe_reader.specs.declared.head.Head.{Head}
 use Rattle.pe_reader.specs.declared.section.Section.{Section}
 use Rattle.pe_reader.specs.Grammar.{Headers, pe_of, is_in_file}
-use Rattle.pe_reader.specs.Loaded.{section_at_index, no_section}
+use Rattle.pe_reader.specs.LoadedBytes.{section_at_index, no_section}
 use Rattle.pe_reader.proofs.Shape.{Shape, stages-shape, pe_of-stages}
 use Rattle.pe_reader.proofs.Tables.{at_list_all}
 use Rattle.uki_parts.specs.declared.part.Part.{Part}
@@ -18,7 +18,7 @@ use Rattle.pe_builder.specs.declared.size.WideSize.{WideSize}
 use Rattle.pe_builder.specs.Puts.{put}
 use Rattle.pe_builder.specs.Layout.{head_with, new_sections, end_after}
 use Rattle.pe_builder.specs.Replaced.{sbat_index, with_sbat_size}
-use Rattle.pe_builder.specs.Image.{section_header, with_fields, finished}
+use Rattle.pe_builder.specs.Image.{section_header, with_fields, finished_image}
 use Rattle.pe_builder.specs.Planned.{PlansImage, IsPlanFor, IsFinished, replaced_by, sbat_place, sbat_if_in_place}
 use Rattle.pe_builder.proofs.Appending.{length-headers, length-sections_for}
 use Rattle.pe_builder.proofs.Fits.{HasImage, FitsSbat}
@@ -28,12 +28,12 @@ use Rattle.pe_builder.specs.Known.{planned_before, planned_stub_length}
 use Rattle.pe_builder.proofs.PlannedIs.{fitting, image_by-is}
 use Rattle.pe_builder.proofs.Replacing.{raw_inside}
 use Rattle.pe_builder.proofs.Totals.{buildable_image, buildable_sbat}
-use Rattle.boot_machine.specs.Reading.{between}
+use Rattle.boot_machine.specs.Reading.{bytes_between}
 use Rattle.image_writer.specs.Chunks.{chunks_bytes, number_chunks, table_end, table_chunks, section_chunks, rest_chunks, headers_bytes, new_stub_bytes, behind_stub}
 use Rattle.image_writer.specs.Sourced.{parts_bytes, IsPieced}
 use Rattle.image_writer.specs.Taken.{chunks_length, kept_length}
 use Rattle.image_writer.proofs.Padded.{behind-is}
-use Rattle.image_writer.proofs.Rising.{Patch, puts, Rising, drop-puts, length-puts, put-swap}
+use Rattle.image_writer.proofs.Rising.{Patch, puts, IsRising, drop-puts, length-puts, put-swap}
 
 -- a header's chunks are the header
 seven : (n a b c d z f : List ℕ) → n ++ (a ++ (b ++ (c ++ (d ++ (z ++ (f ++ [])))))) ≡ n ++ a ++ b ++ c ++ d ++ z ++ f
@@ -57,7 +57,7 @@ SbatStands before behind n sbat (Some p) =
     × (length sbat ≡ p.length) × (p.length ≤ p.raw_size)
 
 -- all that is written over the stub stands at places that rise
-record Ordered (before after : Head) (sections : List Section) (place : Option SbatPlace) (n : ℕ) (sbat : List ℕ) : Type 0 where
+record IsOrdered (before after : Head) (sections : List Section) (place : Option SbatPlace) (n : ℕ) (sbat : List ℕ) : Type 0 where
   pub fields : before.pe_place + 136 ≤ before.table_place
   pub behind : before.table_place + 40 * after.section_count ≡ table_end before + length (flat_map section_header sections)
   pub inside : before.table_place + 40 * after.section_count ≤ n
@@ -96,12 +96,12 @@ with_numbers before after bytes =
     put (before.pe_place + 24 + 64) (little_bytes 4 0) bytes)))
 
 -- the bytes are those of the stub with all that is written over it, and as many
-record Assembled (bytes changed stub : List ℕ) : Type 0 where
+record IsAssembled (bytes changed stub : List ℕ) : Type 0 where
   pub is : bytes ≡ changed
   pub long : length changed ≡ length stub
 
-row_none : (before after : Head) (sections : List Section) (stub sbat : List ℕ) → Ordered before after sections None (length stub) sbat
-    → Assembled (row_bytes before after sections None (length stub) stub sbat) (with_fields before after (flat_map section_header sections) stub) stub
+row_none : (before after : Head) (sections : List Section) (stub sbat : List ℕ) → IsOrdered before after sections None (length stub) sbat
+    → IsAssembled (row_bytes before after sections None (length stub) stub sbat) (with_fields before after (flat_map section_header sections) stub) stub
 row_none before after sections stub sbat o =
     let headers = flat_map section_header sections in
     let behind = before.table_place + 40 * after.section_count in
@@ -109,23 +109,23 @@ row_none before after sections stub sbat o =
     let ends = o.behind in
     let inside = o.inside in
     let patches = numbers before after (record { place = table_end before; end = behind; bytes = headers } ∷ []) in
-    let rising : Rising 0 (length stub) patches =
+    let rising : IsRising 0 (length stub) patches =
     (omega arith, omega arith, (omega arith, omega arith, (omega arith, omega arith, (omega arith, omega arith, (omega arith, ends, inside))))) in
     record {
       is =
           ap (λ (h : List ℕ). chunks_bytes stub sbat (number_chunks before after) ++ chunks_bytes stub sbat (table_chunks before None) ++ h
           ++ chunks_bytes stub sbat (rest_chunks behind (length stub) None)) (headers_are stub sbat sections)
-          ∙ join_none (between stub 0 (before.pe_place + 6)) (little_bytes 2 after.section_count)
-          (between stub (before.pe_place + 8) (before.pe_place + 24 + 8)) (little_bytes 4 after.initialized_size)
-          (between stub (before.pe_place + 24 + 12) (before.pe_place + 24 + 56)) (little_bytes 4 after.image_size)
-          (between stub (before.pe_place + 24 + 60) (before.pe_place + 24 + 64)) (little_bytes 4 0)
-          (between stub (before.pe_place + 24 + 68) (table_end before)) headers (between stub behind (length stub))
+          ∙ join_none (bytes_between stub 0 (before.pe_place + 6)) (little_bytes 2 after.section_count)
+          (bytes_between stub (before.pe_place + 8) (before.pe_place + 24 + 8)) (little_bytes 4 after.initialized_size)
+          (bytes_between stub (before.pe_place + 24 + 12) (before.pe_place + 24 + 56)) (little_bytes 4 after.image_size)
+          (bytes_between stub (before.pe_place + 24 + 60) (before.pe_place + 24 + 64)) (little_bytes 4 0)
+          (bytes_between stub (before.pe_place + 24 + 68) (table_end before)) headers (bytes_between stub behind (length stub))
           ∙ sym (drop-puts 0 patches stub rising);
       long = length-puts 0 patches stub rising;
     }
 
-row_some : (before after : Head) (sections : List Section) (p : SbatPlace) (stub sbat : List ℕ) → Ordered before after sections (Some p) (length stub) sbat
-    → Assembled (row_bytes before after sections (Some p) (length stub) stub sbat) (with_fields before after (flat_map section_header sections) (replaced_by (Some p) sbat stub)) stub
+row_some : (before after : Head) (sections : List Section) (p : SbatPlace) (stub sbat : List ℕ) → IsOrdered before after sections (Some p) (length stub) sbat
+    → IsAssembled (row_bytes before after sections (Some p) (length stub) stub sbat) (with_fields before after (flat_map section_header sections) (replaced_by (Some p) sbat stub)) stub
 row_some before after sections p stub sbat o =
     let headers = flat_map section_header sections in
     let behind = before.table_place + 40 * after.section_count in
@@ -148,7 +148,7 @@ row_some before after sections p stub sbat o =
     record { place = p.size_place; end = p.size_place + 4; bytes = size }
     ∷ record { place = table_end before; end = behind; bytes = headers }
     ∷ record { place = p.raw_place; end = p.raw_place + p.raw_size; bytes = fill } ∷ []) in
-    let rising : Rising 0 (length stub) patches = (
+    let rising : IsRising 0 (length stub) patches = (
       omega arith,
       omega arith,
       (
@@ -173,19 +173,19 @@ row_some before after sections p stub sbat o =
       is =
           ap (λ (h : List ℕ). chunks_bytes stub sbat (number_chunks before after) ++ chunks_bytes stub sbat (table_chunks before (Some p)) ++ h
           ++ chunks_bytes stub sbat (rest_chunks behind (length stub) (Some p))) (headers_are stub sbat sections)
-          ∙ join_some (between stub 0 (before.pe_place + 6)) (little_bytes 2 after.section_count)
-          (between stub (before.pe_place + 8) (before.pe_place + 24 + 8)) (little_bytes 4 after.initialized_size)
-          (between stub (before.pe_place + 24 + 12) (before.pe_place + 24 + 56)) (little_bytes 4 after.image_size)
-          (between stub (before.pe_place + 24 + 60) (before.pe_place + 24 + 64)) (little_bytes 4 0)
-          (between stub (before.pe_place + 24 + 68) p.size_place) size (between stub (p.size_place + 4) (table_end before)) headers
-          (between stub behind p.raw_place) sbat (replicate (p.raw_size - p.length) 0) (between stub (p.raw_place + p.raw_size) (length stub))
+          ∙ join_some (bytes_between stub 0 (before.pe_place + 6)) (little_bytes 2 after.section_count)
+          (bytes_between stub (before.pe_place + 8) (before.pe_place + 24 + 8)) (little_bytes 4 after.initialized_size)
+          (bytes_between stub (before.pe_place + 24 + 12) (before.pe_place + 24 + 56)) (little_bytes 4 after.image_size)
+          (bytes_between stub (before.pe_place + 24 + 60) (before.pe_place + 24 + 64)) (little_bytes 4 0)
+          (bytes_between stub (before.pe_place + 24 + 68) p.size_place) size (bytes_between stub (p.size_place + 4) (table_end before)) headers
+          (bytes_between stub behind p.raw_place) sbat (replicate (p.raw_size - p.length) 0) (bytes_between stub (p.raw_place + p.raw_size) (length stub))
           ∙ sym (drop-puts 0 patches stub rising)
           ∙ swapped;
       long = ap length (sym swapped) ∙ length-puts 0 patches stub rising;
     }
 
-assembled : (before after : Head) (sections : List Section) (place : Option SbatPlace) (stub sbat : List ℕ) → Ordered before after sections place (length stub) sbat
-    → Assembled (row_bytes before after sections place (length stub) stub sbat) (with_fields before after (flat_map section_header sections) (replaced_by place sbat stub)) stub
+assembled : (before after : Head) (sections : List Section) (place : Option SbatPlace) (stub sbat : List ℕ) → IsOrdered before after sections place (length stub) sbat
+    → IsAssembled (row_bytes before after sections place (length stub) stub sbat) (with_fields before after (flat_map section_header sections) (replaced_by place sbat stub)) stub
 assembled before after sections None stub sbat o = row_none before after sections stub sbat o
 assembled before after sections (Some p) stub sbat o = row_some before after sections p stub sbat o
 
@@ -208,7 +208,7 @@ stands h stub sbat behind (Some size) shape fits len fields room =
 ordered : (h : Headers) (stub sbat : List ℕ) (sizes : List WideSize) (in_place : Option ℕ) → Shape stub h → FitsSbat h in_place
     → HasImage (with_sbat_size h in_place) (length stub) sizes → option_map length (sbat_if_in_place in_place sbat) ≡ in_place
     → (let new = new_sections (with_sbat_size h in_place) (length stub) sizes in
-    Ordered h.head (head_with (with_sbat_size h in_place) new) new (sbat_place h in_place) (length stub) sbat)
+    IsOrdered h.head (head_with (with_sbat_size h in_place) new) new (sbat_place h in_place) (length stub) sbat)
 ordered h stub sbat sizes in_place shape fits has len =
     let changed = with_sbat_size h in_place in
     let new = new_sections changed (length stub) sizes in
@@ -228,14 +228,14 @@ ordered h stub sbat sizes in_place shape fits has len =
 
 -- the chunks of a plan's image
 planned : (plan : Plan) (stub sbat : List ℕ) (contents : List (List ℕ)) → IsPlanFor plan stub contents sbat
-    → Assembled (new_stub_bytes plan stub sbat) (with_fields plan.before plan.after (flat_map section_header plan.sections.items) (replaced_by plan.sbat sbat stub)) stub
+    → IsAssembled (new_stub_bytes plan stub sbat) (with_fields plan.before plan.after (flat_map section_header plan.sections.items) (replaced_by plan.sbat sbat stub)) stub
 planned plan stub sbat contents is =
     let h = is.headers in
     let p = is.plans in
     let changed = with_sbat_size h is.in_place in
     let new = new_sections changed (length stub) is.sizes in
     let R : Head → Head → List Section → Option SbatPlace → ℕ → Type 0 =
-    λ b a s o n. Assembled (row_bytes b a s o n stub sbat) (with_fields b a (flat_map section_header s) (replaced_by o sbat stub)) stub in
+    λ b a s o n. IsAssembled (row_bytes b a s o n stub sbat) (with_fields b a (flat_map section_header s) (replaced_by o sbat stub)) stub in
     let all = ordered h stub sbat is.sizes is.in_place (stages-shape stub h (pe_of-stages stub h is.reads)) (buildable_sbat _ _ _ _ p.buildable)
     (buildable_image _ _ _ _ p.buildable) is.sbat_length in
     let here = assembled h.head (head_with changed new) new (sbat_place h is.in_place) stub sbat all in
@@ -270,7 +270,7 @@ one_image plan stub sbat contents a b is first second =
 
 pub is_finished : (plan : Plan) (stub sbat : List ℕ) (contents : List (List ℕ)) (h : Headers) (sizes : List WideSize) (in_place : Option ℕ)
     → pe_of stub ≡ Ok h → PlansImage plan h (length stub) sizes in_place → option_map length (sbat_if_in_place in_place sbat) ≡ in_place
-    → IsFinished plan stub contents sbat (finished h sizes contents (sbat_if_in_place in_place sbat) stub)
+    → IsFinished plan stub contents sbat (finished_image h sizes contents (sbat_if_in_place in_place sbat) stub)
 is_finished plan stub sbat contents h sizes in_place reads plans len = λ h' sizes' in_place' reads' plans' len'.
     sym (image_by-is plan h sizes contents in_place sbat stub reads plans len) ∙ image_by-is plan h' sizes' contents in_place' sbat stub reads' plans' len'
 
@@ -280,7 +280,7 @@ row_length before after place n =
     chunks_length (number_chunks before after)
     + (chunks_length (table_chunks before place) + chunks_length (rest_chunks (before.table_place + 40 * after.section_count) n place))
 
-row_within : (before after : Head) (sections : List Section) (place : Option SbatPlace) (n : ℕ) (sbat : List ℕ) → Ordered before after sections place n sbat → row_length before after place n ≤ n
+row_within : (before after : Head) (sections : List Section) (place : Option SbatPlace) (n : ℕ) (sbat : List ℕ) → IsOrdered before after sections place n sbat → row_length before after place n ≤ n
 row_within before after sections None n sbat o = omega (arith, o.fields, o.behind, o.inside)
 row_within before after sections (Some p) n sbat o =
     let stands = o.replaced in

@@ -5,7 +5,7 @@ use Rattle.std.specs.List.{flat_map}
 use Rattle.std.proofs.lemmas.List.{length-replicate, length-take}
 use Rattle.std.proofs.lemmas.List.Sums.{sum_by-cons}
 use Rattle.boot_machine.specs.Disk.{Files}
-use Rattle.boot_machine.specs.Reading.{between, zero_filled}
+use Rattle.boot_machine.specs.Reading.{bytes_between, fill_with_zeros}
 use Rattle.boot_machine.specs.Rows.{contents}
 use Rattle.uki_parts.specs.declared.part.Part.{Part}
 use Rattle.uki_parts.specs.declared.piece.Piece.{Piece}
@@ -20,7 +20,7 @@ use Rattle.image_writer.specs.declared.sources.Sources.{Sources}
 use Rattle.image_writer.proofs.Assembled.{finished_bytes, stub_kept}
 use Rattle.image_writer.proofs.PlannedImages.{planned_image-one}
 
-filled_long : (bytes : List ℕ) (count : ℕ) → count ≤ length (zero_filled bytes count)
+filled_long : (bytes : List ℕ) (count : ℕ) → count ≤ length (fill_with_zeros bytes count)
 filled_long bytes count = omega (arith, length-append (take count bytes) (replicate (count - length bytes) 0), length-take count bytes, length-replicate {A = ℕ} (count - length bytes) 0)
 
 piece_long : (files : Reading) (piece : Piece) → file_length piece ≤ length (given_bytes files piece)

@@ -3,7 +3,7 @@ use Rattle.std.specs.Prelude.{◌≡◌, ℕ, ◌+◌, ◌*◌, ◌-◌, ◌%◌
 use Rattle.std.specs.List.{flat_map}
 use Rattle.boot_base.specs.Paths.{Path, is_temp}
 use Rattle.boot_machine.specs.Disk.{Files}
-use Rattle.boot_machine.specs.Reading.{between}
+use Rattle.boot_machine.specs.Reading.{bytes_between}
 use Rattle.boot_machine.specs.Rows.{contents}
 use Rattle.byteorder.specs.Endian.{little_bytes}
 use Rattle.pe_reader.specs.declared.head.Head.{Head}
@@ -20,7 +20,7 @@ use Rattle.image_writer.specs.declared.chunk.Chunk.TheVariants as chunks
 
 -- the bytes that a chunk stands for, with those of the stub and of the new `.sbat`
 abbrev pub chunk_bytes : List ℕ → List ℕ → Chunk → List ℕ
-chunk_bytes stub sbat (chunks.Stub from to) = between stub from to
+chunk_bytes stub sbat (chunks.Stub from to) = bytes_between stub from to
 chunk_bytes stub sbat (chunks.Name name) = name
 chunk_bytes stub sbat (chunks.Short value) = little_bytes 2 value
 chunk_bytes stub sbat (chunks.Long value) = little_bytes 4 value
@@ -83,7 +83,7 @@ new_stub_bytes plan stub sbat =
 -- the bytes that a piece gives, as many as it says
 abbrev pub given_bytes : Reading → Piece → List ℕ
 given_bytes files (pieces.Bytes bytes) = bytes
-given_bytes files (pieces.File path size) = between (files path) 0 size
+given_bytes files (pieces.File path size) = bytes_between (files path) 0 size
 given_bytes files (pieces.Zeros count) = replicate count 0
 
 -- how many zeros fill up so many bytes to a multiple of a number, none where that is 0

@@ -4,7 +4,7 @@ ghost use Rattle.std.specs.Prelude.{◌≡◌, ◌<◌, true, length, replicate,
 ghost use Rattle.boot_machine.specs.Counts.{CountsDisk};
 ghost use Rattle.boot_machine.specs.Disk.{has};
 ghost use Rattle.boot_machine.specs.Taken.{TakesNone};
-ghost use Rattle.install_steps.specs.Appends.{AppendsOnly, Grown};
+ghost use Rattle.install_steps.specs.Appends.{AppendsOnly, IsGrown};
 
 use boot_base::TempPath;
 use boot_machine::{DiskFault, Machine};
@@ -22,7 +22,7 @@ pub fn write_zeros<M: Machine>(
     ensures length { length buffer.new ≡ length buffer.old }
     ensures appends { IsTrue M.tells → AppendsOnly M.time M.state temp.now machine.old machine.new }
     ensures grows { OnOk result (IsTrue M.tells
-        → Grown temp.now (replicate count 0) (M.state machine.old) (M.state machine.new)) }
+        → IsGrown temp.now (replicate count 0) (M.state machine.old) (M.state machine.new)) }
     ensures counts { CountsDisk result (M.counts machine.old) (M.counts machine.new) }
     ensures taken { IsTrue M.tells → TakesNone (M.taken machine.old) (M.taken machine.new) }
 {
@@ -42,7 +42,7 @@ fn append_zeros<M: Machine>(
     requires zeros { zeros.now ≡ replicate (length zeros.now) 0 }
     ensures appends { IsTrue M.tells → AppendsOnly M.time M.state temp.now machine.old machine.new }
     ensures grows { OnOk result (IsTrue M.tells
-        → Grown temp.now (replicate count 0) (M.state machine.old) (M.state machine.new)) }
+        → IsGrown temp.now (replicate count 0) (M.state machine.old) (M.state machine.new)) }
     ensures counts { CountsDisk result (M.counts machine.old) (M.counts machine.new) }
     ensures taken { IsTrue M.tells → TakesNone (M.taken machine.old) (M.taken machine.new) }
 {

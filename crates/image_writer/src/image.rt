@@ -5,7 +5,7 @@ ghost use Rattle.boot_machine.specs.Counts.{CountsDisk};
 ghost use Rattle.boot_machine.specs.Disk.{has, view};
 ghost use Rattle.boot_machine.specs.Reading.{TakesAtMost};
 ghost use Rattle.boot_machine.specs.Rows.{contents};
-ghost use Rattle.install_steps.specs.Appends.{AppendsOnly, Grown};
+ghost use Rattle.install_steps.specs.Appends.{AppendsOnly, IsGrown};
 ghost use Rattle.image_writer.specs.Chunks.{chunk_bytes, chunks_bytes, headers_bytes, new_stub_bytes};
 ghost use Rattle.image_writer.specs.Sourced.{IsSourced, IsPlannedImage, stub_path, new_sbat};
 ghost use Rattle.image_writer.specs.Taken.{chunk_length, chunks_length, kept_length, writing_length};
@@ -73,7 +73,7 @@ fn write_stub<M: Machine>(
     requires room { 0 < length buffer.old }
     ensures length { length buffer.new ≡ length buffer.old }
     ensures appends { IsTrue M.tells → AppendsOnly M.time M.state temp.now machine.old machine.new }
-    ensures grows { OnOk result (IsTrue M.tells → Grown temp.now
+    ensures grows { OnOk result (IsTrue M.tells → IsGrown temp.now
         (new_stub_bytes plan.now (contents (M.state machine.old).files (stub_path sources.now)) (new_sbat sources.now))
         (M.state machine.old) (M.state machine.new)) }
     ensures counts { CountsDisk result (M.counts machine.old) (M.counts machine.new) }
@@ -99,7 +99,7 @@ fn write_headers<M: Machine>(
     requires room { 0 < length buffer.old }
     ensures length { length buffer.new ≡ length buffer.old }
     ensures appends { IsTrue M.tells → AppendsOnly M.time M.state temp.now machine.old machine.new }
-    ensures grows { OnOk result (IsTrue M.tells → Grown temp.now
+    ensures grows { OnOk result (IsTrue M.tells → IsGrown temp.now
         (headers_bytes (contents (M.state machine.old).files (stub_path sources.now))
         (new_sbat sources.now) sections.now)
         (M.state machine.old) (M.state machine.new)) }
@@ -126,7 +126,7 @@ fn write_chunks<M: Machine>(
     requires room { 0 < length buffer.old }
     ensures length { length buffer.new ≡ length buffer.old }
     ensures appends { IsTrue M.tells → AppendsOnly M.time M.state temp.now machine.old machine.new }
-    ensures grows { OnOk result (IsTrue M.tells → Grown temp.now
+    ensures grows { OnOk result (IsTrue M.tells → IsGrown temp.now
         (chunks_bytes (contents (M.state machine.old).files (stub_path sources.now)) (new_sbat sources.now) chunks.now)
         (M.state machine.old) (M.state machine.new)) }
     ensures counts { CountsDisk result (M.counts machine.old) (M.counts machine.new) }
@@ -153,7 +153,7 @@ fn write_chunk<M: Machine>(
     requires room { 0 < length buffer.old }
     ensures length { length buffer.new ≡ length buffer.old }
     ensures appends { IsTrue M.tells → AppendsOnly M.time M.state temp.now machine.old machine.new }
-    ensures grows { OnOk result (IsTrue M.tells → Grown temp.now
+    ensures grows { OnOk result (IsTrue M.tells → IsGrown temp.now
         (chunk_bytes (contents (M.state machine.old).files (stub_path sources.now)) (new_sbat sources.now) chunk)
         (M.state machine.old) (M.state machine.new)) }
     ensures counts { CountsDisk result (M.counts machine.old) (M.counts machine.new) }

@@ -6,7 +6,7 @@ ghost use Rattle.boot_machine.specs.Counts.{CountsDisk};
 ghost use Rattle.boot_machine.specs.Disk.{has};
 ghost use Rattle.boot_machine.specs.Reading.{TakesAtMost};
 ghost use Rattle.uki_parts.specs.Pieces.{Reading, file_length};
-ghost use Rattle.install_steps.specs.Appends.{AppendsOnly, Grown};
+ghost use Rattle.install_steps.specs.Appends.{AppendsOnly, IsGrown};
 ghost use Rattle.image_writer.specs.Chunks.{Agrees, behind_stub, gap, given_bytes, padded_part};
 ghost use Rattle.image_writer.specs.Taken.{part_reading};
 
@@ -31,7 +31,7 @@ pub fn write_parts<M: Machine>(
     ensures appends { IsTrue M.tells → AppendsOnly M.time M.state temp.now machine.old machine.new }
     ensures grows { OnOk result (IsTrue M.tells → 0 < unit → (files : Reading)
         → Agrees files (M.state machine.old).files
-        → Grown temp.now (behind_stub files unit stub_length parts.now) (M.state machine.old) (M.state machine.new)) }
+        → IsGrown temp.now (behind_stub files unit stub_length parts.now) (M.state machine.old) (M.state machine.new)) }
     ensures counts { CountsDisk result (M.counts machine.old) (M.counts machine.new) }
     ensures taken { IsTrue M.tells → TakesAtMost (sum_by part_reading parts.now)
         (M.taken machine.old) (M.taken machine.new) }
@@ -58,7 +58,7 @@ fn write_each_part<M: Machine>(
     ensures appends { IsTrue M.tells → AppendsOnly M.time M.state temp.now machine.old machine.new }
     ensures grows { OnOk result (IsTrue M.tells → 0 < unit → (files : Reading)
         → Agrees files (M.state machine.old).files
-        → Grown temp.now (flat_map (padded_part files unit) parts.now) (M.state machine.old) (M.state machine.new)) }
+        → IsGrown temp.now (flat_map (padded_part files unit) parts.now) (M.state machine.old) (M.state machine.new)) }
     ensures counts { CountsDisk result (M.counts machine.old) (M.counts machine.new) }
     ensures taken { IsTrue M.tells → TakesAtMost (sum_by part_reading parts.now)
         (M.taken machine.old) (M.taken machine.new) }
@@ -84,7 +84,7 @@ fn write_part<M: Machine>(
     ensures appends { IsTrue M.tells → AppendsOnly M.time M.state temp.now machine.old machine.new }
     ensures grows { OnOk result (IsTrue M.tells → 0 < unit → (files : Reading)
         → Agrees files (M.state machine.old).files
-        → Grown temp.now (padded_part files unit part.now) (M.state machine.old) (M.state machine.new)) }
+        → IsGrown temp.now (padded_part files unit part.now) (M.state machine.old) (M.state machine.new)) }
     ensures counts { CountsDisk result (M.counts machine.old) (M.counts machine.new) }
     ensures taken { IsTrue M.tells → TakesAtMost (part_reading part.now) (M.taken machine.old) (M.taken machine.new) }
 {
@@ -104,7 +104,7 @@ fn write_pieces<M: Machine>(
     ensures length { length buffer.new ≡ length buffer.old }
     ensures appends { IsTrue M.tells → AppendsOnly M.time M.state temp.now machine.old machine.new }
     ensures grows { OnOk result (IsTrue M.tells → (files : Reading) → Agrees files (M.state machine.old).files
-        → Grown temp.now (flat_map (given_bytes files) pieces.now) (M.state machine.old) (M.state machine.new)) }
+        → IsGrown temp.now (flat_map (given_bytes files) pieces.now) (M.state machine.old) (M.state machine.new)) }
     ensures counts { CountsDisk result (M.counts machine.old) (M.counts machine.new) }
     ensures taken { IsTrue M.tells → TakesAtMost (sum_by file_length pieces.now)
         (M.taken machine.old) (M.taken machine.new) }
@@ -128,7 +128,7 @@ fn write_piece<M: Machine>(
     ensures length { length buffer.new ≡ length buffer.old }
     ensures appends { IsTrue M.tells → AppendsOnly M.time M.state temp.now machine.old machine.new }
     ensures grows { OnOk result (IsTrue M.tells → (files : Reading) → Agrees files (M.state machine.old).files
-        → Grown temp.now (given_bytes files piece.now) (M.state machine.old) (M.state machine.new)) }
+        → IsGrown temp.now (given_bytes files piece.now) (M.state machine.old) (M.state machine.new)) }
     ensures counts { CountsDisk result (M.counts machine.old) (M.counts machine.new) }
     ensures taken { IsTrue M.tells → TakesAtMost (file_length piece.now) (M.taken machine.old) (M.taken machine.new) }
 {

@@ -3,14 +3,14 @@ use Rattle.std.proofs.Common.{◌≡◌, ◌≤◌, inl, inr, ℕ, true, false, 
 use Rattle.std.specs.Option.{option_map}
 use Rattle.std.specs.FinMap as map
 use Rattle.boot_base.specs.Paths.{Path, is_temp}
-use Rattle.boot_machine.specs.Disk.{Files, has, recovered_view, same}
+use Rattle.boot_machine.specs.Disk.{Files, has, recovered_view, is_same_path}
 use Rattle.boot_machine.specs.Rows.{contents, append_to, move_in}
 use Rattle.boot_machine.specs.Maps.{cases_same, same_self, same_files, get-insert_here, get-insert_apart}
 use Rattle.boot_machine.proofs.Views.{get-append_to}
 use Rattle.boot_machine.proofs.Recovering.{IsCalm, get-recovered_view_there, has-recovered_view}
 use Rattle.boot_base.specs.Paths.{intent}
 use Rattle.boot_machine.proofs.Written.{recovered_view-written}
-use Rattle.install_steps.specs.Steps.{copied}
+use Rattle.install_steps.specs.Steps.{after_copy}
 use Rattle.install_steps.proofs.RefusedLemmas.{copied_there}
 
 -- a new file with these bytes
@@ -20,7 +20,7 @@ with_file p bytes m = append_to p bytes (map.insert m p [])
 pub with_file_here : (m : Files) (p : Path) (bytes : List ℕ) → map.get (with_file p bytes m) p ≡ Some bytes
 with_file_here m p bytes = rw (get-append_to (map.insert m p []) p bytes p, same_self p, get-insert_here m p []) refl
 
-pub with_file_apart : (m : Files) (p : Path) (bytes : List ℕ) (q : Path) → same q p ≡ false → map.get (with_file p bytes m) q ≡ map.get m q
+pub with_file_apart : (m : Files) (p : Path) (bytes : List ℕ) (q : Path) → is_same_path q p ≡ false → map.get (with_file p bytes m) q ≡ map.get m q
 with_file_apart m p bytes q apart = rw (get-append_to (map.insert m p []) p bytes q, apart) (get-insert_apart m p [] q apart)
 
 -- a file that is made is empty
@@ -44,7 +44,7 @@ pub contents-recovered_view : (m : Files) (q : Path) → IsCalm m → is_temp q 
 contents-recovered_view m q calm shown = ap (λ (o : Option (List ℕ)). unwrap_or o []) (get-recovered_view_there m q calm shown)
 
 -- boot sees the copy in its place
-pub sees_copy : (m now : Files) (temp from to : Path) → IsCalm m → same intent to ≡ false → is_temp temp ≡ true → is_temp from ≡ false → is_temp to ≡ false → has m from ≡ true → now ≡ with_file temp (contents m from) m → recovered_view (move_in temp to now) ≡ copied from to (recovered_view m)
+pub sees_copy : (m now : Files) (temp from to : Path) → IsCalm m → is_same_path intent to ≡ false → is_temp temp ≡ true → is_temp from ≡ false → is_temp to ≡ false → has m from ≡ true → now ≡ with_file temp (contents m from) m → recovered_view (move_in temp to now) ≡ after_copy from to (recovered_view m)
 sees_copy m now temp from to calm free is_temporary from_shown to_shown there is =
     ap (λ (n : Files). recovered_view (move_in temp to n)) is ∙ recovered_view-written m temp to (contents m from) calm is_temporary to_shown free ∙ ap (λ (l : List ℕ). map.insert (recovered_view m) to l) (sym (contents-recovered_view m from calm from_shown))
     ∙ sym (copied_there from to (recovered_view m) (has-recovered_view m from calm from_shown ∙ there))

@@ -3,7 +3,7 @@ use Rattle.std.proofs.Common.{◌≡◌, ◌≢◌, inl, inr, ℕ, true, false, 
 use Rattle.std.specs.Prelude.{option_and_then}
 use Rattle.std.specs.FinMap as map
 use Rattle.boot_base.specs.Paths.{Path, intent, is_temp, read_intent}
-use Rattle.boot_machine.specs.Disk.{Files, HasNoHalfRename, has, intended, recovered_view}
+use Rattle.boot_machine.specs.Disk.{Files, HasNoHalfRename, has, intent_names, recovered_view}
 use Rattle.boot_machine.specs.Rows.{contents, move_in}
 use Rattle.boot_machine.specs.Maps.{cases_same, get-none, get-insert_here, get-insert_apart, get-remove_here, get-remove_apart}
 use Rattle.boot_machine.proofs.Recovering.{AreNames, IsCalm, names_of, turn, recovered_view_from, recovered_view-drop_intent, recovered_view-move_in, whole-first, whole-second, get-move_in_apart}
@@ -33,7 +33,7 @@ module _ (m n : Files) (a b : Path) (calm : IsCalm m) (intends : Intends a b m n
   pub intended_there : has m a ≡ true → has n a ≡ true
   intended_there there = ap is_some (intends.alike a names.first_lasts names.first_free) ∙ there
 
-  still : intended (move_in a b n) ≡ Some (a, b)
+  still : intent_names (move_in a b n) ≡ Some (a, b)
   still = ap (option_and_then read_intent) (get-move_in_apart n a b intent (turn intent a names.first_free) (turn intent b names.second_free)) ∙ intends.named
 
   gone : has (move_in a b n) a ≡ false

@@ -6,19 +6,19 @@ use Rattle.std.specs.Option.{option_map}
 use Rattle.std.specs.FinMap as map
 use Rattle.boot_base.specs.Paths.{Path, intent, read_intent}
 use Rattle.boot_base.proofs.Intent.{read-long}
-use Rattle.boot_machine.specs.Disk.{Files, State, HasOneCandidate, has, intended, recovered_view}
+use Rattle.boot_machine.specs.Disk.{Files, State, HasOneCandidate, has, intent_names, recovered_view}
 use Rattle.boot_machine.specs.Images.{IsImage, IsFirm, IsSettled}
 use Rattle.boot_machine.specs.Moments.{Timeline, EachSince}
-use Rattle.boot_machine.specs.Reading.{zero_filled}
+use Rattle.boot_machine.specs.Reading.{fill_with_zeros}
 use Rattle.boot_machine.specs.Rows.{contents}
 use Rattle.boot_machine.specs.declared.machine.Printed.{Printed}
 use Rattle.boot_machine.proofs.Elapsing.{joined, weaken}
-use Rattle.boot_machine.proofs.Filling.{zero_filled-inside}
+use Rattle.boot_machine.proofs.Filling.{fill_with_zeros-inside}
 use Rattle.install_steps.specs.Recovery.{RecoversTo, SameFrom, SeesSame, StaysOrSame}
 use Rattle.install_steps.specs.Steps.{Sees, StepsTo}
 
 -- an intent that is there is read from its bytes
-pub intended_at : (m : Files) → has m intent ≡ true → intended m ≡ read_intent (contents m intent)
+pub intended_at : (m : Files) → has m intent ≡ true → intent_names m ≡ read_intent (contents m intent)
 intended_at m there = by_cases (map.get m intent) there
   where
     by_cases : (o : Option (List ℕ)) → is_some o ≡ true → option_and_then read_intent o ≡ read_intent (unwrap_or o [])
@@ -26,12 +26,12 @@ intended_at m there = by_cases (map.get m intent) there
     by_cases (Some bytes) e = refl
 
 -- a file that is too long is no intent
-pub none_long : (m : Files) (size : ℕ) → has m intent ≡ true → size ≡ length (contents m intent) → 2050 < size → None ≡ intended m
+pub none_long : (m : Files) (size : ℕ) → has m intent ≡ true → size ≡ length (contents m intent) → 2050 < size → None ≡ intent_names m
 none_long m size there is long = sym (intended_at m there ∙ read-long (contents m intent) (omega (arith, is, long)))
 
 -- a whole file is read
-pub read_whole : (file bytes : List ℕ) (count : ℕ) → bytes ≡ zero_filled (drop 0 file) count → count ≡ length file → bytes ≡ file
-read_whole file bytes count is long = is ∙ zero_filled-inside file count (omega (arith, long)) ∙ take_all count file (omega (arith, long))
+pub read_whole : (file bytes : List ℕ) (count : ℕ) → bytes ≡ fill_with_zeros (drop 0 file) count → count ≡ length file → bytes ≡ file
+read_whole file bytes count is long = is ∙ fill_with_zeros-inside file count (omega (arith, long)) ∙ take_all count file (omega (arith, long))
 
 -- a file with a size is there
 pub size_there : (m : Files) (q : Path) (found : Option ℕ) (size : ℕ) → found ≡ option_map length (map.get m q) → found ≡ Some size → (has m q ≡ true) × (size ≡ length (contents m q))

@@ -4,19 +4,19 @@ use Rattle.std.specs.FinMap as map
 use Rattle.boot_base.specs.Paths.{Path}
 use Rattle.boot_machine.specs.Disk.{Files, has}
 use Rattle.boot_machine.specs.Rows.{contents, move_in}
-use Rattle.install_steps.specs.Steps.{copied, moved}
+use Rattle.install_steps.specs.Steps.{after_copy, after_move}
 
-pub copied_there : (from to : Path) (files : Files) → has files from ≡ true → copied from to files ≡ map.insert files to (contents files from)
+pub copied_there : (from to : Path) (files : Files) → has files from ≡ true → after_copy from to files ≡ map.insert files to (contents files from)
 copied_there from to files there = rw there refl
 
-pub copied_not : (from to : Path) (files : Files) → has files from ≡ false → copied from to files ≡ files
+pub copied_not : (from to : Path) (files : Files) → has files from ≡ false → after_copy from to files ≡ files
 copied_not from to files none = rw none refl
 
-pub moved_there : (from to : Path) (files : Files) → has files from ≡ true → has files to ≡ false → moved from to files ≡ move_in from to files
+pub moved_there : (from to : Path) (files : Files) → has files from ≡ true → has files to ≡ false → after_move from to files ≡ move_in from to files
 moved_there from to files there none = rw (there, none) refl
 
-pub moved_not_there : (from to : Path) (files : Files) → has files from ≡ false → moved from to files ≡ files
+pub moved_not_there : (from to : Path) (files : Files) → has files from ≡ false → after_move from to files ≡ files
 moved_not_there from to files none = rw none refl
 
-pub moved_over : (from to : Path) (files : Files) → has files from ≡ true → has files to ≡ true → moved from to files ≡ files
+pub moved_over : (from to : Path) (files : Files) → has files from ≡ true → has files to ≡ true → after_move from to files ≡ files
 moved_over from to files there over = rw (there, over) refl

@@ -13,7 +13,7 @@ use Rattle.boot_machine.specs.Maps.{get-insert_here, get-insert_apart, get-remov
 use Rattle.boot_machine.proofs.Views.{temp_apart}
 use Rattle.boot_machine.proofs.Written.{temps-written}
 use Rattle.boot_machine.proofs.Recovering.{intent_shown}
-use Rattle.install_steps.specs.Appends.{HasAppended, Grown}
+use Rattle.install_steps.specs.Appends.{HasAppended, IsGrown}
 use Rattle.install_steps.specs.Steps.{Intends}
 use Rattle.install_steps.specs.AppendLaws.{has_appended_on}
 use Rattle.install_steps.proofs.AppendLemmas.{written_file}
@@ -23,7 +23,7 @@ use Rattle.install_steps.proofs.CopyLemmas.{with_file, with_file_here, with_file
 pub bytes_joined : (a b : Path) → (a ++ 0 ∷ []) ++ (b ++ 0 ∷ []) ≡ intent_bytes a b
 bytes_joined a b = append_assoc a (0 ∷ []) (b ++ 0 ∷ [])
 
-pub grown_joined : (p a b : Path) (s t u : State) → contents s.files p ≡ [] → Grown p (a ++ 0 ∷ []) s t → Grown p (b ++ 0 ∷ []) t u → contents u.files p ≡ intent_bytes a b
+pub grown_joined : (p a b : Path) (s t u : State) → contents s.files p ≡ [] → IsGrown p (a ++ 0 ∷ []) s t → IsGrown p (b ++ 0 ∷ []) t u → contents u.files p ≡ intent_bytes a b
 grown_joined p a b s t u none first second =
     second.bytes ∙ ap (λ (l : List ℕ). l ++ (b ++ 0 ∷ [])) (first.bytes ∙ ap (λ (l : List ℕ). l ++ (a ++ 0 ∷ [])) none) ∙ bytes_joined a b
 

@@ -6,11 +6,11 @@ use Rattle.boot_machine.specs.Disk.{State, has}
 use Rattle.boot_machine.specs.Moments.{Timeline}
 use Rattle.boot_machine.specs.Reading.{OnlyReads}
 use Rattle.boot_machine.specs.Rows.{contents}
-use Rattle.install_steps.specs.Appends.{HasAppended, AppendsOnly, Grown, GrowsBy, CanGrow, GrowsAlone}
+use Rattle.install_steps.specs.Appends.{HasAppended, AppendsOnly, IsGrown, GrowsBy, CanGrow, GrowsAlone}
 use Rattle.install_steps.specs.AppendLaws.{appends_reads, appends_on, appends-there, appends-source, grown_none, grown_on, grown_once}
 
-grown_left : (p : Path) (s t : State) → has s.files p ≡ true → HasAppended p s t → (more : List ℕ) × Grown p more s t
-grown_left p s t there (inl is) = ([], subst (λ (v : State). Grown p [] s v) (sym is) (grown_none p s))
+grown_left : (p : Path) (s t : State) → has s.files p ≡ true → HasAppended p s t → (more : List ℕ) × IsGrown p more s t
+grown_left p s t there (inl is) = ([], subst (λ (v : State). IsGrown p [] s v) (sym is) (grown_none p s))
 grown_left p s t there (inr more) = (more.0, grown_once p more.0 s t there more.1)
 
 module _ {D : Type 0} (tells : Bool) (time : Timeline D) (state : D → State) where
@@ -21,7 +21,7 @@ module _ {D : Type 0} (tells : Bool) (time : Timeline D) (state : D → State) w
     refl,
     λ told. record {
       appends = appends_reads time state p old new (reads told);
-      grown = subst (λ (v : State). Grown p [] (state old) v) (sym (reads told).same) (grown_none p (state old));
+      grown = subst (λ (v : State). IsGrown p [] (state old) v) (sym (reads told).same) (grown_none p (state old));
     },
   )
 

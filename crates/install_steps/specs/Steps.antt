@@ -2,7 +2,7 @@
 use Rattle.std.specs.Prelude.{if◌then◌else◌, None, ◌≡◌, ◌≢◌, ◌⊎◌, ◌&&◌, not, true, false, List, Some, Result, MatchResult}
 use Rattle.std.specs.FinMap as map
 use Rattle.boot_base.specs.Paths.{Path, intent, is_temp}
-use Rattle.boot_machine.specs.Disk.{Files, State, HasOneCandidate, IsRested, has, intended, same, recovered_view}
+use Rattle.boot_machine.specs.Disk.{Files, State, HasOneCandidate, IsRested, has, intent_names, is_same_path, recovered_view}
 use Rattle.boot_machine.specs.Images.{IsImage, IsFirm}
 use Rattle.boot_machine.specs.Moments.{Timeline, EachSince}
 use Rattle.boot_machine.specs.Listed.{is_listed}
@@ -40,12 +40,12 @@ pub record StepsTo {D : Type 0} (time : Timeline D) (state : D → State) (next 
       ⊎ (recovered_view (state new).files ≡ next)
 
 -- the files with the bytes of the file at `from` at `to` too, or as they are where no file is at `from`
-abbrev pub copied : Path → Path → Files → Files
-copied from to files = if has files from then map.insert files to (contents files from) else files
+abbrev pub after_copy : Path → Path → Files → Files
+after_copy from to files = if has files from then map.insert files to (contents files from) else files
 
 -- the files with the one at `from` at `to` alone, or as they are where none is at `from` or one is at `to`
-abbrev pub moved : Path → Path → Files → Files
-moved from to files = if has files from && not (has files to) then move_in from to files else files
+abbrev pub after_move : Path → Path → Files → Files
+after_move from to files = if has files from && not (has files to) then move_in from to files else files
 
 -- no moment since old has anything printed that wasn't printed then
 abbrev pub PrintsNothing : {D : Type 0} → Timeline D → (D → State) → D → D → Type 0
@@ -77,8 +77,8 @@ CountsStep result old new = MatchResult result (λ _. new ≡ old) (λ fault. st
 
 -- the files with an intent that names these two, and but for temporary ones nothing else
 pub record Intends (from to : Path) (old new : Files) : Type 0 where
-  pub named : intended new ≡ Some (from, to)
-  pub alike : (q : Path) → is_temp q ≡ false → same q intent ≡ false → map.get new q ≡ map.get old q
+  pub named : intent_names new ≡ Some (from, to)
+  pub alike : (q : Path) → is_temp q ≡ false → is_same_path q intent ≡ false → map.get new q ≡ map.get old q
 
 -- the disk failed, or the counts stay
 abbrev pub recover_fault : RecoverFault → Counts → Counts → Type 0

@@ -2,10 +2,10 @@
 ghost use Rattle.std.specs.Prelude.{◌≡◌, ◌<◌, ◌-◌, true, length, IsTrue, OnOk};
 ghost use Rattle.boot_machine.specs.Counts.{CountsDisk};
 ghost use Rattle.boot_machine.specs.Disk.{has};
-ghost use Rattle.boot_machine.specs.Reading.{TakesAtMost, between};
+ghost use Rattle.boot_machine.specs.Reading.{TakesAtMost, bytes_between};
 ghost use Rattle.boot_machine.specs.Rows.{contents};
 ghost use Rattle.boot_machine.specs.Taken.{TakesNone};
-ghost use Rattle.install_steps.specs.Appends.{AppendsOnly, Grown};
+ghost use Rattle.install_steps.specs.Appends.{AppendsOnly, IsGrown};
 
 use boot_base::{BootPath, TempPath};
 use boot_machine::{ByteSink, DiskFault, Machine, stream_range};
@@ -46,7 +46,7 @@ pub fn append<M: Machine>(machine: &mut M, temp: &TempPath, bytes: &[u8]) -> Res
     requires there { IsTrue M.tells → has (M.state machine.old).files temp.now ≡ true }
     ensures appends { IsTrue M.tells → AppendsOnly M.time M.state temp.now machine.old machine.new }
     ensures grows { OnOk result (IsTrue M.tells
-        → Grown temp.now bytes.now (M.state machine.old) (M.state machine.new)) }
+        → IsGrown temp.now bytes.now (M.state machine.old) (M.state machine.new)) }
     ensures counts { CountsDisk result (M.counts machine.old) (M.counts machine.new) }
     ensures taken { IsTrue M.tells → TakesNone (M.taken machine.old) (M.taken machine.new) }
 {
@@ -69,7 +69,7 @@ pub fn copy_part<M: Machine>(
     ensures length { length buffer.new ≡ length buffer.old }
     ensures appends { IsTrue M.tells → AppendsOnly M.time M.state temp.now machine.old machine.new }
     ensures grows { OnOk result (IsTrue M.tells
-        → Grown temp.now (between (contents (M.state machine.old).files file.now) from to) (M.state machine.old)
+        → IsGrown temp.now (bytes_between (contents (M.state machine.old).files file.now) from to) (M.state machine.old)
         (M.state machine.new)) }
     ensures counts { CountsDisk result (M.counts machine.old) (M.counts machine.new) }
     ensures taken { IsTrue M.tells → TakesAtMost (to - from) (M.taken machine.old) (M.taken machine.new) }

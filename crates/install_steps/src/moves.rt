@@ -1,13 +1,13 @@
 //! Moving a file under an intent, which says at a stop which of its two names counts.
 ghost use Rattle.std.specs.Prelude.{◌≡◌, ◌≢◌, ◌++◌, ◌∷◌, [], true, false, IsTrue, OnOk, IsErrOf, Some};
 ghost use Rattle.boot_base.specs.Paths.{IsFree, intent as intent_path};
-ghost use Rattle.boot_machine.specs.Disk.{HasOneCandidate, IsRested, has, intended, recovered_view};
+ghost use Rattle.boot_machine.specs.Disk.{HasOneCandidate, IsRested, has, intent_names, recovered_view};
 ghost use Rattle.boot_machine.specs.Images.{IsFirm};
 ghost use Rattle.boot_machine.specs.Rows.{move_in};
 ghost use Rattle.boot_machine.specs.Counts.{CountsDisk};
 ghost use Rattle.boot_machine.specs.Taken.{TakesNone};
-ghost use Rattle.install_steps.specs.Appends.{AppendsOnly, Grown};
-ghost use Rattle.install_steps.specs.Steps.{Keeps, StepsTo, IsDone, NoNewTemp, Intends, PrintsNothing, RestsUnless, CountsMove, moved};
+ghost use Rattle.install_steps.specs.Appends.{AppendsOnly, IsGrown};
+ghost use Rattle.install_steps.specs.Steps.{Keeps, StepsTo, IsDone, NoNewTemp, Intends, PrintsNothing, RestsUnless, CountsMove, after_move};
 
 use crate::MoveFault;
 use crate::steps::unlink_synced;
@@ -24,7 +24,7 @@ fn append_name<M: Machine>(
     requires there { IsTrue M.tells → has (M.state machine.old).files temp.now ≡ true }
     ensures appends { IsTrue M.tells → AppendsOnly M.time M.state temp.now machine.old machine.new }
     ensures grown { OnOk result (IsTrue M.tells
-        → Grown temp.now (name.now ++ 0 ∷ []) (M.state machine.old) (M.state machine.new)) }
+        → IsGrown temp.now (name.now ++ 0 ∷ []) (M.state machine.old) (M.state machine.new)) }
     ensures counts { CountsDisk result (M.counts machine.old) (M.counts machine.new) }
     ensures taken { IsTrue M.tells → TakesNone (M.taken machine.old) (M.taken machine.new) }
 {
@@ -74,7 +74,7 @@ fn rename_synced<M: Machine>(
 ) -> Result<(), DiskFault>
     requires one { IsTrue M.tells → HasOneCandidate (M.state machine.old) }
     requires there { IsTrue M.tells → has (M.state machine.old).files from.now ≡ true }
-    requires named { IsTrue M.tells → intended (M.state machine.old).files ≡ Some (from.now, to.now) }
+    requires named { IsTrue M.tells → intent_names (M.state machine.old).files ≡ Some (from.now, to.now) }
     ensures step { IsTrue M.tells → IsFirm (M.state machine.old) → StepsTo M.time M.state
         (recovered_view (move_in from.now to.now (M.state machine.old).files)) machine.old machine.new }
     ensures files { OnOk result (IsTrue M.tells
@@ -138,9 +138,9 @@ pub fn move_name<M: Machine>(
     requires one { IsTrue M.tells → HasOneCandidate (M.state machine.old) }
     requires rested { IsTrue M.tells → IsRested (M.state machine.old) }
     ensures done { OnOk result (IsTrue M.tells → IsFirm (M.state machine.old)
-        → IsDone (M.state machine.new) (moved from.now to.now (recovered_view (M.state machine.old).files))) }
+        → IsDone (M.state machine.new) (after_move from.now to.now (recovered_view (M.state machine.old).files))) }
     ensures step { IsTrue M.tells → IsFirm (M.state machine.old) → StepsTo M.time M.state
-        (moved from.now to.now (recovered_view (M.state machine.old).files)) machine.old machine.new }
+        (after_move from.now to.now (recovered_view (M.state machine.old).files)) machine.old machine.new }
     ensures found { OnOk result (IsTrue M.tells → (has (recovered_view (M.state machine.old).files) from.now ≡ true)
         × (has (recovered_view (M.state machine.old).files) to.now ≡ false)) }
     ensures not_found { IsErrOf result MoveFault.NotFound → IsTrue M.tells

@@ -2,7 +2,7 @@
 ghost use Rattle.std.specs.Prelude.{◌≡◌, ◌⊎◌, true, false, length, IsTrue, IfOk, OnOk, Some};
 ghost use Rattle.std.specs.Option.{option_map};
 ghost use Rattle.boot_base.specs.Paths.{intent as intent_path};
-ghost use Rattle.boot_machine.specs.Disk.{HasNoHalfRename, HasOneCandidate, IsRested, has, intended, recovered_view};
+ghost use Rattle.boot_machine.specs.Disk.{HasNoHalfRename, HasOneCandidate, IsRested, has, intent_names, recovered_view};
 ghost use Rattle.boot_machine.specs.Images.{IsFirm, IsSettled};
 ghost use Rattle.boot_machine.specs.Moments.{EachSince};
 ghost use Rattle.boot_machine.specs.Reading.{OnlyReads, TakesAtMost};
@@ -41,7 +41,7 @@ fn left_names<M: Machine>(
     requires there { IsTrue M.tells → has (M.state machine.old).files intent_path ≡ true }
     requires size { IsTrue M.tells → size ≡ length (contents (M.state machine.old).files intent_path) }
     ensures names { IfOk result (λ found. IsTrue M.tells
-        → option_map names_of found ≡ intended (M.state machine.old).files) }
+        → option_map names_of found ≡ intent_names (M.state machine.old).files) }
     ensures reads { IsTrue M.tells → OnlyReads M.time M.state machine.old machine.new }
     ensures counts { CountsRecover result (M.counts machine.old) (M.counts machine.new) }
     ensures taken { IsTrue M.tells → TakesAtMost 2050 (M.taken machine.old) (M.taken machine.new) }
@@ -56,7 +56,7 @@ fn left_names<M: Machine>(
 
 // Takes the first name away where both are there. Boot sees the same all the while.
 fn drop_left<M: Machine>(machine: &mut M, names: &Names) -> Result<(), DiskFault>
-    requires named { IsTrue M.tells → intended (M.state machine.old).files ≡ Some (names_of names.now) }
+    requires named { IsTrue M.tells → intent_names (M.state machine.old).files ≡ Some (names_of names.now) }
     requires one { IsTrue M.tells → HasOneCandidate (M.state machine.old) }
     ensures step { IsTrue M.tells → IsFirm (M.state machine.old) → StepsTo M.time M.state
         (recovered_view (M.state machine.old).files) machine.old machine.new }

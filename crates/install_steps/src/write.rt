@@ -8,7 +8,7 @@ ghost use Rattle.boot_machine.specs.Rows.{contents, move_in};
 ghost use Rattle.boot_machine.specs.Counts.{CountsDisk};
 ghost use Rattle.boot_machine.specs.Taken.{TakesNone};
 ghost use Rattle.boot_base.specs.Paths.{IsFree};
-ghost use Rattle.install_steps.specs.Steps.{Keeps, StepsTo, IsDone, NoNewTemp, PrintsNothing, RestsUnless, CountsStep, copied};
+ghost use Rattle.install_steps.specs.Steps.{Keeps, StepsTo, IsDone, NoNewTemp, PrintsNothing, RestsUnless, CountsStep, after_copy};
 
 use crate::StepFault;
 use crate::appends::copy_part;
@@ -62,9 +62,10 @@ pub fn write_whole<M: Machine>(
     requires small { IsTrue M.tells
         → length (contents (recovered_view (M.state machine.old).files) from.now) ≤ 268435456 }
     ensures done { OnOk result (IsTrue M.tells → IsFirm (M.state machine.old)
-        → IsDone (M.state machine.new) (copied from.now target.now.path (recovered_view (M.state machine.old).files))) }
+        → IsDone (M.state machine.new)
+        (after_copy from.now target.now.path (recovered_view (M.state machine.old).files))) }
     ensures step { IsTrue M.tells → IsFirm (M.state machine.old) → StepsTo M.time M.state
-        (copied from.now target.now.path (recovered_view (M.state machine.old).files)) machine.old machine.new }
+        (after_copy from.now target.now.path (recovered_view (M.state machine.old).files)) machine.old machine.new }
     ensures found { OnOk result (IsTrue M.tells → has (recovered_view (M.state machine.old).files) from.now ≡ true) }
     ensures not_found { IsErrOf result StepFault.NotFound → IsTrue M.tells
         → (has (recovered_view (M.state machine.old).files) from.now ≡ false)

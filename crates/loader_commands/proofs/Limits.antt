@@ -9,7 +9,7 @@ use Rattle.boot_base.specs.Paths.{Path}
 use Rattle.boot_base.specs.declared.refusal.Refusal.TheVariants as refusals
 use Rattle.boot_machine.specs.Disk.{Files}
 use Rattle.boot_machine.specs.Rows.{contents}
-use Rattle.command_plans.specs.Files.{readable}
+use Rattle.command_plans.specs.Files.{readable_bytes}
 use Rattle.command_plans.specs.Declining.{printed_path}
 use Rattle.command_plans.proofs.Sizes.{none_of, some_of}
 use Rattle.loader_commands.specs.Places.{conf_limit, conf_or_empty, within_limit}
@@ -37,13 +37,13 @@ conf_large path found size is large =
     ap (conf_or_empty path) there.1 ∙ beyond path there.0 long ∙ ap (λ (n : ℕ). Err (refusals.TooLarge (printed_path path) n)) there.2
 
 pub conf_small : (path : Path) (found : Option (List ℕ)) (size : ℕ) → option_map length found ≡ Some size → size ≤ 65536
-    → readable path found ≡ conf_or_empty path found
+    → readable_bytes path found ≡ conf_or_empty path found
 conf_small path found size is small =
     let there = some_of found size is in
     let short : length there.0 ≤ 65536 = omega (arith, there.2, small) in
     let fits : length there.0 ≤ file_limit = omega (arith, short) in
-    let whole : readable path (Some there.0) ≡ Ok there.0 = rw (not_above file_limit (length there.0) fits) refl in
-    ap (readable path) there.1 ∙ whole ∙ sym (within path there.0 short) ∙ sym (ap (conf_or_empty path) there.1)
+    let whole : readable_bytes path (Some there.0) ≡ Ok there.0 = rw (not_above file_limit (length there.0) fits) refl in
+    ap (readable_bytes path) there.1 ∙ whole ∙ sym (within path there.0 short) ∙ sym (ap (conf_or_empty path) there.1)
 
 -- a loader.conf that isn't too long is read whole
 pub conf_taken : (view now : Files) (path : Path) (size before middle after : ℕ) → now ≡ view → option_map length (get view path) ≡ Some size → size ≤ 65536

@@ -13,8 +13,8 @@ use Rattle.command_plans.specs.declared.unsaid.Unsaid.{Unsaid}
 use Rattle.command_plans.proofs.Declining.{done_next}
 use Rattle.loader_commands.specs.Laws.{ChangesOneKey, ShowsDefaultEntry}
 use Rattle.loader_commands.specs.Places.{conf_bytes, conf_limit, conf_path, loader_menu, loader_paths, within_limit}
-use Rattle.loader_commands.specs.Setting.{bad_value, conf_set, text_set, value_in}
-use Rattle.loader_commands.specs.Showing.{default_item, entry_id, menu_shown, show_said, show_text, shown_or_empty}
+use Rattle.loader_commands.specs.Setting.{bad_value, conf_update, changed_text, value_in}
+use Rattle.loader_commands.specs.Showing.{default_item, entry_id, menu_shown, show_result, show_text, shown_or_empty}
 use Rattle.loader_commands.specs.declared.places.LoaderPaths.{LoaderPaths}
 use Rattle.boot_texts.specs.ConfChoice.{IsDefaultEntry, default_place}
 use Rattle.boot_texts.specs.Conf.{IsConfValue, conf_default, conf_key_name, conf_of, conf_timeout, conf_value, may_be_value, other_conf_key}
@@ -62,7 +62,7 @@ chosen_at default ids place is =
 menu_is : (view : Files) (folders : Folders) (menu : List MenuItem) → loader_menu view folders ≡ Ok menu → boot_menu view folders ≡ menu
 menu_is view folders menu is = done_if (nat_lt 4096 (entry_count view folders)) (refusals.TooMany (entry_count view folders)) (boot_menu view folders) menu is
 
-pub tells : (view : Files) (word text : List ℕ) → show_said view word ≡ Ok text → ShowsDefaultEntry view word text
+pub tells : (view : Files) (word text : List ℕ) → show_result view word ≡ Ok text → ShowsDefaultEntry view word text
 tells view word text is =
     let paths = done_by (loader_paths word) (λ (paths : LoaderPaths). conf_bytes view paths.conf >>= λ bytes. loader_menu view paths.folders >>= menu_shown bytes) text is in
     let bytes = done_by (conf_bytes view paths.0.conf) (λ (bytes : List ℕ). loader_menu view paths.0.folders >>= menu_shown bytes) text paths.2 in
@@ -86,9 +86,9 @@ tells view word text is =
 -- what is told of a menu is told of the ESP
 pub shown_by : {X : Type 0} (shows : X → List ℕ) (result : Result X Unsaid) (view : Files) (word : List ℕ) (paths : LoaderPaths) (bytes : List ℕ) (menu : List MenuItem)
     → loader_paths word ≡ Ok paths → conf_bytes view paths.conf ≡ Ok bytes → loader_menu view paths.folders ≡ Ok menu
-    → Says shows result (menu_shown bytes menu) → Says shows result (show_said view word)
+    → Says shows result (menu_shown bytes menu) → Says shows result (show_result view word)
 shown_by shows result view word paths bytes menu paths_are bytes_are menu_is says =
-    let whole : show_said view word ≡ menu_shown bytes menu =
+    let whole : show_result view word ≡ menu_shown bytes menu =
     done_next (loader_paths word) paths (λ (paths : LoaderPaths). conf_bytes view paths.conf >>= λ bytes. loader_menu view paths.folders >>= menu_shown bytes) paths_are
     ∙ done_next (conf_bytes view paths.conf) bytes (λ (bytes : List ℕ). loader_menu view paths.folders >>= menu_shown bytes) bytes_are
     ∙ done_next (loader_menu view paths.folders) menu (menu_shown bytes) menu_is in
@@ -121,13 +121,13 @@ changed view key value word path text bytes fits path_is bytes_are made = record
   other = ap (λ (text : List ℕ). conf_value (other_conf_key key) (conf_of text)) (sym made) ∙ conf_other key value bytes fits;
 }
 
-pub changes : (view : Files) (key : ConfKey) (value word : List ℕ) (path : Path) (text : List ℕ) → conf_set view key value word ≡ Ok (path, text) → ChangesOneKey view key value word path text
+pub changes : (view : Files) (key : ConfKey) (value word : List ℕ) (path : Path) (text : List ℕ) → conf_update view key value word ≡ Ok (path, text) → ChangesOneKey view key value word path text
 changes view key value word path text is =
     let asked : Path × List ℕ = (path, text) in
-    let checked = done_by (value_in key value) (λ (value : List ℕ). conf_path word >>= λ path. text_set view key value path >>= λ text. Ok (path, text)) asked is in
+    let checked = done_by (value_in key value) (λ (value : List ℕ). conf_path word >>= λ path. changed_text view key value path >>= λ text. Ok (path, text)) asked is in
     let fits = value_fits key value checked.0 checked.1 in
-    let found = done_by (conf_path word) (λ (path : Path). text_set view key checked.0 path >>= λ text. Ok (path, text)) asked checked.2 in
-    let made = done_by (text_set view key checked.0 found.0) (λ (text : List ℕ). Ok (found.0, text)) asked found.2 in
+    let found = done_by (conf_path word) (λ (path : Path). changed_text view key checked.0 path >>= λ text. Ok (path, text)) asked checked.2 in
+    let made = done_by (changed_text view key checked.0 found.0) (λ (text : List ℕ). Ok (found.0, text)) asked found.2 in
     let given : Path × List ℕ = (found.0, made.0) in
     let pair = ok_is given asked made.2 in
     let bytes = done_by (conf_bytes view found.0) (λ (bytes : List ℕ). within_limit found.0 (text_with_value (conf_key_name key) checked.0 bytes)) made.0 made.1 in

@@ -4,8 +4,8 @@ use Rattle.boot_base.specs.Paths.{Path}
 use Rattle.boot_folder.specs.Entries.{boot_menu}
 use Rattle.boot_machine.specs.Disk.{Files}
 use Rattle.loader_commands.specs.Places.{conf_bytes, conf_path, loader_paths}
-use Rattle.loader_commands.specs.Setting.{conf_set}
-use Rattle.loader_commands.specs.Showing.{entry_id, show_said, show_text}
+use Rattle.loader_commands.specs.Setting.{conf_update}
+use Rattle.loader_commands.specs.Showing.{entry_id, show_result, show_text}
 use Rattle.loader_commands.specs.declared.places.LoaderPaths.{LoaderPaths}
 use Rattle.boot_texts.specs.ConfChoice.{IsDefaultEntry}
 use Rattle.boot_texts.specs.Conf.{conf_key_name, conf_of, conf_value, other_conf_key}
@@ -28,7 +28,7 @@ pub record ShowsDefaultEntry (view : Files) (word text : List ℕ) : Type 0 wher
 -- whatever `loader show` tells is of the default entry
 abbrev pub ShowTellsOfTheDefault : Type 0
 ShowTellsOfTheDefault =
-    (view : Files) (word text : List ℕ) → show_said view word ≡ Ok text → ShowsDefaultEntry view word text
+    (view : Files) (word text : List ℕ) → show_result view word ≡ Ok text → ShowsDefaultEntry view word text
 
 -- the new text of the loader.conf at a path has the value at its key and the old one at the other, and each other line
 -- byte for byte and in order, and behind them the one that gives the key the value
@@ -45,4 +45,4 @@ pub record ChangesOneKey (view : Files) (key : ConfKey) (value word : List ℕ) 
 abbrev pub SettingChangesOneKey : Type 0
 SettingChangesOneKey =
     (view : Files) (key : ConfKey) (value word : List ℕ) (path : Path) (text : List ℕ)
-    → conf_set view key value word ≡ Ok (path, text) → ChangesOneKey view key value word path text
+    → conf_update view key value word ≡ Ok (path, text) → ChangesOneKey view key value word path text

@@ -5,7 +5,7 @@ use Rattle.boot_base.specs.Paths.{Path}
 use Rattle.boot_base.specs.declared.refusal.Refusal.{Refusal}
 use Rattle.boot_base.specs.declared.refusal.Refusal.TheVariants as refusals
 use Rattle.boot_machine.specs.Disk.{Files}
-use Rattle.command_plans.specs.Answers.{Answer, answered, done}
+use Rattle.command_plans.specs.Answers.{Answer, answer_or_refusal, done_answer}
 use Rattle.command_plans.specs.Declining.{◌>>=◌}
 use Rattle.loader_commands.specs.Places.{conf_bytes, conf_path, within_limit}
 use Rattle.boot_texts.specs.Conf.{conf_key_name, may_be_value}
@@ -26,16 +26,16 @@ abbrev pub conf_words : ConfKey → List ℕ → List ℕ → Result Path Refusa
 conf_words key value word = value_in key value >>= λ value. conf_path word
 
 -- the text of the loader.conf at a path with the key's value, unless the old or the new text is too long
-abbrev pub text_set : Files → ConfKey → List ℕ → Path → Result (List ℕ) Refusal
-text_set view key value path =
+abbrev pub changed_text : Files → ConfKey → List ℕ → Path → Result (List ℕ) Refusal
+changed_text view key value path =
     conf_bytes view path >>= λ bytes. within_limit path (text_with_value (conf_key_name key) value bytes)
 
 -- where the loader.conf of an ESP stands, and its text with the key's value
-abbrev pub conf_set : Files → ConfKey → List ℕ → List ℕ → Result (Path × List ℕ) Refusal
-conf_set view key value word =
+abbrev pub conf_update : Files → ConfKey → List ℕ → List ℕ → Result (Path × List ℕ) Refusal
+conf_update view key value word =
     value_in key value >>= λ value.
     conf_path word >>= λ path.
-    text_set view key value path >>= λ text.
+    changed_text view key value path >>= λ text.
     Ok (path, text)
 
 -- what is told of the change
@@ -43,11 +43,11 @@ abbrev pub set_text : ConfKey → List ℕ → List ℕ
 set_text key value = conf_key_name key ++ (codes " " ++ (value ++ codes "\n"))
 
 -- the loader.conf at a path has the new text
-abbrev pub conf_changed : Files → ConfKey → List ℕ → Path × List ℕ → Answer
-conf_changed view key value change = done (insert view change.0 change.1) (set_text key value)
+abbrev pub changed_conf : Files → ConfKey → List ℕ → Path × List ℕ → Answer
+changed_conf view key value change = done_answer (insert view change.0 change.1) (set_text key value)
 
-abbrev pub set_meant : Files → ConfKey → List ℕ → List ℕ → Result Answer Refusal
-set_meant view key value word = conf_set view key value word >>= λ change. Ok (conf_changed view key value change)
+abbrev pub set_result : Files → ConfKey → List ℕ → List ℕ → Result Answer Refusal
+set_result view key value word = conf_update view key value word >>= λ change. Ok (changed_conf view key value change)
 
 abbrev pub set_answer : Files → ConfKey → List ℕ → List ℕ → Answer
-set_answer view key value word = answered view (set_meant view key value word)
+set_answer view key value word = answer_or_refusal view (set_result view key value word)

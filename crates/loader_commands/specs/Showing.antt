@@ -39,11 +39,11 @@ abbrev pub menu_shown : List ℕ → List MenuItem → Result (List ℕ) Refusal
 menu_shown bytes menu = shown_or_empty (conf_timeout bytes) (default_item (conf_default bytes) menu)
 
 -- what is told of an ESP by its word
-abbrev pub show_said : Files → List ℕ → Result (List ℕ) Refusal
-show_said view word =
+abbrev pub show_result : Files → List ℕ → Result (List ℕ) Refusal
+show_result view word =
     loader_paths word >>= λ paths.
     conf_bytes view paths.conf >>= λ bytes.
     loader_menu view paths.folders >>= menu_shown bytes
 
 abbrev pub show_answer : Files → List ℕ → Answer
-show_answer view word = answer_of_read view (show_said view word)
+show_answer view word = answer_of_read view (show_result view word)

@@ -12,7 +12,7 @@ ghost use Rattle.loader_commands.specs.Places.{conf_bytes, conf_path, loader_men
 use boot_base::{BootPath, Refusal};
 use boot_folder::{Folders, ScanFault, scan_folders};
 use boot_machine::Machine;
-use command_plans::{Declined, Unsaid, file_bytes, path_in, path_under, printed, seen_size};
+use command_plans::{Declined, Unsaid, file_bytes, path_in, path_under, printed_path, seen_size};
 use menu_order::MenuItem;
 use std::alloc::{AllocError, Global};
 
@@ -56,7 +56,7 @@ pub(crate) fn loader_paths(alloc: Global, esp: &str) -> Result<LoaderPaths, Decl
 pub(crate) fn too_long(alloc: Global, path: &BootPath, size: u64) -> Result<Refusal, AllocError>
     ensures { IfOk result (λ why. why ≡ Refusal.TooLarge (printed_path path.now) size) }
 {
-    let path = printed(alloc, path)?;
+    let path = printed_path(alloc, path)?;
     Ok(Refusal::TooLarge { path, size })
 }
 

@@ -10,7 +10,7 @@ ghost use Rattle.command_plans.specs.Refusing.{DeclinesWords, RefusesWords};
 ghost use Rattle.command_plans.specs.Declining.{Means};
 ghost use Rattle.command_plans.specs.Unsaying.{CountsUnsaid, Says};
 ghost use Rattle.loader_commands.specs.Places.{within_limit};
-ghost use Rattle.loader_commands.specs.Setting.{bad_value, conf_set, conf_words, set_answer, set_meant, set_text, text_set, value_in};
+ghost use Rattle.loader_commands.specs.Setting.{bad_value, conf_update, conf_words, set_answer, set_result, set_text, changed_text, value_in};
 ghost use Rattle.boot_texts.specs.Conf.{IsConfValue, conf_key_name};
 ghost use Rattle.boot_texts.specs.FileLines.{text_with_value};
 ghost use Rattle.boot_texts.specs.declared.conf_change.ConfKey.TheVariants as keys;
@@ -19,7 +19,7 @@ use crate::places::{CONF_LIMIT, conf_bytes, conf_path, too_long};
 use boot_base::{BootPath, Bytes, Refusal, Target, Text};
 use boot_machine::Machine;
 use boot_texts::{ConfKey, may_be_value, with_key};
-use command_plans::{Change, Declined, Outcome, Plan, Stop, Unsaid, answered};
+use command_plans::{Change, Declined, Outcome, Plan, Stop, Unsaid, answer_or_refusal};
 use std::alloc::{AllocError, Global};
 
 /// A change of a loader.conf: where it is written, its whole new text, and what is told of it.
@@ -64,7 +64,7 @@ fn within_limit(alloc: Global, path: &BootPath, text: Vec<u8>) -> Result<Vec<u8>
 }
 
 // The text of the loader.conf at a path with the key's value.
-fn text_set<M: Machine>(
+fn changed_text<M: Machine>(
     alloc: Global,
     key: ConfKey,
     value: &str,
@@ -73,7 +73,7 @@ fn text_set<M: Machine>(
 ) -> Result<Vec<u8>, Unsaid>
     requires { IsConfValue key value.now }
     ensures says { IsTrue M.tells
-        → Says (λ text. text.items) result (text_set (seen (M.state machine.old)) key value.now path.now) }
+        → Says (λ text. text.items) result (changed_text (seen (M.state machine.old)) key value.now path.now) }
     ensures reads { IsTrue M.tells → OnlyReads M.time M.state machine.old machine.new }
     ensures counts { CountsUnsaid result (M.counts machine.old) (M.counts machine.new) }
     ensures taken { IsTrue M.tells → TakesAtMost 65536 (M.taken machine.old) (M.taken machine.new) }
@@ -111,7 +111,7 @@ fn change_of(
 }
 
 // The change that gives the key of the partition's loader.conf the value.
-fn conf_set<M: Machine>(
+fn conf_update<M: Machine>(
     alloc: Global,
     key: ConfKey,
     value: &str,
@@ -119,7 +119,7 @@ fn conf_set<M: Machine>(
     machine: &mut M,
 ) -> Result<ConfChange, Unsaid>
     ensures says { IsTrue M.tells → Says (λ change. (change.target.path, change.bytes)) result
-        (conf_set (seen (M.state machine.old)) key value.now esp.now) }
+        (conf_update (seen (M.state machine.old)) key value.now esp.now) }
     ensures free { IfOk result (λ change. IsFree change.target.path) }
     ensures text { IfOk result (λ change. change.text ≡ set_text key value.now) }
     ensures reads { IsTrue M.tells → OnlyReads M.time M.state machine.old machine.new }
@@ -129,7 +129,7 @@ fn conf_set<M: Machine>(
 {
     check_value(alloc, key, value)?;
     let path = conf_path(alloc, esp)?;
-    let bytes = text_set(alloc, key, value, &path, machine)?;
+    let bytes = changed_text(alloc, key, value, &path, machine)?;
     Ok(change_of(alloc, key, value, path, bytes)?)
 }
 
@@ -150,7 +150,7 @@ fn plan_of(change: ConfChange) -> Plan
 }
 
 // The plan that gives the key of the partition's loader.conf the value.
-fn planned<M: Machine>(
+fn set_plan<M: Machine>(
     alloc: Global,
     key: ConfKey,
     value: &str,
@@ -158,7 +158,7 @@ fn planned<M: Machine>(
     machine: &mut M,
 ) -> Result<Plan, Unsaid>
     ensures plans { IsTrue M.tells → PlansAs (M.state machine.old) result
-        (set_meant (seen (M.state machine.old)) key value.now esp.now) }
+        (set_result (seen (M.state machine.old)) key value.now esp.now) }
     ensures makeable { IfOk result (λ plan. IsMakeable plan.change) }
     ensures idle { IfOk result IsIdleIfRefused }
     ensures reads { IsTrue M.tells → OnlyReads M.time M.state machine.old machine.new }
@@ -166,7 +166,7 @@ fn planned<M: Machine>(
     ensures taken { IsTrue M.tells → TakesAtMost 65536 (M.taken machine.old) (M.taken machine.new) }
     ensures words { DeclinesWords (conf_words key value.now esp.now) result }
 {
-    let change = conf_set(alloc, key, value, esp, machine)?;
+    let change = conf_update(alloc, key, value, esp, machine)?;
     Ok(plan_of(change))
 }
 
@@ -187,8 +187,8 @@ pub fn plan_default<M: Machine>(
     ensures taken { IsTrue M.tells → TakesAtMost 65536 (M.taken machine.old) (M.taken machine.new) }
     ensures words { RefusesWords (conf_words keys.Default pattern.now esp.now) result }
 {
-    let plan = planned(alloc, ConfKey::Default, pattern, esp, machine);
-    answered(alloc, plan)
+    let plan = set_plan(alloc, ConfKey::Default, pattern, esp, machine);
+    answer_or_refusal(alloc, plan)
 }
 
 /// What is going to be done where it is set how long the menu waits.
@@ -207,6 +207,6 @@ pub fn plan_timeout<M: Machine>(
     ensures taken { IsTrue M.tells → TakesAtMost 65536 (M.taken machine.old) (M.taken machine.new) }
     ensures words { RefusesWords (conf_words keys.Timeout value.now esp.now) result }
 {
-    let plan = planned(alloc, ConfKey::Timeout, value, esp, machine);
-    answered(alloc, plan)
+    let plan = set_plan(alloc, ConfKey::Timeout, value, esp, machine);
+    answer_or_refusal(alloc, plan)
 }

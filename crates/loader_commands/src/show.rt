@@ -10,14 +10,14 @@ ghost use Rattle.command_plans.specs.declared.plan.Change.TheVariants.{Nothing};
 ghost use Rattle.command_plans.specs.Unsaying.{CountsUnsaid, Says};
 ghost use Rattle.loader_commands.specs.Places.{loader_paths};
 ghost use Rattle.loader_commands.specs.Taking.{show_limit};
-ghost use Rattle.loader_commands.specs.Showing.{entry_id, default_item, menu_shown, show_answer, show_said, show_text, timeout_or_none};
+ghost use Rattle.loader_commands.specs.Showing.{entry_id, default_item, menu_shown, show_answer, show_result, show_text, timeout_or_none};
 ghost use Rattle.boot_texts.specs.Conf.{conf_of};
 
 use crate::places::{conf_bytes, loader_menu, loader_paths};
 use boot_base::{Bytes, BytesList, Refusal};
 use boot_machine::Machine;
-use boot_texts::{LoaderConf, chosen};
-use command_plans::{Plan, Stop, Unsaid, said};
+use boot_texts::{LoaderConf, default_place};
+use command_plans::{Plan, Stop, Unsaid, text_or_refusal};
 use menu_order::MenuItem;
 use std::alloc::{AllocError, Global};
 
@@ -50,7 +50,7 @@ fn default_item<'a>(
     ensures { IfOk result (λ item. option_copied item ≡ default_item conf.now.default menu.now) }
 {
     let ids = entry_ids(alloc, menu)?;
-    match chosen(ids.as_slice(), conf) {
+    match default_place(ids.as_slice(), conf) {
         Some(place) => Ok(menu.get(place)),
         None => Ok(None),
     }
@@ -92,8 +92,9 @@ fn menu_shown(alloc: Global, bytes: &[u8], menu: &[MenuItem]) -> Result<Vec<u8>,
     }
 }
 
-fn shown<M: Machine>(alloc: Global, esp: &str, machine: &mut M) -> Result<Vec<u8>, Unsaid>
-    ensures says { IsTrue M.tells → Says (λ text. text.items) result (show_said (seen (M.state machine.old)) esp.now) }
+fn show_result<M: Machine>(alloc: Global, esp: &str, machine: &mut M) -> Result<Vec<u8>, Unsaid>
+    ensures says { IsTrue M.tells
+        → Says (λ text. text.items) result (show_result (seen (M.state machine.old)) esp.now) }
     ensures reads { IsTrue M.tells → OnlyReads M.time M.state machine.old machine.new }
     ensures counts { CountsUnsaid result (M.counts machine.old) (M.counts machine.new) }
     ensures taken { IsTrue M.tells
@@ -121,6 +122,6 @@ pub fn plan_show<M: Machine>(alloc: Global, esp: &str, machine: &mut M) -> Resul
         (M.taken machine.new) }
     ensures words { RefusesWords (loader_paths esp.now) result }
 {
-    let text = shown(alloc, esp, machine);
-    said(alloc, text)
+    let text = show_result(alloc, esp, machine);
+    text_or_refusal(alloc, text)
 }

@@ -8,9 +8,9 @@ use Rattle.std.specs.List.{IsDistinct, AllByRecursion}
 use Rattle.std.specs.FinMap as maps
 use Rattle.std.specs.Cmp.Lexicographic.{nat_list_cmp_total}
 use Rattle.boot_base.specs.Paths.{Path, is_temp, is_file_name, under}
-use Rattle.boot_machine.specs.Disk.{has, view, path_cmp, same}
+use Rattle.boot_machine.specs.Disk.{has, view, path_cmp, is_same_path}
 use Rattle.memory_machine.specs.Entries.{files_of, counts_once}
-use Rattle.boot_machine.specs.Maps.{same-true, same_self, same_files}
+use Rattle.boot_machine.specs.Maps.{is_same_path-true, same_self, same_files}
 use Rattle.boot_machine.specs.Rows.{IsNamesOf}
 use Rattle.boot_machine.specs.Listed.{is_listed}
 use Rattle.memory_machine.specs.declared.files.Entry.{Entry}
@@ -74,12 +74,12 @@ shown_end es i count all past so_far = let none = rw (drop_all i es past) at so_
 -- Names
 
 -- one entry more
-has-push : (es : List Entry) (e : Entry) (q : Path) → has (files_of (es ++ e ∷ [])) q ≡ (has (files_of es) q || same q e.path)
-has-push es e q = ap is_some (get-files_of (es ++ e ∷ []) q) ∙ found es ∙ ap (λ b. b || same q e.path) (sym (ap is_some (get-files_of es q)))
+has-push : (es : List Entry) (e : Entry) (q : Path) → has (files_of (es ++ e ∷ [])) q ≡ (has (files_of es) q || is_same_path q e.path)
+has-push es e q = ap is_some (get-files_of (es ++ e ∷ []) q) ∙ found es ∙ ap (λ b. b || is_same_path q e.path) (sym (ap is_some (get-files_of es q)))
   where
-    found : (es : List Entry) → is_some (find q (es ++ e ∷ [])) ≡ (is_some (find q es) || same q e.path)
-    found [] = elim (cases_Bool (same q e.path)) [ inl here ↦ rw here refl | inr off ↦ rw off refl ]
-    found (x ∷ es) = elim (cases_Bool (same q x.path)) [ inl here ↦ rw here refl | inr off ↦ rw off (found es) ]
+    found : (es : List Entry) → is_some (find q (es ++ e ∷ [])) ≡ (is_some (find q es) || is_same_path q e.path)
+    found [] = elim (cases_Bool (is_same_path q e.path)) [ inl here ↦ rw here refl | inr off ↦ rw off refl ]
+    found (x ∷ es) = elim (cases_Bool (is_same_path q x.path)) [ inl here ↦ rw here refl | inr off ↦ rw off (found es) ]
 
 -- a name that isn't listed differs from each that is
 distinct_push : (names : List Path) (name : Path) → IsDistinct bytes_eq names → is_listed names name ≡ false → IsDistinct bytes_eq (names ++ name ∷ [])
@@ -117,7 +117,7 @@ module _ (es : List Entry) (e : Entry) (folder : Path) (names : List Path) (so_f
 
   -- a file that is there is the new one, or was there
   cases : (name : Path) → has (files_of (es ++ e ∷ [])) (under folder name) ≡ true → (has (files_of es) (under folder name) ≡ true) ⊎ (e.path ≡ under folder name)
-  cases name there = ⊎_elim (λ was. inl was) (λ here. inr (sym (same-true (under folder name) e.path here))) (or_cases (has (files_of es) (under folder name)) (same (under folder name) e.path) (sym (has-push es e (under folder name)) ∙ there))
+  cases name there = ⊎_elim (λ was. inl was) (λ here. inr (sym (is_same_path-true (under folder name) e.path here))) (or_cases (has (files_of es) (under folder name)) (is_same_path (under folder name) e.path) (sym (has-push es e (under folder name)) ∙ there))
 
   pub names_other : ((name : Path) → is_file_name name ≡ true → e.path ≢ under folder name) → IsNamesOf (files_of (es ++ e ∷ [])) folder names
   names_other off = record {
@@ -149,4 +149,4 @@ module _ (es : List Entry) (e : Entry) (folder : Path) (names : List Path) (so_f
     }
       where
         now : has (files_of (es ++ e ∷ [])) (under folder name) ≡ true
-        now = has-push es e (under folder name) ∙ or_right (has (files_of es) (under folder name)) (same (under folder name) e.path) (ap (same (under folder name)) is ∙ same_self (under folder name))
+        now = has-push es e (under folder name) ∙ or_right (has (files_of es) (under folder name)) (is_same_path (under folder name) e.path) (ap (is_same_path (under folder name)) is ∙ same_self (under folder name))

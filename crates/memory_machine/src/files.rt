@@ -348,7 +348,7 @@ impl FileList {
     }
 
     // The files after a stop that leaves the soft ones with these bytes.
-    pub(crate) fn filled(&self, soft: &[Text], fill: &[u8]) -> Result<FileList, AllocError>
+    pub(crate) fn fill_soft(&self, soft: &[Text], fill: &[u8]) -> Result<FileList, AllocError>
         ensures { IfOk result (λ left. IsFilled (is_listed soft.now) fill.now self.now left) }
     {
         let entries = &self.entries;
@@ -375,7 +375,7 @@ impl FileList {
     }
 
     // How many of the paths aren't those of temporary files.
-    pub(crate) fn shown(&self) -> u64
+    pub(crate) fn count_shown(&self) -> u64
         ensures { result ≡ map.len (view self.now) }
     {
         shown_of(&self.entries)

@@ -4,11 +4,11 @@ ghost use Rattle.std.specs.Prelude.{◌≡◌, ◌≢◌, ◌⊎◌, ◌∷◌, 
 ghost use Rattle.std.specs.List.{IsDistinct};
 ghost use Rattle.std.specs.FinMap as maps;
 ghost use Rattle.boot_machine.specs.Disk.{State, has, view};
-ghost use Rattle.memory_machine.specs.Events.{held, files_after, printed_after};
+ghost use Rattle.memory_machine.specs.Events.{log_state, files_after, printed_after};
 ghost use Rattle.memory_machine.specs.Given.{given_files, given_paths};
 ghost use Rattle.boot_machine.specs.Images.{IsImage, IsSettled};
 ghost use Rattle.boot_machine.specs.Maps.{same_files_prop};
-ghost use Rattle.boot_machine.specs.Rows.{tagged};
+ghost use Rattle.boot_machine.specs.Rows.{on_channel};
 ghost use Rattle.memory_machine.specs.Stops.{IsLeft};
 ghost use Rattle.memory_machine.specs.Plan.{mode_of};
 ghost use Rattle.boot_machine.specs.Counts.{one_more};
@@ -64,7 +64,7 @@ struct Failure {
 
 /// A machine in memory, which tells all that it holds and each moment that there was.
 ///
-/// It fails exactly where it was told to, and where it finds no memory for the record of a call; `starved`
+/// It fails exactly where it was told to, and where it finds no memory for the record of a call; `starved_calls`
 /// counts the latter. Its clock is the number of calls and stops that it has recorded: it stands still only
 /// in a call that found no memory. Each read that gave bytes is kept besides.
 #[derive(Drop)]
@@ -82,13 +82,13 @@ pub struct MemMachine {
     disk_faults: u64,
     pipe_faults: u64,
     starved: u64,
-    ghost files_linked: { files ≡ (held start log.items).files } by { same_files_prop _ _ },
-    ghost printed_linked: { printed.items ≡ (held start log.items).printed },
+    ghost files_linked: { files ≡ (log_state start log.items).files } by { same_files_prop _ _ },
+    ghost printed_linked: { printed.items ≡ (log_state start log.items).printed },
 }
 
 // These bytes as they are printed there.
-fn tagged(alloc: Global, to: Channel, bytes: &[u8]) -> Result<Vec<Printed>, AllocError>
-    ensures { IfOk result (λ text. text.items ≡ tagged to bytes.now) }
+fn on_channel(alloc: Global, to: Channel, bytes: &[u8]) -> Result<Vec<Printed>, AllocError>
+    ensures { IfOk result (λ text. text.items ≡ on_channel to bytes.now) }
 {
     bytes
         .iter()
@@ -140,9 +140,9 @@ fn mode_at(failures: &[Failure], call: u64) -> Option<FailMode>
 
 impl MemMachine {
     ghost use Rattle.memory_machine.specs.Memory.{mem_start, mem_events, mem_input, mem_state, mem_clock, mem_time, mem_counts, mem_reads, mem_starved, mem_calls, mem_plan, next_mode, SameOrders, TellsTheSame, TellsOneMore, IsNextCall, IsStarved, RecordsCall, AsTold, NamesAsTold};
-    ghost use Rattle.memory_machine.specs.Events.{step, say, start_state, stopped};
+    ghost use Rattle.memory_machine.specs.Events.{step, say, start_state, after_stop};
     ghost use Rattle.boot_machine.specs.Moments.{Elapses};
-    ghost use Rattle.boot_machine.specs.Rows.{DoneOrNot, SizeRow, ReadRow, NamesRow, CreateRow, AppendRow, SyncFileRow, RenameRow, UnlinkRow, SyncNamesRow, PrintRow, InputRow, created, appended, file_synced, renamed, unlinked, names_synced, with_printed, input_taken};
+    ghost use Rattle.boot_machine.specs.Rows.{DoneOrNot, SizeRow, ReadRow, NamesRow, CreateRow, AppendRow, SyncFileRow, RenameRow, UnlinkRow, SyncNamesRow, PrintRow, InputRow, after_create, after_append, after_sync_file, after_rename, after_unlink, after_sync_names, with_printed, after_input};
     ghost use Rattle.boot_machine.specs.Counts.{CountsDisk, CountsPipe, CountsNames, DiskFailed, DiskFailsOnce, PipeFailed, PipeFailsOnce};
     ghost use Rattle.memory_machine.specs.declared.event.Event.TheVariants.{Look as look};
 
@@ -191,7 +191,7 @@ impl MemMachine {
     }
 
     /// What was printed, each byte with where it went.
-    pub fn printed(&self) -> &[Printed]
+    pub fn printed_bytes(&self) -> &[Printed]
         ensures { result.now ≡ (mem_state self.now).printed }
     {
         &self.printed
@@ -226,11 +226,11 @@ impl MemMachine {
     pub fn view_files(&self) -> u64
         ensures { result ≡ maps.len (view (mem_state self.now).files) }
     {
-        self.files.shown()
+        self.files.count_shown()
     }
 
     /// How many of its calls have failed because they found no memory, up to the last value.
-    pub fn starved(&self) -> u64
+    pub fn starved_calls(&self) -> u64
         ensures { result ≡ mem_starved self.now }
     {
         self.starved
@@ -240,7 +240,7 @@ impl MemMachine {
     /// its counts, its reads and its orders stay.
     pub fn crash(self, alloc: Global, choice: &CrashChoice) -> Result<MemMachine, AllocError>
         ensures state { IfOk result (λ machine. mem_state machine
-            ≡ stopped (mem_state machine).files (mem_state self)) }
+            ≡ after_stop (mem_state machine).files (mem_state self)) }
         ensures left { IfOk result (λ machine.
             IsLeft (mem_state self) choice.now.candidate choice.now.fill.items (mem_state machine).files) }
         ensures image { IfOk result (λ machine. IsImage (mem_state self) (mem_state machine).files) }
@@ -261,7 +261,7 @@ impl MemMachine {
         ensures { IfOk result (λ files. IsLeft (mem_state self.now) choice.now.candidate choice.now.fill.items files) }
     {
         let disk = Disk::after(alloc, &self.start, &self.log)?;
-        disk.left(choice)
+        disk.files_left(choice)
     }
 
     // Counts the call, and says how it is to fail, if it is to.
@@ -395,7 +395,7 @@ impl MemMachine {
     // Records an append that failed before it wrote anything: its path isn't synced.
     fn skip_append(&mut self, path: Text)
         requires { has (mem_state self.old).files path ≡ true }
-        ensures state { ((mem_state self.new ≡ appended path [] (mem_state self.old))
+        ensures state { ((mem_state self.new ≡ after_append path [] (mem_state self.old))
             × (mem_starved self.new ≡ mem_starved self.old))
             ⊎ ((mem_state self.new ≡ mem_state self.old) × IsStarved self.old self.new) }
         ensures plan { mem_plan self.new ≡ mem_plan self.old }
@@ -439,7 +439,7 @@ impl MemMachine {
         requires { has (mem_state self.old).files path ≡ true }
         ensures row { AppendRow (mem_state self.old) (mem_state self.new) path bytes.items result }
         ensures told { AsTold self.old self.new
-            (appended path [] (mem_state self.old)) (appended path bytes.items (mem_state self.old)) result }
+            (after_append path [] (mem_state self.old)) (after_append path bytes.items (mem_state self.old)) result }
         ensures moments { Elapses mem_time mem_state self.old self.new }
         ensures counts { CountsDisk result (mem_counts self.old) (mem_counts self.new) }
         ensures once { OnErr result (DiskFailsOnce (mem_counts self.old) (mem_counts self.new)) }
@@ -533,7 +533,7 @@ impl Machine for MemMachine {
     ghost use Rattle.memory_machine.specs.EventLaws.{now_counts, now_only, sound_held, sound-input, image-input, image_input};
     ghost use Rattle.memory_machine.specs.Events.{step};
     ghost use Rattle.boot_machine.specs.Moments.{Elapses};
-    ghost use Rattle.boot_machine.specs.Rows.{DoneOrNot, SizeRow, ReadRow, NamesRow, CreateRow, AppendRow, SyncFileRow, RenameRow, UnlinkRow, SyncNamesRow, PrintRow, InputRow, created, appended, file_synced, renamed, unlinked, names_synced, with_printed, input_taken};
+    ghost use Rattle.boot_machine.specs.Rows.{DoneOrNot, SizeRow, ReadRow, NamesRow, CreateRow, AppendRow, SyncFileRow, RenameRow, UnlinkRow, SyncNamesRow, PrintRow, InputRow, after_create, after_append, after_sync_file, after_rename, after_unlink, after_sync_names, with_printed, after_input};
     ghost use Rattle.boot_machine.specs.Counts.{CountsDisk, CountsPipe, CountsNames, DiskFailsOnce, PipeFailsOnce};
     ghost use Rattle.boot_machine.specs.Taken.{TakesNone, TakesRead};
 
@@ -612,7 +612,8 @@ impl Machine for MemMachine {
 
     fn create(&mut self, path: &TempPath) -> Result<(), DiskFault>
         ensures row { CreateRow (mem_state self.old) (mem_state self.new) path.now result }
-        ensures told { AsTold self.old self.new (mem_state self.old) (created path.now (mem_state self.old)) result }
+        ensures told { AsTold self.old self.new (mem_state self.old) (after_create path.now (mem_state self.old))
+            result }
         ensures moments { Elapses mem_time mem_state self.old self.new }
         ensures counts { CountsDisk result (mem_counts self.old) (mem_counts self.new) }
         ensures once { OnErr result (DiskFailsOnce (mem_counts self.old) (mem_counts self.new)) }
@@ -630,7 +631,8 @@ impl Machine for MemMachine {
         requires { has (mem_state self.old).files path.now ≡ true }
         ensures row { AppendRow (mem_state self.old) (mem_state self.new) path.now bytes.now result }
         ensures told { AsTold self.old self.new
-            (appended path.now [] (mem_state self.old)) (appended path.now bytes.now (mem_state self.old)) result }
+            (after_append path.now [] (mem_state self.old)) (after_append path.now bytes.now (mem_state self.old))
+            result }
         ensures moments { Elapses mem_time mem_state self.old self.new }
         ensures counts { CountsDisk result (mem_counts self.old) (mem_counts self.new) }
         ensures once { OnErr result (DiskFailsOnce (mem_counts self.old) (mem_counts self.new)) }
@@ -665,7 +667,7 @@ impl Machine for MemMachine {
         requires differ { from.now ≢ to.now }
         ensures row { RenameRow (mem_state self.old) (mem_state self.new) from.now to.now result }
         ensures told { AsTold self.old self.new (mem_state self.old)
-            (renamed from.now to.now (mem_state self.old)) result }
+            (after_rename from.now to.now (mem_state self.old)) result }
         ensures moments { Elapses mem_time mem_state self.old self.new }
         ensures counts { CountsDisk result (mem_counts self.old) (mem_counts self.new) }
         ensures once { OnErr result (DiskFailsOnce (mem_counts self.old) (mem_counts self.new)) }
@@ -684,7 +686,7 @@ impl Machine for MemMachine {
         requires differ { from.now ≢ to.now }
         ensures row { RenameRow (mem_state self.old) (mem_state self.new) from.now to.now result }
         ensures told { AsTold self.old self.new (mem_state self.old)
-            (renamed from.now to.now (mem_state self.old)) result }
+            (after_rename from.now to.now (mem_state self.old)) result }
         ensures moments { Elapses mem_time mem_state self.old self.new }
         ensures counts { CountsDisk result (mem_counts self.old) (mem_counts self.new) }
         ensures once { OnErr result (DiskFailsOnce (mem_counts self.old) (mem_counts self.new)) }
@@ -700,7 +702,8 @@ impl Machine for MemMachine {
 
     fn unlink(&mut self, path: &BootPath) -> Result<(), DiskFault>
         ensures row { UnlinkRow (mem_state self.old) (mem_state self.new) path.now result }
-        ensures told { AsTold self.old self.new (mem_state self.old) (unlinked path.now (mem_state self.old)) result }
+        ensures told { AsTold self.old self.new (mem_state self.old) (after_unlink path.now (mem_state self.old))
+            result }
         ensures moments { Elapses mem_time mem_state self.old self.new }
         ensures counts { CountsDisk result (mem_counts self.old) (mem_counts self.new) }
         ensures once { OnErr result (DiskFailsOnce (mem_counts self.old) (mem_counts self.new)) }
@@ -716,7 +719,8 @@ impl Machine for MemMachine {
 
     fn unlink_temp(&mut self, path: &TempPath) -> Result<(), DiskFault>
         ensures row { UnlinkRow (mem_state self.old) (mem_state self.new) path.now result }
-        ensures told { AsTold self.old self.new (mem_state self.old) (unlinked path.now (mem_state self.old)) result }
+        ensures told { AsTold self.old self.new (mem_state self.old) (after_unlink path.now (mem_state self.old))
+            result }
         ensures moments { Elapses mem_time mem_state self.old self.new }
         ensures counts { CountsDisk result (mem_counts self.old) (mem_counts self.new) }
         ensures once { OnErr result (DiskFailsOnce (mem_counts self.old) (mem_counts self.new)) }
@@ -754,7 +758,7 @@ impl Machine for MemMachine {
         ensures taken { TakesNone (mem_taken self.old) (mem_taken self.new) }
         ensures reads { mem_reads self.new ≡ mem_reads self.old }
     {
-        match tagged(self.alloc, to, bytes) {
+        match on_channel(self.alloc, to, bytes) {
             Ok(text) => self.run_print(text),
             Err(_) => Err(self.starve_pipe()),
         }

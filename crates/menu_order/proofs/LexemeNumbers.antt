@@ -14,7 +14,7 @@ use Rattle.std.proofs.lemmas.Int.Digits.{digits_value-lt}
 use Rattle.std.proofs.lemmas.Str.{digit_value_digit}
 use Rattle.std.proofs.lemmas.Str.Parse.{digit_from_value}
 use Rattle.menu_order.proofs.LexemeFronts.{skip-yes, skip-no}
-use Rattle.menu_order.specs.Lexemes.{is_zero, significant}
+use Rattle.menu_order.specs.Lexemes.{is_zero, significant_digits}
 
 -- the number of digits, in base 10
 abbrev pub value : List ℕ → ℕ
@@ -98,7 +98,7 @@ pub record IsSignificant (ds es : List ℕ) : Type 0 where
   pub first : get_or es 0 0 ≢ 48
   pub same : value es ≡ value ds
 
-pub significant_is : (ds : List ℕ) → AllDigits 10 ds → IsSignificant ds (significant ds)
+pub significant_is : (ds : List ℕ) → AllDigits 10 ds → IsSignificant ds (significant_digits ds)
 significant_is [] h = record { digits = h; first = λ (e : 0 ≡ 48). absurd (omega arith); same = refl }
 significant_is (d ∷ ds) h = ⊎_elim
     (λ (e : is_zero d ≡ true).
@@ -109,9 +109,9 @@ significant_is (d ∷ ds) h = ⊎_elim
     (cases_Bool (is_zero d))
 
 -- runs of digits go as their numbers, by their lengths and then their bytes without leading zeros
-pub numbers_order : (ds es : List ℕ) → AllDigits 10 ds → AllDigits 10 es → ordering_then (nat_cmp (length (significant ds)) (length (significant es))) (slice_cmp nat_cmp (significant ds) (significant es)) ≡ nat_cmp (value ds) (value es)
+pub numbers_order : (ds es : List ℕ) → AllDigits 10 ds → AllDigits 10 es → ordering_then (nat_cmp (length (significant_digits ds)) (length (significant_digits es))) (slice_cmp nat_cmp (significant_digits ds) (significant_digits es)) ≡ nat_cmp (value ds) (value es)
 numbers_order ds es h k =
     let left = significant_is ds h in
     let right = significant_is es k in
-    significant_order (significant ds) (significant es) left.digits right.digits left.first right.first
-    ∙ ap (λ n. nat_cmp n (value (significant es))) left.same ∙ ap (λ n. nat_cmp (value ds) n) right.same
+    significant_order (significant_digits ds) (significant_digits es) left.digits right.digits left.first right.first
+    ∙ ap (λ n. nat_cmp n (value (significant_digits es))) left.same ∙ ap (λ n. nat_cmp (value ds) n) right.same

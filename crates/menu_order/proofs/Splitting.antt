@@ -8,7 +8,7 @@ use Rattle.menu_order.specs.declared.counted.Counted.{Counted}
 use Rattle.menu_order.specs.declared.counted.Suffix.{Suffix}
 use Rattle.menu_order.specs.declared.counted.Suffix.TheVariants.{Conf, Efi}
 use Rattle.menu_order.specs.Counter.{suffix_text, is_number, IsNumber, IsDoneText, IsCounter, IsCounted, IsUncounted, counted_of}
-use Rattle.menu_order.specs.Splits.{Cut, cut_first, cut_last, cut_here, longer, number_in, two_numbers, counter_from, counter_in, split_from, split_stem, split_of, has_suffix, stem_of}
+use Rattle.menu_order.specs.Splits.{Cut, cut_first, cut_last, cut_here, lengthen_front, number_in, two_numbers, counter_from, counter_in, split_from, split_stem, split_of, has_suffix, stem_of}
 use Rattle.menu_order.proofs.CounterCuts.{Lacks, stem_same}
 use Rattle.menu_order.proofs.CounterReadings.{number_lacks, counter_lacks, counted_stem}
 use Rattle.menu_order.proofs.CounterSteps.{number_test, not_number, counter_from_parts, counted_from_parts}
@@ -20,7 +20,7 @@ abbrev IsCut : ℕ → List ℕ → Cut → Type 0
 IsCut byte text None = Unit {0}
 IsCut byte text (Some parts) = text ≡ parts.0 ++ byte ∷ parts.1
 
-longer_is : (byte first : ℕ) (later : List ℕ) (cut : Cut) → IsCut byte later cut → IsCut byte (first ∷ later) (longer first cut)
+longer_is : (byte first : ℕ) (later : List ℕ) (cut : Cut) → IsCut byte later cut → IsCut byte (first ∷ later) (lengthen_front first cut)
 longer_is byte first later None is = tt
 longer_is byte first later (Some parts) is = ap (λ (text : List ℕ). first ∷ text) is
 
@@ -44,11 +44,11 @@ cut_last_is byte (first ∷ later) = cut_here_is byte first later (cut_last byte
 
 cut_first_at : (byte : ℕ) (front back : List ℕ) → Lacks byte front → cut_first byte (front ++ byte ∷ back) ≡ Some (front, back)
 cut_first_at byte [] back lacks = rw (eq-eqb byte byte refl) refl
-cut_first_at byte (first ∷ front) back lacks = rw (ne_eqb first byte lacks.0) (ap (longer first) (cut_first_at byte front back lacks.1))
+cut_first_at byte (first ∷ front) back lacks = rw (ne_eqb first byte lacks.0) (ap (lengthen_front first) (cut_first_at byte front back lacks.1))
 
 cut_first_none : (byte : ℕ) (text : List ℕ) → Lacks byte text → cut_first byte text ≡ None
 cut_first_none byte [] lacks = refl
-cut_first_none byte (first ∷ later) lacks = rw (ne_eqb first byte lacks.0) (ap (longer first) (cut_first_none byte later lacks.1))
+cut_first_none byte (first ∷ later) lacks = rw (ne_eqb first byte lacks.0) (ap (lengthen_front first) (cut_first_none byte later lacks.1))
 
 cut_last_none : (byte : ℕ) (text : List ℕ) → Lacks byte text → cut_last byte text ≡ None
 cut_last_none byte [] lacks = refl

@@ -3,8 +3,8 @@ use Rattle.std.specs.Prelude.{Bool, List, [], ◌∷◌, Option, Some, None, fin
 use Rattle.menu_order.specs.declared.bless.BlessVerb.{BlessVerb}
 use Rattle.menu_order.specs.declared.bless.BlessVerb.TheVariants.{Good, Bad, Indeterminate}
 use Rattle.menu_order.specs.declared.bless.Present.{Present}
-use Rattle.menu_order.specs.declared.bless.Choice.{Choice}
-use Rattle.menu_order.specs.declared.bless.Choice.TheVariants.{Nothing, FromGood, FromCounted, FromBad, NoSource}
+use Rattle.menu_order.specs.declared.bless.BlessChoice.{BlessChoice}
+use Rattle.menu_order.specs.declared.bless.BlessChoice.TheVariants.{Nothing, FromGood, FromCounted, FromBad, NoSource}
 
 -- the three names of an entry
 pub data Name : Type 0 where
@@ -31,13 +31,13 @@ is_there present CountedName = present.counted
 is_there present BadName = present.bad
 
 -- the choice of a source
-abbrev pub choice_from : Option Name → Choice
+abbrev pub choice_from : Option Name → BlessChoice
 choice_from (Some GoodName) = FromGood
 choice_from (Some CountedName) = FromCounted
 choice_from (Some BadName) = FromBad
 choice_from None = NoSource
 
 -- nothing where the target is there, else the first source that is
-abbrev pub choice_of : BlessVerb → Present → Choice
+abbrev pub choice_of : BlessVerb → Present → BlessChoice
 choice_of verb present =
     if is_there present (target_of verb) then Nothing else choice_from (find (is_there present) (bless_sources verb))

@@ -31,8 +31,8 @@ abbrev pub is_zero : ℕ → Bool
 is_zero b = b == 48
 
 -- the digits after the leading zeros
-abbrev pub significant : List ℕ → List ℕ
-significant digits = drop (prefix_len is_zero digits) digits
+abbrev pub significant_digits : List ℕ → List ℕ
+significant_digits digits = drop (prefix_len is_zero digits) digits
 
 -- the text begins with the lexeme, after bytes that only separate, and goes on with the rest; the end has no rest
 abbrev pub HasFirstLexeme : List ℕ → Lexeme → List ℕ → Type 0

@@ -21,18 +21,18 @@ abbrev pub Cut : Type 0
 Cut = Option (List ℕ × List ℕ)
 
 -- the front is one byte longer
-abbrev pub longer : ℕ → Cut → Cut
-longer byte cut = option_map (λ parts. (byte ∷ parts.0, parts.1)) cut
+abbrev pub lengthen_front : ℕ → Cut → Cut
+lengthen_front byte cut = option_map (λ parts. (byte ∷ parts.0, parts.1)) cut
 
 -- a cut at the first such byte
 abbrev pub cut_first : ℕ → List ℕ → Cut
 cut_first byte [] = None
-cut_first byte (first ∷ later) = if first == byte then Some ([], later) else longer first (cut_first byte later)
+cut_first byte (first ∷ later) = if first == byte then Some ([], later) else lengthen_front first (cut_first byte later)
 
 -- a cut of what stands behind the first byte, or else one at that byte
 abbrev pub cut_here : ℕ → ℕ → List ℕ → Cut → Cut
 cut_here byte first later None = if first == byte then Some ([], later) else None
-cut_here byte first later (Some parts) = longer first (Some parts)
+cut_here byte first later (Some parts) = lengthen_front first (Some parts)
 
 -- a cut at the last such byte
 abbrev pub cut_last : ℕ → List ℕ → Cut

@@ -26,7 +26,7 @@ pub struct Present {
 
 /// What a blessing renames to the name that its verb wants.
 #[derive(Clone, Copy, PartialEq, Eq, Debug)]
-pub enum Choice {
+pub enum BlessChoice {
     /// Nothing: the wanted name is there.
     Nothing,
     /// The name without a counter.
@@ -41,19 +41,19 @@ pub enum Choice {
 
 /// What a verb renames to its target, as systemd-bless-boot.service(8) has it: nothing where the
 /// target is there, else the first of its sources that is. It takes no memory.
-pub fn bless_choice(verb: BlessVerb, present: Present) -> Choice
+pub fn bless_choice(verb: BlessVerb, present: Present) -> BlessChoice
     ensures { result ≡ choice_of verb present }
 {
     match verb {
-        BlessVerb::Good if present.good => Choice::Nothing,
-        BlessVerb::Good if present.counted => Choice::FromCounted,
-        BlessVerb::Good if present.bad => Choice::FromBad,
-        BlessVerb::Bad if present.bad => Choice::Nothing,
-        BlessVerb::Bad if present.counted => Choice::FromCounted,
-        BlessVerb::Bad if present.good => Choice::FromGood,
-        BlessVerb::Indeterminate if present.counted => Choice::Nothing,
-        BlessVerb::Indeterminate if present.good => Choice::FromGood,
-        BlessVerb::Indeterminate if present.bad => Choice::FromBad,
-        _ => Choice::NoSource,
+        BlessVerb::Good if present.good => BlessChoice::Nothing,
+        BlessVerb::Good if present.counted => BlessChoice::FromCounted,
+        BlessVerb::Good if present.bad => BlessChoice::FromBad,
+        BlessVerb::Bad if present.bad => BlessChoice::Nothing,
+        BlessVerb::Bad if present.counted => BlessChoice::FromCounted,
+        BlessVerb::Bad if present.good => BlessChoice::FromGood,
+        BlessVerb::Indeterminate if present.counted => BlessChoice::Nothing,
+        BlessVerb::Indeterminate if present.good => BlessChoice::FromGood,
+        BlessVerb::Indeterminate if present.bad => BlessChoice::FromBad,
+        _ => BlessChoice::NoSource,
     }
 }

@@ -70,7 +70,7 @@ impl Counted {
 
     /// The file name of a base with a counter, as the UAPI Boot Loader Specification writes it:
     /// without leading zeros, and without a DONE of 0. Want of memory is its one fault.
-    pub fn joined(
+    pub fn join_name(
         alloc: Global,
         base: &str,
         left: u32,
@@ -93,7 +93,7 @@ impl Counted {
 
     /// The counter after one more boot, with LEFT one lower and DONE one higher, which stays at
     /// its greatest; None exactly where no boot is left. It takes no memory.
-    pub fn booted(self) -> Option<Counted>
+    pub fn after_boot(self) -> Option<Counted>
         requires { self.done ≤ MAX_COUNT }
         ensures none { IsNone result ↔ (self.left ≡ 0) }
         ensures some { IfSome result (λ next. next ≡ after_boot self) }
@@ -132,23 +132,23 @@ impl Counted {
         let Some(reading) = Reading::of(name) else {
             return Ok(None);
         };
-        let bad = Counted::joined(alloc, reading.base, 0, reading.done, reading.suffix)?;
+        let bad = Counted::join_name(alloc, reading.base, 0, reading.done, reading.suffix)?;
         Ok(Some(bad))
     }
 
-    /// The name after one more boot, with the counter that `booted` gives; None exactly where the name has no counter
-    /// or no boot is left. Want of memory is its one fault.
+    /// The name after one more boot, with the counter that `after_boot` gives; None exactly where the name has no
+    /// counter or no boot is left. Want of memory is its one fault.
     pub fn booted_name(alloc: Global, name: &str) -> Result<Option<String>, AllocError>
         ensures { IfOk result (λ found. option_map string_bytes found ≡ booted_name_of name.now) }
     {
         let Some(counted) = Counted::split(name) else {
             return Ok(None);
         };
-        let Some(next) = counted.booted() else {
+        let Some(next) = counted.after_boot() else {
             return Ok(None);
         };
         let base = &name[..counted.base_length];
-        let booted = Counted::joined(alloc, base, next.left, next.done, next.suffix)?;
+        let booted = Counted::join_name(alloc, base, next.left, next.done, next.suffix)?;
         Ok(Some(booted))
     }
 }
@@ -171,7 +171,7 @@ struct Reading<'a> {
 }
 
 impl<'a> Reading<'a> {
-    /// The reading of a name; None exactly where it has no counter.
+    // The reading of a name; None exactly where it has no counter.
     fn of(name: &'a str) -> Option<Reading<'a>>
         ensures { MatchOption result
             (IsUncounted name.now)
@@ -192,7 +192,7 @@ impl<'a> Reading<'a> {
     }
 }
 
-/// A name's stem and its suffix; None exactly where it has no suffix.
+// A name's stem and its suffix; None exactly where it has no suffix.
 fn split_suffix(name: &str) -> Option<(&str, Suffix)>
     ensures { MatchOption result
         ((stem : List ℕ) (suffix : Suffix) → name.now ≢ stem ++ suffix_text suffix)
@@ -205,7 +205,7 @@ fn split_suffix(name: &str) -> Option<(&str, Suffix)>
     Some((stem, Suffix::Efi))
 }
 
-/// LEFT and DONE of a counter; None exactly where the text is none.
+// LEFT and DONE of a counter; None exactly where the text is none.
 fn read_counter(text: &str) -> Option<(u32, u32)>
     ensures { MatchOption result
         ((left done : ℕ) → IsCounter text.now left done → ⊥)
@@ -217,7 +217,7 @@ fn read_counter(text: &str) -> Option<(u32, u32)>
     Some((read_number(left)?, read_number(done)?))
 }
 
-/// The number that one to nine digits write; None exactly where the text is none.
+// The number that one to nine digits write; None exactly where the text is none.
 fn read_number(text: &str) -> Option<u32>
     ensures { MatchOption result ((n : ℕ) → IsNumber text.now n → ⊥) (IsNumber text.now) }
 {
@@ -227,14 +227,14 @@ fn read_number(text: &str) -> Option<u32>
     text.parse().ok()
 }
 
-/// Whether a text is one to nine digits.
+// Whether a text is one to nine digits.
 fn is_number(text: &str) -> bool
     ensures { result ≡ is_number text.now }
 {
     !text.is_empty() && text.len() <= 9 && has_digits_alone(text)
 }
 
-/// Whether each byte of a text is a digit.
+// Whether each byte of a text is a digit.
 fn has_digits_alone(text: &str) -> bool
     ensures { result ≡ list_all is_ascii_digit text.now }
 {

@@ -6,7 +6,7 @@ ghost use Rattle.std.specs.Ordering.{nat_cmp};
 ghost use Rattle.std.specs.Str.Parse.{AllDigits, digits_value};
 ghost use Rattle.menu_order.specs.VersionOrder.{token_cmp, rank_of};
 ghost use Rattle.menu_order.specs.VersionTokens.{tokens_of};
-ghost use Rattle.menu_order.specs.Lexemes.{token_of, IsLexeme, is_of_token, is_zero, significant, HasFirstLexeme};
+ghost use Rattle.menu_order.specs.Lexemes.{token_of, IsLexeme, is_of_token, is_zero, significant_digits, HasFirstLexeme};
 
 use std::cmp::Ordering;
 
@@ -54,7 +54,7 @@ pub fn first_lexeme(text: &[u8]) -> (Lexeme<'_>, &[u8])
     }
 }
 
-/// The text from its first byte of a token on.
+// The text from its first byte of a token on.
 fn after_separators(text: &[u8]) -> &[u8]
     ensures same { tokens_of result.now ≡ tokens_of text.now }
     ensures within { length result.now ≤ length text.now }
@@ -63,7 +63,7 @@ fn after_separators(text: &[u8]) -> &[u8]
     &text[separators_len(text)..]
 }
 
-/// How many bytes that only separate the text begins with.
+// How many bytes that only separate the text begins with.
 fn separators_len(text: &[u8]) -> usize
     ensures value { result ≡ position_or_len is_of_token text.now }
     ensures within { result ≤ length text.now }
@@ -71,14 +71,14 @@ fn separators_len(text: &[u8]) -> usize
     text.iter().take_while(|byte| !is_of_token(**byte)).count()
 }
 
-/// Whether a byte is one of a token.
+// Whether a byte is one of a token.
 fn is_of_token(byte: u8) -> bool
     ensures { result ≡ is_of_token byte }
 {
     byte.is_ascii_alphanumeric() || matches!(byte, b'~' | b'-' | b'^' | b'.')
 }
 
-/// How many letters the text begins with.
+// How many letters the text begins with.
 fn letters_len(text: &[u8]) -> usize
     ensures value { result ≡ prefix_len is_ascii_alphabetic text.now }
     ensures within { result ≤ length text.now }
@@ -88,7 +88,7 @@ fn letters_len(text: &[u8]) -> usize
         .count()
 }
 
-/// How many digits the text begins with.
+// How many digits the text begins with.
 fn digits_len(text: &[u8]) -> usize
     ensures value { result ≡ prefix_len is_ascii_digit text.now }
     ensures within { result ≤ length text.now }
@@ -104,7 +104,7 @@ impl<'a> Lexeme<'a> {
         matches!(self, Lexeme::End)
     }
 
-    /// The place of its kind in the order.
+    // The place of its kind in the order.
     fn rank(self) -> u8
         ensures { result ≡ rank_of (token_of self.entry) }
     {
@@ -133,8 +133,8 @@ impl<'a> Lexeme<'a> {
     }
 }
 
-/// How the numbers of two runs of digits compare, however long they are: of runs without leading
-/// zeros the longer is the greater, and runs of one length go by their bytes.
+// How the numbers of two runs of digits compare, however long they are: of runs without leading
+// zeros the longer is the greater, and runs of one length go by their bytes.
 fn compare_numbers(a: &[u8], b: &[u8]) -> Ordering
     requires left { AllDigits 10 a.now }
     requires right { AllDigits 10 b.now }
@@ -144,14 +144,14 @@ fn compare_numbers(a: &[u8], b: &[u8]) -> Ordering
     left.len().cmp(&right.len()).then(left.cmp(right))
 }
 
-/// The digits after the leading zeros.
+// The digits after the leading zeros.
 fn without_leading_zeros(digits: &[u8]) -> &[u8]
-    ensures { result.now ≡ significant digits.now }
+    ensures { result.now ≡ significant_digits digits.now }
 {
     &digits[leading_zeros(digits)..]
 }
 
-/// How many zeros the digits begin with.
+// How many zeros the digits begin with.
 fn leading_zeros(digits: &[u8]) -> usize
     ensures value { result ≡ prefix_len is_zero digits.now }
     ensures within { result ≤ length digits.now }

@@ -14,7 +14,7 @@ mod menu;
 mod version;
 mod version_key;
 
-pub use bless::{BlessVerb, Choice, Present, bless_choice};
+pub use bless::{BlessChoice, BlessVerb, Present, bless_choice};
 pub use counted::{Counted, MAX_COUNT, Suffix, counter_laws, read_count};
 pub use item::{Counter, MenuItem};
 pub use key::MenuKey;

@@ -4,13 +4,13 @@ use Rattle.std.specs.List.{flat_map}
 use Rattle.std.proofs.lemmas.List.Sums.{fold-append}
 use Rattle.pcr_values.specs.declared.bank.Bank.{Bank}
 use Rattle.pcr_values.specs.declared.pcr.Pcr.{Pcr}
-use Rattle.pcr_values.specs.Banks.{extended, extended_by_all, fold_of, folded, zero_of}
-use Rattle.pcr_values.specs.Values.{pcr_bank, pcr_bytes, shown}
+use Rattle.pcr_values.specs.Banks.{extend_data, extend_all, fold_of, fold_pcr, zero_of}
+use Rattle.pcr_values.specs.Values.{pcr_bank, pcr_bytes, pcr_value}
 use Rattle.pcr_values.specs.ValueLines.{heading_of, value_line, value_lines}
 
 -- the line of a register, after the words of a path
 abbrev pub line_after : List (List ℕ) → Pcr → List ℕ
-line_after path start = value_line (pcr_bank start) (extended_by_all (pcr_bank start) (pcr_bytes start) path)
+line_after path start = value_line (pcr_bank start) (extend_all (pcr_bank start) (pcr_bytes start) path)
 
 -- the heading of a path, and the lines of registers after the path's words
 abbrev pub lines_of : List Pcr → List (List ℕ) → List ℕ
@@ -18,21 +18,21 @@ lines_of starts path = heading_of path ++ flat_map (line_after path) starts
 
 -- the same of what is shown of a register
 abbrev pub shown_after : List (List ℕ) → Bank × List ℕ → List ℕ
-shown_after path start = value_line start.0 (extended_by_all start.0 start.1 path)
+shown_after path start = value_line start.0 (extend_all start.0 start.1 path)
 
-lines_shown : (path : List (List ℕ)) (starts : List Pcr) → flat_map (line_after path) starts ≡ flat_map (shown_after path) (map shown starts)
+lines_shown : (path : List (List ℕ)) (starts : List Pcr) → flat_map (line_after path) starts ≡ flat_map (shown_after path) (map pcr_value starts)
 lines_shown path [] = refl
 lines_shown path (start ∷ starts) = ap (λ (more : List ℕ). line_after path start ++ more) (lines_shown path starts)
 
 path_lines : (items : Bank → List (List ℕ)) (path : List (List ℕ)) (banks : List Bank)
-    → flat_map (shown_after path) (map (λ bank. folded (items bank) bank) banks) ≡ flat_map (λ bank. value_line bank (fold_of bank (items bank ++ path))) banks
+    → flat_map (shown_after path) (map (λ bank. fold_pcr (items bank) bank) banks) ≡ flat_map (λ bank. value_line bank (fold_of bank (items bank ++ path))) banks
 path_lines items path [] = refl
 path_lines items path (bank ∷ banks) =
-    ap (λ (bytes : List ℕ). value_line bank bytes ++ flat_map (shown_after path) (map (λ bank. folded (items bank) bank) banks)) (sym (fold-append (extended bank) (zero_of bank) (items bank) path))
+    ap (λ (bytes : List ℕ). value_line bank bytes ++ flat_map (shown_after path) (map (λ bank. fold_pcr (items bank) bank) banks)) (sym (fold-append (extend_data bank) (zero_of bank) (items bank) path))
     ∙ ap (λ (more : List ℕ). value_line bank (fold_of bank (items bank ++ path)) ++ more) (path_lines items path banks)
 
 -- what registers come to after the words of a path is what the items and the words come to
-pub lines_of-items : (starts : List Pcr) (items : Bank → List (List ℕ)) (banks : List Bank) → map shown starts ≡ map (λ bank. folded (items bank) bank) banks
+pub lines_of-items : (starts : List Pcr) (items : Bank → List (List ℕ)) (banks : List Bank) → map pcr_value starts ≡ map (λ bank. fold_pcr (items bank) bank) banks
     → (paths : List (List (List ℕ))) → flat_map (lines_of starts) paths ≡ value_lines (λ bank path. fold_of bank (items bank ++ path)) banks paths
 lines_of-items starts items banks are [] = refl
 lines_of-items starts items banks are (path ∷ paths) =

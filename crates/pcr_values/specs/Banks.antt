@@ -37,16 +37,16 @@ digest_of banks.Sha384 message = sha384 message
 digest_of banks.Sha512 message = sha512 message
 
 -- a register's bytes after a digest extends it: H(old followed by digest) (TPM 2.0 Library, TPM2_PCR_Extend)
-abbrev pub extended_by_digest : Bank → List ℕ → List ℕ → List ℕ
-extended_by_digest bank old digest = digest_of bank (old ++ digest)
+abbrev pub extend_digest : Bank → List ℕ → List ℕ → List ℕ
+extend_digest bank old digest = digest_of bank (old ++ digest)
 
 -- a register's bytes after data extends it: H(old followed by H(data)) (TPM 2.0 Library, TPM2_PCR_Event)
-abbrev pub extended : Bank → List ℕ → List ℕ → List ℕ
-extended bank old bytes = extended_by_digest bank old (digest_of bank bytes)
+abbrev pub extend_data : Bank → List ℕ → List ℕ → List ℕ
+extend_data bank old bytes = extend_digest bank old (digest_of bank bytes)
 
 -- a register's bytes after each of the items in turn extends it
-abbrev pub extended_by_all : Bank → List ℕ → List (List ℕ) → List ℕ
-extended_by_all bank old items = fold (extended bank) old items
+abbrev pub extend_all : Bank → List ℕ → List (List ℕ) → List ℕ
+extend_all bank old items = fold (extend_data bank) old items
 
 -- a register's bytes at the start: zeros of the bank's length
 abbrev pub zero_of : Bank → List ℕ
@@ -54,8 +54,8 @@ zero_of bank = replicate (digest_length bank) 0
 
 -- a register's bytes after each of the items in turn has extended it from the start
 abbrev pub fold_of : Bank → List (List ℕ) → List ℕ
-fold_of bank items = extended_by_all bank (zero_of bank) items
+fold_of bank items = extend_all bank (zero_of bank) items
 
 -- the bank with its register's bytes after each of the items in turn has extended it from the start
-abbrev pub folded : List (List ℕ) → Bank → Bank × List ℕ
-folded items bank = (bank, fold_of bank items)
+abbrev pub fold_pcr : List (List ℕ) → Bank → Bank × List ℕ
+fold_pcr items bank = (bank, fold_of bank items)

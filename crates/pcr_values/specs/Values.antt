@@ -38,5 +38,5 @@ abbrev pub pcr_bytes : Pcr → List ℕ
 pcr_bytes pcr = bytes_of_digest pcr.value
 
 -- a register as others see it: its bank and its bytes
-abbrev pub shown : Pcr → Bank × List ℕ
-shown pcr = (pcr_bank pcr, pcr_bytes pcr)
+abbrev pub pcr_value : Pcr → Bank × List ℕ
+pcr_value pcr = (pcr_bank pcr, pcr_bytes pcr)

@@ -20,7 +20,7 @@ impl Bank {
     pub const ALL: [Bank; 4] = [Bank::Sha1, Bank::Sha256, Bank::Sha384, Bank::Sha512];
 
     /// The bank of a name; `None` where no bank has it.
-    pub fn named(name: &str) -> Option<Bank>
+    pub fn from_name(name: &str) -> Option<Bank>
         ensures { result ≡ bank_named name.now }
     {
         Bank::ALL.iter().copied().find(|bank| bank.name() == name)

@@ -1,6 +1,6 @@
 //! Values of a register.
 ghost use Rattle.std.specs.Prelude.{◌≡◌, length};
-ghost use Rattle.pcr_values.specs.Banks.{digest_length, extended, extended_by_digest, zero_of};
+ghost use Rattle.pcr_values.specs.Banks.{digest_length, extend_data, extend_digest, zero_of};
 ghost use Rattle.pcr_values.specs.Values.{bank_of, bytes_of_digest, pcr_bank, pcr_bytes};
 
 use crate::bank::Bank;
@@ -45,7 +45,7 @@ impl Pcr {
         requires { bank_of digest.now ≡ pcr_bank self }
         ensures bank { pcr_bank result ≡ pcr_bank self }
         ensures bytes { pcr_bytes result
-            ≡ extended_by_digest (pcr_bank self) (pcr_bytes self) (bytes_of_digest digest.now) }
+            ≡ extend_digest (pcr_bank self) (pcr_bytes self) (bytes_of_digest digest.now) }
     {
         let mut hash = DataHash::new(self.bank());
         hash.update(self.bytes());
@@ -58,7 +58,7 @@ impl Pcr {
     /// The value after extending it by data: by the digest of `bytes` in its own bank.
     pub fn extend_data(self, bytes: &[u8]) -> Pcr
         ensures bank { pcr_bank result ≡ pcr_bank self }
-        ensures bytes { pcr_bytes result ≡ extended (pcr_bank self) (pcr_bytes self) bytes.now }
+        ensures bytes { pcr_bytes result ≡ extend_data (pcr_bank self) (pcr_bytes self) bytes.now }
     {
         let digest = Digest::of(self.bank(), bytes);
         self.extend_digest(&digest)

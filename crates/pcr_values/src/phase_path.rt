@@ -1,6 +1,6 @@
 //! Phase paths.
 ghost use Rattle.std.specs.Prelude.{◌≡◌, ℕ, List, IfOk, Some, map, string_bytes};
-ghost use Rattle.pcr_values.specs.Banks.{extended_by_all};
+ghost use Rattle.pcr_values.specs.Banks.{extend_all};
 ghost use Rattle.pcr_values.specs.Values.{pcr_bank, pcr_bytes};
 ghost use Rattle.pcr_values.specs.Phases.{HasDistinctPaths, default_phase_paths, path_text, phase_words};
 
@@ -137,7 +137,7 @@ pub fn printed_paths_read_back()
 /// The register after each word of the path has extended it, without a NUL. It takes no memory.
 pub fn after_phases(pcr: Pcr, path: &PhasePath) -> Pcr
     ensures bank { pcr_bank result ≡ pcr_bank pcr }
-    ensures bytes { pcr_bytes result ≡ extended_by_all (pcr_bank pcr) (pcr_bytes pcr) path.now }
+    ensures bytes { pcr_bytes result ≡ extend_all (pcr_bank pcr) (pcr_bytes pcr) path.now }
 {
     let mut pcr = pcr;
     for word in path.words() {

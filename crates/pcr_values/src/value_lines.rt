@@ -1,8 +1,8 @@
 //! The lines that predict PCR 11.
 ghost use Rattle.std.specs.Prelude.{◌≡◌, ◌++◌, ℕ, List, map, IfOk, OnOk, OnErr};
 ghost use Rattle.std.specs.List.{flat_map};
-ghost use Rattle.pcr_values.specs.Banks.{extended_by_all, fold_of, folded};
-ghost use Rattle.pcr_values.specs.Values.{pcr_bank, pcr_bytes, shown};
+ghost use Rattle.pcr_values.specs.Banks.{extend_all, fold_of, fold_pcr};
+ghost use Rattle.pcr_values.specs.Values.{pcr_bank, pcr_bytes, pcr_value};
 ghost use Rattle.pcr_values.specs.declared.bank.Bank.{Bank};
 ghost use Rattle.pcr_values.specs.Phases.{HasDistinctPaths};
 ghost use Rattle.pcr_values.specs.ValueLines.{HasDistinctBanks, heading_of, value_line, value_lines};
@@ -43,7 +43,7 @@ fn append_lines(
     path: &PhasePath,
 ) -> Result<(), AllocError>
     ensures { OnOk result (out.new.items ≡ out.old.items ++ (heading_of path.now ++ flat_map (λ start.
-        value_line (pcr_bank start) (extended_by_all (pcr_bank start) (pcr_bytes start) path.now)) starts.now)) }
+        value_line (pcr_bank start) (extend_all (pcr_bank start) (pcr_bytes start) path.now)) starts.now)) }
 {
     append_heading(out, path)?;
     for start in starts {
@@ -64,7 +64,7 @@ pub fn result_lines(
     requires banks { HasDistinctBanks starts.now }
     requires paths { HasDistinctPaths paths.now }
     ensures { IfOk result (λ lines. (items : Bank → List (List ℕ)) (banks : List Bank)
-        → map shown starts.now ≡ map (λ bank. folded (items bank) bank) banks
+        → map pcr_value starts.now ≡ map (λ bank. fold_pcr (items bank) bank) banks
         → lines.items ≡ value_lines (λ bank path. fold_of bank (items bank ++ path)) banks paths.now) }
 {
     let mut out = Vec::new(alloc);

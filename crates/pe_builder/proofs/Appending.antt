@@ -8,10 +8,10 @@ use Rattle.std.proofs.lemmas.Bool.{and_from, and_parts, le-leb}
 use Rattle.std.proofs.lemmas.Bool.Decides.{nat_tests}
 use Rattle.pe_reader.specs.declared.head.Head.{Head}
 use Rattle.pe_reader.specs.declared.section.Section.{Section}
-use Rattle.pe_reader.specs.Grammar.{checked, is_in_file, is_apart, section_at, sections_of}
+use Rattle.pe_reader.specs.Grammar.{check_section, is_in_file, is_apart, section_at, sections_of}
 use Rattle.pe_builder.specs.declared.size.WideSize.{WideSize}
-use Rattle.pe_builder.specs.Puts.{padded}
-use Rattle.pe_builder.proofs.Rounding.{length-padded}
+use Rattle.pe_builder.specs.Puts.{pad_to}
+use Rattle.pe_builder.proofs.Rounding.{length-pad_to}
 use Rattle.pe_builder.specs.Layout.{virtual_end, end_after, section_for, sections_for, raw_end, length_after, FitsPart}
 use Rattle.pe_builder.specs.Image.{section_header, with_raw}
 use Rattle.pe_builder.proofs.HeaderBytes.{FitsHeader, section_at-header, length-section_header}
@@ -21,11 +21,11 @@ regroup a b c d = simp append_assoc
 
 -- the contents stand behind the bytes
 pub with_raw-tail : (unit : ℕ) (bytes : List ℕ) (contents : List (List ℕ)) → (tail : List ℕ) × (with_raw unit bytes contents ≡ bytes ++ tail)
-unfolding with_raw padded
+unfolding with_raw pad_to
 with_raw-tail unit bytes [] = ([], sym (append-nil bytes))
 with_raw-tail unit bytes (c ∷ cs) =
-    let r = with_raw-tail unit (padded unit bytes ++ padded unit c) cs in
-    (replicate ((unit - length bytes % unit) % unit) 0 ++ (padded unit c ++ r.0), r.1 ∙ regroup bytes _ (padded unit c) r.0)
+    let r = with_raw-tail unit (pad_to unit bytes ++ pad_to unit c) cs in
+    (replicate ((unit - length bytes % unit) % unit) 0 ++ (pad_to unit c ++ r.0), r.1 ∙ regroup bytes _ (pad_to unit c) r.0)
 
 pub length-with_raw : (h : Head) (bytes : List ℕ) (parts : List WideSize) (contents : List (List ℕ))
     → map length contents ≡ map (λ p. p.length) parts
@@ -38,9 +38,9 @@ length-with_raw h bytes (p ∷ ps) (c ∷ cs) e =
     let e1 : length c ≡ p.length = cc in
     let e2 : map length cs ≡ map (λ p. p.length) ps = cc in
     let unit = h.file_alignment in
-    let l : length (padded unit bytes ++ padded unit c) ≡ next_multiple_of (length bytes) unit + next_multiple_of p.length unit =
-    length-append (padded unit bytes) (padded unit c) ∙ rw (length-padded unit bytes, length-padded unit c, e1) refl in
-    length-with_raw h (padded unit bytes ++ padded unit c) ps cs e2 ∙ ap (λ (k : ℕ). length_after h k ps) l
+    let l : length (pad_to unit bytes ++ pad_to unit c) ≡ next_multiple_of (length bytes) unit + next_multiple_of p.length unit =
+    length-append (pad_to unit bytes) (pad_to unit c) ∙ rw (length-pad_to unit bytes, length-pad_to unit c, e1) refl in
+    length-with_raw h (pad_to unit bytes ++ pad_to unit c) ps cs e2 ∙ ap (λ (k : ℕ). length_after h k ps) l
 
 pub le-length_after : (h : Head) (r : ℕ) (parts : List WideSize) → r ≤ length_after h r parts
 unfolding length_after
@@ -82,8 +82,8 @@ in_file_here m header_size s a b = grind (arith, nat_tests)
 checked_passes : (m header_size : ℕ) (earlier : List Section) (place : ℕ) (s : Section)
     → s.virtual_size ≤ 268435456 → s.virtual_address + s.virtual_size ≤ 4294967296
     → is_in_file m header_size s ≡ true → list_all (is_apart s) earlier ≡ true
-    → checked m header_size earlier place s ≡ Ok s
-unfolding checked
+    → check_section m header_size earlier place s ≡ Ok s
+unfolding check_section
 checked_passes m header_size earlier place s a b c d =
     rw (le-leb _ _ a, le-leb _ _ b, c, d) refl
 
@@ -145,7 +145,7 @@ sections_of-new h m header_size r a (p ∷ ps) place earlier small hs ok =
     let memory = others.memory in
     let tiny = small.small in
     let here : is_in_file (raw_end s) header_size s ≡ true = in_file_here (raw_end s) header_size s (omega arith) (omega arith) in
-    let passes : checked m header_size earlier place s ≡ Ok s = checked_passes m header_size earlier place s (omega arith) (omega arith)
+    let passes : check_section m header_size earlier place s ≡ Ok s = checked_passes m header_size earlier place s (omega arith) (omega arith)
     (in_file-more (raw_end s) m header_size (omega arith) s here)
     (list_all_more (is_in_file r header_size) (is_apart s) (apart_from r header_size s (omega arith)) earlier ok) in
     let reads : section_at (section_header s ++ flat_map section_header rest) ≡ s = section_at-header s _ fits in

@@ -12,19 +12,19 @@ use Rattle.std.proofs.lemmas.Slice.Eq.{bytes_eq-Decides}
 use Rattle.pe_reader.specs.declared.section.Section.{Section}
 use Rattle.pe_reader.specs.Grammar.{Headers, pe_of}
 use Rattle.boot_base.specs.Names.{short_name}
-use Rattle.pe_reader.specs.Loaded.{is_named, section_at_index, no_section, loaded}
+use Rattle.pe_reader.specs.LoadedBytes.{is_named, section_at_index, no_section, loaded_bytes}
 use Rattle.pe_reader.proofs.Shape.{stages-shape, pe_of-stages}
 use Rattle.pe_builder.proofs.Fits.{FitsSection, HasImage}
 use Rattle.pe_builder.specs.declared.size.WideSize.{WideSize}
-use Rattle.pe_builder.specs.Replaced.{sbat_name, sbat_index, resized, with_sbat_size, with_content}
-use Rattle.pe_builder.specs.Image.{content_named, loaded_or_part, finished}
+use Rattle.pe_builder.specs.Replaced.{sbat_name, sbat_index, resized_section, with_sbat_size, with_content}
+use Rattle.pe_builder.specs.Image.{content_named, loaded_or_part, finished_image}
 use Rattle.pe_builder.specs.Laws.{HasFinished, finished_loaded}
 use Rattle.pe_builder.proofs.Replacing.{pe_of-with_content}
 use Rattle.pe_builder.proofs.ReplacedLoads.{loaded_by-replaced, loaded_by-others}
 use Rattle.pe_builder.proofs.PlannedIs.{stands, length-with_content}
 use Rattle.pe_builder.proofs.Totals.{buildable_sbat}
-use Rattle.pe_builder.proofs.Finished.{has_finished, fits_section}
-use Rattle.pe_builder.proofs.Kept.{loaded-image}
+use Rattle.pe_builder.proofs.FinishedImage.{has_finished, fits_section}
+use Rattle.pe_builder.proofs.Kept.{loaded_bytes-image}
 
 -- the index of the first section that passes
 index_is : (p : Section → Bool) (xs : List Section) → unwrap_or (position p xs) (length xs) ≡ position_or_len p xs
@@ -75,7 +75,7 @@ unfolding loaded_or_part
 replaced_loads h sbat stub name content e fits =
     let xs = h.sections in
     let i = sbat_index h in
-    let s = resized h i (length sbat) in
+    let s = resized_section h i (length sbat) in
     let changed = with_content h i sbat stub in
     let is_sbat = sbat_is_named h fits.inside in
     elim (cases_Bool (bytes_eq sbat_name name)) [
@@ -97,17 +97,17 @@ replaced_loads h sbat stub name content e fits =
     ]
 
 -- what the finished image has loaded of a name
-pub loaded-finished : (h : Headers) (sizes : List WideSize) (contents : List (List ℕ)) (sbat : Option (List ℕ)) (stub : List ℕ)
+pub loaded_bytes-finished_image : (h : Headers) (sizes : List WideSize) (contents : List (List ℕ)) (sbat : Option (List ℕ)) (stub : List ℕ)
     → HasFinished h sizes contents sbat stub → (name : List ℕ)
-    → loaded (finished h sizes contents sbat stub) name ≡ finished_loaded h sizes contents sbat stub name
-loaded-finished h sizes contents None stub f name =
-    loaded-image stub h sizes contents name f.reads (has_finished h sizes contents None stub f) f.lengths
-loaded-finished h sizes contents (Some sbat) stub f name =
+    → loaded_bytes (finished_image h sizes contents sbat stub) name ≡ finished_loaded h sizes contents sbat stub name
+loaded_bytes-finished_image h sizes contents None stub f name =
+    loaded_bytes-image stub h sizes contents name f.reads (has_finished h sizes contents None stub f) f.lengths
+loaded_bytes-finished_image h sizes contents (Some sbat) stub f name =
     let fits = fits_section h sizes contents sbat stub f in
     let changed = with_sbat_size h (Some (length sbat)) in
     let new_stub = with_content h (sbat_index h) sbat stub in
     let sbat_fits = buildable_sbat h (length stub) sizes (Some (length sbat)) f.buildable in
     let len = length-with_content h sbat stub (stands h stub (length sbat) (stages-shape stub h (pe_of-stages stub h f.reads)) sbat_fits) in
     let H : ℕ → Type 0 = λ k. HasImage changed k sizes in
-    loaded-image new_stub changed sizes contents name (pe_of-with_content stub sbat h (sbat_index h) f.reads fits) (subst H (sym len) (has_finished h sizes contents (Some sbat) stub f)) f.lengths
+    loaded_bytes-image new_stub changed sizes contents name (pe_of-with_content stub sbat h (sbat_index h) f.reads fits) (subst H (sym len) (has_finished h sizes contents (Some sbat) stub f)) f.lengths
     ∙ replaced_loads h sbat stub name (content_named name sizes contents) f.reads fits

@@ -12,21 +12,21 @@ use Rattle.pe_reader.specs.Grammar.{Headers}
 use Rattle.pe_reader.proofs.Shape.{Shape, stages-shape, pe_of-stages}
 use Rattle.pe_builder.proofs.Fits.{FitsSbat, HasImage}
 use Rattle.pe_builder.specs.declared.size.WideSize.{WideSize}
-use Rattle.pe_builder.specs.Puts.{put, padded}
+use Rattle.pe_builder.specs.Puts.{put, pad_to}
 use Rattle.pe_builder.specs.Layout.{virtual_end, raw_end, end_after, section_for, sections_for, length_after, new_sections, head_with}
 use Rattle.pe_builder.specs.Replaced.{sbat_index, with_sbat_size, with_content, with_sbat}
 use Rattle.pe_builder.specs.Refusals.{sbat_room}
-use Rattle.pe_builder.specs.Image.{section_header, with_headers, with_raw, finished}
+use Rattle.pe_builder.specs.Image.{section_header, with_headers, with_raw, finished_image}
 use Rattle.pe_builder.specs.Bytes.{Range, covers, byte_of, raw_data, rewritten_fields, rewritten_sbat}
 use Rattle.pe_builder.specs.Laws.{HasFinished, IsByPlace}
 use Rattle.pe_builder.proofs.Appending.{with_raw-tail, length-with_raw, length-headers}
 use Rattle.pe_builder.proofs.Putting.{length-put}
 use Rattle.pe_builder.proofs.Pieces.{get_or-put_inside, get_or-put_before, get_or-put_behind}
-use Rattle.pe_builder.proofs.Rounding.{length-padded}
+use Rattle.pe_builder.proofs.Rounding.{length-pad_to}
 use Rattle.pe_builder.proofs.Grown.{small_of}
 use Rattle.pe_builder.proofs.PlannedIs.{stands}
 use Rattle.pe_builder.proofs.Totals.{buildable_sbat}
-use Rattle.pe_builder.proofs.Finished.{has_finished}
+use Rattle.pe_builder.proofs.FinishedImage.{has_finished}
 
 -- where a range covers a place
 covers_before : (r : Range) (k : ℕ) → k < r.place → covers r k ≡ false
@@ -90,9 +90,9 @@ get_or-same m j z = elim (cases_lt j m) [
   | inr past ↦ get_or_past (replicate m z) j z (omega (arith, length-replicate m z))
 ]
 
-get_or-padded : (unit : ℕ) (xs : List ℕ) (j : ℕ) → get_or (padded unit xs) j 0 ≡ get_or xs j 0
-unfolding padded
-get_or-padded unit xs j = elim (cases_lt j (length xs)) [
+get_or-pad_to : (unit : ℕ) (xs : List ℕ) (j : ℕ) → get_or (pad_to unit xs) j 0 ≡ get_or xs j 0
+unfolding pad_to
+get_or-pad_to unit xs j = elim (cases_lt j (length xs)) [
   | inl below ↦ get_or_append_left xs _ 0 j below
   | inr past ↦ get_or-append_right xs _ (length xs) j 0 refl past ∙ get_or-same _ (j - length xs) 0 ∙ sym (get_or_past xs j 0 past)
 ]
@@ -120,23 +120,23 @@ raw_byte h (p ∷ ps) (c ∷ cs) bytes n a k len e from =
     let unit = h.file_alignment in
     let s = section_for h n a p in
     let r : Range = record { place = s.raw_place; bytes = c } in
-    let front = padded unit bytes in
-    let whole = front ++ padded unit c in
+    let front = pad_to unit bytes in
+    let whole = front ++ pad_to unit c in
     let e1 : length c ≡ p.length = cc in
     let e2 : map length cs ≡ map (λ p. p.length) ps = cc in
-    let lf : length front ≡ s.raw_place = length-padded unit bytes ∙ ap (λ (m : ℕ). next_multiple_of m unit) len in
-    let lc : length (padded unit c) ≡ s.raw_size = length-padded unit c ∙ ap (λ (m : ℕ). next_multiple_of m unit) e1 in
-    let lw : length whole ≡ raw_end s = length-append front (padded unit c) ∙ omega arith in
+    let lf : length front ≡ s.raw_place = length-pad_to unit bytes ∙ ap (λ (m : ℕ). next_multiple_of m unit) len in
+    let lc : length (pad_to unit c) ≡ s.raw_size = length-pad_to unit c ∙ ap (λ (m : ℕ). next_multiple_of m unit) e1 in
+    let lw : length whole ≡ raw_end s = length-append front (pad_to unit c) ∙ omega arith in
     let t = with_raw-tail unit whole cs in
     let left : k < raw_end s → get_or (with_raw unit whole cs) k 0 ≡ get_or whole k 0 =
     λ below. ap (λ (l : List ℕ). get_or l k 0) t.1 ∙ get_or_append_left whole t.0 0 k (omega arith) in
     let here : s.raw_place ≤ k → get_or whole k 0 ≡ get_or c (k - s.raw_place) 0 =
-    λ at. get_or-append_right front (padded unit c) s.raw_place k 0 lf at ∙ get_or-padded unit c (k - s.raw_place) in
+    λ at. get_or-append_right front (pad_to unit c) s.raw_place k 0 lf at ∙ get_or-pad_to unit c (k - s.raw_place) in
     elim (cases_lt k (raw_end s)) [
       | inl below ↦
           let none = raw_before h (raw_end s) (virtual_end s) k ps cs below in
           elim (cases_lt k s.raw_place) [
-            | inl gap ↦ rw (covers_before r k gap) (left below ∙ get_or_append_left front (padded unit c) 0 k (omega arith) ∙ get_or-padded unit bytes k ∙ get_or_past bytes k 0 (omega arith) ∙ sym none)
+            | inl gap ↦ rw (covers_before r k gap) (left below ∙ get_or_append_left front (pad_to unit c) 0 k (omega arith) ∙ get_or-pad_to unit bytes k ∙ get_or_past bytes k 0 (omega arith) ∙ sym none)
             | inr at ↦ elim (cases_lt k (s.raw_place + length c)) [
               | inl inside ↦ rw (covers_inside r k at inside) (left below ∙ here at)
               | inr behind ↦ rw (covers_behind r k behind) (left below ∙ here at ∙ get_or_past c (k - s.raw_place) 0 (omega arith) ∙ sym none)
@@ -235,7 +235,7 @@ by_place h sizes contents sbat stub f =
     let fits = buildable_sbat h n sizes size f.buildable in
     let ranges = rewritten_fields h.head (head_with changed new) (flat_map section_header new) (rewritten_sbat h sbat) in
     let ok = fields_within stub h changed sizes (rewritten_sbat h sbat) shape refl has (sbat_within h sbat stub shape fits) in
-    let same : finished h sizes contents sbat stub ≡ with_raw h.head.file_alignment (puts ranges stub) contents =
+    let same : finished_image h sizes contents sbat stub ≡ with_raw h.head.file_alignment (puts ranges stub) contents =
     ap (λ (m : ℕ). with_raw h.head.file_alignment (with_headers changed (new_sections changed m sizes) (with_sbat h sbat stub)) contents) (length-with_sbat h sbat stub shape fits)
     ∙ ap (λ (l : List ℕ). with_raw h.head.file_alignment l contents) (headers_puts h sbat new stub) in
     record {

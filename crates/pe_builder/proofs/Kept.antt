@@ -10,13 +10,13 @@ use Rattle.pe_reader.specs.declared.head.Head.{Head}
 use Rattle.pe_reader.specs.declared.section.Section.{Section}
 use Rattle.pe_reader.specs.Fields.{part}
 use Rattle.pe_reader.specs.Grammar.{Headers, pe_of, is_in_file}
-use Rattle.pe_reader.specs.Loaded.{is_named, loaded_by, loaded_of, loaded_in, loaded}
+use Rattle.pe_reader.specs.LoadedBytes.{is_named, loaded_by, loaded_of, loaded_in, loaded_bytes}
 use Rattle.pe_reader.proofs.Shape.{Shape, pe_of-stages, stages-shape}
 use Rattle.uki_parts.specs.Names.{name_bytes}
 use Rattle.pe_builder.proofs.Fits.{HasImage}
 use Rattle.pe_builder.specs.declared.size.WideSize.{WideSize}
-use Rattle.pe_builder.specs.Puts.{padded}
-use Rattle.pe_builder.proofs.Rounding.{length-padded, padded-is}
+use Rattle.pe_builder.specs.Puts.{pad_to}
+use Rattle.pe_builder.proofs.Rounding.{length-pad_to, pad_to-is}
 use Rattle.pe_builder.specs.Layout.{virtual_end, end_after, section_for, sections_for, raw_end, new_sections}
 use Rattle.pe_builder.specs.Image.{with_headers, with_raw, image_with_parts, content_named, loaded_or_part}
 use Rattle.pe_builder.proofs.Appending.{with_raw-tail}
@@ -55,17 +55,17 @@ loaded_by-image stub tail h parts s shape has e = by_range (raw_range (length st
 
 -- the raw data of a new section are the content
 content_at : (unit : ℕ) (bytes c tail : List ℕ) (n : ℕ) → length c ≡ n
-    → part ((padded unit bytes ++ padded unit c) ++ tail) (next_multiple_of (length bytes) unit) n ≡ c
+    → part ((pad_to unit bytes ++ pad_to unit c) ++ tail) (next_multiple_of (length bytes) unit) n ≡ c
 content_at unit bytes c tail n h =
-    ap (λ (x : List ℕ). take n (drop (next_multiple_of (length bytes) unit) x)) (append_assoc (padded unit bytes) (padded unit c) tail)
-    ∙ ap (take n) (drop_at (padded unit bytes) _ _ (length-padded unit bytes))
-    ∙ ap (λ (x : List ℕ). take n (x ++ tail)) (padded-is unit c)
+    ap (λ (x : List ℕ). take n (drop (next_multiple_of (length bytes) unit) x)) (append_assoc (pad_to unit bytes) (pad_to unit c) tail)
+    ∙ ap (take n) (drop_at (pad_to unit bytes) _ _ (length-pad_to unit bytes))
+    ∙ ap (λ (x : List ℕ). take n (x ++ tail)) (pad_to-is unit c)
     ∙ ap (take n) (append_assoc c _ tail)
     ∙ take_at c _ n h
 
 -- the loaded bytes of a new section are the content
 loaded_by-new : (h : Head) (bytes c tail : List ℕ) (a : ℕ) (p : WideSize) → length c ≡ p.length
-    → loaded_by ((padded h.file_alignment bytes ++ padded h.file_alignment c) ++ tail) (section_for h (length bytes) a p) ≡ c
+    → loaded_by ((pad_to h.file_alignment bytes ++ pad_to h.file_alignment c) ++ tail) (section_for h (length bytes) a p) ≡ c
 loaded_by-new h bytes c tail a p e =
     let m : min p.length (next_multiple_of p.length h.file_alignment) ≡ p.length = omega arith in
     let z : p.length - p.length ≡ 0 = omega arith in
@@ -87,11 +87,11 @@ loaded_of-new h name (p ∷ ps) (c ∷ cs) bytes r a l e =
     let e1 : length c ≡ p.length = cc in
     let e2 : map length cs ≡ map (λ p. p.length) ps = cc in
     let unit = h.file_alignment in
-    let next = padded unit bytes ++ padded unit c in
+    let next = pad_to unit bytes ++ pad_to unit c in
     let s = section_for h r a p in
     let t = with_raw-tail unit next cs in
     let len : length next ≡ raw_end s =
-    length-append (padded unit bytes) (padded unit c) ∙ rw (length-padded unit bytes, length-padded unit c, e1, l) refl in
+    length-append (pad_to unit bytes) (pad_to unit c) ∙ rw (length-pad_to unit bytes, length-pad_to unit c, e1, l) refl in
     let here : loaded_by (next ++ t.0) s ≡ c =
     ap (λ (k : ℕ). loaded_by (next ++ t.0) (section_for h k a p)) (sym l) ∙ loaded_by-new h bytes c t.0 a p e1 in
     choose (bytes_eq (name_bytes p.name) name) (loaded_of (with_raw unit next cs)) (Some s) (find (is_named name) (sections_for h (raw_end s) (virtual_end s) ps)) c (content_named name ps cs)
@@ -115,10 +115,10 @@ split stub image name content n header_size new kept added (s ∷ sections) ok =
     ]
 
 -- What an image has loaded of a name: the stub's section of that name, or else the part.
-pub loaded-image : (stub : List ℕ) (h : Headers) (parts : List WideSize) (contents : List (List ℕ)) (name : List ℕ)
+pub loaded_bytes-image : (stub : List ℕ) (h : Headers) (parts : List WideSize) (contents : List (List ℕ)) (name : List ℕ)
     → pe_of stub ≡ Ok h → HasImage h (length stub) parts → map length contents ≡ map (λ p. p.length) parts
-    → loaded (image_with_parts h parts contents stub) name ≡ loaded_or_part stub (find (is_named name) h.sections) (content_named name parts contents)
-loaded-image stub h parts contents name e has sizes =
+    → loaded_bytes (image_with_parts h parts contents stub) name ≡ loaded_or_part stub (find (is_named name) h.sections) (content_named name parts contents)
+loaded_bytes-image stub h parts contents name e has sizes =
     let shape = stages-shape stub h (pe_of-stages stub h e) in
     let new = new_sections h (length stub) parts in
     let w = with_headers h new stub in

@@ -1,7 +1,7 @@
 pub mod Appending
 pub mod ByName
 pub mod ByPlace
-pub mod Finished
+pub mod FinishedImage
 pub mod Fits
 pub mod Grown
 pub mod HeaderBytes

@@ -9,7 +9,7 @@ use Rattle.pe_builder.proofs.Appending.{le-length_after}
 use Rattle.pe_builder.proofs.Totals.{le-address_after}
 
 -- so far these sections stand, and the others will stand behind
-pub record Placed (h : Head) (r0 a0 : ℕ) (all : List WideSize) (done : List Section) (r a : ℕ) (rest : List WideSize) : Type 0 where
+pub record ArePlaced (h : Head) (r0 a0 : ℕ) (all : List WideSize) (done : List Section) (r a : ℕ) (rest : List WideSize) : Type 0 where
   pub sections : done ++ sections_for h r a rest ≡ sections_for h r0 a0 all
   pub file : length_after h r rest < 2 ^ 32
   pub memory : address_after h a rest < 2 ^ 32
@@ -20,7 +20,7 @@ pub record Room (h : Head) (r a : ℕ) (p : WideSize) : Type 0 where
   pub memory : virtual_end (section_for h r a p) < 2 ^ 32
 
 room_cons : (h : Head) (r0 a0 : ℕ) (all : List WideSize) (done : List Section) (r a : ℕ) (p : WideSize) (ps : List WideSize)
-    → Placed h r0 a0 all done r a (p ∷ ps) → Room h r a p
+    → ArePlaced h r0 a0 all done r a (p ∷ ps) → Room h r a p
 unfolding length_after address_after
 room_cons h r0 a0 all done r a p ps placed =
     let l = le-length_after h (raw_end (section_for h r a p)) ps in
@@ -30,8 +30,8 @@ room_cons h r0 a0 all done r a p ps placed =
     record { file = omega arith; memory = omega arith }
 
 next_cons : (h : Head) (r0 a0 : ℕ) (all : List WideSize) (done : List Section) (r a : ℕ) (p : WideSize) (ps : List WideSize)
-    → Placed h r0 a0 all done r a (p ∷ ps)
-    → Placed h r0 a0 all (done ++ section_for h r a p ∷ []) (raw_end (section_for h r a p)) (virtual_end (section_for h r a p)) ps
+    → ArePlaced h r0 a0 all done r a (p ∷ ps)
+    → ArePlaced h r0 a0 all (done ++ section_for h r a p ∷ []) (raw_end (section_for h r a p)) (virtual_end (section_for h r a p)) ps
 unfolding length_after address_after sections_for
 next_cons h r0 a0 all done r a p ps placed = record {
   sections = append_assoc done (section_for h r a p ∷ []) _ ∙ placed.sections;
@@ -40,22 +40,22 @@ next_cons h r0 a0 all done r a p ps placed = record {
 }
 
 pub room_at : (h : Head) (r0 a0 : ℕ) (all : List WideSize) (done : List Section) (r a i : ℕ) (d : WideSize) → i < length all
-    → Placed h r0 a0 all done r a (drop i all) → Room h r a (get_or all i d)
+    → ArePlaced h r0 a0 all done r a (drop i all) → Room h r a (get_or all i d)
 room_at h r0 a0 all done r a i d lt placed =
-    let P : List WideSize → Type 0 = λ l. Placed h r0 a0 all done r a l in
+    let P : List WideSize → Type 0 = λ l. ArePlaced h r0 a0 all done r a l in
     room_cons h r0 a0 all done r a (get_or all i d) (drop (i + 1) all) (subst P (drop_more all i d lt) placed)
 
 pub next_at : (h : Head) (r0 a0 : ℕ) (all : List WideSize) (done : List Section) (r a i : ℕ) (d : WideSize) → i < length all
-    → Placed h r0 a0 all done r a (drop i all)
-    → Placed h r0 a0 all (done ++ section_for h r a (get_or all i d) ∷ []) (raw_end (section_for h r a (get_or all i d))) (virtual_end (section_for h r a (get_or all i d))) (drop (i + 1) all)
+    → ArePlaced h r0 a0 all done r a (drop i all)
+    → ArePlaced h r0 a0 all (done ++ section_for h r a (get_or all i d) ∷ []) (raw_end (section_for h r a (get_or all i d))) (virtual_end (section_for h r a (get_or all i d))) (drop (i + 1) all)
 next_at h r0 a0 all done r a i d lt placed =
-    let P : List WideSize → Type 0 = λ l. Placed h r0 a0 all done r a l in
+    let P : List WideSize → Type 0 = λ l. ArePlaced h r0 a0 all done r a l in
     next_cons h r0 a0 all done r a (get_or all i d) (drop (i + 1) all) (subst P (drop_more all i d lt) placed)
 
 pub all_placed : (h : Head) (r0 a0 : ℕ) (all : List WideSize) (done : List Section) (r a i : ℕ) → length all ≤ i
-    → Placed h r0 a0 all done r a (drop i all) → done ≡ sections_for h r0 a0 all
+    → ArePlaced h r0 a0 all done r a (drop i all) → done ≡ sections_for h r0 a0 all
 unfolding sections_for
 all_placed h r0 a0 all done r a i le placed =
-    let P : List WideSize → Type 0 = λ l. Placed h r0 a0 all done r a l in
-    let none : Placed h r0 a0 all done r a [] = subst P (drop_all i all le) placed in
+    let P : List WideSize → Type 0 = λ l. ArePlaced h r0 a0 all done r a l in
+    let none : ArePlaced h r0 a0 all done r a [] = subst P (drop_all i all le) placed in
     sym (append-nil done) ∙ none.sections

@@ -8,7 +8,7 @@ use Rattle.byteorder.specs.Endian.{little_bytes}
 use Rattle.pe_reader.specs.declared.head.Head.{Head}
 use Rattle.pe_reader.specs.declared.section.Section.{Section}
 use Rattle.pe_reader.specs.Grammar.{Headers, pe_of, is_in_file}
-use Rattle.pe_reader.specs.Loaded.{section_at_index, no_section}
+use Rattle.pe_reader.specs.LoadedBytes.{section_at_index, no_section}
 use Rattle.pe_reader.proofs.Shape.{Shape, stages-shape, pe_of-stages}
 use Rattle.pe_reader.proofs.Tables.{at_list_all}
 use Rattle.pe_builder.proofs.Fits.{FitsSbat}
@@ -20,9 +20,9 @@ use Rattle.pe_builder.specs.Puts.{put}
 use Rattle.pe_builder.specs.Layout.{end_after, sections_for, head_with, new_sections, length_after, FitsPart}
 use Rattle.pe_builder.specs.Replaced.{sbat_index, with_sbat_size, with_content, MayReplace}
 use Rattle.pe_builder.specs.Refusals.{IsBuildable, first_refusal, sbat_room}
-use Rattle.pe_builder.specs.Image.{section_header, with_fields, with_headers, with_raw, image_with_parts, finished}
+use Rattle.pe_builder.specs.Image.{section_header, with_fields, with_headers, with_raw, image_with_parts, finished_image}
 use Rattle.pe_builder.specs.Laws.{HasFinished}
-use Rattle.pe_builder.specs.Planned.{PlansImage, Fitting, FitsPlace, IsPlanFor, image_by, replaced_by, sbat_if_in_place, head_after, sbat_place}
+use Rattle.pe_builder.specs.Planned.{PlansImage, FitsStub, FitsPlace, IsPlanFor, image_by, replaced_by, sbat_if_in_place, head_after, sbat_place}
 use Rattle.pe_builder.proofs.Appending.{end_after-append, length-sections_for}
 use Rattle.pe_builder.proofs.Putting.{length-put}
 use Rattle.pe_builder.proofs.Replacing.{raw_inside}
@@ -115,7 +115,7 @@ length-with_content h sbat stub s =
 -- what a plan makes is the finished image
 pub image_by-is : (plan : Plan) (h : Headers) (sizes : List WideSize) (contents : List (List ℕ)) (in_place : Option ℕ) (sbat stub : List ℕ)
     → pe_of stub ≡ Ok h → PlansImage plan h (length stub) sizes in_place → option_map length (sbat_if_in_place in_place sbat) ≡ in_place
-    → image_by plan contents sbat stub ≡ finished h sizes contents (sbat_if_in_place in_place sbat) stub
+    → image_by plan contents sbat stub ≡ finished_image h sizes contents (sbat_if_in_place in_place sbat) stub
 unfolding with_content
 image_by-is plan h sizes contents None sbat stub e p g =
     let R : Option SbatPlace → Type 0 = λ o. replaced_by o sbat stub ≡ stub in
@@ -139,7 +139,7 @@ fits_place h stub sbat (Some size) shape fits g =
     let s = stands h stub size shape fits in
     (omega (arith, s.room), s.raw, s.header)
 
-pub fitting : (plan : Plan) (stub sbat : List ℕ) (contents : List (List ℕ)) → IsPlanFor plan stub contents sbat → Fitting plan (length stub) (length sbat)
+pub fitting : (plan : Plan) (stub sbat : List ℕ) (contents : List (List ℕ)) → IsPlanFor plan stub contents sbat → FitsStub plan (length stub) (length sbat)
 fitting plan stub sbat contents is =
     let h = is.headers in
     let p = is.plans in

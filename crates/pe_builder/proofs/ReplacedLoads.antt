@@ -7,15 +7,15 @@ use Rattle.byteorder.specs.Endian.{little_bytes}
 use Rattle.pe_reader.specs.declared.section.Section.{Section}
 use Rattle.pe_reader.specs.Fields.{part}
 use Rattle.pe_reader.specs.Grammar.{Headers, pe_of, is_in_file, is_apart}
-use Rattle.pe_reader.specs.Loaded.{section_at_index, no_section, loaded_by}
+use Rattle.pe_reader.specs.LoadedBytes.{section_at_index, no_section, loaded_by}
 use Rattle.pe_reader.proofs.Tables.{AllApart, sections_of-apart, at_list_all}
 use Rattle.pe_reader.proofs.Shape.{pe_of-stages, stages-shape}
 use Rattle.pe_builder.proofs.Fits.{FitsSection}
 use Rattle.pe_builder.specs.Puts.{put}
 use Rattle.pe_builder.proofs.Putting.{length-put}
 use Rattle.pe_builder.proofs.Rewriting.{part-put}
-use Rattle.pe_builder.specs.Replaced.{resized, with_content}
-use Rattle.pe_builder.proofs.Replacing.{apart_two, writing_of, Writing}
+use Rattle.pe_builder.specs.Replaced.{resized_section, with_content}
+use Rattle.pe_builder.proofs.Replacing.{apart_two, writing_of, TwoWritings}
 
 turned : {A B : Type 0} → A ⊎ B → B ⊎ A
 turned (inl a) = inr a
@@ -42,7 +42,7 @@ part-put_front at n front back bytes h l =
 
 -- the replaced section has the content loaded
 pub loaded_by-replaced : (stub content : List ℕ) (h : Headers) (i : ℕ) → pe_of stub ≡ Ok h → FitsSection h i content
-    → loaded_by (with_content h i content stub) (resized h i (length content)) ≡ content
+    → loaded_by (with_content h i content stub) (resized_section h i (length content)) ≡ content
 unfolding with_content
 loaded_by-replaced stub content h i e fits =
     let shape = stages-shape stub h (pe_of-stages stub h e) in
@@ -61,7 +61,7 @@ loaded_by-replaced stub content h i e fits =
     rw (m, z) (append-nil _ ∙ part-put s.raw_place v (h.head.table_place + 40 * i + 8) (little_bytes 4 v) _ (inr (omega arith)) (omega arith) ∙ inner)
 
 -- a section whose raw range is apart from the replaced one has the loaded bytes that it had
-kept_by : (p raw n header_size : ℕ) (size fill stub : List ℕ) (s t : Section) → Writing p raw n size fill stub
+kept_by : (p raw n header_size : ℕ) (size fill stub : List ℕ) (s t : Section) → TwoWritings p raw n size fill stub
     → p + 4 ≤ header_size → s.raw_place ≡ raw → length fill ≡ s.raw_size → 0 < s.raw_size
     → (t.raw_size ≡ 0) ⊎ ((0 < t.raw_size) × (header_size ≤ t.raw_place) × (t.raw_place + t.raw_size ≤ n))
     → (is_apart t s ≡ true) ⊎ (is_apart s t ≡ true)

@@ -10,8 +10,8 @@ use Rattle.std.proofs.lemmas.Bool.Decides.{nat_tests}
 use Rattle.byteorder.specs.Endian.{little_bytes}
 use Rattle.pe_reader.specs.declared.section.Section.{Section}
 use Rattle.pe_reader.specs.Fields.{u32_at, part}
-use Rattle.pe_reader.specs.Grammar.{◌>>=◌, Headers, pe_of, pe_place_of, coff_of, optional_of, checked, is_in_file, is_apart, section_at, sections_of}
-use Rattle.pe_reader.specs.Loaded.{section_at_index, no_section}
+use Rattle.pe_reader.specs.Grammar.{◌>>=◌, Headers, pe_of, pe_place_of, coff_of, optional_of, check_section, is_in_file, is_apart, section_at, sections_of}
+use Rattle.pe_reader.specs.LoadedBytes.{section_at_index, no_section}
 use Rattle.pe_reader.proofs.Checks.{bind_ok}
 use Rattle.pe_reader.proofs.Tables.{sections_of-more, sections_of-split, sections_of-rest, section_at-append, checked_is}
 use Rattle.pe_reader.proofs.Shape.{optional_of_is, Shape, pe_of-stages, pe_of-from_stages, stages-shape}
@@ -21,7 +21,7 @@ use Rattle.pe_builder.specs.Puts.{put}
 use Rattle.pe_builder.proofs.Putting.{length-put, u32_at-put}
 use Rattle.pe_builder.proofs.Rewriting.{part-put, u32_field}
 use Rattle.pe_builder.proofs.HeaderBytes.{same_section}
-use Rattle.pe_builder.specs.Replaced.{headers_resized, with_content}
+use Rattle.pe_builder.specs.Replaced.{resized_headers, with_content}
 
 -- a part in two
 part-split : (xs : List ℕ) (at m n : ℕ) → at + m ≤ length xs → part xs at (m + n) ≡ part xs at m ++ part xs (at + m) n
@@ -35,11 +35,11 @@ pub raw_inside : (n header_size : ℕ) (s : Section) → 0 < s.raw_size → is_i
 raw_inside n header_size s some e = (grind (arith, nat_tests), grind (arith, nat_tests))
 
 -- the checks of a section with another VirtualSize
-checked-resized : (n header_size : ℕ) (earlier : List Section) (place v : ℕ) (s t : Section)
-    → checked n header_size earlier place s ≡ Ok t → v ≤ 268435456 → s.virtual_address + v ≤ 4294967296
-    → checked n header_size earlier place (record s { virtual_size = v }) ≡ Ok (record s { virtual_size = v })
-unfolding checked
-checked-resized n header_size earlier place v s t e small fits = grind (arith, nat_tests)
+check_section-resized : (n header_size : ℕ) (earlier : List Section) (place v : ℕ) (s t : Section)
+    → check_section n header_size earlier place s ≡ Ok t → v ≤ 268435456 → s.virtual_address + v ≤ 4294967296
+    → check_section n header_size earlier place (record s { virtual_size = v }) ≡ Ok (record s { virtual_size = v })
+unfolding check_section
+check_section-resized n header_size earlier place v s t e small fits = grind (arith, nat_tests)
 
 -- two lists whose raw ranges every section meets alike
 abbrev MetAlike : List Section → List Section → Type 0
@@ -55,7 +55,7 @@ table-from : (n header_size i k place v : ℕ) (before header other behind : Lis
     → v ≤ 268435456 → (section_at header).virtual_address + v ≤ 4294967296
     → length middle ≡ i
     → sections_of n header_size i place [] before ≡ Ok middle
-    → checked n header_size middle (place + 40 * i) (section_at header) ≡ Ok (section_at header)
+    → check_section n header_size middle (place + 40 * i) (section_at header) ≡ Ok (section_at header)
     → out ≡ (middle ++ section_at header ∷ []) ++ rest
     → ((others : List Section) → MetAlike others (middle ++ section_at header ∷ []) → sections_of n header_size k (place + 40 * i + 40) others behind ≡ Ok (others ++ rest))
     → sections_of n header_size (i + suc k) place [] (before ++ (other ++ behind)) ≡ Ok (set out i (record (get_or out i d) { virtual_size = v }))
@@ -66,8 +66,8 @@ table-from n header_size i k place v before header other behind out middle rest 
     let out_is : out ≡ middle ++ t ∷ rest = whole ∙ append_assoc middle (t ∷ []) rest in
     let got : get_or out i d ≡ t = ap (λ (l : List Section). get_or l i d) out_is ∙ get_or_at middle t rest d i lm in
     let now : section_at (other ++ behind) ≡ t' = section_at-append other behind (omega arith) ∙ same in
-    let again : checked n header_size middle (place + 40 * i) (section_at (other ++ behind)) ≡ Ok t' =
-    ap (λ (x : Section). checked n header_size middle (place + 40 * i) x) now ∙ checked-resized n header_size middle (place + 40 * i) v t t passes small fits in
+    let again : check_section n header_size middle (place + 40 * i) (section_at (other ++ behind)) ≡ Ok t' =
+    ap (λ (x : Section). check_section n header_size middle (place + 40 * i) x) now ∙ check_section-resized n header_size middle (place + 40 * i) v t t passes small fits in
     let first = sections_of-more n n header_size (suc k) i place [] before (other ++ behind) middle (omega arith) lb mid in
     let step : sections_of n header_size (suc k) (place + 40 * i) middle (other ++ behind) ≡ sections_of n header_size k (place + 40 * i + 40) (middle ++ t' ∷ []) (drop 40 (other ++ behind)) =
     ap (λ (x : Result Section FailedCheck). x >>= λ y. sections_of n header_size k (place + 40 * i + 40) (middle ++ y ∷ []) (drop 40 (other ++ behind))) again in
@@ -87,7 +87,7 @@ table-from_any : (n header_size i k place v : ℕ) (before header other behind :
     → v ≤ 268435456 → (get_or out i d).virtual_address + v ≤ 4294967296
     → length middle ≡ i
     → sections_of n header_size i place [] before ≡ Ok middle
-    → checked n header_size middle (place + 40 * i) (section_at header) ≡ Ok s
+    → check_section n header_size middle (place + 40 * i) (section_at header) ≡ Ok s
     → s ≡ section_at header
     → out ≡ (middle ++ s ∷ []) ++ rest
     → ((others : List Section) → MetAlike others (middle ++ s ∷ []) → sections_of n header_size k (place + 40 * i + 40) others behind ≡ Ok (others ++ rest))
@@ -113,24 +113,24 @@ unfolding sections_of
 table-resized n header_size i k place v before header other behind out d lb lh lo same small fits e =
     let a = sections_of-split n header_size (suc k) i place [] before (header ++ behind) out lb e in
     let middle = a.0 in
-    let b = bind_ok (checked n header_size middle (place + 40 * i) (section_at (header ++ behind))) _ out a.3 in
+    let b = bind_ok (check_section n header_size middle (place + 40 * i) (section_at (header ++ behind))) _ out a.3 in
     let c = sections_of-rest n header_size k (place + 40 * i + 40) (middle ++ b.0 ∷ []) (drop 40 (header ++ behind)) out b.2 in
     let front = section_at-append header behind (omega arith) in
     table-from_any n header_size i k place v before header other behind out middle c.0 b.0 d lb lh lo same small fits
     (omega (arith, a.1)) a.2
-    (ap (λ (x : Section). checked n header_size middle (place + 40 * i) x) (sym front) ∙ b.1)
+    (ap (λ (x : Section). check_section n header_size middle (place + 40 * i) x) (sym front) ∙ b.1)
     ((checked_is n header_size middle (place + 40 * i) (section_at (header ++ behind)) b.0 b.1).0 ∙ front)
     c.1
     (λ others h. ap (λ (l : List ℕ). sections_of n header_size k (place + 40 * i + 40) others l) (sym (drop_at header behind 40 lh)) ∙ c.2 others h)
 
 -- where the two writings of a replaced section stand
-pub record Writing (at raw n : ℕ) (size fill stub : List ℕ) : Type 0 where
+pub record TwoWritings (at raw n : ℕ) (size fill stub : List ℕ) : Type 0 where
   pub size_is : length size ≡ 4
   pub apart : at + 4 ≤ raw
   pub fits : raw + length fill ≤ n
   pub length_is : length stub ≡ n
 
-pub apart_two : (p raw n : ℕ) (size fill stub : List ℕ) (at count : ℕ) → Writing p raw n size fill stub
+pub apart_two : (p raw n : ℕ) (size fill stub : List ℕ) (at count : ℕ) → TwoWritings p raw n size fill stub
     → (at + count ≤ p) ⊎ (p + length size ≤ at) → (at + count ≤ raw) ⊎ (raw + length fill ≤ at)
     → part (put p size (put raw fill stub)) at count ≡ part stub at count
 apart_two p raw n size fill stub at count w h1 h2 =
@@ -138,7 +138,7 @@ apart_two p raw n size fill stub at count w h1 h2 =
     part-put at count p size (put raw fill stub) h1 (omega arith) ∙ part-put at count raw fill stub h2 (omega arith)
 
 -- the header of the replaced section
-header_resized : (p raw n v : ℕ) (fill stub : List ℕ) (start : ℕ) → Writing p raw n (little_bytes 4 v) fill stub → start + 8 ≡ p → start + 40 ≤ raw → v < 2 ^ 32
+header_resized : (p raw n v : ℕ) (fill stub : List ℕ) (start : ℕ) → TwoWritings p raw n (little_bytes 4 v) fill stub → start + 8 ≡ p → start + 40 ≤ raw → v < 2 ^ 32
     → section_at (part (put p (little_bytes 4 v) (put raw fill stub)) start 40) ≡ record (section_at (part stub start 40)) { virtual_size = v }
 unfolding section_at
 header_resized p raw n v fill stub start w at room small =
@@ -168,7 +168,7 @@ at_list_all p (x ∷ xs) (suc i) d h e = at_list_all p xs i d (omega arith) (and
 
 -- what the section's place says of the two writings
 pub writing_of : (stub content : List ℕ) (h : Headers) (i : ℕ) → Shape stub h → FitsSection h i content
-    → Writing (h.head.table_place + 40 * i + 8) (section_at_index h.sections i).raw_place (length stub) (little_bytes 4 (length content))
+    → TwoWritings (h.head.table_place + 40 * i + 8) (section_at_index h.sections i).raw_place (length stub) (little_bytes 4 (length content))
     (content ++ replicate ((section_at_index h.sections i).raw_size - length content) 0) stub
     × (h.head.header_size ≤ (section_at_index h.sections i).raw_place)
 writing_of stub content h i shape fits =
@@ -185,7 +185,7 @@ writing_of stub content h i shape fits =
 
 -- The stub with a section replaced reads as PE, with that section's new VirtualSize.
 pub pe_of-with_content : (stub content : List ℕ) (h : Headers) (i : ℕ) → pe_of stub ≡ Ok h → FitsSection h i content
-    → pe_of (with_content h i content stub) ≡ Ok (headers_resized h i (length content))
+    → pe_of (with_content h i content stub) ≡ Ok (resized_headers h i (length content))
 unfolding with_content
 pe_of-with_content stub content h i e fits =
     let st = pe_of-stages stub h e in
@@ -231,7 +231,7 @@ pe_of-with_content stub content h i e fits =
     table-parts new t i k (omega (arith, len))
     ∙ ap (λ (l : List ℕ). l ++ (part new (t + 40 * i) 40 ++ part new (t + 40 * i + 40) (40 * k))) b0
     ∙ ap (λ (l : List ℕ). part stub t (40 * i) ++ (part new (t + 40 * i) 40 ++ l)) b2 in
-    pe_of-from_stages new (headers_resized h i v) (record {
+    pe_of-from_stages new (resized_headers h i v) (record {
       coff = st.coff;
       place_is = ap (λ (m : ℕ). pe_place_of m (part new 0 64)) len ∙ ap (pe_place_of n) front ∙ st.place_is;
       coff_is = ap (λ (m : ℕ). coff_of m place (part new place 24)) len ∙ ap (coff_of n place) coff ∙ st.coff_is;

@@ -9,7 +9,7 @@ use Rattle.std.specs.Ordering.{nat_cmp}
 use Rattle.std.specs.declared.cmp.Ordering.{Ordering}
 use Rattle.std.proofs.lemmas.List.{take_more, drop_more, drop_all}
 use Rattle.std.proofs.lemmas.List.Folds.{list_any-append}
-use Rattle.pe_reader.specs.Loaded.{is_named}
+use Rattle.pe_reader.specs.LoadedBytes.{is_named}
 use Rattle.uki_parts.specs.Names.{name_bytes}
 use Rattle.pe_reader.specs.declared.section.Section.{Section}
 use Rattle.pe_builder.specs.declared.size.WideSize.{WideSize}

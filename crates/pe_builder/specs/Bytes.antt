@@ -5,7 +5,7 @@ use Rattle.byteorder.specs.Endian.{little_bytes}
 use Rattle.pe_reader.specs.declared.head.Head.{Head}
 use Rattle.pe_reader.specs.declared.section.Section.{Section}
 use Rattle.pe_reader.specs.Grammar.{Headers}
-use Rattle.pe_reader.specs.Loaded.{section_at_index}
+use Rattle.pe_reader.specs.LoadedBytes.{section_at_index}
 use Rattle.pe_builder.specs.declared.size.WideSize.{WideSize}
 use Rattle.pe_builder.specs.Layout.{head_with, new_sections}
 use Rattle.pe_builder.specs.Replaced.{sbat_index, with_sbat_size}

@@ -6,10 +6,10 @@ use Rattle.byteorder.specs.Endian.{little_bytes}
 use Rattle.pe_reader.specs.declared.head.Head.{Head}
 use Rattle.pe_reader.specs.declared.section.Section.{Section}
 use Rattle.pe_reader.specs.Grammar.{Headers}
-use Rattle.pe_reader.specs.Loaded.{loaded_by}
+use Rattle.pe_reader.specs.LoadedBytes.{loaded_by}
 use Rattle.uki_parts.specs.Names.{name_bytes}
 use Rattle.pe_builder.specs.declared.size.WideSize.{WideSize}
-use Rattle.pe_builder.specs.Puts.{put, padded}
+use Rattle.pe_builder.specs.Puts.{put, pad_to}
 use Rattle.pe_builder.specs.Layout.{head_with, headers_with, new_sections}
 use Rattle.pe_builder.specs.Replaced.{with_sbat_size, with_sbat}
 
@@ -35,7 +35,7 @@ with_headers h new stub = with_fields h.head (head_with h new) (flat_map section
 
 -- the bytes with the raw data of a section behind them
 abbrev pub add_raw : ℕ → List ℕ → List ℕ → List ℕ
-add_raw unit bytes content = padded unit bytes ++ padded unit content
+add_raw unit bytes content = pad_to unit bytes ++ pad_to unit content
 
 -- the bytes with the raw data of sections behind them
 unfoldable pub with_raw : ℕ → List ℕ → List (List ℕ) → List ℕ
@@ -47,8 +47,8 @@ image_with_parts h parts contents stub =
     with_raw h.head.file_alignment (with_headers h (new_sections h (length stub) parts) stub) contents
 
 -- the finished image of a stub, parts, and a new `.sbat` where the stub's is replaced in place
-abbrev pub finished : Headers → List WideSize → List (List ℕ) → Option (List ℕ) → List ℕ → List ℕ
-finished h parts contents sbat stub =
+abbrev pub finished_image : Headers → List WideSize → List (List ℕ) → Option (List ℕ) → List ℕ → List ℕ
+finished_image h parts contents sbat stub =
     image_with_parts (with_sbat_size h (option_map length sbat)) parts contents (with_sbat h sbat stub)
 
 -- its headers

@@ -3,12 +3,12 @@ use Rattle.std.specs.Prelude.{◌≡◌, ℕ, List, length, map, get_or, option_
 use Rattle.std.specs.List.{find}
 use Rattle.std.specs.Str.{bytes_eq}
 use Rattle.pe_reader.specs.Grammar.{Headers, pe_of}
-use Rattle.pe_reader.specs.Loaded.{is_named, loaded}
+use Rattle.pe_reader.specs.LoadedBytes.{is_named, loaded_bytes}
 use Rattle.pe_builder.specs.declared.size.WideSize.{WideSize}
 use Rattle.pe_builder.specs.Layout.{length_after}
 use Rattle.pe_builder.specs.Replaced.{sbat_name}
 use Rattle.pe_builder.specs.Refusals.{IsBuildable}
-use Rattle.pe_builder.specs.Image.{content_named, loaded_or_part, finished, finished_headers}
+use Rattle.pe_builder.specs.Image.{content_named, loaded_or_part, finished_image, finished_headers}
 use Rattle.pe_builder.specs.Bytes.{finished_byte}
 
 -- There is a finished image: the stub reads with these headers, nothing is refused, and the contents have the parts'
@@ -23,13 +23,15 @@ pub record HasFinished (h : Headers) (sizes : List WideSize) (contents : List (L
 abbrev pub ImageReads : Type 0
 ImageReads = (h : Headers) (sizes : List WideSize) (contents : List (List ℕ)) (sbat : Option (List ℕ)) (stub : List ℕ) →
     HasFinished h sizes contents sbat stub →
-    pe_of (finished h sizes contents sbat stub) ≡ Ok (finished_headers h (length stub) sizes (option_map length sbat))
+    pe_of (finished_image h sizes contents sbat stub)
+    ≡ Ok (finished_headers h (length stub) sizes (option_map length sbat))
 
 -- The finished image, place by place.
 pub record IsByPlace (h : Headers) (sizes : List WideSize) (contents : List (List ℕ)) (sbat : Option (List ℕ))
     (stub : List ℕ) : Type 0 where
-  pub length_is : length (finished h sizes contents sbat stub) ≡ length_after h.head (length stub) sizes
-  pub byte_is : (k : ℕ) → get_or (finished h sizes contents sbat stub) k 0 ≡ finished_byte h sizes contents sbat stub k
+  pub length_is : length (finished_image h sizes contents sbat stub) ≡ length_after h.head (length stub) sizes
+  pub byte_is : (k : ℕ)
+      → get_or (finished_image h sizes contents sbat stub) k 0 ≡ finished_byte h sizes contents sbat stub k
 
 -- The finished image has the stated length, and the stated byte at each place.
 abbrev pub ImageByPlace : Type 0
@@ -49,4 +51,4 @@ finished_loaded h sizes contents (Some sbat) stub name =
 abbrev pub ImageLoads : Type 0
 ImageLoads = (h : Headers) (sizes : List WideSize) (contents : List (List ℕ)) (sbat : Option (List ℕ)) (stub : List ℕ) →
     HasFinished h sizes contents sbat stub → (name : List ℕ) →
-    loaded (finished h sizes contents sbat stub) name ≡ finished_loaded h sizes contents sbat stub name
+    loaded_bytes (finished_image h sizes contents sbat stub) name ≡ finished_loaded h sizes contents sbat stub name

@@ -7,7 +7,7 @@ use Rattle.pe_builder.specs.declared.fault.PlanFault.{PlanFault}
 use Rattle.pe_builder.specs.declared.fault.PlanFault.TheVariants.{Memory}
 use Rattle.pe_reader.specs.declared.head.Head.{Head}
 use Rattle.pe_reader.specs.Grammar.{Headers, pe_of}
-use Rattle.pe_reader.specs.Loaded.{section_at_index}
+use Rattle.pe_reader.specs.LoadedBytes.{section_at_index}
 use Rattle.pe_builder.specs.declared.size.WideSize.{WideSize}
 use Rattle.pe_builder.specs.declared.plan.Plan.{Plan}
 use Rattle.pe_builder.specs.declared.plan.SbatPlace.{SbatPlace}
@@ -15,7 +15,7 @@ use Rattle.pe_builder.specs.Puts.{put}
 use Rattle.pe_builder.specs.Replaced.{sbat_index, with_sbat_size}
 use Rattle.pe_builder.specs.Refusals.{sbat_room, IsBuildable}
 use Rattle.pe_builder.specs.Layout.{head_with, new_sections, address_after, length_after}
-use Rattle.pe_builder.specs.Image.{section_header, with_fields, with_raw, finished}
+use Rattle.pe_builder.specs.Image.{section_header, with_fields, with_raw, finished_image}
 
 -- where the stub's `.sbat` stands, that is replaced by one of that length
 abbrev pub sbat_place : Headers → Option ℕ → Option SbatPlace
@@ -78,7 +78,7 @@ IsFinished plan stub contents sbat image =
     (h : Headers) (sizes : List WideSize) (in_place : Option ℕ) →
     pe_of stub ≡ Ok h → PlansImage plan h (length stub) sizes in_place →
     option_map length (sbat_if_in_place in_place sbat) ≡ in_place →
-    image ≡ finished h sizes contents (sbat_if_in_place in_place sbat) stub
+    image ≡ finished_image h sizes contents (sbat_if_in_place in_place sbat) stub
 
 -- What follows is said of the private steps that make the bytes.
 
@@ -101,7 +101,7 @@ FitsPlace None stub_length sbat_length = Unit {0}
 FitsPlace (Some p) stub_length sbat_length =
     (sbat_length ≤ p.raw_size) × (p.raw_place + p.raw_size ≤ stub_length) × (p.size_place + 4 ≤ stub_length)
 
-pub record Fitting (plan : Plan) (stub_length sbat_length : ℕ) : Type 0 where
+pub record FitsStub (plan : Plan) (stub_length sbat_length : ℕ) : Type 0 where
   pub alignment : 0 < plan.before.file_alignment
   pub before : plan.before.pe_place + 136 ≤ plan.before.table_place
   pub table : plan.before.table_place + 40 * (plan.before.section_count + length plan.sections.items) ≤ stub_length

@@ -4,7 +4,7 @@ use Rattle.std.specs.Int.{next_multiple_of}
 use Rattle.std.specs.List.{list_any, AllByRecursion}
 use Rattle.std.specs.Str.{bytes_eq}
 use Rattle.pe_reader.specs.declared.section.Section.{Section}
-use Rattle.pe_reader.specs.Loaded.{is_named, section_at_index}
+use Rattle.pe_reader.specs.LoadedBytes.{is_named, section_at_index}
 use Rattle.pe_reader.specs.Grammar.{Headers}
 use Rattle.pe_builder.specs.declared.size.PartSize.{PartSize}
 use Rattle.uki_parts.specs.Names.{name_bytes}
@@ -15,8 +15,8 @@ use Rattle.pe_builder.specs.Layout.{end_after, length_after, address_after, Fits
 use Rattle.pe_builder.specs.Replaced.{sbat_index, with_sbat_size, MayReplace}
 
 -- the size of a part whose length may be any number
-abbrev pub wide : PartSize → WideSize
-wide p = record { name = p.name; length = p.length; flags = p.flags }
+abbrev pub wide_size : PartSize → WideSize
+wide_size p = record { name = p.name; length = p.length; flags = p.flags }
 
 -- a refusal where a test holds, else the rest
 abbrev pub refuse : Bool → PlanFault → Option PlanFault → Option PlanFault

@@ -3,7 +3,7 @@ use Rattle.std.specs.Prelude.{ℕ, ◌+◌, ◌-◌, ◌*◌, ◌<◌, ◌≤◌
 use Rattle.byteorder.specs.Endian.{little_bytes}
 use Rattle.pe_reader.specs.declared.section.Section.{Section}
 use Rattle.pe_reader.specs.Grammar.{Headers}
-use Rattle.pe_reader.specs.Loaded.{section_at_index, is_named}
+use Rattle.pe_reader.specs.LoadedBytes.{section_at_index, is_named}
 use Rattle.pe_builder.specs.Puts.{put}
 
 -- the bytes of `.sbat`
@@ -20,19 +20,19 @@ MayReplace h None = Unit {0}
 MayReplace h (Some size) = (1 ≤ size) × (sbat_index h < length h.sections)
 
 -- the section at an index, with another VirtualSize
-abbrev pub resized : Headers → ℕ → ℕ → Section
-resized h i size = record (section_at_index h.sections i) { virtual_size = size }
+abbrev pub resized_section : Headers → ℕ → ℕ → Section
+resized_section h i size = record (section_at_index h.sections i) { virtual_size = size }
 
-abbrev pub headers_resized : Headers → ℕ → ℕ → Headers
-headers_resized h i size = record h { sections = set h.sections i (resized h i size) }
+abbrev pub resized_headers : Headers → ℕ → ℕ → Headers
+resized_headers h i size = record h { sections = set h.sections i (resized_section h i size) }
 
 -- the headers with a new `.sbat` of that length, where it is given
-abbrev pub sections_resized : Headers → Option ℕ → List Section
-sections_resized h None = h.sections
-sections_resized h (Some size) = set h.sections (sbat_index h) (resized h (sbat_index h) size)
+abbrev pub resized_sections : Headers → Option ℕ → List Section
+resized_sections h None = h.sections
+resized_sections h (Some size) = set h.sections (sbat_index h) (resized_section h (sbat_index h) size)
 
 abbrev pub with_sbat_size : Headers → Option ℕ → Headers
-with_sbat_size h sbat = record h { sections = sections_resized h sbat }
+with_sbat_size h sbat = record h { sections = resized_sections h sbat }
 
 -- the stub with other raw data of a section, zeros behind them, and with their length in its header
 unfoldable pub with_content : Headers → ℕ → List ℕ → List ℕ → List ℕ

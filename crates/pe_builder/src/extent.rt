@@ -3,7 +3,7 @@
 ghost use Rattle.std.specs.Prelude.{◌≡◌, ◌+◌, ◌*◌, ◌<◌, ◌≤◌, ◌^◌, length, set, sum_by};
 ghost use Rattle.std.specs.Int.{next_multiple_of};
 ghost use Rattle.pe_reader.specs.Reads.{headers_of};
-ghost use Rattle.pe_reader.specs.Loaded.{section_at_index};
+ghost use Rattle.pe_reader.specs.LoadedBytes.{section_at_index};
 ghost use Rattle.pe_builder.specs.Layout.{virtual_end, end_after, length_after, address_after};
 ghost use Rattle.pe_builder.specs.Replaced.{sbat_index, with_sbat_size, MayReplace};
 
@@ -31,7 +31,7 @@ pub fn stub_end(stub: &Pe, sbat_in_place: Option<u32>) -> u64
     }
 }
 
-/// The greatest of an address and the ends of sections, one of which has another VirtualSize.
+// The greatest of an address and the ends of sections, one of which has another VirtualSize.
 fn end_resized(address: u64, sections: &[Section], index: usize, size: u32) -> u64
     requires small { address < 2 ^ 33 }
     requires inside { index < length sections.now }
@@ -44,7 +44,7 @@ fn end_resized(address: u64, sections: &[Section], index: usize, size: u32) -> u
     end_after(before.max(here), &sections[index + 1..])
 }
 
-/// The greatest of an address and the ends of sections.
+// The greatest of an address and the ends of sections.
 #[tactic(auto, unfolding(crate::specs::Layout::end_after))]
 fn end_after(address: u64, sections: &[Section]) -> u64
     requires { address < 2 ^ 33 }

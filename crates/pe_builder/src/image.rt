@@ -4,8 +4,8 @@ ghost use Rattle.std.specs.Prelude.{◌≡◌, ◌+◌, ◌*◌, ◌-◌, ◌≤
 ghost use Rattle.std.specs.List.{flat_map};
 ghost use Rattle.byteorder.specs.Endian.{little_bytes};
 ghost use Rattle.pe_builder.specs.Image.{with_fields, with_raw, section_header};
-ghost use Rattle.pe_builder.specs.Puts.{put, padded};
-ghost use Rattle.pe_builder.specs.Planned.{IsPlanFor, IsFinished, image_by, replaced_by, Fitting, FitsPlace};
+ghost use Rattle.pe_builder.specs.Puts.{put, pad_to};
+ghost use Rattle.pe_builder.specs.Planned.{IsPlanFor, IsFinished, image_by, replaced_by, FitsStub, FitsPlace};
 
 use crate::headers::section_headers;
 use crate::plan::{Plan, SbatPlace};
@@ -29,18 +29,18 @@ pub fn image_bytes(
     requires { IsPlanFor plan.now stub.now (map (λ c. c.items) parts.now) sbat.now }
     ensures { IfOk result (λ image. IsFinished plan.now stub.now (map (λ c. c.items) parts.now) sbat.now image.items) }
 {
-    built(alloc, plan, stub, parts, sbat)
+    build_bytes(alloc, plan, stub, parts, sbat)
 }
 
-/// The bytes that a plan makes of a stub and contents.
-fn built(
+// The bytes that a plan makes of a stub and contents.
+fn build_bytes(
     alloc: Global,
     plan: &Plan,
     stub: &[u8],
     contents: &[Vec<u8>],
     sbat: &[u8],
 ) -> Result<Vec<u8>, AllocError>
-    requires { Fitting plan.now (length stub.now) (length sbat.now) }
+    requires { FitsStub plan.now (length stub.now) (length sbat.now) }
     ensures { IfOk result (λ v. v.items ≡ image_by plan.now (map (λ c. c.items) contents.now) sbat.now stub.now) }
 {
     let headers = section_headers(alloc, &plan.sections)?;
@@ -51,7 +51,7 @@ fn built(
     Ok(image)
 }
 
-/// Writes a new `.sbat` over the old one, where it is replaced.
+// Writes a new `.sbat` over the old one, where it is replaced.
 fn write_sbat(
     alloc: Global,
     bytes: &mut [u8],
@@ -71,7 +71,7 @@ fn write_sbat(
     Ok(())
 }
 
-/// Writes the fields of a head, and section headers behind those that are there.
+// Writes the fields of a head, and section headers behind those that are there.
 fn write_fields(bytes: &mut [u8], before: &Head, after: &Head, headers: &[u8])
     requires before { before.now.pe_place + 136 ≤ before.now.table_place }
     requires table { before.now.table_place + 40 * before.now.section_count + length headers.now ≤ length bytes.old }
@@ -86,7 +86,7 @@ fn write_fields(bytes: &mut [u8], before: &Head, after: &Head, headers: &[u8])
     put_u16(bytes, place + 6, after.section_count);
 }
 
-/// Adds contents, each padded to a multiple of a number.
+// Adds contents, each padded to a multiple of a number.
 #[tactic(auto, unfolding(crate::specs::Image::with_raw))]
 fn push_contents(out: &mut Vec<u8>, unit: u32, contents: &[Vec<u8>]) -> Result<(), AllocError>
     requires { 0 < unit }
@@ -98,11 +98,11 @@ fn push_contents(out: &mut Vec<u8>, unit: u32, contents: &[Vec<u8>]) -> Result<(
     Ok(())
 }
 
-/// Adds bytes behind a gap, and pads them.
-#[tactic(auto, using(std::proofs::lemmas::List::append_assoc), unfolding(crate::specs::Puts::padded))]
+// Adds bytes behind a gap, and pads them.
+#[tactic(auto, using(std::proofs::lemmas::List::append_assoc), unfolding(crate::specs::Puts::pad_to))]
 fn push_padded(out: &mut Vec<u8>, unit: u32, bytes: &[u8]) -> Result<(), AllocError>
     requires { 0 < unit }
-    ensures { OnOk result (out.new.items ≡ padded unit out.old.items ++ padded unit bytes.now) }
+    ensures { OnOk result (out.new.items ≡ pad_to unit out.old.items ++ pad_to unit bytes.now) }
 {
     pad(out, unit)?;
     out.extend_from_slice(bytes)?;

@@ -8,7 +8,7 @@ use crate::size::WideSize;
 use pe_reader::{Head, Section};
 use std::alloc::{AllocError, Global};
 
-/// A part as a section behind a file of that length and an address.
+// A part as a section behind a file of that length and an address.
 fn section_for(head: &Head, file_length: u32, address: u32, part: &WideSize) -> Section
     requires file_unit { 0 < head.now.file_alignment }
     requires memory_unit { 0 < head.now.section_alignment }
@@ -19,7 +19,7 @@ fn section_for(head: &Head, file_length: u32, address: u32, part: &WideSize) -> 
     ensures memory { virtual_end result < 2 ^ 32 }
 {
     Section {
-        name: part.name.padded(),
+        name: part.name.padded_bytes(),
         virtual_size: part.length as u32,
         virtual_address: up(address as u64, head.section_alignment) as u32,
         raw_size: up(part.length, head.file_alignment) as u32,

@@ -4,10 +4,10 @@ ghost use Rattle.std.specs.Prelude.{◌≡◌, ◌+◌, ◌*◌, ◌<◌, ◌≤
 ghost use Rattle.std.specs.Int.{next_multiple_of};
 ghost use Rattle.std.specs.List.{AllByRecursion};
 ghost use Rattle.pe_reader.specs.Reads.{ReadFrom, headers_of};
-ghost use Rattle.pe_reader.specs.Loaded.{section_at_index};
+ghost use Rattle.pe_reader.specs.LoadedBytes.{section_at_index};
 ghost use Rattle.pe_builder.specs.Layout.{end_after, address_after, FitsPart};
 ghost use Rattle.pe_builder.specs.Replaced.{sbat_index, with_sbat_size, MayReplace};
-ghost use Rattle.pe_builder.specs.Refusals.{wide, first_refusal, size_refusal};
+ghost use Rattle.pe_builder.specs.Refusals.{wide_size, first_refusal, size_refusal};
 ghost use Rattle.pe_builder.specs.Planned.{PlansImage, Makes, head_after, planned_length, sbat_place};
 ghost use Rattle.pe_builder.specs.Known.{planned_stub_length, planned_before, planned_after, planned_sections, planned_sbat};
 
@@ -70,8 +70,8 @@ impl Plan {
         requires few { length sizes.now ≤ 16777216 }
         requires sbat { MayReplace (headers_of stub.now) sbat_in_place }
         ensures { Makes
-            (λ plan. PlansImage plan (headers_of stub.now) stub_length (map wide sizes.now) sbat_in_place) result
-            (first_refusal (headers_of stub.now) stub_length (map wide sizes.now) sbat_in_place) }
+            (λ plan. PlansImage plan (headers_of stub.now) stub_length (map wide_size sizes.now) sbat_in_place) result
+            (first_refusal (headers_of stub.now) stub_length (map wide_size sizes.now) sbat_in_place) }
     {
         let sizes = wide_sizes(alloc, sizes)?;
         Plan::of_sizes(alloc, stub, stub_length, &sizes, sbat_in_place)
@@ -100,7 +100,7 @@ impl Plan {
         if let Some(fault) = find_refusal(alloc, stub, stub_length, sizes, sbat_in_place)? {
             return Err(fault);
         }
-        let plan = planned(alloc, stub, stub_length, sizes, sbat_in_place)?;
+        let plan = lay_out(alloc, stub, stub_length, sizes, sbat_in_place)?;
         Ok(plan)
     }
 
@@ -147,8 +147,8 @@ impl Plan {
     }
 }
 
-/// The plan where nothing is refused.
-fn planned(
+// The plan where nothing is refused.
+fn lay_out(
     alloc: Global,
     stub: &Pe,
     stub_length: u32,
@@ -176,7 +176,7 @@ fn planned(
     })
 }
 
-/// The head of the image.
+// The head of the image.
 fn head_after(head: &Head, start: u32, parts: &[WideSize]) -> Head
     requires memory_unit { 0 < head.now.section_alignment }
     requires small_unit { head.now.section_alignment ≤ 65536 }
@@ -202,7 +202,7 @@ fn head_after(head: &Head, start: u32, parts: &[WideSize]) -> Head
     }
 }
 
-/// Where the stub's `.sbat` stands, that is replaced by one of that length.
+// Where the stub's `.sbat` stands, that is replaced by one of that length.
 fn sbat_place(stub: &Pe, sbat_in_place: Option<u32>) -> Option<SbatPlace>
     requires sbat { MayReplace (headers_of stub.now) sbat_in_place }
     requires small { (headers_of stub.now).head.table_place + 40 * length (headers_of stub.now).sections ≤ 268435456 }

@@ -61,7 +61,7 @@ pub(crate) fn find_refusal(
     Ok(refusal(stub, stub_length, sizes, sbat_in_place, taken))
 }
 
-/// The first reason, by the first part whose name is taken.
+// The first reason, by the first part whose name is taken.
 #[tactic(auto, unfolding(crate::specs::Refusals::first_refusal))]
 fn refusal(
     stub: &Pe,
@@ -89,7 +89,7 @@ fn refusal(
     size_refusal(stub, stub_length, parts, sbat_in_place)
 }
 
-/// Whether a new `.sbat` has more bytes than the raw data of the stub's.
+// Whether a new `.sbat` has more bytes than the raw data of the stub's.
 fn sbat_refusal(stub: &Pe, sbat_in_place: Option<u32>) -> Option<PlanFault>
     requires { MayReplace (headers_of stub.now) sbat_in_place }
     ensures { result ≡ sbat_refusal (headers_of stub.now) sbat_in_place }
@@ -102,7 +102,7 @@ fn sbat_refusal(stub: &Pe, sbat_in_place: Option<u32>) -> Option<PlanFault>
     None
 }
 
-/// The first refusal that rests on sizes.
+// The first refusal that rests on sizes.
 #[tactic(auto, unfolding(crate::specs::Refusals::size_refusal))]
 fn size_refusal(
     stub: &Pe,

@@ -3,7 +3,7 @@
 ghost use Rattle.std.specs.Prelude.{◌≡◌, ◌≤◌, ◌^◌, length, map, sum_by, IfOk};
 ghost use Rattle.std.specs.List.{AllByRecursion};
 ghost use Rattle.pe_builder.specs.Layout.{FitsPart};
-ghost use Rattle.pe_builder.specs.Refusals.{wide};
+ghost use Rattle.pe_builder.specs.Refusals.{wide_size};
 ghost use Rattle.pe_builder.specs.Sizes.{part_flags, size_of};
 
 use std::alloc::{AllocError, Global};
@@ -39,7 +39,7 @@ impl PartSize {
     }
 }
 
-/// The Characteristics of the section of a part with that name.
+// The Characteristics of the section of a part with that name.
 fn part_flags(name: &SectionName) -> u32
     ensures { result ≡ part_flags name.now }
 {
@@ -83,7 +83,7 @@ impl WideSize {
     }
 }
 
-/// The size of a part with that name and so many bytes.
+// The size of a part with that name and so many bytes.
 fn named_size(name: SectionName, length: u64) -> WideSize
     ensures exact { result ≡ record { name = name; length = length; flags = part_flags name } }
     ensures fits { FitsPart result }
@@ -95,9 +95,9 @@ fn named_size(name: SectionName, length: u64) -> WideSize
     }
 }
 
-/// The same size without the bound on its length.
-fn widened(size: PartSize) -> WideSize
-    ensures exact { result ≡ wide size }
+// The same size without the bound on its length.
+fn wide_size(size: PartSize) -> WideSize
+    ensures exact { result ≡ wide_size size }
     ensures fits { FitsPart result }
     ensures small { result.length ≤ 2 ^ 32 }
 {
@@ -111,13 +111,13 @@ fn widened(size: PartSize) -> WideSize
 /// The same sizes without the bound on their lengths.
 pub fn wide_sizes(alloc: Global, sizes: &[PartSize]) -> Result<Vec<WideSize>, AllocError>
     requires few { length sizes.now ≤ 16777216 }
-    ensures exact { IfOk result (λ wides. wides.items ≡ map wide sizes.now) }
+    ensures exact { IfOk result (λ wides. wides.items ≡ map wide_size sizes.now) }
     ensures fit { IfOk result (λ wides. AllByRecursion FitsPart wides.items) }
     ensures total { IfOk result (λ wides. sum_by (λ p. p.length) wides.items ≤ 2 ^ 62) }
 {
     let mut wides = Vec::new(alloc);
     for size in sizes {
-        wides.push(widened(*size))?;
+        wides.push(wide_size(*size))?;
     }
     Ok(wides)
 }

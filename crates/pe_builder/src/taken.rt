@@ -2,7 +2,7 @@
 
 ghost use Rattle.std.specs.Prelude.{◌≡◌, [], IfOk};
 ghost use Rattle.std.specs.List.{list_any};
-ghost use Rattle.pe_reader.specs.Loaded.{is_named};
+ghost use Rattle.pe_reader.specs.LoadedBytes.{is_named};
 ghost use Rattle.pe_builder.specs.Refusals.{part_is_named, is_taken, first_taken};
 
 use crate::fault::PlanFault;
@@ -11,21 +11,21 @@ use pe_reader::Section;
 use std::alloc::{AllocError, Global};
 use std::collections::BTreeSet;
 
-/// Whether a section has the name.
+// Whether a section has the name.
 fn is_section(sections: &[Section], name: &[u8]) -> bool
     ensures { result ≡ list_any (is_named name.now) sections.now }
 {
     sections.iter().any(|section| section.is_named(name))
 }
 
-/// Whether a part has the name.
+// Whether a part has the name.
 fn is_part(parts: &[WideSize], name: &[u8]) -> bool
     ensures { result ≡ list_any (part_is_named name.now) parts.now }
 {
     parts.iter().any(|part| part.is_named(name))
 }
 
-/// Whether a section or an earlier part has the name of a part.
+// Whether a section or an earlier part has the name of a part.
 fn is_taken(sections: &[Section], earlier: &[WideSize], part: &WideSize) -> bool
     ensures { result ≡ is_taken sections.now earlier.now part.now }
 {

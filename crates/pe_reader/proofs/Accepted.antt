@@ -59,7 +59,7 @@ head_shown bytes p count z h d =
     rw (u32_at-part bytes o z 8 (omega arith), u32_at-part bytes o z 32 (omega arith), u32_at-part bytes o z 36 (omega arith), u32_at-part bytes o z 56 (omega arith), u32_at-part bytes o z 60 (omega arith), u32_at-part bytes o z 108 (omega arith), certificate bytes o z (u32_at bytes (o + 108)) d) refl
 
 -- what the stages show, at the fields' places
-record Shown (bytes : List ℕ) (h : Headers) : Type 0 where
+record IsShown (bytes : List ℕ) (h : Headers) : Type 0 where
   pub front : Front (length bytes) (u16_at bytes 0) (signature_place bytes)
   pub coff : CoffFacts (length bytes) (signature_place bytes) (u32_at bytes (signature_place bytes)) (section_count bytes) (optional_size bytes)
   pub optional : OptionalFacts (length bytes) (table_place bytes) (section_count bytes) (optional_size bytes) (u16_at bytes (optional_place bytes)) (section_alignment bytes) (file_alignment bytes) (directory_count bytes) (header_size bytes)
@@ -91,7 +91,7 @@ shown_of : (bytes : List ℕ) (h : Headers) (c : Coff) (place : ℕ)
     → coff_of (length bytes) place (part bytes place 24) ≡ Ok c
     → optional_of (length bytes) place c (part bytes (place + 24) c.optional_size) ≡ Ok h.head
     → sections_of (length bytes) h.head.header_size h.head.section_count h.head.table_place [] (part bytes h.head.table_place (40 * h.head.section_count)) ≡ Ok h.sections
-    → Shown bytes h
+    → IsShown bytes h
 shown_of bytes h c place at coff optional sections =
     let p = signature_place bytes in
     let front = front_facts (length bytes) (u16_at bytes 0) p place (part bytes 0 64) (front_magic bytes) (front_place bytes) at in
@@ -110,7 +110,7 @@ shown_of bytes h c place at coff optional sections =
       table = table_stage bytes p (section_count bytes) (optional_size bytes) h.head h.sections o.1 sections;
     }
 
-shown : (bytes : List ℕ) (h : Headers) → pe_of bytes ≡ Ok h → Shown bytes h
+shown : (bytes : List ℕ) (h : Headers) → pe_of bytes ≡ Ok h → IsShown bytes h
 shown bytes h e =
     let s = pe_of-stages bytes h e in
     shown_of bytes h s.coff h.head.pe_place s.place_is s.coff_is s.head_is s.sections_is

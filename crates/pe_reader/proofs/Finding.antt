@@ -5,7 +5,7 @@ use Rattle.std.proofs.lemmas.List.Folds.{find_at}
 use Rattle.std.proofs.lemmas.Bool.Decides.{nat_tests}
 use Rattle.pe_reader.specs.declared.section.Section.{Section}
 use Rattle.pe_reader.specs.Grammar.{Headers, pe_of}
-use Rattle.pe_reader.specs.Loaded.{is_named, section_at_index, no_section, loaded, loaded_by, loaded_in, loaded_of}
+use Rattle.pe_reader.specs.LoadedBytes.{is_named, section_at_index, no_section, loaded_bytes, loaded_by, loaded_in, loaded_of}
 
 at_slice_get : (xs : List Section) (i : ℕ) → i < length xs → slice_get xs i ≡ Some (get_or xs i no_section)
 at_slice_get [] i h = absurd (omega arith)
@@ -32,12 +32,12 @@ pub find-no_position : (p : Section → Bool) (xs : List Section) → position p
 find-no_position p xs e = find_at p xs ∙ past_slice_get xs (position_or_len p xs) (none_is p xs e)
 
 -- the loaded bytes at the index that was found
-pub loaded-found : (bytes name : List ℕ) (h : Headers) (i : ℕ) → pe_of bytes ≡ Ok h → position (is_named name) h.sections ≡ Some i
-    → loaded bytes name ≡ loaded_by bytes (section_at_index h.sections i)
-loaded-found bytes name h i e at =
+pub loaded_bytes-found : (bytes name : List ℕ) (h : Headers) (i : ℕ) → pe_of bytes ≡ Ok h → position (is_named name) h.sections ≡ Some i
+    → loaded_bytes bytes name ≡ loaded_by bytes (section_at_index h.sections i)
+loaded_bytes-found bytes name h i e at =
     ap (loaded_in bytes name) e ∙ ap (loaded_of bytes) (find-position (is_named name) h.sections i at)
 
-pub loaded-none : (bytes name : List ℕ) (h : Headers) → pe_of bytes ≡ Ok h → position (is_named name) h.sections ≡ None
-    → loaded bytes name ≡ []
-loaded-none bytes name h e at =
+pub loaded_bytes-none : (bytes name : List ℕ) (h : Headers) → pe_of bytes ≡ Ok h → position (is_named name) h.sections ≡ None
+    → loaded_bytes bytes name ≡ []
+loaded_bytes-none bytes name h e at =
     ap (loaded_in bytes name) e ∙ ap (loaded_of bytes) (find-no_position (is_named name) h.sections at)

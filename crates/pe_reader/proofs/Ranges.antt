@@ -9,7 +9,7 @@ use Rattle.pe_reader.specs.declared.section.Section.{Section}
 use Rattle.pe_reader.specs.declared.section.LoadedRange.{LoadedRange}
 use Rattle.pe_reader.specs.Fields.{part}
 use Rattle.pe_reader.specs.Grammar.{Headers, pe_of, is_in_file}
-use Rattle.pe_reader.specs.Loaded.{section_at_index, range_of, bytes_in}
+use Rattle.pe_reader.specs.LoadedBytes.{section_at_index, range_of, bytes_in}
 use Rattle.pe_reader.proofs.Shape.{pe_of-stages, stages-shape}
 
 pub length-bytes_in : (file : List ℕ) (r : LoadedRange) → r.length ≤ length (drop r.place file) → length (bytes_in file r) ≡ r.length + r.zeros

@@ -2,11 +2,11 @@
 use Rattle.std.proofs.Common.{◌≡◌, ◌<◌, ◌+◌, ◌*◌, ◌-◌, ℕ, zero, suc, List, [], ◌∷◌, ◌++◌, drop, Ok, Err, refl, arith}
 use Rattle.pe_reader.specs.declared.section.Section.{Section}
 use Rattle.pe_reader.specs.declared.fault.FailedCheck.{FailedCheck}
-use Rattle.pe_reader.specs.Grammar.{sections_of, checked, section_at}
+use Rattle.pe_reader.specs.Grammar.{sections_of, check_section, section_at}
 
 -- one header more
 pub sections_of-step : (size header_size left place : ℕ) (earlier : List Section) (table : List ℕ) (s : Section)
-    → 0 < left → checked size header_size earlier place (section_at table) ≡ Ok s
+    → 0 < left → check_section size header_size earlier place (section_at table) ≡ Ok s
     → sections_of size header_size left place earlier table
     ≡ sections_of size header_size (left - 1) (place + 40) (earlier ++ s ∷ []) (drop 40 table)
 unfolding sections_of
@@ -17,7 +17,7 @@ sections_of-step size header_size (suc n) place earlier table s h e =
 
 -- one header more, counted up
 pub sections_of-next : (size header_size count place i : ℕ) (earlier : List Section) (table : List ℕ) (s : Section)
-    → i < count → checked size header_size earlier (place + 40 * i) (section_at table) ≡ Ok s
+    → i < count → check_section size header_size earlier (place + 40 * i) (section_at table) ≡ Ok s
     → sections_of size header_size (count - i) (place + 40 * i) earlier table
     ≡ sections_of size header_size (count - (i + 1)) (place + 40 * (i + 1)) (earlier ++ s ∷ []) (drop 40 table)
 sections_of-next size header_size count place i earlier table s h e =
@@ -27,7 +27,7 @@ sections_of-next size header_size count place i earlier table s h e =
 
 -- the first header that fails
 pub sections_of-stop : (size header_size left place : ℕ) (earlier : List Section) (table : List ℕ) (f : FailedCheck)
-    → 0 < left → checked size header_size earlier place (section_at table) ≡ Err f
+    → 0 < left → check_section size header_size earlier place (section_at table) ≡ Err f
     → sections_of size header_size left place earlier table ≡ Err f
 unfolding sections_of
 sections_of-stop size header_size zero place earlier table f h e = absurd (omega arith)

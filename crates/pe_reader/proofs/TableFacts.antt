@@ -6,7 +6,7 @@ use Rattle.std.proofs.Math.Seq.{get_or-append_seam}
 use Rattle.std.proofs.lemmas.Bool.{and_from, and_parts}
 use Rattle.std.proofs.lemmas.Bool.Decides.{nat_tests}
 use Rattle.pe_reader.specs.declared.section.Section.{Section}
-use Rattle.pe_reader.specs.Grammar.{checked, is_in_file, is_apart, section_at, sections_of}
+use Rattle.pe_reader.specs.Grammar.{check_section, is_in_file, is_apart, section_at, sections_of}
 use Rattle.pe_reader.proofs.Checks.{bind_ok}
 use Rattle.pe_reader.proofs.Tables.{AllApart, checked_is}
 
@@ -35,14 +35,14 @@ passes size header_size s =
     nat_le s.virtual_size 268435456 && (nat_le (s.virtual_address + s.virtual_size) 4294967296 && is_in_file size header_size s)
 
 checked_passes : (size header_size : ℕ) (earlier : List Section) (place : ℕ) (s t : Section)
-    → checked size header_size earlier place s ≡ Ok t → passes size header_size s ≡ true
-unfolding checked
+    → check_section size header_size earlier place s ≡ Ok t → passes size header_size s ≡ true
+unfolding check_section
 checked_passes size header_size earlier place s t e = grind (arith, nat_tests)
 
 checked_from : (size header_size : ℕ) (earlier : List Section) (place : ℕ) (s : Section)
     → passes size header_size s ≡ true → list_all (is_apart s) earlier ≡ true
-    → checked size header_size earlier place s ≡ Ok s
-unfolding checked
+    → check_section size header_size earlier place s ≡ Ok s
+unfolding check_section
 checked_from size header_size earlier place s a b = grind (arith, nat_tests)
 
 -- a list each of whose elements passes
@@ -61,7 +61,7 @@ sections_of-table size header_size zero place earlier table out e =
     let same : out ≡ earlier = cc in
     (same ∙ sym (append-nil earlier), refl)
 sections_of-table size header_size (suc count) place earlier table out e =
-    let b = bind_ok (checked size header_size earlier place (section_at table)) _ out e in
+    let b = bind_ok (check_section size header_size earlier place (section_at table)) _ out e in
     let is : b.0 ≡ section_at table = (checked_is size header_size earlier place (section_at table) b.0 b.1).0 in
     let r = sections_of-table size header_size count (place + 40) (earlier ++ b.0 ∷ []) (drop 40 table) out b.2 in (
       r.0 ∙ append_assoc earlier (b.0 ∷ []) (table_sections count (drop 40 table)) ∙ ap (λ (s : Section). earlier ++ s ∷ table_sections count (drop 40 table)) is,

@@ -7,20 +7,20 @@ use Rattle.std.proofs.lemmas.Bool.{and_from, and_parts, cases_lt}
 use Rattle.std.proofs.lemmas.Bool.Decides.{nat_tests}
 use Rattle.pe_reader.specs.declared.fault.FailedCheck.{FailedCheck}
 use Rattle.pe_reader.specs.declared.section.Section.{Section}
-use Rattle.pe_reader.specs.Grammar.{checked, is_in_file, is_apart, section_at, sections_of}
+use Rattle.pe_reader.specs.Grammar.{check_section, is_in_file, is_apart, section_at, sections_of}
 use Rattle.pe_reader.proofs.Checks.{bind_from, bind_ok}
 use Rattle.pe_reader.proofs.Places.{u32_at-append}
 
 -- a section that was checked
 pub checked_is : (n header_size : ℕ) (earlier : List Section) (place : ℕ) (s t : Section)
-    → checked n header_size earlier place s ≡ Ok t → (t ≡ s) × (is_in_file n header_size s ≡ true)
-unfolding checked
+    → check_section n header_size earlier place s ≡ Ok t → (t ≡ s) × (is_in_file n header_size s ≡ true)
+unfolding check_section
 checked_is n header_size earlier place s t e = (grind arith, grind arith)
 
-pub checked-more : (n m header_size : ℕ) (earlier : List Section) (place : ℕ) (s t : Section) → n ≤ m
-    → checked n header_size earlier place s ≡ Ok t → checked m header_size earlier place s ≡ Ok t
-unfolding checked
-checked-more n m header_size earlier place s t h e = grind (arith, nat_tests)
+pub check_section-more : (n m header_size : ℕ) (earlier : List Section) (place : ℕ) (s t : Section) → n ≤ m
+    → check_section n header_size earlier place s ≡ Ok t → check_section m header_size earlier place s ≡ Ok t
+unfolding check_section
+check_section-more n m header_size earlier place s t h e = grind (arith, nat_tests)
 
 -- a header is the first 40 bytes
 pub section_at-append : (xs ys : List ℕ) → 40 ≤ length xs → section_at (xs ++ ys) ≡ section_at xs
@@ -42,9 +42,9 @@ sections_of-more n m header_size k zero place earlier table more out h l e =
     let d : place + 40 * 0 ≡ place = omega arith in
     rw (a, b, c, d) refl
 sections_of-more n m header_size k (suc count) place earlier table more out h l e =
-    let b = bind_ok (checked n header_size earlier place (section_at table)) _ out e in
+    let b = bind_ok (check_section n header_size earlier place (section_at table)) _ out e in
     let s = b.0 in
-    let passes = checked-more n m header_size earlier place (section_at table) s h b.1 in
+    let passes = check_section-more n m header_size earlier place (section_at table) s h b.1 in
     let c : suc count + k ≡ suc (count + k) = omega arith in
     let d : place + 40 * suc count ≡ place + 40 + 40 * count = omega arith in
     let f : length (drop 40 table) ≡ 40 * count = omega (arith, length-drop 40 table) in
@@ -61,7 +61,7 @@ sections_of-in_file n header_size zero place earlier table out h e =
     let b : earlier ≡ out = cc in
     rw (← b) h
 sections_of-in_file n header_size (suc count) place earlier table out h e =
-    let b = bind_ok (checked n header_size earlier place (section_at table)) _ out e in
+    let b = bind_ok (check_section n header_size earlier place (section_at table)) _ out e in
     let s = b.0 in
     let t = checked_is n header_size earlier place (section_at table) s b.1 in
     let one : list_all (is_in_file n header_size) (s ∷ []) ≡ true = rw t.0 (and_from _ _ t.1 refl) in
@@ -77,16 +77,16 @@ sections_of-length n header_size zero place earlier table out e =
     let b : earlier ≡ out = cc in
     rw (← b) (omega arith)
 sections_of-length n header_size (suc count) place earlier table out e =
-    let b = bind_ok (checked n header_size earlier place (section_at table)) _ out e in
+    let b = bind_ok (check_section n header_size earlier place (section_at table)) _ out e in
     let r = sections_of-length n header_size count (place + 40) (earlier ++ b.0 ∷ []) (drop 40 table) out b.2 in
     omega (arith, r, length-append earlier (b.0 ∷ []))
 
 -- the check looks at the earlier sections' raw ranges alone
-pub checked-same : (n header_size : ℕ) (earlier other : List Section) (place : ℕ) (s : Section)
+pub check_section-same : (n header_size : ℕ) (earlier other : List Section) (place : ℕ) (s : Section)
     → list_all (is_apart s) other ≡ list_all (is_apart s) earlier
-    → checked n header_size other place s ≡ checked n header_size earlier place s
-unfolding checked
-checked-same n header_size earlier other place s h = rw h refl
+    → check_section n header_size other place s ≡ check_section n header_size earlier place s
+unfolding check_section
+check_section-same n header_size earlier other place s h = rw h refl
 
 -- What is read behind the earlier sections rests on their raw ranges alone.
 pub sections_of-rest : (n header_size : ℕ) (count place : ℕ) (earlier : List Section) (table : List ℕ) (out : List Section)
@@ -99,14 +99,14 @@ sections_of-rest n header_size zero place earlier table out e =
     let same : out ≡ earlier = cc in
     ([], same ∙ sym (append-nil earlier), λ other h. ap (λ (l : List Section). Ok l) (sym (append-nil other)))
 sections_of-rest n header_size (suc count) place earlier table out e =
-    let b = bind_ok (checked n header_size earlier place (section_at table)) _ out e in
+    let b = bind_ok (check_section n header_size earlier place (section_at table)) _ out e in
     let s = b.0 in
     let r = sections_of-rest n header_size count (place + 40) (earlier ++ s ∷ []) (drop 40 table) out b.2 in (
       s ∷ r.0,
       r.1 ∙ append_assoc earlier (s ∷ []) r.0,
       λ other h.
-          let passes : checked n header_size other place (section_at table) ≡ Ok s =
-          checked-same n header_size earlier other place (section_at table) (h (section_at table)) ∙ b.1 in
+          let passes : check_section n header_size other place (section_at table) ≡ Ok s =
+          check_section-same n header_size earlier other place (section_at table) (h (section_at table)) ∙ b.1 in
           let next = r.2 (other ++ s ∷ []) (λ x. list_all-append (is_apart x) other (s ∷ []) ∙ ap (λ (t : Bool). t && list_all (is_apart x) (s ∷ [])) (h x) ∙ sym (list_all-append (is_apart x) earlier (s ∷ []))) in
           rw passes (next ∙ ap (λ (l : List Section). Ok l) (append_assoc other (s ∷ []) r.0)),
     )
@@ -132,13 +132,13 @@ sections_of-split n header_size k (suc count) place earlier table more out l e =
     let c : suc count + k ≡ suc (count + k) = omega arith in
     let f : length (drop 40 table) ≡ 40 * count = omega (arith, length-drop 40 table) in
     let unfolded = rw (c, section_at-append table more (omega arith), drop-append-le 40 table more (omega arith)) at e in
-    let b = bind_ok (checked n header_size earlier place (section_at table)) _ out unfolded in
+    let b = bind_ok (check_section n header_size earlier place (section_at table)) _ out unfolded in
     let s = b.0 in
     let r = sections_of-split n header_size k count (place + 40) (earlier ++ s ∷ []) (drop 40 table) more out f b.2 in
     let d : place + 40 * suc count ≡ place + 40 + 40 * count = omega arith in (
       r.0,
       omega (arith, r.1, length-append earlier (s ∷ [])),
-      bind_from (checked n header_size earlier place (section_at table)) _ s (Ok r.0) b.1 r.2,
+      bind_from (check_section n header_size earlier place (section_at table)) _ s (Ok r.0) b.1 r.2,
       at_place n header_size k (place + 40 * suc count) (place + 40 + 40 * count) r.0 more (Ok out) d r.3,
     )
 
@@ -147,8 +147,8 @@ pub record AllApart (sections : List Section) (d : Section) : Type 0 where
   pub apart : (i j : ℕ) → i < j → j < length sections → is_apart (get_or sections j d) (get_or sections i d) ≡ true
 
 pub checked_apart : (n header_size : ℕ) (earlier : List Section) (place : ℕ) (s t : Section)
-    → checked n header_size earlier place s ≡ Ok t → list_all (is_apart s) earlier ≡ true
-unfolding checked
+    → check_section n header_size earlier place s ≡ Ok t → list_all (is_apart s) earlier ≡ true
+unfolding check_section
 checked_apart n header_size earlier place s t e = grind arith
 
 pub at_list_all : (p : Section → Bool) (xs : List Section) (i : ℕ) (d : Section) → i < length xs → list_all p xs ≡ true → p (get_or xs i d) ≡ true
@@ -176,7 +176,7 @@ sections_of-apart n header_size zero place earlier table out d e before =
     let P : List Section → Type 0 = λ l. AllApart l d in
     subst P b before
 sections_of-apart n header_size (suc count) place earlier table out d e before =
-    let b = bind_ok (checked n header_size earlier place (section_at table)) _ out e in
+    let b = bind_ok (check_section n header_size earlier place (section_at table)) _ out e in
     let c = checked_is n header_size earlier place (section_at table) b.0 b.1 in
     let apart : list_all (is_apart b.0) earlier ≡ true = ap (λ (x : Section). list_all (is_apart x) earlier) c.0 ∙ checked_apart n header_size earlier place (section_at table) b.0 b.1 in
     sections_of-apart n header_size count (place + 40) (earlier ++ b.0 ∷ []) (drop 40 table) out d b.2 (apart-push earlier b.0 d before apart)

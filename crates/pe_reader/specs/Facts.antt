@@ -6,7 +6,7 @@ use Rattle.pe_reader.specs.declared.head.Head.{Head}
 use Rattle.pe_reader.specs.declared.section.Section.{Section}
 use Rattle.pe_reader.specs.Fields.{u16_at, u32_at, part}
 use Rattle.pe_reader.specs.Grammar.{Headers}
-use Rattle.pe_reader.specs.Loaded.{section_at_index}
+use Rattle.pe_reader.specs.LoadedBytes.{section_at_index}
 
 -- where the signature, the optional header and the section table stand
 abbrev pub signature_place : List ℕ → ℕ

@@ -92,8 +92,8 @@ section_at header = record {
 }
 
 -- A section whose header stands at a place lies within the file, apart from the earlier ones.
-unfoldable pub checked : ℕ → ℕ → List Section → ℕ → Section → Result Section FailedCheck
-checked size header_size earlier place s =
+unfoldable pub check_section : ℕ → ℕ → List Section → ℕ → Section → Result Section FailedCheck
+check_section size header_size earlier place s =
     check_before (nat_le s.virtual_size 268435456) VirtualSize (place + 8) (
     check_before (nat_le (s.virtual_address + s.virtual_size) 4294967296) Address (place + 12) (
     check_before (is_in_file size header_size s) RawData (place + 20) (
@@ -109,7 +109,7 @@ abbrev pub ◌>>=◌ : {A B : Type 0} → Result A FailedCheck → (A → Result
 unfoldable pub sections_of : ℕ → ℕ → ℕ → ℕ → List Section → List ℕ → Result (List Section) FailedCheck
 sections_of size header_size zero place earlier table = Ok earlier
 sections_of size header_size (suc count) place earlier table = do
-  s ← checked size header_size earlier place (section_at table)
+  s ← check_section size header_size earlier place (section_at table)
   sections_of size header_size count (place + 40) (earlier ++ s ∷ []) (drop 40 table)
 
 -- what the headers of a file say

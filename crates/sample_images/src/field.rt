@@ -109,7 +109,7 @@ pub(crate) fn section_place(optional_header: u16, index: u8) -> usize
     88 + optional_header as usize + 40 * index as usize
 }
 
-/// The number of little endian that stands at a place, in so many bytes. What lies past the end counts as 0.
+// The number of little endian that stands at a place, in so many bytes. What lies past the end counts as 0.
 fn number_at(file: &[u8], place: usize, width: usize) -> u32 {
     let mut bytes = [0; 4];
     for (slot, byte) in bytes.iter_mut().zip(file.iter().skip(place).take(width)) {

@@ -7,7 +7,7 @@ use Rattle.std.proofs.lemmas.Bool.{cases_Bool, or_parts, false≢true}
 use Rattle.std.proofs.lemmas.Slice.Eq.{bytes_eq-Decides}
 use Rattle.pe_reader.specs.declared.section.Section.{Section}
 use Rattle.pe_reader.specs.Grammar.{Headers, pe_of}
-use Rattle.pe_reader.specs.Loaded.{is_named, loaded, loaded_in, loaded_of}
+use Rattle.pe_reader.specs.LoadedBytes.{is_named, loaded_bytes, loaded_in, loaded_of}
 use Rattle.pe_reader.proofs.Finding.{find-position}
 use Rattle.uki_parts.specs.Names.{name_bytes}
 use Rattle.pe_builder.specs.declared.size.WideSize.{WideSize}
@@ -89,12 +89,12 @@ replaced_there h size may none =
     omega (arith, at, may.1)
 
 -- what the stub has loaded, by its search
-stub_loads : (stub name : List ℕ) (h : Headers) (o : Option Section) → pe_of stub ≡ Ok h → find (is_named name) h.sections ≡ o → loaded stub name ≡ loaded_of stub o
+stub_loads : (stub name : List ℕ) (h : Headers) (o : Option Section) → pe_of stub ≡ Ok h → find (is_named name) h.sections ≡ o → loaded_bytes stub name ≡ loaded_of stub o
 stub_loads stub name h o reads at = ap (loaded_in stub name) reads ∙ ap (loaded_of stub) at
 
 -- the stub's section of a name, or else the part
 stub_or_part : (h : Headers) (sizes : List WideSize) (contents : List (List ℕ)) (stub name : List ℕ) → pe_of stub ≡ Ok h → first_taken h.sections [] sizes ≡ None
-    → loaded_or_part stub (find (is_named name) h.sections) (content_named name sizes contents) ≡ or_kept (find_content name sizes contents) (loaded stub name)
+    → loaded_or_part stub (find (is_named name) h.sections) (content_named name sizes contents) ≡ or_kept (find_content name sizes contents) (loaded_bytes stub name)
 unfolding loaded_or_part
 stub_or_part h sizes contents stub name reads free = elim (option_ends (find (is_named name) h.sections)) [
   | inl none ↦

@@ -8,8 +8,8 @@ use Rattle.stub_replay.specs.Measured.{section_items}
 use Rattle.stub_replay.proofs.Ranges.{items_none, items_some}
 use Rattle.pcr_values.specs.declared.bank.Bank.{Bank}
 use Rattle.pcr_values.specs.declared.pcr.Pcr.{Pcr}
-use Rattle.pcr_values.specs.Banks.{folded}
-use Rattle.pcr_values.specs.Values.{pcr_bank, shown}
+use Rattle.pcr_values.specs.Banks.{fold_pcr}
+use Rattle.pcr_values.specs.Values.{pcr_bank, pcr_value}
 use Rattle.stub_replay.specs.declared.measurable.Content.{Content}
 use Rattle.stub_replay.specs.declared.measurable.Measurable.{Measurable}
 use Rattle.stub_replay.specs.declared.register.Register.{Register}
@@ -98,7 +98,7 @@ pub between_after : (more : List (List ℕ)) (xs ys : List Register) → AreBetw
 between_after more xs ys between extends = (between.0, between.1 ++ more, holds_after between.0 between.1 more xs ys between.2 extends)
 
 shown_all : (items : List (List ℕ)) (xs : List Register) (banks : List Bank) → AllHold xs banks items []
-    → map shown (map (λ (r : Register). r.pcr) xs) ≡ map (folded items) banks
+    → map pcr_value (map (λ (r : Register). r.pcr) xs) ≡ map (fold_pcr items) banks
 shown_all items [] [] all = refl
 shown_all items [] (bank ∷ banks) all = absurd all
 shown_all items (x ∷ xs) [] all = absurd all
@@ -121,9 +121,9 @@ value_banks P items banks first xs ys last pcrs began at_first extends at_last a
     ∙ banks_all extends.0 ys banks (holds_after banks [] extends.0 xs ys (subst S (sym at_first) began) extends.1)
 
 pub value_shown : (P : Type 0) (items : List (List ℕ)) (banks : List Bank) (first xs ys last : List Register) (pcrs : List Pcr) → AllHold first banks [] [] → xs ≡ first
-    → ExtendsWhere P items xs ys → last ≡ ys → pcrs ≡ map (λ (r : Register). r.pcr) last → P → map shown pcrs ≡ map (folded items) banks
+    → ExtendsWhere P items xs ys → last ≡ ys → pcrs ≡ map (λ (r : Register). r.pcr) last → P → map pcr_value pcrs ≡ map (fold_pcr items) banks
 value_shown P items banks first xs ys last pcrs began at_first extends at_last are told =
     let S = λ (l : List Register). AllHold l banks [] [] in
-    ap (map shown) (are ∙ ap (map (λ (r : Register). r.pcr)) at_last)
+    ap (map pcr_value) (are ∙ ap (map (λ (r : Register). r.pcr)) at_last)
     ∙ shown_all extends.0 ys banks (holds_after banks [] extends.0 xs ys (subst S (sym at_first) began) extends.1)
-    ∙ ap (λ (l : List (List ℕ)). map (folded l) banks) (extends.2 told)
+    ∙ ap (λ (l : List (List ℕ)). map (fold_pcr l) banks) (extends.2 told)

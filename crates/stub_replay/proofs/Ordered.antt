@@ -11,7 +11,7 @@ use Rattle.pcr_values.specs.Banks.{fold_of}
 use Rattle.stub_replay.specs.Measured.{measured_names, measured_by, section_items, predicted_pcr}
 use Rattle.stub_replay.proofs.Predicting.{same_items}
 use Rattle.stub_replay.specs.Parts.{items_of}
-use Rattle.stub_replay.specs.Ordered.{present, InMeasuredOrder, part_of}
+use Rattle.stub_replay.specs.Ordered.{present_parts, InMeasuredOrder, part_of}
 
 apart_both : (a b : List ℕ) → bytes_eq a b ≡ false → bytes_eq b a ≡ false
 apart_both a b apart = elim (cases_Bool (bytes_eq b a)) [
@@ -26,12 +26,12 @@ nothing (name ∷ names) = nothing names
 
 -- a name that isn't among them has no part
 absent : (name : List ℕ) (names : List (List ℕ)) (given : List (Option (List ℕ))) → AllByRecursion (λ other. bytes_eq name other ≡ false) names
-    → part_of (present (zip names given)) name ≡ []
+    → part_of (present_parts (zip names given)) name ≡ []
 absent name [] given apart = refl
 absent name (other ∷ names) [] apart = refl
 absent name (other ∷ names) (None ∷ given) apart = absent name names given apart.1
 absent name (other ∷ names) (Some bytes ∷ given) apart =
-    ap (λ (b : Bool). if b then bytes else part_of (present (zip names given)) name) (apart_both name other apart.0) ∙ absent name names given apart.1
+    ap (λ (b : Bool). if b then bytes else part_of (present_parts (zip names given)) name) (apart_both name other apart.0) ∙ absent name names given apart.1
 
 -- a part of another name is passed over
 passed_over : (name bytes : List ℕ) (parts : List (List ℕ × List ℕ)) (names : List (List ℕ)) → AllByRecursion (λ other. bytes_eq name other ≡ false) names
@@ -42,17 +42,17 @@ passed_over name bytes parts (other ∷ names) apart =
 
 -- what is measured of the parts is what is measured by the names
 by_names : (names : List (List ℕ)) (given : List (Option (List ℕ))) → IsDistinct bytes_eq names
-    → items_of (present (zip names given)) ≡ flat_map (λ name. section_items name (part_of (present (zip names given)) name)) names
+    → items_of (present_parts (zip names given)) ≡ flat_map (λ name. section_items name (part_of (present_parts (zip names given)) name)) names
 unfolding section_items
 by_names [] given distinct = refl
 by_names (name ∷ names) [] distinct = sym (nothing names)
 by_names (name ∷ names) (None ∷ given) distinct =
-    let rest = present (zip names given) in
+    let rest = present_parts (zip names given) in
     by_names names given (IsDistinct-tail bytes_eq name names distinct)
     ∙ ap (λ (bytes : List ℕ). section_items name bytes ++ flat_map (λ other. section_items other (part_of rest other)) names)
     (sym (absent name names given (IsDistinct-head bytes_eq name names distinct)))
 by_names (name ∷ names) (Some bytes ∷ given) distinct =
-    let rest = present (zip names given) in
+    let rest = present_parts (zip names given) in
     let here : part_of ((name, bytes) ∷ rest) name ≡ bytes = ap (λ (b : Bool). if b then bytes else part_of rest name) ((bytes_eq-Decides name name).1 refl) in
     ap (λ (l : List (List ℕ)). section_items name bytes ++ l)
     (by_names names given (IsDistinct-tail bytes_eq name names distinct)
@@ -63,7 +63,7 @@ names_distinct : IsDistinct bytes_eq measured_names
 unfolding IsDistinct
 names_distinct = search rules
 
-items_by_names : (given : List (Option (List ℕ))) → items_of (present (zip measured_names given)) ≡ measured_by (part_of (present (zip measured_names given)))
+items_by_names : (given : List (Option (List ℕ))) → items_of (present_parts (zip measured_names given)) ≡ measured_by (part_of (present_parts (zip measured_names given)))
 unfolding measured_by
 items_by_names given = by_names measured_names given names_distinct
 

@@ -3,11 +3,11 @@ use Rattle.std.proofs.Common.{◌≡◌, ◌<◌, ◌≤◌, ◌+◌, ℕ, List,
 use Rattle.std.specs.Prelude.{Some, position}
 use Rattle.pe_reader.specs.declared.section.LoadedRange.{LoadedRange}
 use Rattle.pe_reader.specs.Grammar.{Headers, pe_of}
-use Rattle.pe_reader.specs.Loaded.{is_named, section_at_index, range_of, bytes_in, loaded}
-use Rattle.pe_reader.proofs.Finding.{loaded-found}
+use Rattle.pe_reader.specs.LoadedBytes.{is_named, section_at_index, range_of, bytes_in, loaded_bytes}
+use Rattle.pe_reader.proofs.Finding.{loaded_bytes-found}
 use Rattle.pe_reader.proofs.Ranges.{length-bytes_in, range_inside}
 use Rattle.pcr_values.specs.declared.bank.Bank.{Bank}
-use Rattle.pcr_values.specs.Banks.{digest_of, extended, extended_by_digest, extended_by_all}
+use Rattle.pcr_values.specs.Banks.{digest_of, extend_data, extend_digest, extend_all}
 use Rattle.stub_replay.specs.Measured.{section_items}
 
 pub items_none : (name bytes : List ℕ) → length bytes ≡ 0 → section_items name bytes ≡ []
@@ -22,22 +22,22 @@ items_some name (x ∷ bytes) some = refl
 
 -- a register that is extended by a name with one NUL, and then by the digest of some bytes
 pub extended_by_items : (bank second third : Bank) (start name named digest last bytes : List ℕ) → second ≡ bank → third ≡ bank → 0 < length bytes
-    → named ≡ extended bank start (name ++ 0 ∷ []) → digest ≡ digest_of second bytes → last ≡ extended_by_digest third named digest
-    → last ≡ extended_by_all bank start (section_items name bytes)
+    → named ≡ extend_data bank start (name ++ 0 ∷ []) → digest ≡ digest_of second bytes → last ≡ extend_digest third named digest
+    → last ≡ extend_all bank start (section_items name bytes)
 extended_by_items bank second third start name named digest last bytes same same_too some is_named is_digest is_last =
     is_last
-    ∙ ap (λ (b : Bank). extended_by_digest b named digest) same_too
-    ∙ ap (λ (n : List ℕ). extended_by_digest bank n digest) is_named
-    ∙ ap (extended_by_digest bank (extended bank start (name ++ 0 ∷ []))) (is_digest ∙ ap (λ (b : Bank). digest_of b bytes) same)
-    ∙ ap (λ (items : List (List ℕ)). extended_by_all bank start items) (sym (items_some name bytes some))
+    ∙ ap (λ (b : Bank). extend_digest b named digest) same_too
+    ∙ ap (λ (n : List ℕ). extend_digest bank n digest) is_named
+    ∙ ap (extend_digest bank (extend_data bank start (name ++ 0 ∷ []))) (is_digest ∙ ap (λ (b : Bank). digest_of b bytes) same)
+    ∙ ap (λ (items : List (List ℕ)). extend_all bank start items) (sym (items_some name bytes some))
 
 -- the loaded bytes of a name, by the range of the section that was found
 pub record IsRange (file name : List ℕ) (r : LoadedRange) : Type 0 where
   pub inside : r.length ≤ length (drop r.place file)
-  pub bytes : loaded file name ≡ bytes_in file r
-  pub long : r.length ≤ length (loaded file name)
+  pub bytes : loaded_bytes file name ≡ bytes_in file r
+  pub long : r.length ≤ length (loaded_bytes file name)
 
-range_is : (file name : List ℕ) (r : LoadedRange) → r.length ≤ length (drop r.place file) → loaded file name ≡ bytes_in file r → IsRange file name r
+range_is : (file name : List ℕ) (r : LoadedRange) → r.length ≤ length (drop r.place file) → loaded_bytes file name ≡ bytes_in file r → IsRange file name r
 range_is file name r inside bytes = record {
   inside = inside;
   bytes = bytes;
@@ -48,4 +48,4 @@ pub found_range : (file name : List ℕ) (h : Headers) (i : ℕ) (r : LoadedRang
     → i < length h.sections → r ≡ range_of (section_at_index h.sections i) → IsRange file name r
 found_range file name h i r reads at inside is =
     let P : LoadedRange → Type 0 = λ q. IsRange file name q in
-    subst P (sym is) (range_is file name (range_of (section_at_index h.sections i)) (range_inside file h i reads inside) (loaded-found file name h i reads at))
+    subst P (sym is) (range_is file name (range_of (section_at_index h.sections i)) (range_inside file h i reads inside) (loaded_bytes-found file name h i reads at))

@@ -4,7 +4,7 @@ use Rattle.std.specs.Prelude.{Some, None, position}
 use Rattle.std.specs.List.{AllZip}
 use Rattle.pe_reader.specs.declared.section.LoadedRange.{LoadedRange}
 use Rattle.pe_reader.specs.Grammar.{Headers, pe_of}
-use Rattle.pe_reader.specs.Loaded.{is_named, section_at_index, range_of, bytes_in, loaded}
+use Rattle.pe_reader.specs.LoadedBytes.{is_named, section_at_index, range_of, bytes_in, loaded_bytes}
 use Rattle.pcr_values.specs.declared.bank.Bank.{Bank}
 use Rattle.pcr_values.specs.Banks.{fold_of}
 use Rattle.pcr_values.specs.Hashes.{HoldsData}
@@ -13,22 +13,22 @@ use Rattle.stub_replay.specs.declared.register.Register.{Register}
 use Rattle.stub_replay.specs.Measured.{section_items, measured_names, measured_by, measured_list}
 use Rattle.stub_replay.specs.Registers.{AllHold, Holds, Takes, Extends}
 use Rattle.stub_replay.specs.Taking.{TakesWhere, ExtendsWhere, AreBetween}
-use Rattle.pe_reader.proofs.Finding.{loaded-none}
+use Rattle.pe_reader.proofs.Finding.{loaded_bytes-none}
 use Rattle.stub_replay.proofs.Measuring.{extends_none, extends_more, between_after}
 use Rattle.stub_replay.proofs.Ranges.{items_none, found_range}
 use Rattle.stub_replay.proofs.Turns.{IsName, items_until, items_more, items_all}
 
 -- nothing of a name that no section has
 pub section_none : (P : Type 0) (file name : List ℕ) (h : Headers) (xs : List Register) → (P → pe_of file ≡ Ok h) → position (is_named name) h.sections ≡ None
-    → ExtendsWhere P (section_items name (loaded file name)) xs xs
+    → ExtendsWhere P (section_items name (loaded_bytes file name)) xs xs
 section_none P file name h xs reads at =
-    ([], extends_none xs, λ told. sym (items_none name (loaded file name) (ap length (loaded-none file name h (reads told) at))))
+    ([], extends_none xs, λ told. sym (items_none name (loaded_bytes file name) (ap length (loaded_bytes-none file name h (reads told) at))))
 
 -- what the range of a section holds is what is loaded of its name
 pub section_some : (P : Type 0) (file seen name : List ℕ) (h : Headers) (i : ℕ) (r : LoadedRange) (xs ys : List Register) → seen ≡ file → (P → pe_of file ≡ Ok h)
     → position (is_named name) h.sections ≡ Some i → i < length h.sections → r ≡ range_of (section_at_index h.sections i)
     → ExtendsWhere (P × (r.length ≤ length (drop r.place seen))) (section_items name (bytes_in seen r)) xs ys
-    → ExtendsWhere P (section_items name (loaded file name)) xs ys
+    → ExtendsWhere P (section_items name (loaded_bytes file name)) xs ys
 section_some P file seen name h i r xs ys same reads at inside is extends = (
   extends.0,
   extends.1,
@@ -42,27 +42,27 @@ section_some P file seen name h i r xs ys same reads at inside is extends = (
 
 pub section_long : (P : Type 0) (file name : List ℕ) (h : Headers) (i : ℕ) (r : LoadedRange) (before after : ℕ) → (P → pe_of file ≡ Ok h)
     → position (is_named name) h.sections ≡ Some i → i < length h.sections → r ≡ range_of (section_at_index h.sections i)
-    → (P → after ≤ before + r.length) → P → after ≤ before + length (loaded file name)
+    → (P → after ≤ before + r.length) → P → after ≤ before + length (loaded_bytes file name)
 section_long P file name h i r before after reads at inside is taken told =
     let range = found_range file name h i r (reads told) at inside is in
     omega (arith, range.long, taken told)
 
 -- one section more
 pub sections_more : (P : Type 0) (file seen name : List ℕ) (i : ℕ) (xs ys zs : List Register) → (P → seen ≡ file) → IsName i name
-    → ExtendsWhere P (items_until file i) xs ys → ExtendsWhere P (section_items name (loaded seen name)) ys zs → ExtendsWhere P (items_until file (i + 1)) xs zs
+    → ExtendsWhere P (items_until file i) xs ys → ExtendsWhere P (section_items name (loaded_bytes seen name)) ys zs → ExtendsWhere P (items_until file (i + 1)) xs zs
 sections_more P file seen name i xs ys zs same at first second = (
   first.0 ++ second.0,
   extends_more first.0 second.0 xs ys zs first.1 second.1,
   λ told.
       ap (λ (l : List (List ℕ)). l ++ second.0) (first.2 told)
-      ∙ ap (λ (l : List (List ℕ)). items_until file i ++ l) (second.2 told ∙ ap (λ (f : List ℕ). section_items name (loaded f name)) (same told))
-      ∙ items_more (λ name. section_items name (loaded file name)) i name at,
+      ∙ ap (λ (l : List (List ℕ)). items_until file i ++ l) (second.2 told ∙ ap (λ (f : List ℕ). section_items name (loaded_bytes f name)) (same told))
+      ∙ items_more (λ name. section_items name (loaded_bytes file name)) i name at,
 )
 
 -- and all of them
 pub sections_all : (P : Type 0) (file : List ℕ) (i : ℕ) (xs ys : List Register) → length measured_names ≤ i → ExtendsWhere P (items_until file i) xs ys → ExtendsWhere P (measured_list file) xs ys
 unfolding measured_by
-sections_all P file i xs ys end extends = (extends.0, extends.1, λ told. extends.2 told ∙ items_all (λ name. section_items name (loaded file name)) i end)
+sections_all P file i xs ys end extends = (extends.0, extends.1, λ told. extends.2 told ∙ items_all (λ name. section_items name (loaded_bytes file name)) i end)
 
 -- the one that a register is related to
 first_related : (Q : Register → Type 0) (R : Register → Register → Type 0) (old : Register) (ys : List Register) → ((r : Register) → R old r → Q r) → AllZip R (old ∷ []) ys → Q (slice_index_or ys 0 old)

@@ -8,10 +8,10 @@ use Rattle.std.proofs.lemmas.List.Elements.{All-tail}
 use Rattle.std.proofs.lemmas.List.Sums.{sum_by-cons}
 use Rattle.boot_base.specs.Paths.{Path, is_temp}
 use Rattle.boot_machine.specs.Disk.{State}
-use Rattle.boot_machine.specs.Reading.{zero_filled}
+use Rattle.boot_machine.specs.Reading.{fill_with_zeros}
 use Rattle.boot_machine.specs.Rows.{contents}
 use Rattle.boot_machine.specs.Sent.{seen}
-use Rattle.boot_machine.proofs.Filling.{zero_filled-inside}
+use Rattle.boot_machine.proofs.Filling.{fill_with_zeros-inside}
 use Rattle.uki_parts.specs.declared.piece.Piece.{Piece}
 use Rattle.uki_parts.specs.Pieces.{Reading, HasSizes, piece_length, total_length, piece_bytes, bytes_of}
 use Rattle.pcr_values.specs.declared.bank.Bank.{Bank}
@@ -47,14 +47,14 @@ where_none P xs = ([], takes_none xs, λ told. refl)
 
 -- a range of a file that boot sees
 pub range_taken : (tells : Bool) (s : State) (path : Path) (at count : ℕ) (bytes : List ℕ) (xs ys zs : List Register) → is_temp path ≡ false → AllZip (Takes bytes) xs ys
-    → (IsTrue tells → bytes ≡ zero_filled (drop at (contents s.files path)) count) → zs ≡ ys
+    → (IsTrue tells → bytes ≡ fill_with_zeros (drop at (contents s.files path)) count) → zs ≡ ys
     → TakesWhere (IsTrue tells × (count ≤ length (drop at (contents (seen s) path)))) (take count (drop at (contents (seen s) path))) xs zs
 range_taken tells s path at count bytes xs ys zs shown takes are same = (
   bytes,
   subst (λ (l : List Register). AllZip (Takes bytes) xs l) (sym same) takes,
   λ both.
       let S = λ (file : List ℕ). count ≤ length (drop at file) → bytes ≡ take count (drop at file) in
-      subst S (sym (shown_contents s path shown)) (λ inside. are both.0 ∙ zero_filled-inside (drop at (contents s.files path)) count inside) both.1,
+      subst S (sym (shown_contents s path shown)) (λ inside. are both.0 ∙ fill_with_zeros-inside (drop at (contents s.files path)) count inside) both.1,
 )
 
 -- zeros behind what is taken

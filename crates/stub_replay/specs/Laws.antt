@@ -2,12 +2,12 @@
 use Rattle.std.specs.Prelude.{◌≡◌, ℕ, List, [], ◌∷◌, Option, Some, None, if◌then◌else◌}
 use Rattle.std.specs.Str.{bytes_eq}
 use Rattle.pe_reader.specs.Grammar.{Headers}
-use Rattle.pe_reader.specs.Loaded.{loaded}
+use Rattle.pe_reader.specs.LoadedBytes.{loaded_bytes}
 use Rattle.pcr_values.specs.declared.bank.Bank.{Bank}
 use Rattle.uki_parts.specs.Names.{name_bytes}
 use Rattle.pe_builder.specs.declared.size.WideSize.{WideSize}
 use Rattle.pe_builder.specs.Replaced.{sbat_name}
-use Rattle.pe_builder.specs.Image.{finished}
+use Rattle.pe_builder.specs.Image.{finished_image}
 use Rattle.pe_builder.specs.Laws.{HasFinished}
 use Rattle.stub_replay.specs.Measured.{Shows, predicted_pcr, stub_pcr}
 
@@ -20,8 +20,8 @@ find_content name (p ∷ parts) (content ∷ contents) =
 
 -- of a name that no part has: a new `.sbat` where it is given, and else what the stub has loaded
 abbrev pub kept_of : Option (List ℕ) → List ℕ → List ℕ → List ℕ
-kept_of None stub name = loaded stub name
-kept_of (Some sbat) stub name = if bytes_eq sbat_name name then sbat else loaded stub name
+kept_of None stub name = loaded_bytes stub name
+kept_of (Some sbat) stub name = if bytes_eq sbat_name name then sbat else loaded_bytes stub name
 
 abbrev pub or_kept : Option (List ℕ) → List ℕ → List ℕ
 or_kept (Some content) kept = content
@@ -42,7 +42,7 @@ abbrev pub ImageShowsItsParts : Type 0
 ImageShowsItsParts =
     (h : Headers) (sizes : List WideSize) (contents : List (List ℕ)) (sbat : Option (List ℕ)) (stub : List ℕ) →
     HasFinished h sizes contents sbat stub →
-    Shows (finished h sizes contents sbat stub) (given_parts sizes contents sbat stub)
+    Shows (finished_image h sizes contents sbat stub) (given_parts sizes contents sbat stub)
 
 -- What is predicted from a stub and parts is the stub's value of the finished image.
 abbrev pub PredictionOfParts : Type 0
@@ -51,4 +51,4 @@ PredictionOfParts =
     (bank : Bank) (path : List (List ℕ)) →
     HasFinished h sizes contents sbat stub →
     predicted_pcr (given_parts sizes contents sbat stub) bank path
-    ≡ stub_pcr (finished h sizes contents sbat stub) bank path
+    ≡ stub_pcr (finished_image h sizes contents sbat stub) bank path

@@ -3,7 +3,7 @@
 use Rattle.std.specs.Prelude.{◌≡◌, ℕ, List, [], ◌∷◌, ◌++◌, codes, length, sum_by, IsOk}
 use Rattle.std.specs.List.{flat_map, AllByRecursion}
 use Rattle.pe_reader.specs.Grammar.{pe_of}
-use Rattle.pe_reader.specs.Loaded.{loaded}
+use Rattle.pe_reader.specs.LoadedBytes.{loaded_bytes}
 use Rattle.pcr_values.specs.declared.bank.Bank.{Bank}
 use Rattle.pcr_values.specs.Banks.{fold_of}
 
@@ -33,11 +33,11 @@ measured_by parts = flat_map (λ name. section_items name (parts name)) measured
 
 -- what a stub measures of an image: of each measured name the loaded bytes of its first section
 abbrev pub measured_list : List ℕ → List (List ℕ)
-measured_list image = measured_by (loaded image)
+measured_list image = measured_by (loaded_bytes image)
 
 -- how many bytes the measured sections of an image have loaded
 unfoldable pub measured_length : List ℕ → ℕ
-measured_length image = sum_by (λ name. length (loaded image name)) measured_names
+measured_length image = sum_by (λ name. length (loaded_bytes image name)) measured_names
 
 -- PCR 11 after a stub has measured an image, and then the words of a phase path
 abbrev pub stub_pcr : List ℕ → Bank → List (List ℕ) → List ℕ
@@ -50,4 +50,4 @@ predicted_pcr parts bank path = fold_of bank (measured_by parts ++ path)
 -- The image reads as PE, and has loaded of each measured name the bytes of the part.
 pub record Shows (image : List ℕ) (parts : List ℕ → List ℕ) : Type 0 where
   pub reads : IsOk (pe_of image)
-  pub same : AllByRecursion (λ name. loaded image name ≡ parts name) measured_names
+  pub same : AllByRecursion (λ name. loaded_bytes image name ≡ parts name) measured_names

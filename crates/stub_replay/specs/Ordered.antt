@@ -13,12 +13,12 @@ as_part name None = []
 as_part name (Some bytes) = (name, bytes) ∷ []
 
 -- the parts of the names whose bytes are given
-abbrev pub present : List (List ℕ × Option (List ℕ)) → List (List ℕ × List ℕ)
-present given = flat_map (λ part. as_part part.0 part.1) given
+abbrev pub present_parts : List (List ℕ × Option (List ℕ)) → List (List ℕ × List ℕ)
+present_parts given = flat_map (λ part. as_part part.0 part.1) given
 
 -- The parts are in the order in which a stub measures them: each name is a measured one and stands once at most.
 abbrev pub InMeasuredOrder : List (List ℕ × List ℕ) → Type 0
-InMeasuredOrder parts = (given : List (Option (List ℕ))) × (parts ≡ present (zip measured_names given))
+InMeasuredOrder parts = (given : List (Option (List ℕ))) × (parts ≡ present_parts (zip measured_names given))
 
 -- the bytes of the first part of a name, none where there is no such part
 abbrev pub part_of : List (List ℕ × List ℕ) → List ℕ → List ℕ

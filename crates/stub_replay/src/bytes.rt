@@ -1,9 +1,9 @@
 //! The register after a stub has measured an image whose bytes are at hand.
 ghost use Rattle.std.specs.Prelude.{◌≡◌, ◌+◌, ◌<◌, ◌^◌, Ok, IfOk};
 ghost use Rattle.pe_reader.specs.Grammar.{pe_of};
-ghost use Rattle.pe_reader.specs.Loaded.{loaded, bytes_in};
+ghost use Rattle.pe_reader.specs.LoadedBytes.{loaded_bytes, bytes_in};
 ghost use Rattle.pe_reader.specs.Reads.{headers_of};
-ghost use Rattle.pcr_values.specs.Banks.{extended_by_all, fold_of};
+ghost use Rattle.pcr_values.specs.Banks.{extend_all, fold_of};
 ghost use Rattle.pcr_values.specs.Values.{pcr_bank, pcr_bytes};
 ghost use Rattle.stub_replay.specs.Measured.{section_items, measured_list};
 
@@ -42,7 +42,7 @@ fn after_section(
     requires { pe_of bytes.now ≡ Ok (headers_of head.now) }
     ensures bank { IfOk result (λ after. pcr_bank after ≡ pcr_bank pcr) }
     ensures value { IfOk result (λ after. pcr_bytes after
-        ≡ extended_by_all (pcr_bank pcr) (pcr_bytes pcr) (section_items name.now (loaded bytes.now name.now))) }
+        ≡ extend_all (pcr_bank pcr) (pcr_bytes pcr) (section_items name.now (loaded_bytes bytes.now name.now))) }
 {
     let content = loaded_bytes(alloc, bytes, head, name)?;
     Ok(after_content(pcr, name, &content))
@@ -52,7 +52,7 @@ fn after_section(
 #[tactic(auto, unfolding(crate::specs::Measured::section_items))]
 fn after_content(pcr: Pcr, name: &[u8], content: &[u8]) -> Pcr
     ensures bank { pcr_bank result ≡ pcr_bank pcr }
-    ensures value { pcr_bytes result ≡ extended_by_all (pcr_bank pcr) (pcr_bytes pcr)
+    ensures value { pcr_bytes result ≡ extend_all (pcr_bank pcr) (pcr_bytes pcr)
         (section_items name.now content.now) }
 {
     if content.is_empty() {
@@ -64,7 +64,7 @@ fn after_content(pcr: Pcr, name: &[u8], content: &[u8]) -> Pcr
 // The loaded bytes of the first section of that name, none where there is no such section.
 fn loaded_bytes(alloc: Global, bytes: &[u8], head: &Pe, name: &[u8]) -> Result<Vec<u8>, AllocError>
     requires { pe_of bytes.now ≡ Ok (headers_of head.now) }
-    ensures { IfOk result (λ content. content.items ≡ loaded bytes.now name.now) }
+    ensures { IfOk result (λ content. content.items ≡ loaded_bytes bytes.now name.now) }
 {
     match head.find(name) {
         None => Ok(Vec::new(alloc)),

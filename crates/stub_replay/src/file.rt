@@ -4,10 +4,10 @@ ghost use Rattle.boot_machine.specs.Counts.{CountsDisk};
 ghost use Rattle.boot_machine.specs.Reading.{OnlyReads, TakesAtMost};
 ghost use Rattle.boot_machine.specs.Rows.{contents};
 ghost use Rattle.pe_reader.specs.Grammar.{pe_of};
-ghost use Rattle.pe_reader.specs.Loaded.{loaded, bytes_in};
+ghost use Rattle.pe_reader.specs.LoadedBytes.{loaded_bytes, bytes_in};
 ghost use Rattle.pe_reader.specs.Reads.{headers_of};
-ghost use Rattle.pcr_values.specs.Banks.{digest_of, fold_of, folded};
-ghost use Rattle.pcr_values.specs.Values.{bank_of, bytes_of_digest, pcr_bank, pcr_bytes, shown};
+ghost use Rattle.pcr_values.specs.Banks.{digest_of, fold_of, fold_pcr};
+ghost use Rattle.pcr_values.specs.Values.{bank_of, bytes_of_digest, pcr_bank, pcr_bytes, pcr_value};
 ghost use Rattle.stub_replay.specs.Faults.{CountsPredict};
 ghost use Rattle.stub_replay.specs.Measured.{section_items, measured_list, measured_length};
 ghost use Rattle.stub_replay.specs.Taking.{AreBetween, ExtendsWhere};
@@ -73,8 +73,8 @@ pub fn replay_all<M: Machine>(
     requires { IsTrue M.tells → pe_of (contents (M.state machine.old).files path.now) ≡ Ok (headers_of head.now) }
     ensures banks { IfOk result (λ pcrs. map pcr_bank pcrs.items ≡ banks.now) }
     ensures value { IfOk result (λ pcrs. IsTrue M.tells
-        → map shown pcrs.items
-        ≡ map (folded (measured_list (contents (M.state machine.old).files path.now))) banks.now) }
+        → map pcr_value pcrs.items
+        ≡ map (fold_pcr (measured_list (contents (M.state machine.old).files path.now))) banks.now) }
     ensures reads { IsTrue M.tells → OnlyReads M.time M.state machine.old machine.new }
     ensures counts { CountsPredict result (M.counts machine.old) (M.counts machine.new) }
     ensures taken { IsTrue M.tells
@@ -127,12 +127,12 @@ fn measure_section<M: Machine>(
     requires room { 0 < length buffer.old }
     ensures length { length buffer.new ≡ length buffer.old }
     ensures value { OnOk result (ExtendsWhere (IsTrue M.tells)
-        (section_items name.now (loaded (contents (M.state machine.old).files path.now) name.now)) registers.old
+        (section_items name.now (loaded_bytes (contents (M.state machine.old).files path.now) name.now)) registers.old
         registers.new) }
     ensures reads { IsTrue M.tells → OnlyReads M.time M.state machine.old machine.new }
     ensures counts { CountsDisk result (M.counts machine.old) (M.counts machine.new) }
     ensures taken { IsTrue M.tells → TakesAtMost
-        (length (loaded (contents (M.state machine.old).files path.now) name.now)) (M.taken machine.old)
+        (length (loaded_bytes (contents (M.state machine.old).files path.now) name.now)) (M.taken machine.old)
         (M.taken machine.new) }
 {
     match head.find(name) {

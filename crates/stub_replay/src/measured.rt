@@ -1,6 +1,6 @@
 //! The names of the measured sections, and how a register takes one.
 ghost use Rattle.std.specs.Prelude.{◌≡◌, ◌++◌, ◌∷◌, [], map};
-ghost use Rattle.pcr_values.specs.Banks.{extended};
+ghost use Rattle.pcr_values.specs.Banks.{extend_data};
 ghost use Rattle.pcr_values.specs.Values.{pcr_bank, pcr_bytes};
 ghost use Rattle.stub_replay.specs.Measured.{measured_names};
 
@@ -28,7 +28,7 @@ pub fn measured_names() -> &'static [&'static [u8]]
 /// section's bytes (systemd's TPM2 PCR document, PCR 11). It takes no memory.
 pub fn after_name(pcr: Pcr, name: &[u8]) -> Pcr
     ensures bank { pcr_bank result ≡ pcr_bank pcr }
-    ensures bytes { pcr_bytes result ≡ extended (pcr_bank pcr) (pcr_bytes pcr) (name.now ++ 0 ∷ []) }
+    ensures bytes { pcr_bytes result ≡ extend_data (pcr_bank pcr) (pcr_bytes pcr) (name.now ++ 0 ∷ []) }
 {
     let mut hash = DataHash::new(pcr.bank());
     hash.update(name);

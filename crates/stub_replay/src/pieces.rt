@@ -5,7 +5,7 @@ ghost use Rattle.boot_machine.specs.Counts.{CountsDisk};
 ghost use Rattle.boot_machine.specs.Reading.{OnlyReads, TakesAtMost};
 ghost use Rattle.boot_machine.specs.Rows.{contents};
 ghost use Rattle.boot_machine.specs.Sent.{seen};
-ghost use Rattle.pe_reader.specs.Loaded.{bytes_in};
+ghost use Rattle.pe_reader.specs.LoadedBytes.{bytes_in};
 ghost use Rattle.uki_parts.specs.Pieces.{HasSizes, bytes_of, file_length, piece_bytes, piece_length};
 ghost use Rattle.stub_replay.specs.Parts.{IsPlaced, IsWhole, content_bytes, read_length};
 ghost use Rattle.stub_replay.specs.Registers.{Takes};

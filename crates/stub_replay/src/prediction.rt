@@ -4,8 +4,8 @@ ghost use Rattle.boot_machine.specs.Counts.{CountsDisk};
 ghost use Rattle.boot_machine.specs.Reading.{OnlyReads, TakesAtMost};
 ghost use Rattle.boot_machine.specs.Rows.{contents};
 ghost use Rattle.boot_machine.specs.Sent.{seen};
-ghost use Rattle.pcr_values.specs.Banks.{folded};
-ghost use Rattle.pcr_values.specs.Values.{pcr_bank, shown};
+ghost use Rattle.pcr_values.specs.Banks.{fold_pcr};
+ghost use Rattle.pcr_values.specs.Values.{pcr_bank, pcr_value};
 ghost use Rattle.stub_replay.specs.Measured.{section_items};
 ghost use Rattle.stub_replay.specs.Faults.{CountsPredict};
 ghost use Rattle.stub_replay.specs.Parts.{IsPlaced, IsWhole, content_bytes, named_bytes, items_of, HaveSizes, read_length, files_length};
@@ -40,8 +40,8 @@ pub fn predict<M: Machine>(
     ensures length { length buffer.new ≡ length buffer.old }
     ensures banks { IfOk result (λ pcrs. map pcr_bank pcrs.items ≡ banks.now) }
     ensures value { IfOk result (λ pcrs. IsTrue M.tells → HaveSizes (contents (seen (M.state machine.old))) parts.now
-        → map shown pcrs.items
-        ≡ map (folded (items_of (map (named_bytes (contents (seen (M.state machine.old)))) parts.now))) banks.now) }
+        → map pcr_value pcrs.items
+        ≡ map (fold_pcr (items_of (map (named_bytes (contents (seen (M.state machine.old)))) parts.now))) banks.now) }
     ensures reads { IsTrue M.tells → OnlyReads M.time M.state machine.old machine.new }
     ensures counts { CountsPredict result (M.counts machine.old) (M.counts machine.new) }
     ensures taken { IsTrue M.tells → TakesAtMost (files_length parts.now) (M.taken machine.old) (M.taken machine.new) }

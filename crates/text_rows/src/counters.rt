@@ -13,9 +13,9 @@ pub(crate) fn counter(alloc: Global, row: &Row<'_>) -> Result<String, RowFault> 
     Ok(counter_text(alloc, Counted::split(row.text(0)?))?)
 }
 
-pub(crate) fn booted(alloc: Global, row: &Row<'_>) -> Result<String, RowFault> {
+pub(crate) fn tell_booted(alloc: Global, row: &Row<'_>) -> Result<String, RowFault> {
     match Counted::split(row.text(0)?) {
-        Some(counted) => Ok(counter_text(alloc, counted.booted())?),
+        Some(counted) => Ok(counter_text(alloc, counted.after_boot())?),
         None => Err(RowFault::Unclear),
     }
 }
@@ -38,12 +38,12 @@ fn suffix_of(text: &str) -> Result<Suffix, RowFault> {
     }
 }
 
-pub(crate) fn joined(alloc: Global, row: &Row<'_>) -> Result<String, RowFault> {
+pub(crate) fn tell_joined(alloc: Global, row: &Row<'_>) -> Result<String, RowFault> {
     let base = row.text(0)?;
     let suffix = suffix_of(row.text(3)?)?;
     match (read_count(row.text(1)?), read_count(row.text(2)?)) {
         (Some(left), Some(done)) if !base.is_empty() => {
-            Ok(Counted::joined(alloc, base, left, done, suffix)?)
+            Ok(Counted::join_name(alloc, base, left, done, suffix)?)
         }
         _ => Err(RowFault::Unclear),
     }

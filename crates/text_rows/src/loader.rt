@@ -3,7 +3,7 @@ use crate::fault::RowFault;
 use crate::row::Row;
 use crate::settings::add_value;
 use boot_base::{Bytes, BytesList};
-use boot_texts::{ConfKey, LoaderConf, chosen, is_pattern, matches, may_be_value, with_key};
+use boot_texts::{ConfKey, LoaderConf, default_place, is_pattern, matches, may_be_value, with_key};
 use std::alloc::{AllocError, Global};
 
 fn answer(alloc: Global, is: bool) -> Result<Vec<u8>, AllocError> {
@@ -11,7 +11,7 @@ fn answer(alloc: Global, is: bool) -> Result<Vec<u8>, AllocError> {
     text.as_bytes().to_vec(alloc)
 }
 
-pub(crate) fn matched(alloc: Global, row: &Row<'_>) -> Result<Vec<u8>, RowFault> {
+pub(crate) fn tell_matched(alloc: Global, row: &Row<'_>) -> Result<Vec<u8>, RowFault> {
     Ok(answer(alloc, matches(row.bytes(0)?, row.bytes(1)?))?)
 }
 
@@ -33,12 +33,12 @@ pub(crate) fn value(alloc: Global, row: &Row<'_>) -> Result<Vec<u8>, RowFault> {
 }
 
 fn add_settings(told: &mut Vec<u8>, conf: &LoaderConf) -> Result<(), AllocError> {
-    add_value(told, "default", shown(&conf.default))?;
-    add_value(told, "timeout", shown(&conf.timeout))
+    add_value(told, "default", bytes_of_value(&conf.default))?;
+    add_value(told, "timeout", bytes_of_value(&conf.timeout))
 }
 
 // The bytes of a value that is there.
-fn shown(value: &Option<Bytes>) -> Option<&[u8]> {
+fn bytes_of_value(value: &Option<Bytes>) -> Option<&[u8]> {
     match value {
         Some(value) => Some(value.as_slice()),
         None => None,
@@ -82,6 +82,6 @@ fn place_text(alloc: Global, place: Option<usize>) -> Result<String, AllocError>
 pub(crate) fn choice(alloc: Global, row: &Row<'_>) -> Result<Vec<u8>, RowFault> {
     let conf = LoaderConf::read(alloc, row.bytes(0)?)?;
     let ids = ids_of(alloc, row.bytes(1)?)?;
-    let place = place_text(alloc, chosen(ids.as_slice(), &conf))?;
+    let place = place_text(alloc, default_place(ids.as_slice(), &conf))?;
     Ok(place.into_bytes())
 }

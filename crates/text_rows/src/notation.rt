@@ -12,7 +12,7 @@ const LONGEST_RUN: usize = 40;
 
 /// The bytes that an argument writes.
 pub(crate) fn bytes_of(alloc: Global, argument: &str) -> Result<Vec<u8>, RowFault> {
-    let argument = repeated(alloc, argument)?;
+    let argument = repeat_pieces(alloc, argument)?;
     let mut bytes = Vec::new(alloc);
     let mut rest = argument.as_bytes();
     while !rest.is_empty() {
@@ -24,7 +24,7 @@ pub(crate) fn bytes_of(alloc: Global, argument: &str) -> Result<Vec<u8>, RowFaul
 }
 
 // The argument with each piece as often as it says.
-fn repeated(alloc: Global, argument: &str) -> Result<String, RowFault> {
+fn repeat_pieces(alloc: Global, argument: &str) -> Result<String, RowFault> {
     let mut text = String::new(alloc);
     for part in argument.split('{') {
         match part.split_once('}') {
@@ -61,7 +61,7 @@ fn first_byte(text: &[u8]) -> Result<(u8, &[u8]), RowFault>
 {
     match text {
         [b'\\', b'x', high, low, rest @ ..] => Ok((byte_of(&[*high, *low])?, rest)),
-        [b'\\', letter, rest @ ..] => Ok((escaped(*letter)?, rest)),
+        [b'\\', letter, rest @ ..] => Ok((escaped_byte(*letter)?, rest)),
         [b'\\'] | [] => Err(RowFault::Unclear),
         [byte, rest @ ..] => Ok((*byte, rest)),
     }
@@ -79,7 +79,7 @@ fn byte_of(digits: &[u8]) -> Result<u8, RowFault> {
 }
 
 // The byte that a letter behind a backslash stands for.
-fn escaped(letter: u8) -> Result<u8, RowFault> {
+fn escaped_byte(letter: u8) -> Result<u8, RowFault> {
     match letter {
         b'n' => Ok(b'\n'),
         b'r' => Ok(b'\r'),
@@ -90,7 +90,7 @@ fn escaped(letter: u8) -> Result<u8, RowFault> {
 }
 
 /// The bytes as they are written. Quotes stand for themselves, and long runs of a byte are told once.
-pub(crate) fn written(alloc: Global, bytes: &[u8]) -> Result<String, AllocError> {
+pub(crate) fn write_bytes(alloc: Global, bytes: &[u8]) -> Result<String, AllocError> {
     let mut text = String::new(alloc);
     for run in bytes.chunk_by(|left, right| left == right) {
         add_run(&mut text, run)?;

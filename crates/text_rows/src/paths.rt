@@ -1,7 +1,7 @@
 //! Calls that read paths and names of files.
 use crate::fault::RowFault;
 use crate::row::Row;
-use crate::texts::{appended, text_or_none};
+use crate::texts::{text_of_value, text_or_none};
 use boot_base::{BootPath, FileName, Target, TempPath};
 use std::alloc::Global;
 
@@ -12,7 +12,7 @@ pub(crate) fn path(alloc: Global, row: &Row<'_>) -> Result<String, RowFault> {
 
 pub(crate) fn printed_path(alloc: Global, row: &Row<'_>) -> Result<String, RowFault> {
     let path = BootPath::read(alloc, row.text(0)?)?;
-    Ok(appended(alloc, &path)?)
+    Ok(text_of_value(alloc, &path)?)
 }
 
 pub(crate) fn file_name(alloc: Global, row: &Row<'_>) -> Result<String, RowFault> {
@@ -25,8 +25,8 @@ pub(crate) fn intent(alloc: Global) -> Result<String, RowFault> {
     Ok(String::from_str(alloc, path.as_str())?)
 }
 
-pub(crate) fn named(alloc: Global, row: &Row<'_>) -> Result<String, RowFault> {
-    match BootPath::named(alloc, row.bytes(0)?)? {
+pub(crate) fn tell_named(alloc: Global, row: &Row<'_>) -> Result<String, RowFault> {
+    match BootPath::from_bytes(alloc, row.bytes(0)?)? {
         Some(path) => Ok(String::from_str(alloc, path.as_str())?),
         None => Ok(text_or_none(alloc, None)?),
     }

@@ -1,7 +1,7 @@
 //! The printed texts of refusals.
 use crate::fault::RowFault;
 use crate::row::Row;
-use crate::texts::appended;
+use crate::texts::text_of_value;
 use boot_base::{PeText, Refusal, Text};
 use std::alloc::{AllocError, Global};
 
@@ -71,7 +71,7 @@ fn refusal_of(alloc: Global, row: &Row<'_>) -> Result<Refusal, RowFault> {
 
 pub(crate) fn refusal(alloc: Global, row: &Row<'_>) -> Result<String, RowFault> {
     let refusal = refusal_of(alloc, row)?;
-    Ok(appended(alloc, &refusal)?)
+    Ok(text_of_value(alloc, &refusal)?)
 }
 
 pub(crate) fn refusal_line(alloc: Global, row: &Row<'_>) -> Result<String, RowFault> {

@@ -1,15 +1,15 @@
 //! The rows, and what the calls answer.
-use crate::counters::{bad_name, booted, choices, counter, good_name, joined};
+use crate::counters::{bad_name, choices, counter, good_name, tell_booted, tell_joined};
 use crate::fault::RowFault;
-use crate::loader::{change, choice, matched, pattern, settings, value};
-use crate::notation::written;
+use crate::loader::{change, choice, pattern, settings, tell_matched, value};
+use crate::notation::write_bytes;
 use crate::paths::{
-    file_name, intent, leftover, name, named, path, printed_path, sibling, target, under,
+    file_name, intent, leftover, name, path, printed_path, sibling, target, tell_named, under,
 };
 use crate::refusals::{refusal, refusal_line};
 use crate::row::Row;
 use crate::settings::{entry, lines, release, values};
-use crate::versions::{compared, compared_keys};
+use crate::versions::{compared_keys, tell_compared};
 use crate::words::{split, words};
 use std::alloc::Global;
 
@@ -20,7 +20,7 @@ fn told_of_paths(alloc: Global, row: &Row<'_>) -> Result<String, RowFault> {
         "printed" => printed_path(alloc, row),
         "file-name" => file_name(alloc, row),
         "intent" => intent(alloc),
-        "named" => named(alloc, row),
+        "named" => tell_named(alloc, row),
         "sibling" => sibling(alloc, row),
         "under" => under(alloc, row),
         "target" => target(alloc, row),
@@ -36,12 +36,12 @@ fn told_text(alloc: Global, row: &Row<'_>) -> Result<String, RowFault> {
         "refusal" => refusal(alloc, row),
         "refusal-line" => refusal_line(alloc, row),
         "counter" => counter(alloc, row),
-        "booted" => booted(alloc, row),
+        "booted" => tell_booted(alloc, row),
         "good" => good_name(alloc, row),
         "bad" => bad_name(alloc, row),
-        "joined" => joined(alloc, row),
+        "joined" => tell_joined(alloc, row),
         "choices" => choices(alloc, row),
-        "compare" => compared(alloc, row),
+        "compare" => tell_compared(alloc, row),
         "compare-keys" => compared_keys(alloc, row),
         "split" => split(alloc, row),
         "words" => words(alloc, row),
@@ -52,7 +52,7 @@ fn told_text(alloc: Global, row: &Row<'_>) -> Result<String, RowFault> {
 // What a call on patterns and loader.conf answers.
 fn told_of_loader(alloc: Global, row: &Row<'_>) -> Result<Vec<u8>, RowFault> {
     match row.call {
-        "matches" => matched(alloc, row),
+        "matches" => tell_matched(alloc, row),
         "pattern" => pattern(alloc, row),
         "value" => value(alloc, row),
         "settings" => settings(alloc, row),
@@ -62,7 +62,7 @@ fn told_of_loader(alloc: Global, row: &Row<'_>) -> Result<Vec<u8>, RowFault> {
     }
 }
 
-fn told(alloc: Global, line: &str) -> Result<Vec<u8>, RowFault> {
+fn row_result(alloc: Global, line: &str) -> Result<Vec<u8>, RowFault> {
     let row = Row::read(alloc, line)?;
     match row.call {
         "lines" => lines(alloc, &row),
@@ -78,9 +78,9 @@ pub(crate) fn tell_line(alloc: Global, line: &str) -> Result<String, RowFault> {
     if line.is_empty() || line.starts_with('#') {
         return Ok(format!(in alloc; "{line}\n")?);
     }
-    match told(alloc, line) {
+    match row_result(alloc, line) {
         Ok(told) => {
-            let told = written(alloc, &told)?;
+            let told = write_bytes(alloc, &told)?;
             Ok(format!(in alloc; "> {line}\n{told}\n")?)
         }
         Err(fault) if fault.is_answer() => Ok(format!(in alloc; "> {line}\n{fault}\n")?),

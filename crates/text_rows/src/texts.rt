@@ -11,7 +11,7 @@ pub(crate) fn text_or_none(alloc: Global, text: Option<String>) -> Result<String
 }
 
 /// The printed text of a value.
-pub(crate) fn appended<T: AppendText>(alloc: Global, value: &T) -> Result<String, AllocError> {
+pub(crate) fn text_of_value<T: AppendText>(alloc: Global, value: &T) -> Result<String, AllocError> {
     let mut text = Vec::new(alloc);
     value.append_to(&mut text)?;
     String::from_utf8_lossy(alloc, text.as_slice())

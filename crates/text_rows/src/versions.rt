@@ -15,7 +15,7 @@ fn compared_text(alloc: Global, left: &[u8], right: &[u8]) -> Result<String, All
     format!(in alloc; "{order:?}, {back:?}")
 }
 
-pub(crate) fn compared(alloc: Global, row: &Row<'_>) -> Result<String, RowFault> {
+pub(crate) fn tell_compared(alloc: Global, row: &Row<'_>) -> Result<String, RowFault> {
     Ok(compared_text(alloc, row.bytes(0)?, row.bytes(1)?)?)
 }
 

@@ -1,7 +1,7 @@
 //! Words of the command line.
 use crate::fault::RowFault;
 use crate::row::Row;
-use crate::texts::appended;
+use crate::texts::text_of_value;
 use std::alloc::{AllocError, Global};
 use tool_words::{Command, UsageReason, WordsFault, split_line};
 
@@ -11,7 +11,7 @@ pub(crate) fn split(alloc: Global, row: &Row<'_>) -> Result<String, RowFault> {
 }
 
 fn usage_text(alloc: Global, reason: &UsageReason) -> Result<String, AllocError> {
-    let reason = appended(alloc, reason)?;
+    let reason = text_of_value(alloc, reason)?;
     format!(in alloc; "usage: {reason}")
 }
 

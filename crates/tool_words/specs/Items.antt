@@ -48,22 +48,23 @@ are_banks Bank = true
 are_banks Any = false
 
 -- a value as the option takes it: where its values are banks, a bank has it as its name
-abbrev pub valued : OptionRule → Word → Result Word UsageReason
-valued option value = if are_banks option.value && is_none (bank_named value) then Err (UnknownBank value) else Ok value
+abbrev pub check_value : OptionRule → Word → Result Word UsageReason
+check_value option value =
+    if are_banks option.value && is_none (bank_named value) then Err (UnknownBank value) else Ok value
 
 -- the option of the command that is written so
-abbrev pub known : Option OptionRule → Word → Result OptionRule UsageReason
-known None text = Err (UnknownOption text)
-known (Some option) text = Ok option
+abbrev pub known_option : Option OptionRule → Word → Result OptionRule UsageReason
+known_option None text = Err (UnknownOption text)
+known_option (Some option) text = Ok option
 
 abbrev pub option_of : CommandName → Word → Result OptionRule UsageReason
-option_of command text = known (find (is_text_of text) (row command).options) text
+option_of command text = known_option (find (is_text_of text) (row command).options) text
 
 -- an option in a word with a `=`
 abbrev pub with_value : OptionRule → Word → Result Said UsageReason
 with_value option value =
     if is_flag option.takes then Err (TakesNoValue option.text)
-    else (valued option value >>= λ value. Ok (Whole option.text value))
+    else (check_value option value >>= λ value. Ok (Whole option.text value))
 
 -- an option in a word without one
 abbrev pub without_value : OptionRule → Said
@@ -102,7 +103,7 @@ more_items word next words Ends later latest = Ok (map Operand (next ∷ words))
 more_items word next words Plain later latest = onto (Operand word) later
 more_items word next words (Whole text value) later latest = onto (Value text value) later
 more_items word next words (Open option) later latest =
-    valued option next >>= λ value. onto (Value option.text value) latest
+    check_value option next >>= λ value. onto (Value option.text value) latest
 
 -- the items of the words from the left, or the first word's reason that has one
 unfoldable pub items : CommandName → List Word → Result (List Item) UsageReason

@@ -42,8 +42,8 @@ command_of [] = Err reason.NoCommand
 command_of (word ∷ words) = found_name (find (is_name_of word) commands) word words
 
 -- as many operands as the command takes
-abbrev pub counted : ℕ → ℕ → Result (Unit {0}) UsageReason
-counted wanted count =
+abbrev pub check_count : ℕ → ℕ → Result (Unit {0}) UsageReason
+check_count wanted count =
     if nat_lt count wanted then Err reason.TooFew else (if nat_lt wanted count then Err reason.TooMany else Ok tt)
 
 abbrev pub is_repeated : Takes → Bool
@@ -58,13 +58,13 @@ repeats c text = list_any (λ option. is_text_of text option && is_repeated opti
 
 -- what the items of a command give: of each option, by its text, the last value, of a repeatable one all values in
 -- order; and the operands
-pub record Gathered : Type 0 where
+pub record GatheredItems : Type 0 where
   pub last : Word → Option Word
   pub all : Word → List Word
   pub operand : ℕ → Word
 
-abbrev pub gathered : CommandName → List Item → Gathered
-gathered c items = record {
+abbrev pub gather_items : CommandName → List Item → GatheredItems
+gather_items c items = record {
   last = λ option. last_option_value option items;
   all = λ option. if repeats c option then all_values option items else [];
   operand = λ n. slice_index_or (operands items) n [];
@@ -93,18 +93,18 @@ inline_or_file [] = Inline []
 inline_or_file (first ∷ bytes) = if first == 64 then File bytes else Inline (first ∷ bytes)
 
 -- a required value, which is there
-abbrev pub required : Option Word → Word
-required value = unwrap_or value []
+abbrev pub required_value : Option Word → Word
+required_value value = unwrap_or value []
 
 -- the folder of the boot files
 abbrev pub esp : (Word → Option Word) → Word
 esp last = unwrap_or (last (codes "--esp-path")) (codes "efi")
 
-abbrev pub build_words : Gathered → BuildWords
+abbrev pub build_words : GatheredItems → BuildWords
 build_words g = record {
-  stub = required (g.last (codes "--stub"));
-  linux = required (g.last (codes "--linux"));
-  output = required (g.last (codes "--output"));
+  stub = required_value (g.last (codes "--stub"));
+  linux = required_value (g.last (codes "--linux"));
+  output = required_value (g.last (codes "--output"));
   osrel = option_map inline_or_file (g.last (codes "--os-release"));
   cmdline = option_map inline_or_file (g.last (codes "--cmdline"));
   sbat = option_map inline_or_file (g.last (codes "--sbat"));
@@ -118,9 +118,9 @@ build_words g = record {
   measure = is_some (g.last (codes "--measure"));
 }
 
-abbrev pub calculate_words : Gathered → CalculateWords
+abbrev pub calculate_words : GatheredItems → CalculateWords
 calculate_words g = record {
-  linux = required (g.last (codes "--linux"));
+  linux = required_value (g.last (codes "--linux"));
   osrel = g.last (codes "--osrel");
   cmdline = g.last (codes "--cmdline");
   initrd = g.last (codes "--initrd");
@@ -135,7 +135,7 @@ calculate_words g = record {
 }
 
 -- the command with all its fields
-abbrev pub command_from : CommandName → Gathered → Command
+abbrev pub command_from : CommandName → GatheredItems → Command
 command_from name.Build g = command.Build (build_words g)
 command_from name.Inspect g = command.Inspect (g.operand 0)
 command_from name.Calculate g = command.Calculate (calculate_words g)
@@ -159,9 +159,9 @@ command_from name.Demo g = command.Demo (g.operand 0) (g.operand 1)
 -- the command of the items, where they are as many and as required
 abbrev pub command_with : CommandName → List Item → Result Command UsageReason
 command_with c items =
-    counted (row c).operands (length (operands items)) >>= λ _.
-    all_required c (gathered c items).last >>= λ _.
-    Ok (command_from c (gathered c items))
+    check_count (row c).operands (length (operands items)) >>= λ _.
+    all_required c (gather_items c items).last >>= λ _.
+    Ok (command_from c (gather_items c items))
 
 -- the command of the words after it
 abbrev pub command_by_name : CommandName → List Word → Result Command UsageReason

@@ -6,14 +6,14 @@ use Rattle.tool_words.specs.declared.fault.UsageReason.TheVariants.{NeedsValue}
 use Rattle.tool_words.specs.declared.fault.WordsFault.{WordsFault}
 use Rattle.tool_words.specs.declared.items.Next.{Next}
 use Rattle.word_grammar.specs.Grammar.{Word, OptionRule}
-use Rattle.tool_words.specs.Items.{Item, Value, Operand, items, onto, valued, ◌>>=◌}
+use Rattle.tool_words.specs.Items.{Item, Value, Operand, items, onto, check_value, ◌>>=◌}
 use Rattle.tool_words.specs.Answers.{FaultIs}
 use Rattle.tool_words.specs.Shown.{item_shown, texts}
 
 -- an option whose value is the next word, and the words after that
-abbrev pub opened : OptionRule → Word → List Word → Result (Item × List Word) UsageReason
-opened option word [] = Err (NeedsValue word)
-opened option word (next ∷ words) = valued option next >>= λ value. Ok (Value option.text value, words)
+abbrev pub with_next_word : OptionRule → Word → List Word → Result (Item × List Word) UsageReason
+with_next_word option word [] = Err (NeedsValue word)
+with_next_word option word (next ∷ words) = check_value option next >>= λ value. Ok (Value option.text value, words)
 
 -- the items of a word and those after it begin with the item that is answered
 abbrev pub Steps : CommandName → Word → List Word → Result (Option Next) WordsFault → Type 0

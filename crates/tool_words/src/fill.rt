@@ -2,7 +2,7 @@
 ghost use Rattle.std.specs.Prelude.{◌≡◌, [], List, IfOk, is_some, unwrap_or, option_map, codes, slice_index_or};
 ghost use Rattle.std.specs.Option.{option_copied};
 ghost use Rattle.tool_words.specs.Items.{all_values, last_option_value, operands};
-ghost use Rattle.tool_words.specs.Meaning.{inline_or_file, required, gathered, command_from, esp as esp_meant};
+ghost use Rattle.tool_words.specs.Meaning.{inline_or_file, required_value, gather_items, command_from, esp as esp_meant};
 ghost use Rattle.tool_words.specs.Shown.{items_shown};
 ghost use Rattle.word_grammar.specs.declared.grammar.CommandName.TheVariants.{Build, Calculate, Image, Install, Unlink, LoaderDefault, LoaderTimeout, Demo};
 ghost use Rattle.word_grammar.specs.Grammar.{Word};
@@ -15,7 +15,7 @@ use std::alloc::{AllocError, Global};
 use word_grammar::CommandName;
 
 /// The text itself, or after a leading `@` the path of its file.
-pub fn given(alloc: Global, value: &str) -> Result<Given, AllocError>
+pub fn inline_or_file(alloc: Global, value: &str) -> Result<Given, AllocError>
     ensures { IfOk result (λ made. made ≡ inline_or_file value.now) }
 {
     match value.strip_prefix('@') {
@@ -40,8 +40,8 @@ fn value_or(
 }
 
 // The value of a required option, which has been looked for.
-fn required(alloc: Global, items: &[Item<'_>], option: &str) -> Result<Text, AllocError>
-    ensures { IfOk result (λ text. text ≡ required (last_option_value option.now (items_shown items.now))) }
+fn required_value(alloc: Global, items: &[Item<'_>], option: &str) -> Result<Text, AllocError>
+    ensures { IfOk result (λ text. text ≡ required_value (last_option_value option.now (items_shown items.now))) }
 {
     value_or(alloc, items, option, "")
 }
@@ -54,7 +54,11 @@ fn esp(alloc: Global, items: &[Item<'_>]) -> Result<Text, AllocError>
 }
 
 // The last value of the option.
-fn optional(alloc: Global, items: &[Item<'_>], option: &str) -> Result<Option<Text>, AllocError>
+fn optional_value(
+    alloc: Global,
+    items: &[Item<'_>],
+    option: &str,
+) -> Result<Option<Text>, AllocError>
     ensures { IfOk result (λ text. text ≡ last_option_value option.now (items_shown items.now)) }
 {
     Ok(match last_value(items, option) {
@@ -73,7 +77,7 @@ fn optional_given(
         made ≡ option_map inline_or_file (last_option_value option.now (items_shown items.now))) }
 {
     Ok(match last_value(items, option) {
-        Some(value) => Some(given(alloc, value)?),
+        Some(value) => Some(inline_or_file(alloc, value)?),
         None => None,
     })
 }
@@ -130,15 +134,15 @@ struct FileParts {
 fn build_paths(alloc: Global, items: &[Item<'_>]) -> Result<BuildPaths, AllocError>
     ensures { let last = (λ (option : Word). last_option_value option (items_shown items.now)) in
         IfOk result (λ made. made ≡ record {
-          stub = required (last (codes "--stub"));
-          linux = required (last (codes "--linux"));
-          output = required (last (codes "--output"));
+          stub = required_value (last (codes "--stub"));
+          linux = required_value (last (codes "--linux"));
+          output = required_value (last (codes "--output"));
         }) }
 {
     Ok(BuildPaths {
-        stub: required(alloc, items, "--stub")?,
-        linux: required(alloc, items, "--linux")?,
-        output: required(alloc, items, "--output")?,
+        stub: required_value(alloc, items, "--stub")?,
+        linux: required_value(alloc, items, "--linux")?,
+        output: required_value(alloc, items, "--output")?,
     })
 }
 
@@ -175,11 +179,11 @@ fn plain_parts(
         }) }
 {
     Ok(PlainParts {
-        dtb: optional(alloc, items, dtb)?,
-        uname: optional(alloc, items, "--uname")?,
-        splash: optional(alloc, items, "--splash")?,
-        pcrpkey: optional(alloc, items, "--pcrpkey")?,
-        ucode: optional(alloc, items, ucode)?,
+        dtb: optional_value(alloc, items, dtb)?,
+        uname: optional_value(alloc, items, "--uname")?,
+        splash: optional_value(alloc, items, "--splash")?,
+        pcrpkey: optional_value(alloc, items, "--pcrpkey")?,
+        ucode: optional_value(alloc, items, ucode)?,
     })
 }
 
@@ -193,10 +197,10 @@ fn file_parts(alloc: Global, items: &[Item<'_>]) -> Result<FileParts, AllocError
         }) }
 {
     Ok(FileParts {
-        osrel: optional(alloc, items, "--osrel")?,
-        cmdline: optional(alloc, items, "--cmdline")?,
-        initrd: optional(alloc, items, "--initrd")?,
-        sbat: optional(alloc, items, "--sbat")?,
+        osrel: optional_value(alloc, items, "--osrel")?,
+        cmdline: optional_value(alloc, items, "--cmdline")?,
+        initrd: optional_value(alloc, items, "--initrd")?,
+        sbat: optional_value(alloc, items, "--sbat")?,
     })
 }
 
@@ -331,7 +335,7 @@ fn two_lists(
 
 // `ukify build`.
 fn build(alloc: Global, items: &[Item<'_>]) -> Result<Command, AllocError>
-    ensures { IfOk result (λ made. made ≡ command_from Build (gathered Build (items_shown items.now))) }
+    ensures { IfOk result (λ made. made ≡ command_from Build (gather_items Build (items_shown items.now))) }
 {
     let paths = build_paths(alloc, items)?;
     let texts = text_parts(alloc, items)?;
@@ -343,9 +347,9 @@ fn build(alloc: Global, items: &[Item<'_>]) -> Result<Command, AllocError>
 
 // `measure calculate`.
 fn calculate(alloc: Global, items: &[Item<'_>]) -> Result<Command, AllocError>
-    ensures { IfOk result (λ made. made ≡ command_from Calculate (gathered Calculate (items_shown items.now))) }
+    ensures { IfOk result (λ made. made ≡ command_from Calculate (gather_items Calculate (items_shown items.now))) }
 {
-    let linux = required(alloc, items, "--linux")?;
+    let linux = required_value(alloc, items, "--linux")?;
     let files = file_parts(alloc, items)?;
     let parts = plain_parts(alloc, items, "--dtb", "--ucode")?;
     let lists = two_lists(alloc, items, "--bank", "--phase")?;
@@ -354,7 +358,7 @@ fn calculate(alloc: Global, items: &[Item<'_>]) -> Result<Command, AllocError>
 
 // `measure image`.
 fn image(alloc: Global, items: &[Item<'_>]) -> Result<Command, AllocError>
-    ensures { IfOk result (λ made. made ≡ command_from Image (gathered Image (items_shown items.now))) }
+    ensures { IfOk result (λ made. made ≡ command_from Image (gather_items Image (items_shown items.now))) }
 {
     let file = operand(alloc, items, 0)?;
     let (banks, phases) = two_lists(alloc, items, "--bank", "--phase")?;
@@ -367,19 +371,19 @@ fn image(alloc: Global, items: &[Item<'_>]) -> Result<Command, AllocError>
 
 // `install`.
 fn install(alloc: Global, items: &[Item<'_>]) -> Result<Command, AllocError>
-    ensures { IfOk result (λ made. made ≡ command_from Install (gathered Install (items_shown items.now))) }
+    ensures { IfOk result (λ made. made ≡ command_from Install (gather_items Install (items_shown items.now))) }
 {
     Ok(Command::Install {
         file: operand(alloc, items, 0)?,
         name: operand(alloc, items, 1)?,
-        tries: optional(alloc, items, "--tries")?,
+        tries: optional_value(alloc, items, "--tries")?,
         esp: esp(alloc, items)?,
     })
 }
 
 // `demo`.
 fn demo(alloc: Global, items: &[Item<'_>]) -> Result<Command, AllocError>
-    ensures { IfOk result (λ made. made ≡ command_from Demo (gathered Demo (items_shown items.now))) }
+    ensures { IfOk result (λ made. made ≡ command_from Demo (gather_items Demo (items_shown items.now))) }
 {
     Ok(Command::Demo {
         seed: operand(alloc, items, 0)?,
@@ -410,7 +414,7 @@ fn bless(alloc: Global, verb: BlessWord, items: &[Item<'_>]) -> Result<Command, 
 
 // `bootctl unlink`.
 fn unlink(alloc: Global, items: &[Item<'_>]) -> Result<Command, AllocError>
-    ensures { IfOk result (λ made. made ≡ command_from Unlink (gathered Unlink (items_shown items.now))) }
+    ensures { IfOk result (λ made. made ≡ command_from Unlink (gather_items Unlink (items_shown items.now))) }
 {
     let (name, esp) = operand_and_esp(alloc, items)?;
     Ok(Command::Unlink { name, esp })
@@ -418,7 +422,8 @@ fn unlink(alloc: Global, items: &[Item<'_>]) -> Result<Command, AllocError>
 
 // `loader set-default`.
 fn loader_default(alloc: Global, items: &[Item<'_>]) -> Result<Command, AllocError>
-    ensures { IfOk result (λ made. made ≡ command_from LoaderDefault (gathered LoaderDefault (items_shown items.now))) }
+    ensures { IfOk result
+        (λ made. made ≡ command_from LoaderDefault (gather_items LoaderDefault (items_shown items.now))) }
 {
     let (pattern, esp) = operand_and_esp(alloc, items)?;
     Ok(Command::LoaderDefault { pattern, esp })
@@ -426,7 +431,8 @@ fn loader_default(alloc: Global, items: &[Item<'_>]) -> Result<Command, AllocErr
 
 // `loader set-timeout`.
 fn loader_timeout(alloc: Global, items: &[Item<'_>]) -> Result<Command, AllocError>
-    ensures { IfOk result (λ made. made ≡ command_from LoaderTimeout (gathered LoaderTimeout (items_shown items.now))) }
+    ensures { IfOk result
+        (λ made. made ≡ command_from LoaderTimeout (gather_items LoaderTimeout (items_shown items.now))) }
 {
     let (value, esp) = operand_and_esp(alloc, items)?;
     Ok(Command::LoaderTimeout { value, esp })
@@ -438,7 +444,7 @@ pub(crate) fn fill(
     command: CommandName,
     items: &[Item<'_>],
 ) -> Result<Command, AllocError>
-    ensures { IfOk result (λ made. made ≡ command_from command (gathered command (items_shown items.now))) }
+    ensures { IfOk result (λ made. made ≡ command_from command (gather_items command (items_shown items.now))) }
 {
     match command {
         CommandName::Build => build(alloc, items),

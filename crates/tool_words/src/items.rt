@@ -2,10 +2,10 @@
 ghost use Rattle.std.specs.Prelude.{◌≡◌, ◌≤◌, length, is_none, IfOk, IfSome};
 ghost use Rattle.pcr_values.specs.Banks.{bank_named};
 ghost use Rattle.word_grammar.specs.Shown.{option_shown};
-ghost use Rattle.tool_words.specs.Items.{word_meaning, option_said, valued, option_of, without_value as value_missing, is_flag, are_banks};
+ghost use Rattle.tool_words.specs.Items.{word_meaning, option_said, check_value, option_of, without_value as value_missing, is_flag, are_banks};
 ghost use Rattle.tool_words.specs.Answers.{Gives, IsReason};
 ghost use Rattle.tool_words.specs.Shown.{said_shown, next_shown, texts};
-ghost use Rattle.tool_words.specs.Steps.{opened, Steps};
+ghost use Rattle.tool_words.specs.Steps.{with_next_word, Steps};
 ghost use Rattle.tool_words.specs.declared.fault.UsageReason.TheVariants.{UnknownOption};
 
 use crate::fault::{UsageReason, WordsFault};
@@ -28,10 +28,10 @@ pub(crate) enum Said<'a> {
 }
 
 // The value, where the option takes it: that of `--bank` must be a bank's name.
-fn valued<'a>(alloc: Global, option: OptionRow, value: &'a str) -> Result<&'a str, WordsFault>
-    ensures { Gives (λ v. v.now) result (valued (option_shown option) value.now) }
+fn check_value<'a>(alloc: Global, option: OptionRow, value: &'a str) -> Result<&'a str, WordsFault>
+    ensures { Gives (λ v. v.now) result (check_value (option_shown option) value.now) }
 {
-    if are_banks(option.value) && Bank::named(value).is_none() {
+    if are_banks(option.value) && Bank::from_name(value).is_none() {
         let word = Text::of(alloc, value)?;
         return Err(UsageReason::UnknownBank { word }.into());
     }
@@ -86,7 +86,7 @@ fn read_option<'a>(
         let word = Text::of(alloc, option.text)?;
         return Err(UsageReason::TakesNoValue { word }.into());
     }
-    let value = valued(alloc, option, value)?;
+    let value = check_value(alloc, option, value)?;
     Ok(Said::Whole(option.text, value))
 }
 
@@ -142,14 +142,14 @@ fn with_next_word<'a>(
     word: &str,
     after: &'a [String],
 ) -> Result<Next<'a>, WordsFault>
-    ensures value { Gives next_shown result (opened (option_shown option) word.now (texts after.now)) }
+    ensures value { Gives next_shown result (with_next_word (option_shown option) word.now (texts after.now)) }
     ensures shorter { IfOk result (λ next. length next.rest.now ≤ length after.now) }
 {
     let Some((value, rest)) = after.split_first() else {
         let word = Text::of(alloc, word)?;
         return Err(UsageReason::NeedsValue { word }.into());
     };
-    let value = valued(alloc, option, value.as_str())?;
+    let value = check_value(alloc, option, value.as_str())?;
     let item = Item::Value(option.text, value);
     Ok(Next { item, rest })
 }

@@ -14,5 +14,5 @@ mod values;
 
 pub use command::{BlessWord, BuildWords, CalculateWords, Command, Given};
 pub use fault::{LineFault, UsageReason, WordsFault};
-pub use fill::given;
+pub use fill::inline_or_file;
 pub use line::split_line;

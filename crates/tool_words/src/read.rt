@@ -4,7 +4,7 @@ ghost use Rattle.std.specs.List.{list_any};
 ghost use Rattle.word_grammar.specs.Grammar.{row};
 ghost use Rattle.word_grammar.specs.Shown.{option_shown};
 ghost use Rattle.tool_words.specs.Items.{last_option_value, operands};
-ghost use Rattle.tool_words.specs.Meaning.{command_of, with_verb, are_too_long, is_long, is_missing, counted, all_required, gathered, command_by_name, read_words, meaning};
+ghost use Rattle.tool_words.specs.Meaning.{command_of, with_verb, are_too_long, is_long, is_missing, check_count, all_required, gather_items, command_by_name, read_words, meaning};
 ghost use Rattle.tool_words.specs.Answers.{Gives, FaultIs};
 ghost use Rattle.tool_words.specs.Shown.{texts, items_shown, chosen_shown};
 
@@ -46,7 +46,7 @@ fn command_of<'a>(
     let Some((word, rest)) = words.split_first() else {
         return Err(UsageReason::NoCommand.into());
     };
-    let Some(command) = CommandName::named(word.as_str()) else {
+    let Some(command) = CommandName::from_name(word.as_str()) else {
         let word = Text::of(alloc, word.as_str())?;
         return Err(UsageReason::UnknownCommand { word }.into());
     };
@@ -67,7 +67,7 @@ fn with_verb<'a>(
     let Some((verb, rest)) = rest.split_first() else {
         return Err(UsageReason::NoVerb.into());
     };
-    let Some(command) = CommandName::verbed(word, verb.as_str()) else {
+    let Some(command) = CommandName::from_name_and_verb(word, verb.as_str()) else {
         let word = Text::of(alloc, verb.as_str())?;
         return Err(UsageReason::UnknownVerb { word }.into());
     };
@@ -77,8 +77,8 @@ fn with_verb<'a>(
 // As many operands as the command takes.
 fn check_count(items: &[Item<'_>], wanted: usize) -> Result<(), UsageReason>
     ensures { MatchResult result
-        (λ _. counted wanted (length (operands (items_shown items.now))) ≡ Ok tt)
-        (λ reason. counted wanted (length (operands (items_shown items.now))) ≡ Err reason) }
+        (λ _. check_count wanted (length (operands (items_shown items.now))) ≡ Ok tt)
+        (λ reason. check_count wanted (length (operands (items_shown items.now))) ≡ Err reason) }
 {
     let count = operand_count(items);
     if count < wanted {
@@ -99,7 +99,7 @@ fn is_missing(items: &[Item<'_>], option: OptionRow) -> bool
 // The first required option of the command that is not given.
 fn first_missing(command: CommandName, items: &[Item<'_>]) -> Option<OptionRow>
     ensures { option_map option_shown result
-        ≡ find (is_missing (gathered command (items_shown items.now)).last) (row command).options }
+        ≡ find (is_missing (gather_items command (items_shown items.now)).last) (row command).options }
 {
     let row = command.row();
     row.options
@@ -110,7 +110,7 @@ fn first_missing(command: CommandName, items: &[Item<'_>]) -> Option<OptionRow>
 
 // Every required option is given. The first one that is missing is the reason.
 fn check_required(alloc: Global, command: CommandName, items: &[Item<'_>]) -> Result<(), WordsFault>
-    ensures { Gives (λ _. tt) result (all_required command (gathered command (items_shown items.now)).last) }
+    ensures { Gives (λ _. tt) result (all_required command (gather_items command (items_shown items.now)).last) }
 {
     match first_missing(command, items) {
         Some(option) => {

@@ -12,5 +12,5 @@ abbrev pub words_of : List ℕ → List (List ℕ)
 words_of text = filter is_nonempty_text (slice_split is_whitespace text)
 
 -- the words with a space between each two
-abbrev pub cleaned : List ℕ → List ℕ
-cleaned text = join_with_byte 32 (words_of text)
+abbrev pub clean_cmdline : List ℕ → List ℕ
+clean_cmdline text = join_with_byte 32 (words_of text)

@@ -1,14 +1,14 @@
 //! The text of a kernel command line.
 
 ghost use Rattle.std.specs.Prelude.{◌≡◌, ◌==◌, ◌∷◌, ◌++◌, length, IfOk, OnOk, if◌then◌else◌};
-ghost use Rattle.uki_parts.specs.Cmdlines.{is_whitespace, cleaned};
+ghost use Rattle.uki_parts.specs.Cmdlines.{is_whitespace, clean_cmdline};
 
 use std::alloc::{AllocError, Global};
 
 /// The words of a command line with one space between each two: runs of spaces, tabs, newlines, carriage returns,
 /// vertical tabs and form feeds become one space, and none is left at the ends.
 pub fn clean_cmdline(alloc: Global, text: &str) -> Result<Vec<u8>, AllocError>
-    ensures { IfOk result (λ line. line.items ≡ cleaned text.now) }
+    ensures { IfOk result (λ line. line.items ≡ clean_cmdline text.now) }
 {
     let mut line = Vec::new(alloc);
     for word in text.as_bytes().split(|byte| is_whitespace(*byte)) {

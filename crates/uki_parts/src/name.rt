@@ -23,7 +23,7 @@ impl SectionName {
     {
         let bytes = text.as_bytes();
         if is_section_name(bytes) {
-            Some(SectionName::named(bytes))
+            Some(SectionName::from_bytes(bytes))
         } else {
             None
         }
@@ -33,7 +33,7 @@ impl SectionName {
     pub fn of(kind: PartKind) -> Option<SectionName>
         ensures { result ≡ fixed_name kind }
     {
-        Some(SectionName::named(kind.section_name()?))
+        Some(SectionName::from_bytes(kind.section_name()?))
     }
 
     /// The name's bytes, before its first NUL.
@@ -44,14 +44,14 @@ impl SectionName {
     }
 
     /// The name as a section header holds it, filled up with NUL.
-    pub fn padded(&self) -> [u8; 8]
+    pub fn padded_bytes(&self) -> [u8; 8]
         ensures { result ≡ padded_bytes self.now }
     {
         self.padded
     }
 
     // The name with these bytes.
-    fn named(bytes: &[u8]) -> SectionName
+    fn from_bytes(bytes: &[u8]) -> SectionName
         requires { length bytes.now ≤ 8 }
         ensures { result ≡ padded_name bytes.now }
     {

@@ -72,33 +72,34 @@ pub record Row : Type 0 where
   pub operands : ℕ
   pub options : List OptionRule
 
-abbrev pub verbed : Word → Word → ℕ → List OptionRule → Row
-verbed name verb operands options = record { name = name; verb = Some verb; operands = operands; options = options }
+abbrev pub row_with_verb : Word → Word → ℕ → List OptionRule → Row
+row_with_verb name verb operands options =
+    record { name = name; verb = Some verb; operands = operands; options = options }
 
-abbrev pub alone : Word → ℕ → List OptionRule → Row
-alone name operands options = record { name = name; verb = None; operands = operands; options = options }
+abbrev pub row_without_verb : Word → ℕ → List OptionRule → Row
+row_without_verb name operands options = record { name = name; verb = None; operands = operands; options = options }
 
 -- the table of the commands
 abbrev pub row : CommandName → Row
-row command.Build = verbed (codes "ukify") (codes "build") 0 build_options
-row command.Inspect = verbed (codes "ukify") (codes "inspect") 1 []
-row command.Calculate = verbed (codes "measure") (codes "calculate") 0 calculate_options
-row command.Image = verbed (codes "measure") (codes "image") 1 image_options
-row command.ListEntries = verbed (codes "bootctl") (codes "list") 0 esp_options
-row command.Unlink = verbed (codes "bootctl") (codes "unlink") 1 esp_options
-row command.Identify = verbed (codes "bootctl") (codes "kernel-identify") 1 []
-row command.Tidy = alone (codes "tidy") 0 esp_options
-row command.Install = alone (codes "install") 2 install_options
-row command.Boot = alone (codes "boot") 0 esp_options
-row command.BlessGood = verbed (codes "bless") (codes "good") 1 esp_options
-row command.BlessBad = verbed (codes "bless") (codes "bad") 1 esp_options
-row command.BlessIndeterminate = verbed (codes "bless") (codes "indeterminate") 1 esp_options
-row command.BlessStatus = verbed (codes "bless") (codes "status") 1 esp_options
-row command.LoaderShow = verbed (codes "loader") (codes "show") 0 esp_options
-row command.LoaderDefault = verbed (codes "loader") (codes "set-default") 1 esp_options
-row command.LoaderTimeout = verbed (codes "loader") (codes "set-timeout") 1 esp_options
-row command.Script = alone (codes "script") 0 []
-row command.Demo = alone (codes "demo") 2 []
+row command.Build = row_with_verb (codes "ukify") (codes "build") 0 build_options
+row command.Inspect = row_with_verb (codes "ukify") (codes "inspect") 1 []
+row command.Calculate = row_with_verb (codes "measure") (codes "calculate") 0 calculate_options
+row command.Image = row_with_verb (codes "measure") (codes "image") 1 image_options
+row command.ListEntries = row_with_verb (codes "bootctl") (codes "list") 0 esp_options
+row command.Unlink = row_with_verb (codes "bootctl") (codes "unlink") 1 esp_options
+row command.Identify = row_with_verb (codes "bootctl") (codes "kernel-identify") 1 []
+row command.Tidy = row_without_verb (codes "tidy") 0 esp_options
+row command.Install = row_without_verb (codes "install") 2 install_options
+row command.Boot = row_without_verb (codes "boot") 0 esp_options
+row command.BlessGood = row_with_verb (codes "bless") (codes "good") 1 esp_options
+row command.BlessBad = row_with_verb (codes "bless") (codes "bad") 1 esp_options
+row command.BlessIndeterminate = row_with_verb (codes "bless") (codes "indeterminate") 1 esp_options
+row command.BlessStatus = row_with_verb (codes "bless") (codes "status") 1 esp_options
+row command.LoaderShow = row_with_verb (codes "loader") (codes "show") 0 esp_options
+row command.LoaderDefault = row_with_verb (codes "loader") (codes "set-default") 1 esp_options
+row command.LoaderTimeout = row_with_verb (codes "loader") (codes "set-timeout") 1 esp_options
+row command.Script = row_without_verb (codes "script") 0 []
+row command.Demo = row_without_verb (codes "demo") 2 []
 
 -- every command
 abbrev pub commands : List CommandName

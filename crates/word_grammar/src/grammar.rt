@@ -1,6 +1,6 @@
 //! The table of the commands and their options.
 ghost use Rattle.std.specs.Prelude.{◌≡◌, find, map, option_map};
-ghost use Rattle.word_grammar.specs.Grammar.{is_text_of, is_name_of, is_verbed, commands, row, verbed as verbed_row, alone as alone_row};
+ghost use Rattle.word_grammar.specs.Grammar.{is_text_of, is_name_of, is_verbed, commands, row, row_with_verb as verbed_row, row_without_verb as alone_row};
 ghost use Rattle.word_grammar.specs.Shown.{row_shown, option_shown};
 
 /// A command, with its verb where it has one.
@@ -150,7 +150,7 @@ static INSTALL: &[OptionRow] = &[option!("--tries", Once), option!("--esp-path",
 static NONE: &[OptionRow] = &[];
 
 // A command that has verbs.
-fn verbed(
+fn row_with_verb(
     name: &'static str,
     verb: &'static str,
     operands: usize,
@@ -167,7 +167,11 @@ fn verbed(
 }
 
 // A command without a verb.
-fn alone(name: &'static str, operands: usize, options: &'static [OptionRow]) -> CommandRow
+fn row_without_verb(
+    name: &'static str,
+    operands: usize,
+    options: &'static [OptionRow],
+) -> CommandRow
     ensures { row_shown result ≡ alone_row name.now operands (map option_shown options.now) }
 {
     CommandRow {
@@ -184,25 +188,25 @@ impl CommandName {
         ensures { row_shown result ≡ row self }
     {
         match self {
-            CommandName::Build => verbed("ukify", "build", 0, BUILD),
-            CommandName::Inspect => verbed("ukify", "inspect", 1, NONE),
-            CommandName::Calculate => verbed("measure", "calculate", 0, CALCULATE),
-            CommandName::Image => verbed("measure", "image", 1, IMAGE),
-            CommandName::ListEntries => verbed("bootctl", "list", 0, ESP),
-            CommandName::Unlink => verbed("bootctl", "unlink", 1, ESP),
-            CommandName::Identify => verbed("bootctl", "kernel-identify", 1, NONE),
-            CommandName::Tidy => alone("tidy", 0, ESP),
-            CommandName::Install => alone("install", 2, INSTALL),
-            CommandName::Boot => alone("boot", 0, ESP),
-            CommandName::BlessGood => verbed("bless", "good", 1, ESP),
-            CommandName::BlessBad => verbed("bless", "bad", 1, ESP),
-            CommandName::BlessIndeterminate => verbed("bless", "indeterminate", 1, ESP),
-            CommandName::BlessStatus => verbed("bless", "status", 1, ESP),
-            CommandName::LoaderShow => verbed("loader", "show", 0, ESP),
-            CommandName::LoaderDefault => verbed("loader", "set-default", 1, ESP),
-            CommandName::LoaderTimeout => verbed("loader", "set-timeout", 1, ESP),
-            CommandName::Script => alone("script", 0, NONE),
-            CommandName::Demo => alone("demo", 2, NONE),
+            CommandName::Build => row_with_verb("ukify", "build", 0, BUILD),
+            CommandName::Inspect => row_with_verb("ukify", "inspect", 1, NONE),
+            CommandName::Calculate => row_with_verb("measure", "calculate", 0, CALCULATE),
+            CommandName::Image => row_with_verb("measure", "image", 1, IMAGE),
+            CommandName::ListEntries => row_with_verb("bootctl", "list", 0, ESP),
+            CommandName::Unlink => row_with_verb("bootctl", "unlink", 1, ESP),
+            CommandName::Identify => row_with_verb("bootctl", "kernel-identify", 1, NONE),
+            CommandName::Tidy => row_without_verb("tidy", 0, ESP),
+            CommandName::Install => row_without_verb("install", 2, INSTALL),
+            CommandName::Boot => row_without_verb("boot", 0, ESP),
+            CommandName::BlessGood => row_with_verb("bless", "good", 1, ESP),
+            CommandName::BlessBad => row_with_verb("bless", "bad", 1, ESP),
+            CommandName::BlessIndeterminate => row_with_verb("bless", "indeterminate", 1, ESP),
+            CommandName::BlessStatus => row_with_verb("bless", "status", 1, ESP),
+            CommandName::LoaderShow => row_with_verb("loader", "show", 0, ESP),
+            CommandName::LoaderDefault => row_with_verb("loader", "set-default", 1, ESP),
+            CommandName::LoaderTimeout => row_with_verb("loader", "set-timeout", 1, ESP),
+            CommandName::Script => row_without_verb("script", 0, NONE),
+            CommandName::Demo => row_without_verb("demo", 2, NONE),
         }
     }
 }
@@ -231,7 +235,7 @@ static COMMANDS: &[CommandName] = &[
 
 impl CommandName {
     /// The first command of the table that the word names.
-    pub fn named(word: &str) -> Option<CommandName>
+    pub fn from_name(word: &str) -> Option<CommandName>
         ensures { result ≡ find (is_name_of word.now) commands }
     {
         COMMANDS
@@ -241,7 +245,7 @@ impl CommandName {
     }
 
     /// The command with this name and verb.
-    pub fn verbed(name: &str, verb: &str) -> Option<CommandName>
+    pub fn from_name_and_verb(name: &str, verb: &str) -> Option<CommandName>
         ensures { result ≡ find (is_verbed name.now verb.now) commands }
     {
         COMMANDS

@@ -1,7 +1,7 @@
 use Rattle.std.proofs.Common.{refl}
 use Rattle.boot_machine.specs.Sent.{seen}
-use Rattle.command_plans.specs.Deeds.{made}
-use Rattle.command_plans.specs.Plans.{planned}
+use Rattle.command_plans.specs.Deeds.{deed_of_answer}
+use Rattle.command_plans.specs.Plans.{answer_of_plan}
 use Rattle.command_plans.specs.declared.outcome.MachineFault.{MachineFault}
 use Rattle.command_plans.proofs.Performed.{done_by, stopped_by}
 use Rattle.command_plans.proofs.Syncing.{syncs_done, syncs_stopped}
@@ -11,24 +11,24 @@ use Rattle.boot_commands.proofs.carrying.carry_out.Goals as goal
 pub returns-in_err-perform-clause-performs : goal.returns-in_err-perform-clause-performs
 returns-in_err-perform-clause-performs g c told firm =
     let old = c.args.machine.now in
-    stopped_by g.M.Machine.time g.M.Machine.state old c.perform.new.machine (made (planned (seen (g.M.Machine.state old)) c.args.plan.now)) c.in_err-perform.field-0.0 c.from_residual.result
+    stopped_by g.M.Machine.time g.M.Machine.state old c.perform.new.machine (deed_of_answer (answer_of_plan (seen (g.M.Machine.state old)) c.args.plan.now)) c.in_err-perform.field-0.0 c.from_residual.result
     c.from_residual.ensures.0 c.from_residual.ensures.1 (c.in_err-perform.ensures.performs told firm)
 
 pub returns-clause-performs : goal.returns-clause-performs
 returns-clause-performs g c told firm =
     let old = c.args.machine.now in
-    done_by g.M.Machine.time g.M.Machine.state old c.perform.new.machine (made (planned (seen (g.M.Machine.state old)) c.args.plan.now)) c.in_ok-perform.field-0 (c.in_ok-perform.ensures.performs told firm)
+    done_by g.M.Machine.time g.M.Machine.state old c.perform.new.machine (deed_of_answer (answer_of_plan (seen (g.M.Machine.state old)) c.args.plan.now)) c.in_ok-perform.field-0 (c.in_ok-perform.ensures.performs told firm)
 
 pub returns-in_err-perform-clause-syncs : goal.returns-in_err-perform-clause-syncs
 returns-in_err-perform-clause-syncs g c told firm =
     let old = c.args.machine.now in
-    syncs_stopped g.M.Machine.time g.M.Machine.state old c.perform.new.machine (made (planned (seen (g.M.Machine.state old)) c.args.plan.now)) c.in_err-perform.field-0.0 c.from_residual.result
+    syncs_stopped g.M.Machine.time g.M.Machine.state old c.perform.new.machine (deed_of_answer (answer_of_plan (seen (g.M.Machine.state old)) c.args.plan.now)) c.in_err-perform.field-0.0 c.from_residual.result
     c.from_residual.ensures.0 (c.in_err-perform.ensures.syncs told firm)
 
 pub returns-clause-syncs : goal.returns-clause-syncs
 returns-clause-syncs g c told firm =
     let old = c.args.machine.now in
-    syncs_done {E = MachineFault} g.M.Machine.time g.M.Machine.state old c.perform.new.machine (made (planned (seen (g.M.Machine.state old)) c.args.plan.now)) c.in_ok-perform.field-0 (c.in_ok-perform.ensures.syncs told firm)
+    syncs_done {E = MachineFault} g.M.Machine.time g.M.Machine.state old c.perform.new.machine (deed_of_answer (answer_of_plan (seen (g.M.Machine.state old)) c.args.plan.now)) c.in_ok-perform.field-0 (c.in_ok-perform.ensures.syncs told firm)
 
 pub returns-in_err-perform-clause-tidies : goal.returns-in_err-perform-clause-tidies
 returns-in_err-perform-clause-tidies g c told command so =

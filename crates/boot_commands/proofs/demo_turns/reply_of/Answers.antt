@@ -15,6 +15,6 @@ returns-clause-reply c =
     replied old now (step_reply (seen old) c.args.command.now) c.in-Ok.outcome c.in_ok-text.text.items performs.ok
     (record { firm = performs.firm; rested = c.in-Ok.ensures.rests refl })
     (c.in_ok-text.ensures
-    ∙ ap (λ (sent : Sent). bytes (take (length c.printed.result.now - length sent) (drop (length sent) c.printed.result.now))) c.printed-before.ensures
-    ∙ ap (λ (sent : Sent). bytes (take (length sent - length old.printed) (drop (length old.printed) sent))) c.printed.ensures)
+    ∙ ap (λ (sent : Sent). bytes (take (length c.printed_bytes.result.now - length sent) (drop (length sent) c.printed_bytes.result.now))) c.printed_bytes-before.ensures
+    ∙ ap (λ (sent : Sent). bytes (take (length sent - length old.printed) (drop (length old.printed) sent))) c.printed_bytes.ensures)
     ∙ plain_is (seen old) c.args.command.now c.requires.plain

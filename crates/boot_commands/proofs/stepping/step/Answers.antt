@@ -2,7 +2,7 @@ use Rattle.std.proofs.Common.{subst, sym}
 use Rattle.boot_machine.specs.Disk.{Files, State}
 use Rattle.boot_machine.specs.Sent.{seen}
 use Rattle.boot_machine.proofs.Seeing.{sees}
-use Rattle.boot_commands.specs.Commands.{Tidied, deed_of, step_reply}
+use Rattle.boot_commands.specs.Commands.{LeavesTidied, deed_of, step_reply}
 use Rattle.command_plans.specs.Plans.{CanMake, Drops}
 use Rattle.command_plans.proofs.Performed.{plan_failed}
 use Rattle.boot_commands.proofs.Reading.{performs_after, syncs_after, tidies_after}
@@ -36,4 +36,4 @@ pub returns-clause-tidies : goal.returns-clause-tidies
 returns-clause-tidies g c told =
     let reads = c.plan_of.ensures.reads told in
     tidies_after c.carry_out.result c.args.command.now (g.M.Machine.state c.args.machine.now) (g.M.Machine.state c.plan_of.new.machine) (g.M.Machine.state c.carry_out.new.machine) reads.same
-    (c.carry_out.ensures.tidies told c.args.command.now (subst (λ (s : State). (files : Files) → Drops c.in_ok-plan.plan.change s.files files → Tidied c.args.command.now files) (sym reads.same) (c.in_ok-plan.ensures.tidies told)))
+    (c.carry_out.ensures.tidies told c.args.command.now (subst (λ (s : State). (files : Files) → Drops c.in_ok-plan.plan.change s.files files → LeavesTidied c.args.command.now files) (sym reads.same) (c.in_ok-plan.ensures.tidies told)))

@@ -8,61 +8,61 @@ use Rattle.boot_run.proofs.Staying.{leaves_more, leaves_none, where_more, where_
 use Rattle.boot_run.proofs.Synced.{command_settles}
 use Rattle.boot_run.proofs.lines.first_command.Goals as goal
 
-pub returns-in_err-recovered-clause-performs : goal.returns-in_err-recovered-clause-performs
-returns-in_err-recovered-clause-performs g c told firm =
-    performed_failed g.M.Machine.time g.M.Machine.state c.args.machine.now c.recovered.new.machine (line_deed (recovered_now (g.M.Machine.state c.args.machine.now)) c.args.line.now) c.from_residual.result c.from_residual.ensures.0
-    (g.met.M.Machine.sound c.args.machine.now told) firm (c.recovered.ensures.recovers told firm) (c.recovered.ensures.keeps told).printed
+pub returns-in_err-recover_rename-clause-performs : goal.returns-in_err-recover_rename-clause-performs
+returns-in_err-recover_rename-clause-performs g c told firm =
+    performed_failed g.M.Machine.time g.M.Machine.state c.args.machine.now c.recover_rename.new.machine (line_deed (recovered_now (g.M.Machine.state c.args.machine.now)) c.args.line.now) c.from_residual.result c.from_residual.ensures.0
+    (g.met.M.Machine.sound c.args.machine.now told) firm (c.recover_rename.ensures.recovers told firm) (c.recover_rename.ensures.keeps told).printed
 
-pub returns-in_err-recovered-clause-syncs : goal.returns-in_err-recovered-clause-syncs
-returns-in_err-recovered-clause-syncs g c told firm =
-    synced_failed g.M.Machine.time g.M.Machine.state c.args.machine.now c.recovered.new.machine (line_deed (recovered_now (g.M.Machine.state c.args.machine.now)) c.args.line.now) c.from_residual.result c.from_residual.ensures.0
-    (c.recovered.ensures.recovers told firm)
+pub returns-in_err-recover_rename-clause-syncs : goal.returns-in_err-recover_rename-clause-syncs
+returns-in_err-recover_rename-clause-syncs g c told firm =
+    synced_failed g.M.Machine.time g.M.Machine.state c.args.machine.now c.recover_rename.new.machine (line_deed (recovered_now (g.M.Machine.state c.args.machine.now)) c.args.line.now) c.from_residual.result c.from_residual.ensures.0
+    (c.recover_rename.ensures.recovers told firm)
 
-pub returns-in_err-recovered-clause-temps : goal.returns-in_err-recovered-clause-temps
-returns-in_err-recovered-clause-temps g c told = leaves_none c.from_residual.result (g.M.Machine.state c.args.machine.now) (g.M.Machine.state c.recovered.new.machine) (c.recovered.ensures.temps told)
+pub returns-in_err-recover_rename-clause-temps : goal.returns-in_err-recover_rename-clause-temps
+returns-in_err-recover_rename-clause-temps g c told = leaves_none c.from_residual.result (g.M.Machine.state c.args.machine.now) (g.M.Machine.state c.recover_rename.new.machine) (c.recover_rename.ensures.temps told)
 
-pub returns-in_err-recovered-clause-input : goal.returns-in_err-recovered-clause-input
-returns-in_err-recovered-clause-input g c told = (c.recovered.ensures.keeps told).input
+pub returns-in_err-recover_rename-clause-input : goal.returns-in_err-recover_rename-clause-input
+returns-in_err-recover_rename-clause-input g c told = (c.recover_rename.ensures.keeps told).input
 
 pub returns-clause-performs : goal.returns-clause-performs
 returns-clause-performs g c told firm =
     let old = c.args.machine.now in
-    let recovers = c.recovered.ensures.recovers told firm in
-    let performs = subst (λ (v : Files). Performs g.M.Machine.time g.M.Machine.state end_of c.recovered.new.machine c.run_line.new.machine (line_deed v c.args.line.now) c.run_line.result) recovers.files (c.run_line.ensures.performs told recovers.firm) in
-    performed_after g.M.Machine.time g.M.Machine.state old c.recovered.new.machine c.run_line.new.machine (line_deed (recovered_now (g.M.Machine.state old)) c.args.line.now)
+    let recovers = c.recover_rename.ensures.recovers told firm in
+    let performs = subst (λ (v : Files). Performs g.M.Machine.time g.M.Machine.state end_of c.recover_rename.new.machine c.run_line.new.machine (line_deed v c.args.line.now) c.run_line.result) recovers.files (c.run_line.ensures.performs told recovers.firm) in
+    performed_after g.M.Machine.time g.M.Machine.state old c.recover_rename.new.machine c.run_line.new.machine (line_deed (recovered_now (g.M.Machine.state old)) c.args.line.now)
     (command_settles (recovered_now (g.M.Machine.state old)) c.args.line.now c.requires.command)
-    (g.met.M.Machine.sound old told) firm recovers (c.in_ok-recovered.ensures.one told) (c.recovered.ensures.keeps told).printed c.run_line.result performs
+    (g.met.M.Machine.sound old told) firm recovers (c.in_ok-recover_rename.ensures.one told) (c.recover_rename.ensures.keeps told).printed c.run_line.result performs
 
 pub returns-clause-syncs : goal.returns-clause-syncs
 returns-clause-syncs g c told firm =
     let old = c.args.machine.now in
-    let recovers = c.recovered.ensures.recovers told firm in
-    let performs = subst (λ (v : Files). Performs g.M.Machine.time g.M.Machine.state end_of c.recovered.new.machine c.run_line.new.machine (line_deed v c.args.line.now) c.run_line.result) recovers.files (c.run_line.ensures.performs told recovers.firm) in
-    synced_after g.M.Machine.time g.M.Machine.state old c.recovered.new.machine c.run_line.new.machine (line_deed (recovered_now (g.M.Machine.state old)) c.args.line.now)
+    let recovers = c.recover_rename.ensures.recovers told firm in
+    let performs = subst (λ (v : Files). Performs g.M.Machine.time g.M.Machine.state end_of c.recover_rename.new.machine c.run_line.new.machine (line_deed v c.args.line.now) c.run_line.result) recovers.files (c.run_line.ensures.performs told recovers.firm) in
+    synced_after g.M.Machine.time g.M.Machine.state old c.recover_rename.new.machine c.run_line.new.machine (line_deed (recovered_now (g.M.Machine.state old)) c.args.line.now)
     (command_settles (recovered_now (g.M.Machine.state old)) c.args.line.now c.requires.command)
-    (g.met.M.Machine.sound old told) firm recovers (c.in_ok-recovered.ensures.one told) (c.recovered.ensures.keeps told).printed c.run_line.result
-    (c.in_ok-recovered.ensures.synced told firm) performs.moments
+    (g.met.M.Machine.sound old told) firm recovers (c.in_ok-recover_rename.ensures.one told) (c.recover_rename.ensures.keeps told).printed c.run_line.result
+    (c.in_ok-recover_rename.ensures.synced told firm) performs.moments
 
 pub returns-clause-temps : goal.returns-clause-temps
 returns-clause-temps g c told =
-    leaves_more c.run_line.result (g.M.Machine.state c.args.machine.now) (g.M.Machine.state c.recovered.new.machine) (g.M.Machine.state c.run_line.new.machine) (c.recovered.ensures.temps told) (c.run_line.ensures.temps told)
+    leaves_more c.run_line.result (g.M.Machine.state c.args.machine.now) (g.M.Machine.state c.recover_rename.new.machine) (g.M.Machine.state c.run_line.new.machine) (c.recover_rename.ensures.temps told) (c.run_line.ensures.temps told)
 
 pub returns-clause-input : goal.returns-clause-input
-returns-clause-input g c told = c.run_line.ensures.input told ∙ (c.recovered.ensures.keeps told).input
+returns-clause-input g c told = c.run_line.ensures.input told ∙ (c.recover_rename.ensures.keeps told).input
 
-pub returns-in_err-recovered-clause-tidies : goal.returns-in_err-recovered-clause-tidies
-returns-in_err-recovered-clause-tidies g c told = where_none c.from_residual.result (g.M.Machine.state c.args.machine.now) (g.M.Machine.state c.recovered.new.machine) _ c.from_residual.ensures.0 (c.recovered.ensures.keeps told).printed
+pub returns-in_err-recover_rename-clause-tidies : goal.returns-in_err-recover_rename-clause-tidies
+returns-in_err-recover_rename-clause-tidies g c told = where_none c.from_residual.result (g.M.Machine.state c.args.machine.now) (g.M.Machine.state c.recover_rename.new.machine) _ c.from_residual.ensures.0 (c.recover_rename.ensures.keeps told).printed
 
-pub returns-in_err-recovered-clause-rests : goal.returns-in_err-recovered-clause-rests
-returns-in_err-recovered-clause-rests g c told = where_none c.from_residual.result (g.M.Machine.state c.args.machine.now) (g.M.Machine.state c.recovered.new.machine) _ c.from_residual.ensures.0 (c.recovered.ensures.keeps told).printed
+pub returns-in_err-recover_rename-clause-rests : goal.returns-in_err-recover_rename-clause-rests
+returns-in_err-recover_rename-clause-rests g c told = where_none c.from_residual.result (g.M.Machine.state c.args.machine.now) (g.M.Machine.state c.recover_rename.new.machine) _ c.from_residual.ensures.0 (c.recover_rename.ensures.keeps told).printed
 
 pub returns-clause-tidies : goal.returns-clause-tidies
 returns-clause-tidies g c told =
-    where_more c.run_line.result (g.M.Machine.state c.args.machine.now) (g.M.Machine.state c.recovered.new.machine) (g.M.Machine.state c.run_line.new.machine) _ _ (c.recovered.ensures.keeps told).printed (λ p. p) (c.run_line.ensures.tidies told)
+    where_more c.run_line.result (g.M.Machine.state c.args.machine.now) (g.M.Machine.state c.recover_rename.new.machine) (g.M.Machine.state c.run_line.new.machine) _ _ (c.recover_rename.ensures.keeps told).printed (λ p. p) (c.run_line.ensures.tidies told)
 
 pub returns-clause-rests : goal.returns-clause-rests
 returns-clause-rests g c told =
-    let mid = g.M.Machine.state c.recovered.new.machine in
+    let mid = g.M.Machine.state c.recover_rename.new.machine in
     let now = g.M.Machine.state c.run_line.new.machine in
-    where_more c.run_line.result (g.M.Machine.state c.args.machine.now) mid now (IsRested now) (IsRested now) (c.recovered.ensures.keeps told).printed (λ p. p)
-    (where_rested c.run_line.result mid now (c.run_line.ensures.rests told (c.in_ok-recovered.ensures.rests told)))
+    where_more c.run_line.result (g.M.Machine.state c.args.machine.now) mid now (IsRested now) (IsRested now) (c.recover_rename.ensures.keeps told).printed (λ p. p)
+    (where_rested c.run_line.result mid now (c.run_line.ensures.rests told (c.in_ok-recover_rename.ensures.rests told)))

@@ -1,6 +1,6 @@
 use Rattle.std.proofs.Common.{◌≡◌, ℕ, List, take, subst}
 use Rattle.boot_machine.specs.Moments.{EachSince}
-use Rattle.boot_machine.specs.Rows.{tagged, with_printed}
+use Rattle.boot_machine.specs.Rows.{on_channel, with_printed}
 use Rattle.boot_machine.specs.declared.machine.Channel.TheVariants.{Err}
 use Rattle.boot_machine.specs.Sent.{PrintsPart}
 use Rattle.boot_run.proofs.Acknowledging.{refused_unread, told_unread}
@@ -14,7 +14,7 @@ returns-in_err-print_all-clause-performs g c told firm =
     let shown = subst (λ (bytes : List ℕ). (k : ℕ) × (g.M.Machine.state c.print_all.new.machine ≡ with_printed Err (take k bytes) (g.M.Machine.state old))) c.as_slice.ensures (c.in_err-print_all.ensures.part told) in
     refused_unread g.M.Machine.time g.M.Machine.state old c.print_all.new.machine c.args.number c.args.text.now c.from_residual.result shown.0
     (λ m image. sees (g.M.Machine.state old) (g.met.M.Machine.sound old told) firm m image) firm
-    (subst (λ (bytes : List ℕ). EachSince g.M.Machine.time old c.print_all.new.machine (PrintsPart (g.M.Machine.state old) (tagged Err bytes))) c.as_slice.ensures (c.print_all.ensures.moments told))
+    (subst (λ (bytes : List ℕ). EachSince g.M.Machine.time old c.print_all.new.machine (PrintsPart (g.M.Machine.state old) (on_channel Err bytes))) c.as_slice.ensures (c.print_all.ensures.moments told))
     shown.1 c.from_residual.ensures.0 c.from_residual.ensures.1
 
 pub returns-clause-performs : goal.returns-clause-performs
@@ -22,7 +22,7 @@ returns-clause-performs g c told firm =
     let old = c.args.machine.now in
     told_unread g.M.Machine.time g.M.Machine.state old c.print_all.new.machine c.args.number c.args.text.now
     (λ m image. sees (g.M.Machine.state old) (g.met.M.Machine.sound old told) firm m image) firm
-    (subst (λ (bytes : List ℕ). EachSince g.M.Machine.time old c.print_all.new.machine (PrintsPart (g.M.Machine.state old) (tagged Err bytes))) c.as_slice.ensures (c.print_all.ensures.moments told))
+    (subst (λ (bytes : List ℕ). EachSince g.M.Machine.time old c.print_all.new.machine (PrintsPart (g.M.Machine.state old) (on_channel Err bytes))) c.as_slice.ensures (c.print_all.ensures.moments told))
     (subst (λ (bytes : List ℕ). g.M.Machine.state c.print_all.new.machine ≡ with_printed Err bytes (g.M.Machine.state old)) c.as_slice.ensures (c.in_ok-print_all.ensures.done told))
 
 pub returns-in_err-print_all-clause-stays : goal.returns-in_err-print_all-clause-stays
@@ -33,8 +33,8 @@ returns-clause-stays g c = prints_by c.print_all.result (g.M.Machine.state c.arg
 
 pub returns-in_err-print_all-clause-moments : goal.returns-in_err-print_all-clause-moments
 returns-in_err-print_all-clause-moments g c told =
-    subst (λ (bytes : List ℕ). EachSince g.M.Machine.time c.args.machine.now c.print_all.new.machine (PrintsPart (g.M.Machine.state c.args.machine.now) (tagged Err bytes))) c.as_slice.ensures (c.print_all.ensures.moments told)
+    subst (λ (bytes : List ℕ). EachSince g.M.Machine.time c.args.machine.now c.print_all.new.machine (PrintsPart (g.M.Machine.state c.args.machine.now) (on_channel Err bytes))) c.as_slice.ensures (c.print_all.ensures.moments told)
 
 pub returns-clause-moments : goal.returns-clause-moments
 returns-clause-moments g c told =
-    subst (λ (bytes : List ℕ). EachSince g.M.Machine.time c.args.machine.now c.print_all.new.machine (PrintsPart (g.M.Machine.state c.args.machine.now) (tagged Err bytes))) c.as_slice.ensures (c.print_all.ensures.moments told)
+    subst (λ (bytes : List ℕ). EachSince g.M.Machine.time c.args.machine.now c.print_all.new.machine (PrintsPart (g.M.Machine.state c.args.machine.now) (on_channel Err bytes))) c.as_slice.ensures (c.print_all.ensures.moments told)

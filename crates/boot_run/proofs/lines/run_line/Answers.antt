@@ -14,8 +14,8 @@ returns-in-Plain-clause-performs g c told firm =
 
 pub returns-in-Numbered-clause-performs : goal.returns-in-Numbered-clause-performs
 returns-in-Numbered-clause-performs g c told firm =
-    performed_rested g.M.Machine.time g.M.Machine.state c.args.machine.now c.numbered.new.machine c.args.line.now c.numbered.result (c.requires.rested told (ap is_unread c.in-Numbered.is))
-    (subst (λ line. Performs g.M.Machine.time g.M.Machine.state end_of c.args.machine.now c.numbered.new.machine (line_deed (seen (g.M.Machine.state c.args.machine.now)) line) c.numbered.result) (sym c.in-Numbered.is) (c.numbered.ensures.performs told firm))
+    performed_rested g.M.Machine.time g.M.Machine.state c.args.machine.now c.run_numbered.new.machine c.args.line.now c.run_numbered.result (c.requires.rested told (ap is_unread c.in-Numbered.is))
+    (subst (λ line. Performs g.M.Machine.time g.M.Machine.state end_of c.args.machine.now c.run_numbered.new.machine (line_deed (seen (g.M.Machine.state c.args.machine.now)) line) c.run_numbered.result) (sym c.in-Numbered.is) (c.run_numbered.ensures.performs told firm))
 
 pub returns-in-Plain-clause-only_prints : goal.returns-in-Plain-clause-only_prints
 returns-in-Plain-clause-only_prints g c told firm is = cc (sym (ap is_unread c.in-Plain.is) ∙ is)
@@ -60,8 +60,8 @@ returns-in-Plain-clause-tidies g c told =
 
 pub returns-in-Numbered-clause-tidies : goal.returns-in-Numbered-clause-tidies
 returns-in-Numbered-clause-tidies g c told =
-    let now = g.M.Machine.state c.numbered.new.machine in
-    subst (λ line. WherePrinted c.numbered.result (g.M.Machine.state c.args.machine.now) now (TidiedBy now.files line)) (sym c.in-Numbered.is) (c.numbered.ensures.tidies told)
+    let now = g.M.Machine.state c.run_numbered.new.machine in
+    subst (λ line. WherePrinted c.run_numbered.result (g.M.Machine.state c.args.machine.now) now (TidiedBy now.files line)) (sym c.in-Numbered.is) (c.run_numbered.ensures.tidies told)
 
 pub returns-in-Unread-clause-tidies : goal.returns-in-Unread-clause-tidies
 returns-in-Unread-clause-tidies g c told =

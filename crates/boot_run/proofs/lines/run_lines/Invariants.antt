@@ -5,13 +5,13 @@ use Rattle.install_steps.specs.Steps.{NoNewTemp}
 use Rattle.boot_run.specs.Endings.{AllTidied}
 use Rattle.boot_run.specs.Lines.{has_command}
 use Rattle.boot_run.proofs.Running.{SoFar}
-use Rattle.boot_run.proofs.Synced.{Synced}
+use Rattle.boot_run.proofs.Synced.{IsSynced}
 use Rattle.boot_run.proofs.lines.run_lines.Given as goal
 
 abbrev pub invariant-loop-line : goal.invariant-loop-line
 invariant-loop-line g l = record {
   told : IsTrue g.M.Machine.tells → IsFirm (g.M.Machine.state l.initial.machine) → SoFar g.M.Machine.time g.M.Machine.state l.initial.machine l.machine l.lines l.line-index l.refused;
-  synced : IsTrue g.M.Machine.tells → IsFirm (g.M.Machine.state l.initial.machine) → Synced g.M.Machine.time g.M.Machine.state l.initial.machine l.machine l.lines l.line-index;
+  synced : IsTrue g.M.Machine.tells → IsFirm (g.M.Machine.state l.initial.machine) → IsSynced g.M.Machine.time g.M.Machine.state l.initial.machine l.machine l.lines l.line-index;
   begun : l.rested ≡ has_command (take l.line-index l.lines);
   rests : IsTrue g.M.Machine.tells → l.rested ≡ true → IsRested (g.M.Machine.state l.machine);
   tidied : IsTrue g.M.Machine.tells → AllTidied (take l.line-index l.lines) (g.M.Machine.state l.machine);

@@ -5,7 +5,7 @@ use Rattle.std.specs.Str.{chars}
 use Rattle.tool_words.specs.Line.{is_open, line_words}
 use Rattle.tool_words.specs.Meaning.{meaning}
 use Rattle.tool_words.specs.declared.command.Command.{Command}
-use Rattle.boot_run.specs.Asked.{in_script}
+use Rattle.boot_run.specs.AskedLines.{in_script}
 use Rattle.boot_run.proofs.ScriptLines.{command_of_words, none_of_bytes, not_open, not_utf8}
 use Rattle.boot_run.proofs.script.command_in.Goals as goal
 

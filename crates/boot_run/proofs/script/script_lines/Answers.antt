@@ -6,7 +6,7 @@ use Rattle.std.proofs.lemmas.List.{map-append, length-map}
 use Rattle.std.proofs.lemmas.List.Sums.{count_by-le-length}
 use Rattle.std.proofs.lemmas.List.Splits.{length-slice_split}
 use Rattle.std.specs.List.{slice_split}
-use Rattle.boot_run.specs.Asked.{is_passed_over, is_script_newline, lines_from}
+use Rattle.boot_run.specs.AskedLines.{is_passed_over, is_script_newline, lines_from}
 use Rattle.boot_run.proofs.ScriptLines.{with_piece, without_piece}
 use Rattle.boot_run.proofs.script.script_lines.Goals as goal
 

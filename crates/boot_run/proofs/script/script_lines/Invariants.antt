@@ -1,5 +1,5 @@
 use Rattle.std.proofs.Common.{◌≡◌, ◌<◌, ◌^◌, map, length}
-use Rattle.boot_run.specs.Asked.{lines_from}
+use Rattle.boot_run.specs.AskedLines.{lines_from}
 use Rattle.boot_run.proofs.script.script_lines.Given as goal
 
 abbrev pub invariant-loop-piece : goal.invariant-loop-piece

@@ -3,7 +3,7 @@ use Rattle.boot_machine.specs.Disk.{IsRested}
 use Rattle.boot_machine.specs.Images.{IsSettled}
 use Rattle.boot_machine.specs.Sent.{Adds, recovered_views}
 use Rattle.boot_machine.proofs.Settled.{firm_of_settled}
-use Rattle.boot_run.specs.Asked.{asked_of}
+use Rattle.boot_run.specs.AskedLines.{asked_lines_of}
 use Rattle.boot_run.specs.Endings.{AllTidied, AtEnd, UnlessDisk, end_at, ended_of}
 use Rattle.boot_run.specs.Lines.{has_command}
 use Rattle.boot_run.specs.RunBy.{CleanBehind}
@@ -31,7 +31,7 @@ pub returns-clause-leads : goal.returns-clause-leads
 returns-clause-leads g c told firm =
     let old = c.args.machine.now in
     let now = c.run_to_end.new.machine in
-    let asks = asked_of (map string_bytes c.args.words.now.items) (g.M.Machine.state old) in
+    let asks = asked_lines_of (map string_bytes c.args.words.now.items) (g.M.Machine.state old) in
     let same = ap ended_of c.status.ensures ∙ ended_again c.run_to_end.result in
     subst (λ ended. Adds (g.M.Machine.state old).printed (g.M.Machine.state now).printed (λ sent. Leads (recovered_views (g.M.Machine.state old)) asks (recovered_views (g.M.Machine.state now)) sent (end_at ended))) (sym same)
     (leads_by g.M.Machine.time g.M.Machine.state asks old now c.run_to_end.result (c.run_to_end.ensures.runs told) firm)

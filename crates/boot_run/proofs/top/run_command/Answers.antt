@@ -2,7 +2,7 @@ use Rattle.std.proofs.Common.{◌≡◌, true, List, sym, ap, ◌∙◌, subst}
 use Rattle.boot_machine.specs.Disk.{IsRested, State}
 use Rattle.boot_machine.proofs.Seeing.{sees}
 use Rattle.boot_commands.specs.Plain.{is_script}
-use Rattle.boot_run.specs.Asked.{lines_for}
+use Rattle.boot_run.specs.AskedLines.{lines_for}
 use Rattle.boot_run.specs.Endings.{AllTidied, ended_by}
 use Rattle.boot_run.specs.Lines.{has_command}
 use Rattle.boot_run.specs.RunsTo.{RunsTo, IsSyncedBy}

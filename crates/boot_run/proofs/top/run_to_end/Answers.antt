@@ -2,7 +2,7 @@ use Rattle.std.proofs.Common.{◌≡◌, true, List, Err, map, string_bytes, ref
 use Rattle.tool_words.specs.Answers.{FaultIs}
 use Rattle.tool_words.specs.Meaning.{meaning}
 use Rattle.boot_machine.proofs.Seeing.{sees}
-use Rattle.boot_run.specs.Asked.{lines_for, lines_to_run}
+use Rattle.boot_run.specs.AskedLines.{lines_for, lines_to_run}
 use Rattle.boot_run.specs.RunBy.{CleanBehind, RunsBy, RunsLines}
 use Rattle.boot_machine.specs.Disk.{IsRested, State}
 use Rattle.boot_run.specs.Endings.{AllTidied, AtEnd, ended_by}

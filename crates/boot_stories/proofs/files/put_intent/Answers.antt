@@ -1,14 +1,14 @@
 use Rattle.std.proofs.Common.{◌≡◌, true, ℕ, List}
 use Rattle.boot_base.specs.Paths.{Path}
 use Rattle.boot_machine.specs.Disk.{State, has}
-use Rattle.boot_machine.specs.Rows.{appended, created}
+use Rattle.boot_machine.specs.Rows.{after_append, after_create}
 use Rattle.boot_machine.proofs.Written.{has-created, has-appended}
 use Rattle.boot_stories.proofs.files.put_intent.Goals as goal
 
-created_there : (p : Path) (old made : State) → made ≡ created p old → has made.files p ≡ true
+created_there : (p : Path) (old made : State) → made ≡ after_create p old → has made.files p ≡ true
 created_there p old made is = rw is (has-created old.files p)
 
-appended_there : (p : Path) (bytes : List ℕ) (old made now : State) → made ≡ created p old → now ≡ appended p bytes made → has now.files p ≡ true
+appended_there : (p : Path) (bytes : List ℕ) (old made now : State) → made ≡ after_create p old → now ≡ after_append p bytes made → has now.files p ≡ true
 appended_there p bytes old made now is_made is_now = rw (is_now, is_made) (has-appended old.files p bytes)
 
 pub append-requires : goal.append-requires

@@ -8,13 +8,13 @@ use Rattle.std.specs.List.{AllPairs, list_any}
 use Rattle.std.specs.Ordering.{nat_cmp}
 use Rattle.std.proofs.lemmas.Cmp.{nat_list_eq_equiv}
 use Rattle.pcr_values.specs.Phases.{phase_words}
-use Rattle.command_plans.specs.Choices.{once}
-use Rattle.command_plans.proofs.Once.{differ, kept_new, kept_seen, map_take_more, not_false, not_true, once_apart, tells_more}
+use Rattle.command_plans.specs.Choices.{without_repeats}
+use Rattle.command_plans.proofs.WithoutRepeats.{differ, kept_new, kept_seen, map_take_more, not_false, not_true, once_apart, tells_more}
 use Rattle.command_plans.proofs.choices.paths_named.Goals as goal
 use Rattle.command_plans.proofs.choices.paths_named.Goals.{then-branch+in_ok-read-2+in_ok-push, else-branch}
 
 pub loop-text-init : goal.loop-text-init
-unfolding once
+unfolding without_repeats
 loop-text-init c = record {
   value = search rules;
   seen = λ path.
@@ -39,7 +39,7 @@ loop-text-preserved c =
           record {
             value = kept_new equal before path kept c.if-branch.paths.items (contains (slice_cmp (slice_cmp nat_cmp)) c.loop-text.seen path)
                 c.loop-text.invariant.value (c.loop-text.invariant.seen path) (not_true _ _ inserted.added w.if-branch.true) pushed
-                ∙ ap (once same) (sym more);
+                ∙ ap (without_repeats same) (sym more);
             seen = λ q.
                 tells_more same kept path (contains (slice_cmp (slice_cmp nat_cmp)) c.loop-text.seen) (contains (slice_cmp (slice_cmp nat_cmp)) c.insert.new.self)
                 c.loop-text.invariant.seen
@@ -52,7 +52,7 @@ loop-text-preserved c =
           record {
             value = stays ∙ kept_seen equal before path kept (contains (slice_cmp (slice_cmp nat_cmp)) c.loop-text.seen path)
                 c.loop-text.invariant.value (c.loop-text.invariant.seen path) (not_false _ _ inserted.added w.if-branch.false)
-                ∙ ap (once same) (sym more);
+                ∙ ap (without_repeats same) (sym more);
             seen = λ q.
                 ap (list_any (is_at (slice_cmp (slice_cmp nat_cmp) q))) (subst (λ b. OnFalse b (IsUnchanged c.loop-text.seen c.insert.new.self)) w.if-branch.false inserted.unchanged)
                 ∙ c.loop-text.invariant.seen q ∙ ap (list_any (λ one. same one q)) (sym stays);

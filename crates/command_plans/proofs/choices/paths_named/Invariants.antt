@@ -5,11 +5,11 @@ use Rattle.std.specs.Cmp.Lexicographic.{pointwise, slice_cmp}
 use Rattle.std.specs.List.{list_any}
 use Rattle.std.specs.Ordering.{nat_cmp}
 use Rattle.pcr_values.specs.Phases.{phase_words}
-use Rattle.command_plans.specs.Choices.{once}
+use Rattle.command_plans.specs.Choices.{without_repeats}
 use Rattle.command_plans.proofs.choices.paths_named.Given as goal
 
 abbrev pub invariant-loop-text : goal.invariant-loop-text
 invariant-loop-text l = record {
-  value : l.paths.items ≡ once (pointwise bytes_eq) (map phase_words (take l.text-index l.texts));
+  value : l.paths.items ≡ without_repeats (pointwise bytes_eq) (map phase_words (take l.text-index l.texts));
   seen : (path : List (List ℕ)) → contains (slice_cmp (slice_cmp nat_cmp)) l.seen path ≡ list_any (λ kept. pointwise bytes_eq kept path) l.paths.items;
 }

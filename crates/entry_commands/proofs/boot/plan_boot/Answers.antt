@@ -3,4 +3,4 @@ use Rattle.entry_commands.specs.Folders.{folders_of}
 use Rattle.entry_commands.proofs.boot.plan_boot.Goals as goal
 
 pub returns-clause-words : goal.returns-clause-words
-returns-clause-words g c = answered_words (folders_of c.args.esp.now) c.boot-plan.result c.answered.result c.answered.ensures.plans c.boot-plan.ensures.words
+returns-clause-words g c = answered_words (folders_of c.args.esp.now) c.boot-plan.result c.answer_or_refusal.result c.answer_or_refusal.ensures.plans c.boot-plan.ensures.words

@@ -2,7 +2,7 @@ use Rattle.std.proofs.Common.{Result, subst, sym}
 use Rattle.boot_base.specs.declared.refusal.Refusal.{Refusal}
 use Rattle.boot_machine.specs.Reading.{TakesAtMost}
 use Rattle.boot_machine.specs.Sent.{seen}
-use Rattle.image_build.specs.Building.{Named}
+use Rattle.image_build.specs.Building.{NamedFiles}
 use Rattle.image_build.specs.Planning.{planning_length}
 use Rattle.boot_machine.proofs.Reading.{reads_none}
 use Rattle.image_build.proofs.Planning.{declined_as, declined_plan, not_declined}
@@ -30,7 +30,7 @@ returns-in_ok-plan_declined-in-Err-clause-declined g c why is =
 
 pub returns-in-Ok-clause-taken : goal.returns-in-Ok-clause-taken
 returns-in-Ok-clause-taken g c told =
-    subst (λ (r : Result Named Refusal). TakesAtMost (planning_length (seen (g.M.Machine.state c.args.machine.now)) c.args.words.now.measure r) (g.M.Machine.taken c.args.machine.now) (g.M.Machine.taken c.plan_sources.new.machine))
+    subst (λ (r : Result NamedFiles Refusal). TakesAtMost (planning_length (seen (g.M.Machine.state c.args.machine.now)) c.args.words.now.measure r) (g.M.Machine.taken c.args.machine.now) (g.M.Machine.taken c.plan_sources.new.machine))
     (sym c.in-Ok.ensures.means) (c.plan_sources.ensures.taken told)
 
 pub returns-in_ok-plan_declined-in-Err-clause-writes : goal.returns-in_ok-plan_declined-in-Err-clause-writes

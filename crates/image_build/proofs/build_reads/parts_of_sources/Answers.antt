@@ -6,7 +6,7 @@ use Rattle.boot_machine.specs.Sent.{seen}
 use Rattle.uki_parts.specs.declared.part.Part.{Part}
 use Rattle.image_build.specs.Building.{part_bytes, part_named}
 use Rattle.image_build.specs.Reads.{PartFrom, PartHasSizes, part_as}
-use Rattle.image_build.proofs.Built.{all_more, mapped_cut, mapped_more, one_refused, zip_more}
+use Rattle.image_build.proofs.BuiltImage.{all_more, mapped_cut, mapped_more, one_refused, zip_more}
 use Rattle.command_plans.proofs.Each.{each_none, one_over}
 use Rattle.image_build.proofs.build_reads.parts_of_sources.Goals as goal
 

@@ -7,7 +7,7 @@ use Rattle.uki_parts.specs.Pieces.{piece_bytes, piece_length}
 use Rattle.uki_parts.specs.declared.piece.Piece.{Piece}
 use Rattle.image_build.specs.Building.{source_bytes}
 use Rattle.image_build.specs.Reads.{source_limit}
-use Rattle.image_build.proofs.Built.{all_more, made_more, one_refused, sum_more}
+use Rattle.image_build.proofs.BuiltImage.{all_more, made_more, one_refused, sum_more}
 use Rattle.command_plans.proofs.Each.{count_more, each_none, one_over}
 use Rattle.image_build.proofs.build_reads.source_pieces.Goals as goal
 

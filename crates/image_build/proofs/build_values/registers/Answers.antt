@@ -2,7 +2,7 @@ use Rattle.std.proofs.Common.{ap, arith, map, subst, sym}
 use Rattle.boot_machine.proofs.Reading.{reads_none}
 use Rattle.boot_machine.specs.Rows.{contents}
 use Rattle.boot_machine.specs.Sent.{seen}
-use Rattle.pcr_values.specs.Values.{shown}
+use Rattle.pcr_values.specs.Values.{pcr_value}
 use Rattle.image_writer.specs.Sourced.{planned_image}
 use Rattle.stub_replay.specs.Parts.{HaveSizes, files_length}
 use Rattle.stub_replay.specs.Measured.{measured_list}
@@ -17,7 +17,7 @@ returns-in-Ok-clause-says g c told on =
     let view = seen (g.M.Machine.state c.args.machine.now) in
     let plan = c.args.plan.now in
     let parts = c.in_ok-parts.parts.items in
-    registers_are (contents view) parts c.deref.result.now (measured_list (planned_image plan.image.plan plan.image.sources view)) c.args.banks.now (map shown c.in-Ok.registers.items) c.deref.ensures.value
+    registers_are (contents view) parts c.deref.result.now (measured_list (planned_image plan.image.plan plan.image.sources view)) c.args.banks.now (map pcr_value c.in-Ok.registers.items) c.deref.ensures.value
     (c.in_ok-parts.ensures.items view on) (c.in-Ok.ensures.value told (subst (HaveSizes (contents view)) (sym c.deref.ensures.value) (c.in_ok-parts.ensures.whole view on)))
 
 pub returns-in-Ok-clause-taken : goal.returns-in-Ok-clause-taken

@@ -1,6 +1,6 @@
 use Rattle.std.proofs.Common.{sym, subst, ◌∙◌, Option}
 use Rattle.stub_replay.specs.declared.measurable.Content.{Content}
-use Rattle.pe_reader.specs.Loaded.{loaded}
+use Rattle.pe_reader.specs.LoadedBytes.{loaded_bytes}
 use Rattle.pe_reader.specs.Reads.{headers_of}
 use Rattle.image_build.specs.Planning.{IsContent}
 use Rattle.image_build.proofs.Values.{stub_none, stub_some}
@@ -8,7 +8,7 @@ use Rattle.image_build.proofs.build_values.stub_content.Goals as goal
 
 pub returns-in_err-index-clause-holds : goal.returns-in_err-index-clause-holds
 returns-in_err-index-clause-holds c files reads =
-    subst (λ (o : Option Content). IsContent files o (loaded (files c.args.stub.now) c.args.name.now)) (sym c.from_residual.ensures)
+    subst (λ (o : Option Content). IsContent files o (loaded_bytes (files c.args.stub.now) c.args.name.now)) (sym c.from_residual.ensures)
     (stub_none files c.args.stub.now c.args.name.now (headers_of c.args.head.now) reads (sym c.find.ensures.at ∙ c.in_err-index.was))
 
 pub returns-clause-holds : goal.returns-clause-holds

@@ -1,5 +1,5 @@
 use Rattle.command_plans.proofs.Declining.{means_declined}
-use Rattle.image_build.specs.Building.{extra, source_of}
+use Rattle.image_build.specs.Building.{extra_part, source_of}
 use Rattle.command_plans.proofs.Each.{each_one, each_one_declined}
 use Rattle.image_build.proofs.Wants.{part_put, with_one, with_one_declined}
 use Rattle.image_build.proofs.build_words.append_section.Goals as goal
@@ -7,9 +7,9 @@ use Rattle.image_build.proofs.build_words.append_section.Goals as goal
 pub returns-in_err-source : goal.returns-in_err-source
 returns-in_err-source c =
     means_declined _ c.in_err-source.field-0.0 _ _ c.from_residual.ensures.0 c.from_residual.ensures.1
-    (with_one_declined c.in_err-source.field-0.0 (extra c.args.section.now) _ (each_one_declined source_of c.args.section.now.1 c.in_err-source.field-0.0 c.in_err-source.ensures))
+    (with_one_declined c.in_err-source.field-0.0 (extra_part c.args.section.now) _ (each_one_declined source_of c.args.section.now.1 c.in_err-source.field-0.0 c.in_err-source.ensures))
 
 pub returns : goal.returns
 returns c =
-    with_one (extra c.args.section.now) _ _ _ (each_one source_of c.args.section.now.1 c.in_ok-source.source c.in_ok-source.ensures)
+    with_one (extra_part c.args.section.now) _ _ _ (each_one source_of c.args.section.now.1 c.in_ok-source.source c.in_ok-source.ensures)
     (part_put _ _ _ _ c.in_ok-push.ensures c.in_ok-sources.ensures)

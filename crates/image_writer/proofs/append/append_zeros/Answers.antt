@@ -1,6 +1,6 @@
 use Rattle.std.proofs.Common.{ℕ, refl, subst, rules, arith}
 use Rattle.std.specs.Prelude.{replicate}
-use Rattle.install_steps.specs.Appends.{Grown}
+use Rattle.install_steps.specs.Appends.{IsGrown}
 use Rattle.install_steps.specs.AppendLaws.{appends_none, appends_on, appends-there, grown_none, grown_on, grown_as}
 use Rattle.image_writer.proofs.Filled.{zeros_more}
 use Rattle.image_writer.proofs.append.append_zeros.Goals as goal
@@ -37,5 +37,5 @@ loop-done-preserved g c = record {
 
 pub returns-clause-grows : goal.returns-clause-grows
 returns-clause-grows g c told =
-    subst (λ (n : ℕ). Grown c.args.temp.now (replicate n 0) (g.M.Machine.state c.args.machine.now) (g.M.Machine.state c.loop-done.machine))
+    subst (λ (n : ℕ). IsGrown c.args.temp.now (replicate n 0) (g.M.Machine.state c.args.machine.now) (g.M.Machine.state c.loop-done.machine))
     (omega arith) (c.loop-done.invariant.grown told)

@@ -3,7 +3,7 @@ use Rattle.boot_machine.specs.Disk.{State, has, recovered_view}
 use Rattle.boot_machine.specs.Rows.{move_in}
 use Rattle.boot_machine.proofs.Recovering.{has-recovered_view}
 use Rattle.boot_machine.proofs.Going.{goes-read}
-use Rattle.install_steps.specs.Steps.{IsDone, moved}
+use Rattle.install_steps.specs.Steps.{IsDone, after_move}
 use Rattle.install_steps.proofs.RefusedLemmas.{moved_there}
 use Rattle.install_steps.proofs.StepLemmas.{begins, steps_to, steps_then}
 use Rattle.install_steps.proofs.QuietLemmas.{quiet-read, quiet_start, quiet_then}
@@ -12,7 +12,7 @@ use Rattle.install_steps.proofs.moves.move_name.Goals as goal
 pub returns-in_err-size-clause-step : goal.returns-in_err-size-clause-step
 returns-in_err-size-clause-step g c told firm =
     let s = g.M.Machine.state c.args.machine.now in
-    let next = moved c.args.from.now c.args.to.now (recovered_view s.files) in
+    let next = after_move c.args.from.now c.args.to.now (recovered_view s.files) in
     let start = begins g.M.Machine.time g.M.Machine.state next c.args.machine.now (λ m o. g.met.M.Machine.only_now c.args.machine.now m o told) (g.met.M.Machine.sound c.args.machine.now told) firm (c.requires.one told) in
     let looked = goes-read _ _ _ _ _ _ start (c.size.ensures.moments told) (c.size.ensures.row told).same in
     steps_to _ _ _ _ _ looked
@@ -20,7 +20,7 @@ returns-in_err-size-clause-step g c told firm =
 pub returns-then-is_none-clause-step : goal.returns-then-is_none-clause-step
 returns-then-is_none-clause-step g c told firm =
     let s = g.M.Machine.state c.args.machine.now in
-    let next = moved c.args.from.now c.args.to.now (recovered_view s.files) in
+    let next = after_move c.args.from.now c.args.to.now (recovered_view s.files) in
     let start = begins g.M.Machine.time g.M.Machine.state next c.args.machine.now (λ m o. g.met.M.Machine.only_now c.args.machine.now m o told) (g.met.M.Machine.sound c.args.machine.now told) firm (c.requires.one told) in
     let looked = goes-read _ _ _ _ _ _ start (c.size.ensures.moments told) (c.size.ensures.row told).same in
     steps_to _ _ _ _ _ looked
@@ -28,7 +28,7 @@ returns-then-is_none-clause-step g c told firm =
 pub returns-in_err-size-2-clause-step : goal.returns-in_err-size-2-clause-step
 returns-in_err-size-2-clause-step g c told firm =
     let s = g.M.Machine.state c.args.machine.now in
-    let next = moved c.args.from.now c.args.to.now (recovered_view s.files) in
+    let next = after_move c.args.from.now c.args.to.now (recovered_view s.files) in
     let start = begins g.M.Machine.time g.M.Machine.state next c.args.machine.now (λ m o. g.met.M.Machine.only_now c.args.machine.now m o told) (g.met.M.Machine.sound c.args.machine.now told) firm (c.requires.one told) in
     let looked = goes-read _ _ _ _ _ _ start (c.size.ensures.moments told) (c.size.ensures.row told).same in
     let looked2 = goes-read _ _ _ _ _ _ looked (c.size-2.ensures.moments told) (c.size-2.ensures.row told).same in
@@ -37,7 +37,7 @@ returns-in_err-size-2-clause-step g c told firm =
 pub returns-then-is_some-clause-step : goal.returns-then-is_some-clause-step
 returns-then-is_some-clause-step g c told firm =
     let s = g.M.Machine.state c.args.machine.now in
-    let next = moved c.args.from.now c.args.to.now (recovered_view s.files) in
+    let next = after_move c.args.from.now c.args.to.now (recovered_view s.files) in
     let start = begins g.M.Machine.time g.M.Machine.state next c.args.machine.now (λ m o. g.met.M.Machine.only_now c.args.machine.now m o told) (g.met.M.Machine.sound c.args.machine.now told) firm (c.requires.one told) in
     let looked = goes-read _ _ _ _ _ _ start (c.size.ensures.moments told) (c.size.ensures.row told).same in
     let looked2 = goes-read _ _ _ _ _ _ looked (c.size-2.ensures.moments told) (c.size-2.ensures.row told).same in
@@ -46,7 +46,7 @@ returns-then-is_some-clause-step g c told firm =
 pub returns-in_err-move_intended-clause-step : goal.returns-in_err-move_intended-clause-step
 returns-in_err-move_intended-clause-step g c told firm =
     let s = g.M.Machine.state c.args.machine.now in
-    let next = moved c.args.from.now c.args.to.now (recovered_view s.files) in
+    let next = after_move c.args.from.now c.args.to.now (recovered_view s.files) in
     let start = begins g.M.Machine.time g.M.Machine.state next c.args.machine.now (λ m o. g.met.M.Machine.only_now c.args.machine.now m o told) (g.met.M.Machine.sound c.args.machine.now told) firm (c.requires.one told) in
     let looked = goes-read _ _ _ _ _ _ start (c.size.ensures.moments told) (c.size.ensures.row told).same in
     let looked2 = goes-read _ _ _ _ _ _ looked (c.size-2.ensures.moments told) (c.size-2.ensures.row told).same in
@@ -54,7 +54,7 @@ returns-in_err-move_intended-clause-step g c told firm =
     let first = steps_to _ _ _ _ _ looked2 in
     let there : has s.files c.args.from.now ≡ true = search rules in
     let none : has (g.M.Machine.state c.size.new.self).files c.args.to.now ≡ false = search rules in
-    let is : moved c.args.from.now c.args.to.now (recovered_view s.files) ≡ move_in c.args.from.now c.args.to.now (recovered_view s.files) =
+    let is : after_move c.args.from.now c.args.to.now (recovered_view s.files) ≡ move_in c.args.from.now c.args.to.now (recovered_view s.files) =
     moved_there c.args.from.now c.args.to.now (recovered_view s.files) (rw (has-recovered_view s.files c.args.from.now (c.requires.rested told) c.know.ensures) there) (rw (has-recovered_view s.files c.args.to.now (c.requires.rested told) c.know-2.ensures) (rw (c.size.ensures.row told).same at none)) in
     let step = c.move_intended.ensures.step told first.firm in
     steps_then g.M.Machine.time g.M.Machine.state next _ c.args.machine.now c.size-2.new.self c.move_intended.new.machine first (ap (λ (t : State). t.printed) same) (inl (ap (λ (t : State). recovered_view t.files) same)) (inr (ap (λ (t : State). move_in c.args.from.now c.args.to.now (recovered_view t.files)) same ∙ sym is)) step
@@ -62,7 +62,7 @@ returns-in_err-move_intended-clause-step g c told firm =
 pub returns-clause-step : goal.returns-clause-step
 returns-clause-step g c told firm =
     let s = g.M.Machine.state c.args.machine.now in
-    let next = moved c.args.from.now c.args.to.now (recovered_view s.files) in
+    let next = after_move c.args.from.now c.args.to.now (recovered_view s.files) in
     let start = begins g.M.Machine.time g.M.Machine.state next c.args.machine.now (λ m o. g.met.M.Machine.only_now c.args.machine.now m o told) (g.met.M.Machine.sound c.args.machine.now told) firm (c.requires.one told) in
     let looked = goes-read _ _ _ _ _ _ start (c.size.ensures.moments told) (c.size.ensures.row told).same in
     let looked2 = goes-read _ _ _ _ _ _ looked (c.size-2.ensures.moments told) (c.size-2.ensures.row told).same in
@@ -70,7 +70,7 @@ returns-clause-step g c told firm =
     let first = steps_to _ _ _ _ _ looked2 in
     let there : has s.files c.args.from.now ≡ true = search rules in
     let none : has (g.M.Machine.state c.size.new.self).files c.args.to.now ≡ false = search rules in
-    let is : moved c.args.from.now c.args.to.now (recovered_view s.files) ≡ move_in c.args.from.now c.args.to.now (recovered_view s.files) =
+    let is : after_move c.args.from.now c.args.to.now (recovered_view s.files) ≡ move_in c.args.from.now c.args.to.now (recovered_view s.files) =
     moved_there c.args.from.now c.args.to.now (recovered_view s.files) (rw (has-recovered_view s.files c.args.from.now (c.requires.rested told) c.know.ensures) there) (rw (has-recovered_view s.files c.args.to.now (c.requires.rested told) c.know-2.ensures) (rw (c.size.ensures.row told).same at none)) in
     let step = c.move_intended.ensures.step told first.firm in
     steps_then g.M.Machine.time g.M.Machine.state next _ c.args.machine.now c.size-2.new.self c.move_intended.new.machine first (ap (λ (t : State). t.printed) same) (inl (ap (λ (t : State). recovered_view t.files) same)) (inr (ap (λ (t : State). move_in c.args.from.now c.args.to.now (recovered_view t.files)) same ∙ sym is)) step
@@ -81,7 +81,7 @@ returns-clause-done g c told firm =
     let s = g.M.Machine.state c.args.machine.now in
     let there : has s.files c.args.from.now ≡ true = search rules in
     let none : has (g.M.Machine.state c.size.new.self).files c.args.to.now ≡ false = search rules in
-    let is : moved c.args.from.now c.args.to.now (recovered_view s.files) ≡ move_in c.args.from.now c.args.to.now (recovered_view s.files) =
+    let is : after_move c.args.from.now c.args.to.now (recovered_view s.files) ≡ move_in c.args.from.now c.args.to.now (recovered_view s.files) =
     moved_there c.args.from.now c.args.to.now (recovered_view s.files) (rw (has-recovered_view s.files c.args.from.now (c.requires.rested told) c.know.ensures) there) (rw (has-recovered_view s.files c.args.to.now (c.requires.rested told) c.know-2.ensures) (rw (c.size.ensures.row told).same at none)) in
     let done = c.in_ok-move_intended.ensures.done told (rw same firm) in
     subst (IsDone (g.M.Machine.state c.move_intended.new.machine)) (sym is) (rw same at done)

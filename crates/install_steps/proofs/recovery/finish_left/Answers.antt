@@ -1,6 +1,6 @@
 use Rattle.std.proofs.Common.{◌≡◌, ⊎_elim, inl, sym, ap, ◌∙◌, None}
 use Rattle.std.specs.Option.{option_map}
-use Rattle.boot_machine.specs.Disk.{State, intended, recovered_view}
+use Rattle.boot_machine.specs.Disk.{State, intent_names, recovered_view}
 use Rattle.boot_machine.proofs.Recovering.{whole-unread}
 use Rattle.boot_machine.proofs.Going.{goes-read}
 use Rattle.install_steps.specs.Names.{names_of}
@@ -43,7 +43,7 @@ returns-in_err-names-clause-step g c told firm =
 
 pub drop_intent-requires-clause-whole : goal.drop_intent-requires-clause-whole
 drop_intent-requires-clause-whole g c told =
-    let none : None ≡ intended (g.M.Machine.state c.size.new.self).files = ap (option_map names_of) (sym c.in_default-2.is) ∙ c.in_ok-names.ensures.names told in
+    let none : None ≡ intent_names (g.M.Machine.state c.size.new.self).files = ap (option_map names_of) (sym c.in_default-2.is) ∙ c.in_ok-names.ensures.names told in
     rw ((c.left_names.ensures.reads told).same) (whole-unread _ (sym none))
 
 pub returns-in_err-drop_intent-clause-step : goal.returns-in_err-drop_intent-clause-step

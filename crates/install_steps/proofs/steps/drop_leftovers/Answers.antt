@@ -1,7 +1,7 @@
 use Rattle.std.proofs.Common.{◌≡◌, ⊎_elim, true, refl, sym, subst, rules, arith, []}
 use Rattle.std.specs.FinMap as map
 use Rattle.boot_machine.specs.Disk.{has, recovered_view}
-use Rattle.boot_machine.specs.Rows.{unlinked}
+use Rattle.boot_machine.specs.Rows.{after_unlink}
 use Rattle.boot_machine.proofs.Recovering.{recovered_view-remove_temp}
 use Rattle.boot_machine.proofs.Soft.{now_sees, by_done_or_not}
 use Rattle.boot_machine.proofs.Going.{goes-unlink, goes-sync_names}
@@ -41,7 +41,7 @@ returns-in_err-unlink_temp-clause-keeps g c told =
     let s = g.M.Machine.state c.args.machine.now in
     let now = g.M.Machine.state c.loop-path.machine in
     let kept = c.loop-path.invariant.keeps told in
-    by_done_or_not (Keeps s) now (unlinked c.path-item.result now) (g.M.Machine.state c.unlink_temp.new.self) c.unlink_temp.result kept (record { printed = kept.printed; input = kept.input }) (c.unlink_temp.ensures.row told)
+    by_done_or_not (Keeps s) now (after_unlink c.path-item.result now) (g.M.Machine.state c.unlink_temp.new.self) c.unlink_temp.result kept (record { printed = kept.printed; input = kept.input }) (c.unlink_temp.ensures.row told)
 
 pub loop-path-preserved : goal.loop-path-preserved
 loop-path-preserved g c = record {

@@ -1,7 +1,7 @@
 use Rattle.std.proofs.Common.{inr, refl}
 use Rattle.std.specs.FinMap as map
 use Rattle.boot_machine.specs.Disk.{recovered_view}
-use Rattle.boot_machine.specs.Rows.{unlinked}
+use Rattle.boot_machine.specs.Rows.{after_unlink}
 use Rattle.boot_machine.proofs.Views.{has-removed}
 use Rattle.boot_machine.proofs.Soft.{by_done_or_not, by_sync_names}
 use Rattle.boot_machine.proofs.Going.{goes-unlink, goes-sync_names}
@@ -36,7 +36,7 @@ returns-clause-one g c = on_ok _ _ c.sync_names.result c.sync_names.ensures.row 
 pub returns-in_err-unlink-clause-temps : goal.returns-in_err-unlink-clause-temps
 returns-in_err-unlink-clause-temps g c told =
     let s = g.M.Machine.state c.args.machine.now in
-    by_done_or_not (NoNewTemp s) s (unlinked c.args.path.now s) (g.M.Machine.state c.unlink.new.self) c.unlink.result (λ q temp there. there) (λ q temp there. has-removed s.files c.args.path.now q there) (c.unlink.ensures.row told)
+    by_done_or_not (NoNewTemp s) s (after_unlink c.args.path.now s) (g.M.Machine.state c.unlink.new.self) c.unlink.result (λ q temp there. there) (λ q temp there. has-removed s.files c.args.path.now q there) (c.unlink.ensures.row told)
 
 pub returns-clause-temps : goal.returns-clause-temps
 returns-clause-temps g c told =

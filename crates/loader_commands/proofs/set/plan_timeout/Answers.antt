@@ -4,4 +4,4 @@ use Rattle.boot_texts.specs.declared.conf_change.ConfKey.TheVariants.{Timeout}
 use Rattle.loader_commands.proofs.set.plan_timeout.Goals as goal
 
 pub returns-clause-words : goal.returns-clause-words
-returns-clause-words g c = answered_words (conf_words Timeout c.args.value.now c.args.esp.now) c.planned-plan.result c.answered.result c.answered.ensures.plans c.planned-plan.ensures.words
+returns-clause-words g c = answered_words (conf_words Timeout c.args.value.now c.args.esp.now) c.set_plan-plan.result c.answer_or_refusal.result c.answer_or_refusal.ensures.plans c.set_plan-plan.ensures.words

@@ -1,10 +1,10 @@
 use Rattle.std.proofs.Common.{◌≡◌, map, string_bytes, take}
-use Rattle.pcr_values.specs.Banks.{extended_by_all}
+use Rattle.pcr_values.specs.Banks.{extend_all}
 use Rattle.pcr_values.specs.Values.{pcr_bank, pcr_bytes}
 use Rattle.pcr_values.proofs.phase_path.after_phases.Given as goal
 
 abbrev pub invariant-loop-word : goal.invariant-loop-word
 invariant-loop-word l = record {
   bank : pcr_bank l.pcr ≡ pcr_bank l.fn.pcr;
-  bytes : pcr_bytes l.pcr ≡ extended_by_all (pcr_bank l.fn.pcr) (pcr_bytes l.fn.pcr) (map string_bytes (take l.word-index l.word-items));
+  bytes : pcr_bytes l.pcr ≡ extend_all (pcr_bank l.fn.pcr) (pcr_bytes l.fn.pcr) (map string_bytes (take l.word-index l.word-items));
 }

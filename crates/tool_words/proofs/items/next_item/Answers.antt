@@ -2,7 +2,7 @@ use Rattle.std.proofs.Common.{Ok, ap, ◌∙◌}
 use Rattle.std.proofs.lemmas.Result.{err_from_is_err_and}
 use Rattle.word_grammar.specs.Shown.{option_shown}
 use Rattle.tool_words.specs.Shown.{said_shown}
-use Rattle.tool_words.proofs.ItemSteps.{items-ends, items-plain, items-whole, items-said_err, items-opened, items-opened_err}
+use Rattle.tool_words.proofs.ItemSteps.{items-ends, items-plain, items-whole, items-said_err, items-with_next_word, items-opened_err}
 use Rattle.tool_words.proofs.items.next_item.Goals as goal
 
 pub returns-in_err-read_word-clause-step : goal.returns-in_err-read_word-clause-step
@@ -26,4 +26,4 @@ returns-in-Whole-clause-step c = items-whole _ _ _ _ _ (c.in_ok-read_word.ensure
 
 pub returns-in_ok-next-in-Open-clause-step : goal.returns-in_ok-next-in-Open-clause-step
 returns-in_ok-next-in-Open-clause-step c =
-    items-opened _ _ (option_shown c.in-Open.option) _ _ _ (c.in_ok-read_word.ensures ∙ ap (λ s. Ok (said_shown s)) c.in-Open.is) c.in_ok-next-in-Open.ensures.value
+    items-with_next_word _ _ (option_shown c.in-Open.option) _ _ _ (c.in_ok-read_word.ensures ∙ ap (λ s. Ok (said_shown s)) c.in-Open.is) c.in_ok-next-in-Open.ensures.value

@@ -3,8 +3,8 @@ use Rattle.menu_order.proofs.Renaming.{bad_is, no_bad}
 use Rattle.menu_order.proofs.CounterWritten.{reading_bounds}
 use Rattle.menu_order.proofs.counted.Counted.bad_name.Goals as goal
 
-pub joined-requires-clause-done : goal.joined-requires-clause-done
-joined-requires-clause-done c = (reading_bounds c.args.name.now c.in-Some.reading.base.now c.in-Some.reading.left c.in-Some.reading.done c.in-Some.reading.suffix c.in-Some.ensures).1
+pub join_name-requires-clause-done : goal.join_name-requires-clause-done
+join_name-requires-clause-done c = (reading_bounds c.args.name.now c.in-Some.reading.base.now c.in-Some.reading.left c.in-Some.reading.done c.in-Some.reading.suffix c.in-Some.ensures).1
 
 pub returns-in_default-clause-value : goal.returns-in_default-clause-value
 returns-in_default-clause-value c = no_bad c.args.name.now c.in_default.ensures

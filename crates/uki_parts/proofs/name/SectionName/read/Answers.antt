@@ -5,6 +5,6 @@ use Rattle.uki_parts.proofs.name.SectionName.read.Goals as goal
 
 pub returns-then-is_section_name-clause-bytes : goal.returns-then-is_section_name-clause-bytes
 returns-then-is_section_name-clause-bytes c =
-    ap name_bytes c.named.ensures
+    ap name_bytes c.from_bytes.ensures
     ∙ name_bytes-read _ (sym c.is_section_name.ensures ∙ c.if-is_section_name.true)
     ∙ c.as_bytes-bytes.ensures.value

@@ -1,0 +1,15 @@
+use Rattle.std.proofs.Common.{ℕ, List, ap, arith}
+use Rattle.boot_machine.specs.Sent.{seen}
+use Rattle.pe_reader.specs.Grammar.{pe_of}
+use Rattle.image_commands.proofs.Taking.{named_at}
+use Rattle.image_commands.specs.Taking.{all_raw_length}
+use Rattle.boot_machine.proofs.Reading.{reads_none}
+use Rattle.image_commands.proofs.inspect.inspect_result.Goals as goal
+
+pub returns-in_err-path-clause-reads : goal.returns-in_err-path-clause-reads
+returns-in_err-path-clause-reads g c told =
+    reads_none g.M.Machine.time g.M.Machine.state c.args.machine.now (λ m o left. g.met.M.Machine.only_now c.args.machine.now m o told left)
+
+pub returns-clause-taken : goal.returns-clause-taken
+returns-clause-taken g c told =
+    omega (arith, c.inspection.ensures.taken told, ap (λ (bytes : List ℕ). all_raw_length (pe_of bytes)) (named_at (seen (g.M.Machine.state c.args.machine.now)) c.args.file.now c.in_ok-path.path c.in_ok-path.ensures))
