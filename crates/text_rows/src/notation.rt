@@ -27,12 +27,17 @@ pub(crate) fn bytes_of(alloc: Global, argument: &str) -> Result<Vec<u8>, RowFaul
 fn repeat_pieces(alloc: Global, argument: &str) -> Result<String, RowFault> {
     let mut text = String::new(alloc);
     for part in argument.split('{') {
-        match part.split_once('}') {
-            Some((repeat, rest)) => add_repeat(&mut text, repeat, rest)?,
-            None => text.push_str(part)?,
-        }
+        add_part(&mut text, part)?;
     }
     Ok(text)
+}
+
+// Adds a part of an argument, which begins with a piece to be repeated where a `}` stands in it.
+fn add_part(text: &mut String, part: &str) -> Result<(), RowFault> {
+    match part.split_once('}') {
+        Some((repeat, rest)) => add_repeat(text, repeat, rest),
+        None => Ok(text.push_str(part)?),
+    }
 }
 
 // Adds the piece of `COUNT*PIECE` so many times, and the rest.

@@ -2,22 +2,21 @@
 use crate::fault::RowFault;
 use crate::row::Row;
 use crate::texts::{text_of_value, text_or_none};
-use boot_base::{BootPath, FileName, Target, TempPath};
-use std::alloc::Global;
+use boot_base::{BootPath, FileName, PathFault, Target, TempPath};
+use std::alloc::{AllocError, Global};
+
+// The path's text, how it is printed, or its last component.
+fn path_text(alloc: Global, call: &str, path: &BootPath) -> Result<String, AllocError> {
+    match call {
+        "printed" => text_of_value(alloc, path),
+        "file-name" => String::from_str(alloc, path.file_name()),
+        _ => String::from_str(alloc, path.as_str()),
+    }
+}
 
 pub(crate) fn path(alloc: Global, row: &Row<'_>) -> Result<String, RowFault> {
     let path = BootPath::read(alloc, row.text(0)?)?;
-    Ok(String::from_str(alloc, path.as_str())?)
-}
-
-pub(crate) fn printed_path(alloc: Global, row: &Row<'_>) -> Result<String, RowFault> {
-    let path = BootPath::read(alloc, row.text(0)?)?;
-    Ok(text_of_value(alloc, &path)?)
-}
-
-pub(crate) fn file_name(alloc: Global, row: &Row<'_>) -> Result<String, RowFault> {
-    let path = BootPath::read(alloc, row.text(0)?)?;
-    Ok(String::from_str(alloc, path.file_name())?)
+    Ok(path_text(alloc, row.call, &path)?)
 }
 
 pub(crate) fn intent(alloc: Global) -> Result<String, RowFault> {
@@ -25,29 +24,51 @@ pub(crate) fn intent(alloc: Global) -> Result<String, RowFault> {
     Ok(String::from_str(alloc, path.as_str())?)
 }
 
-pub(crate) fn tell_named(alloc: Global, row: &Row<'_>) -> Result<String, RowFault> {
-    match BootPath::from_bytes(alloc, row.bytes(0)?)? {
-        Some(path) => Ok(String::from_str(alloc, path.as_str())?),
-        None => Ok(text_or_none(alloc, None)?),
+// The text of the path that an intent names with these bytes, or `none`.
+fn named_text(alloc: Global, bytes: &[u8]) -> Result<String, AllocError> {
+    match &BootPath::from_bytes(alloc, bytes)? {
+        Some(path) => String::from_str(alloc, path.as_str()),
+        None => text_or_none(alloc, None),
     }
 }
 
-pub(crate) fn sibling(alloc: Global, row: &Row<'_>) -> Result<String, RowFault> {
-    let path = BootPath::read(alloc, row.text(0)?)?;
-    let sibling = path.sibling(alloc, row.text(1)?)?;
-    Ok(String::from_str(alloc, sibling.as_str())?)
+pub(crate) fn tell_named(alloc: Global, row: &Row<'_>) -> Result<String, RowFault> {
+    Ok(named_text(alloc, row.bytes(0)?)?)
 }
 
-pub(crate) fn under(alloc: Global, row: &Row<'_>) -> Result<String, RowFault> {
-    let folder = BootPath::read(alloc, row.text(0)?)?;
-    let path = BootPath::under(alloc, &folder, row.text(1)?)?;
-    Ok(String::from_str(alloc, path.as_str())?)
+// The path beside that path, or below it.
+fn join_path(
+    alloc: Global,
+    call: &str,
+    path: &BootPath,
+    name: &str,
+) -> Result<BootPath, PathFault> {
+    match call {
+        "sibling" => path.sibling(alloc, name),
+        _ => BootPath::under(alloc, path, name),
+    }
+}
+
+fn join_text(alloc: Global, call: &str, path: &str, name: &str) -> Result<String, PathFault> {
+    let path = BootPath::read(alloc, path)?;
+    let joined = join_path(alloc, call, &path, name)?;
+    Ok(String::from_str(alloc, joined.as_str())?)
+}
+
+/// A path beside another one, or below it.
+pub(crate) fn other_path(alloc: Global, row: &Row<'_>) -> Result<String, RowFault> {
+    Ok(join_text(alloc, row.call, row.text(0)?, row.text(1)?)?)
+}
+
+// The path of a file, and where it is written first.
+fn target_text(alloc: Global, target: &Target) -> Result<String, RowFault> {
+    let texts = [target.path.as_str(), target.temp.as_str()];
+    Ok(texts.join(alloc, "; ")?)
 }
 
 pub(crate) fn target(alloc: Global, row: &Row<'_>) -> Result<String, RowFault> {
     let target = Target::of(alloc, BootPath::read(alloc, row.text(0)?)?)?;
-    let texts = [target.path.as_str(), target.temp.as_str()];
-    Ok(texts.join(alloc, "; ")?)
+    target_text(alloc, &target)
 }
 
 pub(crate) fn name(alloc: Global, row: &Row<'_>) -> Result<String, RowFault> {
@@ -55,15 +76,20 @@ pub(crate) fn name(alloc: Global, row: &Row<'_>) -> Result<String, RowFault> {
     Ok(String::from_str(alloc, name.as_str())?)
 }
 
-fn leftover_of(alloc: Global, folder: &BootPath, name: &FileName) -> Result<String, RowFault> {
-    match TempPath::leftover(alloc, folder, name)? {
-        Some(temp) => Ok(String::from_str(alloc, temp.as_str())?),
-        None => Ok(text_or_none(alloc, None)?),
+// The path of a temporary file, or `none` where the name is none of one.
+fn temp_text(alloc: Global, folder: &BootPath, name: &FileName) -> Result<String, AllocError> {
+    match &TempPath::leftover(alloc, folder, name)? {
+        Some(temp) => String::from_str(alloc, temp.as_str()),
+        None => text_or_none(alloc, None),
     }
 }
 
+fn leftover_text(alloc: Global, folder: &str, name: &str) -> Result<String, PathFault> {
+    let folder = BootPath::read(alloc, folder)?;
+    let name = FileName::read(alloc, name)?;
+    Ok(temp_text(alloc, &folder, &name)?)
+}
+
 pub(crate) fn leftover(alloc: Global, row: &Row<'_>) -> Result<String, RowFault> {
-    let folder = BootPath::read(alloc, row.text(0)?)?;
-    let name = FileName::read(alloc, row.text(1)?)?;
-    leftover_of(alloc, &folder, &name)
+    Ok(leftover_text(alloc, row.text(0)?, row.text(1)?)?)
 }

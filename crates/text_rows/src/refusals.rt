@@ -5,6 +5,7 @@ use crate::texts::text_of_value;
 use boot_base::{PeText, Refusal, Text};
 use std::alloc::{AllocError, Global};
 
+// A refusal that has a text alone.
 fn refusal_of_text(kind: &str, text: Text) -> Result<Refusal, RowFault> {
     match kind {
         "NotFound" => Ok(Refusal::NotFound { path: text }),
@@ -38,44 +39,62 @@ fn not_pe(alloc: Global, reason: &str, offset: u32) -> Result<Refusal, AllocErro
     })
 }
 
-fn no_header_space(row: &Row<'_>) -> Result<Refusal, RowFault> {
-    let (need, have) = (row.number(1)?, row.number(2)?);
-    Ok(Refusal::NoHeaderSpace { need, have })
+// A refusal that has a text and a number.
+fn refusal_of_both(alloc: Global, kind: &str, row: &Row<'_>) -> Result<Refusal, RowFault> {
+    let (text, number) = (row.text(1)?, row.number(2)?);
+    if kind == "TooLarge" {
+        return Ok(too_large(alloc, text, number)?);
+    }
+    Ok(not_pe(alloc, text, number)?)
 }
 
-fn sbat_does_not_fit(row: &Row<'_>) -> Result<Refusal, RowFault> {
-    let (length, room) = (row.number(1)?, row.number(2)?);
-    Ok(Refusal::SbatDoesNotFit { length, room })
+// A refusal that has two sizes.
+fn refusal_of_sizes(kind: &str, row: &Row<'_>) -> Result<Refusal, RowFault> {
+    let (size, limit) = (row.number(1)?, row.number(2)?);
+    if kind == "NoHeaderSpace" {
+        return Ok(Refusal::NoHeaderSpace {
+            need: size,
+            have: limit,
+        });
+    }
+    Ok(Refusal::SbatDoesNotFit {
+        length: size,
+        room: limit,
+    })
 }
 
-fn refusal_of(alloc: Global, row: &Row<'_>) -> Result<Refusal, RowFault> {
-    match row.text(0)? {
-        "TooLarge" => Ok(too_large(alloc, row.text(1)?, row.number(2)?)?),
-        "NotPe" => Ok(not_pe(alloc, row.text(1)?, row.number(2)?)?),
-        "SignedStub" => Ok(Refusal::SignedStub),
-        "NoHeaderSpace" => no_header_space(row),
-        "SbatDoesNotFit" => sbat_does_not_fit(row),
-        "AddressSpace" => Ok(Refusal::AddressSpace {
-            end: u64::from(row.number(1)?) + 1,
-        }),
-        "NoEntries" => Ok(Refusal::NoEntries),
-        "BadScript" => Ok(Refusal::BadScript {
-            line: u64::from(row.number(1)?),
-        }),
-        "TooMany" => Ok(Refusal::TooMany {
-            count: u64::from(row.number(1)?),
-        }),
-        kind => refusal_of_text(kind, Text::of(alloc, row.text(1)?)?),
+// A refusal that has a number alone.
+fn refusal_of_number(kind: &str, row: &Row<'_>) -> Result<Refusal, RowFault> {
+    let number = u64::from(row.number(1)?);
+    match kind {
+        "AddressSpace" => Ok(Refusal::AddressSpace { end: number + 1 }),
+        "BadScript" => Ok(Refusal::BadScript { line: number }),
+        _ => Ok(Refusal::TooMany { count: number }),
     }
 }
 
-pub(crate) fn refusal(alloc: Global, row: &Row<'_>) -> Result<String, RowFault> {
-    let refusal = refusal_of(alloc, row)?;
-    Ok(text_of_value(alloc, &refusal)?)
+fn refusal_of(alloc: Global, row: &Row<'_>) -> Result<Refusal, RowFault> {
+    let kind = row.text(0)?;
+    match kind {
+        "SignedStub" => Ok(Refusal::SignedStub),
+        "NoEntries" => Ok(Refusal::NoEntries),
+        "TooLarge" | "NotPe" => refusal_of_both(alloc, kind, row),
+        "NoHeaderSpace" | "SbatDoesNotFit" => refusal_of_sizes(kind, row),
+        "AddressSpace" | "BadScript" | "TooMany" => refusal_of_number(kind, row),
+        _ => refusal_of_text(kind, Text::of(alloc, row.text(1)?)?),
+    }
 }
 
-pub(crate) fn refusal_line(alloc: Global, row: &Row<'_>) -> Result<String, RowFault> {
+// The text of a refusal, or the line in which it is printed.
+fn refusal_text(alloc: Global, call: &str, refusal: &Refusal) -> Result<String, RowFault> {
+    match call {
+        "refusal" => Ok(text_of_value(alloc, refusal)?),
+        _ => Ok(refusal.line(alloc)?.into_string()),
+    }
+}
+
+/// The text of a refusal, or its printed line.
+pub(crate) fn refusal(alloc: Global, row: &Row<'_>) -> Result<String, RowFault> {
     let refusal = refusal_of(alloc, row)?;
-    let line = refusal.line(alloc)?;
-    Ok(line.into_string())
+    refusal_text(alloc, row.call, &refusal)
 }

@@ -4,6 +4,15 @@ use crate::notation::{bytes_of, number_of};
 use std::alloc::Global;
 use std::str;
 
+// The arguments of a text.
+fn read_arguments(alloc: Global, text: &str) -> Result<Vec<Vec<u8>>, RowFault> {
+    let mut arguments = Vec::new(alloc);
+    for argument in text.split('|') {
+        arguments.push(bytes_of(alloc, argument)?)?;
+    }
+    Ok(arguments)
+}
+
 #[derive(Drop)]
 pub(crate) struct Row<'a> {
     pub(crate) call: &'a str,
@@ -13,10 +22,7 @@ pub(crate) struct Row<'a> {
 impl<'a> Row<'a> {
     pub(crate) fn read(alloc: Global, line: &'a str) -> Result<Row<'a>, RowFault> {
         let (call, rest) = line.split_once(' ').unwrap_or((line, ""));
-        let mut arguments = Vec::new(alloc);
-        for argument in rest.split('|') {
-            arguments.push(bytes_of(alloc, argument)?)?;
-        }
+        let arguments = read_arguments(alloc, rest)?;
         Ok(Row { call, arguments })
     }
 

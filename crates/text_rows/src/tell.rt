@@ -3,26 +3,21 @@ use crate::counters::{bad_name, choices, counter, good_name, tell_booted, tell_j
 use crate::fault::RowFault;
 use crate::loader::{change, choice, pattern, settings, tell_matched, value};
 use crate::notation::write_bytes;
-use crate::paths::{
-    file_name, intent, leftover, name, path, printed_path, sibling, target, tell_named, under,
-};
-use crate::refusals::{refusal, refusal_line};
+use crate::paths::{intent, leftover, name, other_path, path, target, tell_named};
+use crate::refusals::refusal;
 use crate::row::Row;
 use crate::settings::{entry, lines, release, values};
-use crate::versions::{compared_keys, tell_compared};
-use crate::words::{split, words};
+use crate::versions::tell_compared;
+use crate::words::words;
 use std::alloc::Global;
 
 // What a call that reads paths answers.
 fn told_of_paths(alloc: Global, row: &Row<'_>) -> Result<String, RowFault> {
     match row.call {
-        "path" => path(alloc, row),
-        "printed" => printed_path(alloc, row),
-        "file-name" => file_name(alloc, row),
+        "path" | "printed" | "file-name" => path(alloc, row),
         "intent" => intent(alloc),
         "named" => tell_named(alloc, row),
-        "sibling" => sibling(alloc, row),
-        "under" => under(alloc, row),
+        "sibling" | "under" => other_path(alloc, row),
         "target" => target(alloc, row),
         "name" => name(alloc, row),
         "leftover" => leftover(alloc, row),
@@ -33,18 +28,15 @@ fn told_of_paths(alloc: Global, row: &Row<'_>) -> Result<String, RowFault> {
 // What a call answers that tells a text.
 fn told_text(alloc: Global, row: &Row<'_>) -> Result<String, RowFault> {
     match row.call {
-        "refusal" => refusal(alloc, row),
-        "refusal-line" => refusal_line(alloc, row),
+        "refusal" | "refusal-line" => refusal(alloc, row),
         "counter" => counter(alloc, row),
         "booted" => tell_booted(alloc, row),
         "good" => good_name(alloc, row),
         "bad" => bad_name(alloc, row),
         "joined" => tell_joined(alloc, row),
         "choices" => choices(alloc, row),
-        "compare" => tell_compared(alloc, row),
-        "compare-keys" => compared_keys(alloc, row),
-        "split" => split(alloc, row),
-        "words" => words(alloc, row),
+        "compare" | "compare-keys" => tell_compared(alloc, row),
+        "split" | "words" => words(alloc, row),
         _ => told_of_paths(alloc, row),
     }
 }
