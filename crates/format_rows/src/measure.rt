@@ -1,13 +1,13 @@
-//! Registers after a stub has measured an image.
+//! Registers after a stub has measured an image, and what reads of a machine give.
 use crate::case::{Case, file_path};
 use crate::fault::RowFault;
-use crate::read::{head_there, reads_text};
+use crate::read::{head_there, machine_head_text};
 use crate::words::bank_of;
 use boot_base::{BootPath, PIECE_SIZE, Piece};
-use memory_machine::MemMachine;
+use memory_machine::{MemMachine, ReadSeen};
 use pcr_values::{Bank, Pcr};
 use pe_reader::{HeadFault, Pe};
-use std::alloc::Global;
+use std::alloc::{AllocError, Global};
 use stub_replay::{replay, replay_bytes};
 
 /// The register of a bank after the image with the file's bytes.
@@ -31,14 +31,56 @@ fn replay_file(alloc: Global, machine: &mut MemMachine, path: &BootPath) -> Resu
     Ok(pcr)
 }
 
-/// The register after the image by reads of a machine, and these reads.
-pub(crate) fn machine_replay_text(alloc: Global, case: &mut Case) -> Result<String, RowFault> {
+// The register after the image by reads of a machine.
+fn machine_replay_text(
+    alloc: Global,
+    machine: &mut MemMachine,
+    path: &BootPath,
+) -> Result<String, AllocError> {
+    match replay_file(alloc, machine, path) {
+        Ok(pcr) => hex::encode(alloc, pcr.bytes()),
+        Err(fault) => format!(in alloc; "{fault}"),
+    }
+}
+
+// What comes of the headers, or of all that is measured.
+fn machine_answer(
+    alloc: Global,
+    verb: &str,
+    machine: &mut MemMachine,
+    path: &BootPath,
+) -> Result<String, AllocError> {
+    match verb {
+        "head" => machine_head_text(alloc, machine, path),
+        _ => machine_replay_text(alloc, machine, path),
+    }
+}
+
+// The places and lengths of the reads.
+fn reads_text(alloc: Global, reads: &[ReadSeen]) -> Result<String, AllocError> {
+    let mut text = String::from_str(alloc, "reads")?;
+    for read in reads {
+        let place = read.at;
+        let length = read.length;
+        write!(text, " {place}+{length}")?;
+    }
+    Ok(text)
+}
+
+// What comes of it, and below it the reads.
+fn answer_and_reads(
+    alloc: Global,
+    verb: &str,
+    machine: &mut MemMachine,
+) -> Result<String, RowFault> {
     let path = file_path(alloc)?;
-    let mut machine = case.machine(alloc)?;
-    let told = match replay_file(alloc, &mut machine, &path) {
-        Ok(pcr) => hex::encode(alloc, pcr.bytes())?,
-        Err(fault) => format!(in alloc; "{fault}")?,
-    };
+    let told = machine_answer(alloc, verb, machine, &path)?;
     let reads = reads_text(alloc, machine.reads())?;
     Ok(format!(in alloc; "{told}\n{reads}")?)
+}
+
+/// What comes of the file by reads of a machine, and these reads: how many sections it has, or the register after it.
+pub(crate) fn machine_text(alloc: Global, verb: &str, case: &mut Case) -> Result<String, RowFault> {
+    let mut machine = case.machine(alloc)?;
+    answer_and_reads(alloc, verb, &mut machine)
 }

@@ -34,18 +34,42 @@ fn bytes_of_pieces(alloc: Global, pieces: &[Piece]) -> Result<Vec<u8>, AllocErro
     Ok(bytes)
 }
 
+// How many bytes there are, and which.
+fn count_bytes(alloc: Global, count: u64, bytes: &[u8]) -> Result<String, AllocError> {
+    let text = quote_bytes(alloc, bytes)?;
+    format!(in alloc; "{count} bytes: {text}")
+}
+
+// An initrd of that size.
+fn initrd_of(alloc: Global, size: &str) -> Result<Piece, RowFault> {
+    let size = number(size)?;
+    let path = BootPath::read(alloc, "initrd")?;
+    Ok(Piece::File { path, size })
+}
+
+fn initrds_of(alloc: Global, sizes: &str) -> Result<Vec<Piece>, RowFault> {
+    let mut files = Vec::new(alloc);
+    for size in sizes.split_whitespace() {
+        files.push(initrd_of(alloc, size)?)?;
+    }
+    Ok(files)
+}
+
+// The bytes of initrds in one section.
+fn joined_text(alloc: Global, files: Vec<Piece>) -> Result<String, AllocError> {
+    let pieces = join_initrds(alloc, files)?;
+    let bytes = bytes_of_pieces(alloc, &pieces)?;
+    count_bytes(alloc, pieces_length(&pieces), &bytes)
+}
+
 /// Initrds of these sizes in one section.
 pub(crate) fn initrds_text(alloc: Global, rest: &str) -> Result<String, RowFault> {
-    let mut files = Vec::new(alloc);
-    for word in rest.split_whitespace() {
-        let path = BootPath::read(alloc, "initrd")?;
-        let size = number(word)?;
-        files.push(Piece::File { path, size })?;
-    }
-    let pieces = join_initrds(alloc, files)?;
-    let count = pieces_length(&pieces);
-    let bytes = quote_bytes(alloc, &bytes_of_pieces(alloc, &pieces)?)?;
-    Ok(format!(in alloc; "{count} bytes: {bytes}")?)
+    Ok(joined_text(alloc, initrds_of(alloc, rest)?)?)
+}
+
+fn merge_bytes(alloc: Global, stub: &[u8], given: &[u8]) -> Result<String, AllocError> {
+    let merged = merge_sbat(alloc, stub, b"", given)?;
+    count_bytes(alloc, merged.len() as u64, &merged)
 }
 
 /// The merged SBAT text of a stub, a kernel without one and what is given.
@@ -53,8 +77,5 @@ pub(crate) fn merge_text(alloc: Global, rest: &str) -> Result<String, RowFault> 
     let (stub, given) = split_at_mark(rest, '|')?;
     let stub = bytes_of(alloc, stub)?;
     let given = bytes_of(alloc, given)?;
-    let merged = merge_sbat(alloc, &stub, b"", &given)?;
-    let count = merged.len();
-    let text = quote_bytes(alloc, &merged)?;
-    Ok(format!(in alloc; "{count} bytes: {text}")?)
+    Ok(merge_bytes(alloc, &stub, &given)?)
 }

@@ -5,11 +5,11 @@ ghost use Rattle.memory_machine.specs.Memory.{mem_state};
 ghost use Rattle.pe_reader.specs.Grammar.{pe_of};
 ghost use Rattle.pe_reader.specs.Reads.{headers_of};
 
-use crate::case::{Case, file_path};
+use crate::case::Case;
 use crate::fault::RowFault;
 use boot_base::{BootPath, FILE_LIMIT};
 use boot_machine::Machine;
-use memory_machine::{MemMachine, ReadSeen};
+use memory_machine::MemMachine;
 use pe_reader::{HeadFault, LoadedRange, Pe};
 use std::alloc::{AllocError, Global};
 
@@ -62,24 +62,14 @@ pub(crate) fn head_there(
     }
 }
 
-/// The places and lengths of the reads.
-pub(crate) fn reads_text(alloc: Global, reads: &[ReadSeen]) -> Result<String, AllocError> {
-    let mut text = String::from_str(alloc, "reads")?;
-    for read in reads {
-        let place = read.at;
-        let length = read.length;
-        write!(text, " {place}+{length}")?;
+/// How many sections a file has or the first check that fails, by reads of a machine.
+pub(crate) fn machine_head_text(
+    alloc: Global,
+    machine: &mut MemMachine,
+    path: &BootPath,
+) -> Result<String, AllocError> {
+    match head_there(alloc, machine, path) {
+        Ok(pe) => count_text(alloc, &pe),
+        Err(fault) => format!(in alloc; "{fault}"),
     }
-    Ok(text)
-}
-
-/// How many sections the file has or the first check that fails, by reads of a machine; and these reads.
-pub(crate) fn machine_head_text(alloc: Global, case: &mut Case) -> Result<String, RowFault> {
-    let mut machine = case.machine(alloc)?;
-    let told = match head_there(alloc, &mut machine, &file_path(alloc)?) {
-        Ok(pe) => count_text(alloc, &pe)?,
-        Err(fault) => format!(in alloc; "{fault}")?,
-    };
-    let reads = reads_text(alloc, machine.reads())?;
-    Ok(format!(in alloc; "{told}\n{reads}")?)
 }

@@ -4,13 +4,13 @@ use crate::case::Case;
 use crate::fault::RowFault;
 use crate::file::{bytes_text, fields_text, fill, sha256_text};
 use crate::image::set_image;
-use crate::measure::{machine_replay_text, replay_text};
+use crate::measure::{machine_text, replay_text};
 use crate::parts::{cmdline_text, initrds_text, merge_text, name_text};
-use crate::read::{headers_text, machine_head_text, range_text, read_text};
+use crate::read::{headers_text, range_text, read_text};
 use crate::refusal::refusal_text;
 use crate::register::{digest_text, extend_digest_text, extend_text, heading_text, pieces_text};
 use crate::words::{bytes_of, number};
-use std::alloc::Global;
+use std::alloc::{AllocError, Global};
 
 // What comes of a row that is about no file.
 fn told_alone(alloc: Global, verb: &str, rest: &str) -> Result<String, RowFault> {
@@ -42,11 +42,10 @@ fn told_of_file(
         "read" => read_text(alloc, case),
         "headers" => headers_text(alloc, case),
         "range" => range_text(alloc, case, rest),
-        "head" => machine_head_text(alloc, case),
+        "head" | "replay_file" => machine_text(alloc, verb, case),
         "refusal" => refusal_text(alloc, case, rest),
         "build" => build(alloc, case, rest),
         "replay" => replay_text(alloc, case, rest),
-        "replay_file" => machine_replay_text(alloc, case),
         _ => told_alone(alloc, verb, rest),
     }
 }
@@ -64,14 +63,21 @@ fn row_result(alloc: Global, line: &str, case: &mut Case) -> Result<String, RowF
     Ok(String::new(alloc))
 }
 
+// A row that is understood, and below it what comes of it.
+fn row_text(alloc: Global, line: &str, told: &str) -> Result<String, AllocError> {
+    if told.is_empty() {
+        return format!(in alloc; "> {line}\n");
+    }
+    format!(in alloc; "> {line}\n{told}\n")
+}
+
 /// The line, and below it what comes of it.
 pub(crate) fn tell_line(alloc: Global, line: &str, case: &mut Case) -> Result<String, RowFault> {
     if line.is_empty() || line.starts_with('#') {
         return Ok(format!(in alloc; "{line}\n")?);
     }
     match row_result(alloc, line, case) {
-        Ok(told) if told.is_empty() => Ok(format!(in alloc; "> {line}\n")?),
-        Ok(told) => Ok(format!(in alloc; "> {line}\n{told}\n")?),
+        Ok(told) => Ok(row_text(alloc, line, told.as_str())?),
         Err(fault) if fault.is_unclear() => Ok(format!(in alloc; "? {line}\n")?),
         Err(fault) => Err(fault),
     }
