@@ -79,9 +79,14 @@ fn place_text(alloc: Global, place: Option<usize>) -> Result<String, AllocError>
     }
 }
 
+// The place of the id that a text of loader.conf chooses.
+fn choose_place(alloc: Global, text: &[u8], ids: &[u8]) -> Result<Option<usize>, AllocError> {
+    let ids = ids_of(alloc, ids)?;
+    let conf = LoaderConf::read(alloc, text)?;
+    Ok(default_place(ids.as_slice(), &conf))
+}
+
 pub(crate) fn choice(alloc: Global, row: &Row<'_>) -> Result<Vec<u8>, RowFault> {
-    let conf = LoaderConf::read(alloc, row.bytes(0)?)?;
-    let ids = ids_of(alloc, row.bytes(1)?)?;
-    let place = place_text(alloc, default_place(ids.as_slice(), &conf))?;
-    Ok(place.into_bytes())
+    let place = choose_place(alloc, row.bytes(0)?, row.bytes(1)?)?;
+    Ok(place_text(alloc, place)?.into_bytes())
 }

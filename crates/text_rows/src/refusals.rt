@@ -86,9 +86,9 @@ fn refusal_of(alloc: Global, row: &Row<'_>) -> Result<Refusal, RowFault> {
 }
 
 // The text of a refusal, or the line in which it is printed.
-fn refusal_text(alloc: Global, call: &str, refusal: &Refusal) -> Result<String, RowFault> {
+fn refusal_text(alloc: Global, call: &str, refusal: &Refusal) -> Result<String, AllocError> {
     match call {
-        "refusal" => Ok(text_of_value(alloc, refusal)?),
+        "refusal" => text_of_value(alloc, refusal),
         _ => Ok(refusal.line(alloc)?.into_string()),
     }
 }
@@ -96,5 +96,7 @@ fn refusal_text(alloc: Global, call: &str, refusal: &Refusal) -> Result<String, 
 /// The text of a refusal, or its printed line.
 pub(crate) fn refusal(alloc: Global, row: &Row<'_>) -> Result<String, RowFault> {
     let refusal = refusal_of(alloc, row)?;
-    refusal_text(alloc, row.call, &refusal)
+    let text = refusal_text(alloc, row.call, &refusal);
+    drop(refusal);
+    Ok(text?)
 }

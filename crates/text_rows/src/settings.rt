@@ -101,7 +101,7 @@ fn add_machine(told: &mut Vec<u8>, entry: &Type1) -> Result<(), AllocError> {
     add_all(told, "architecture", entry.architecture.as_slice())
 }
 
-fn entry_text(alloc: Global, entry: &Type1) -> Result<Vec<u8>, RowFault> {
+fn entry_text(alloc: Global, entry: &Type1) -> Result<Vec<u8>, AllocError> {
     let mut told = Vec::new(alloc);
     add_system(&mut told, entry)?;
     add_kernel(&mut told, entry)?;
@@ -111,5 +111,7 @@ fn entry_text(alloc: Global, entry: &Type1) -> Result<Vec<u8>, RowFault> {
 
 pub(crate) fn entry(alloc: Global, row: &Row<'_>) -> Result<Vec<u8>, RowFault> {
     let entry = Type1::read(alloc, row.bytes(0)?)?;
-    entry_text(alloc, &entry)
+    let told = entry_text(alloc, &entry);
+    drop(entry);
+    Ok(told?)
 }

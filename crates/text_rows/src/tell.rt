@@ -9,7 +9,7 @@ use crate::row::Row;
 use crate::settings::{entry, lines, release, values};
 use crate::versions::tell_compared;
 use crate::words::words;
-use std::alloc::Global;
+use std::alloc::{AllocError, Global};
 
 // What a call that reads paths answers.
 fn told_of_paths(alloc: Global, row: &Row<'_>) -> Result<String, RowFault> {
@@ -65,18 +65,28 @@ fn row_result(alloc: Global, line: &str) -> Result<Vec<u8>, RowFault> {
     }
 }
 
+// A line, and below it what is told.
+fn row_text(alloc: Global, line: &str, told: &[u8]) -> Result<String, AllocError> {
+    let told = write_bytes(alloc, told)?;
+    format!(in alloc; "> {line}\n{told}\n")
+}
+
+// A line, and below it the fault that is the answer; or a line that isn't understood.
+fn fault_text(alloc: Global, line: &str, fault: RowFault) -> Result<String, RowFault> {
+    match fault {
+        RowFault::Unclear => Ok(format!(in alloc; "? {line}\n")?),
+        _ if fault.is_answer() => Ok(format!(in alloc; "> {line}\n{fault}\n")?),
+        _ => Err(fault),
+    }
+}
+
 /// The line, and below it what the call answers.
 pub(crate) fn tell_line(alloc: Global, line: &str) -> Result<String, RowFault> {
     if line.is_empty() || line.starts_with('#') {
         return Ok(format!(in alloc; "{line}\n")?);
     }
     match row_result(alloc, line) {
-        Ok(told) => {
-            let told = write_bytes(alloc, &told)?;
-            Ok(format!(in alloc; "> {line}\n{told}\n")?)
-        }
-        Err(fault) if fault.is_answer() => Ok(format!(in alloc; "> {line}\n{fault}\n")?),
-        Err(RowFault::Unclear) => Ok(format!(in alloc; "? {line}\n")?),
-        Err(fault) => Err(fault),
+        Ok(told) => Ok(row_text(alloc, line, &told)?),
+        Err(fault) => fault_text(alloc, line, fault),
     }
 }

@@ -3,7 +3,6 @@ use crate::fault::RowFault;
 use crate::row::Row;
 use crate::texts::text_of_value;
 use std::alloc::{AllocError, Global};
-use std::fmt::Debug;
 use tool_words::{Command, UsageReason, WordsFault, split_line};
 
 fn usage_text(alloc: Global, reason: &UsageReason) -> Result<String, AllocError> {
@@ -11,23 +10,30 @@ fn usage_text(alloc: Global, reason: &UsageReason) -> Result<String, AllocError>
     format!(in alloc; "usage: {reason}")
 }
 
-// What words mean, or the usage line.
-fn meaning_text<T: Debug + Drop>(
-    alloc: Global,
-    meaning: Result<T, WordsFault>,
-) -> Result<String, AllocError> {
-    match &meaning {
-        Ok(value) => format!(in alloc; "{value:?}"),
-        Err(WordsFault::Usage { reason }) => usage_text(alloc, reason),
-        Err(WordsFault::Memory) => Err(AllocError),
+// The usage line of words outside the grammar.
+fn fault_text(alloc: Global, fault: &WordsFault) -> Result<String, AllocError> {
+    match fault {
+        WordsFault::Usage { reason } => usage_text(alloc, reason),
+        WordsFault::Memory => Err(AllocError),
     }
+}
+
+// The command that words mean, or the usage line.
+fn meaning_text(alloc: Global, words: &Vec<String>) -> Result<String, AllocError> {
+    let meaning = Command::read(alloc, words);
+    let text = match &meaning {
+        Ok(command) => format!(in alloc; "{command:?}"),
+        Err(fault) => fault_text(alloc, fault),
+    };
+    drop(meaning);
+    text
 }
 
 // The words themselves, or what they mean.
 fn words_text(alloc: Global, call: &str, words: &Vec<String>) -> Result<String, AllocError> {
     match call {
         "split" => words.as_slice().join(alloc, "|"),
-        _ => meaning_text(alloc, Command::read(alloc, words)),
+        _ => meaning_text(alloc, words),
     }
 }
 
