@@ -58,24 +58,43 @@ fn sizes_of(
     Ok(sizes)
 }
 
-/// Makes the image of the file and these parts the file, and says how long it is by its plan and by its bytes; or says
-/// why there is none.
-pub(crate) fn build(alloc: Global, case: &mut Case, rest: &str) -> Result<String, RowFault> {
-    let Parts { names, contents } = parts_of(alloc, rest)?;
-    if contents.len() > PART_LIMIT {
+/// An image, and how long it is by its plan.
+#[derive(Drop)]
+struct Built {
+    planned: u64,
+    image: Vec<u8>,
+}
+
+// The image of the file and these parts.
+fn image_of(alloc: Global, case: &Case, parts: &Parts) -> Result<Built, RowFault> {
+    if parts.contents.len() > PART_LIMIT {
         return Err(RowFault::Unclear);
     }
-    let sizes = sizes_of(alloc, &names, &contents)?;
+    let sizes = sizes_of(alloc, &parts.names, &parts.contents)?;
     let stub = case.file();
     let pe = Pe::read(alloc, stub)?;
     let sbat = in_place(&pe, &case.sbat);
-    let plan = match Plan::make(alloc, &pe, stub.len() as u32, &sizes, sbat) {
-        Ok(plan) => plan,
-        Err(fault) => return Ok(fault_text(alloc, fault)?),
-    };
-    let image = image_bytes(alloc, &plan, stub, &contents, &case.sbat)?;
+    let plan = Plan::make(alloc, &pe, stub.len() as u32, &sizes, sbat)?;
+    let image = image_bytes(alloc, &plan, stub, &parts.contents, &case.sbat)?;
     let planned = plan.image_length();
+    Ok(Built { planned, image })
+}
+
+// Makes an image the file, and says how long it is by its plan and by its bytes.
+fn take_image(alloc: Global, case: &mut Case, built: Built) -> Result<String, RowFault> {
+    let Built { planned, image } = built;
     let made = image.len();
     case.set_file(image)?;
     Ok(format!(in alloc; "{planned} bytes are planned, {made} are made")?)
+}
+
+/// Makes the image of the file and these parts the file, and says how long it is by its plan and by its bytes; or says
+/// why there is none.
+pub(crate) fn build(alloc: Global, case: &mut Case, rest: &str) -> Result<String, RowFault> {
+    let parts = parts_of(alloc, rest)?;
+    match image_of(alloc, case, &parts) {
+        Ok(built) => take_image(alloc, case, built),
+        Err(RowFault::Plan(fault)) => Ok(fault_text(alloc, fault)?),
+        Err(fault) => Err(fault),
+    }
 }

@@ -1,27 +1,60 @@
 //! Why the rows aren't told to their end, or one of them isn't understood.
 use boot_base::PathFault;
+use pe_builder::PlanFault;
 use pe_reader::PeFault;
-use std::alloc::AllocError;
+use std::alloc::{AllocError, AllocFailed};
 use std::io;
-use thiserror::Error;
 
-#[derive(Debug, Drop, Error)]
+#[derive(Clone, Copy, Debug)]
 pub(crate) enum RowFault {
-    #[error("a line isn't understood")]
+    /// A line isn't understood.
     Unclear,
-    #[error("out of memory")]
-    Memory(#[from(alloc)] AllocError),
-    #[error("{0}")]
-    Path(#[from] PathFault),
-    #[error("{0}")]
-    Pe(#[from] PeFault),
-    #[error("{0}")]
-    Io(#[from] io::Error),
+    /// There is no memory.
+    Memory,
+    /// There is no image.
+    Plan(PlanFault),
+    /// Standard input isn't read, or standard output isn't written.
+    Pipe,
 }
 
-impl RowFault {
-    // Whether the line is at fault.
-    pub(crate) fn is_unclear(&self) -> bool {
-        matches!(self, RowFault::Unclear | RowFault::Pe(_))
+impl From<AllocError> for RowFault {
+    fn from(_: AllocError) -> Self {
+        RowFault::Memory
+    }
+}
+
+impl<T: Drop> From<AllocFailed<T>> for RowFault {
+    fn from(_: AllocFailed<T>) -> Self {
+        RowFault::Memory
+    }
+}
+
+impl From<PathFault> for RowFault {
+    fn from(fault: PathFault) -> Self {
+        match fault {
+            PathFault::Memory => RowFault::Memory,
+            PathFault::BadPath => RowFault::Unclear,
+        }
+    }
+}
+
+impl From<PeFault> for RowFault {
+    fn from(fault: PeFault) -> Self {
+        match fault {
+            PeFault::Memory => RowFault::Memory,
+            PeFault::NotPe { .. } => RowFault::Unclear,
+        }
+    }
+}
+
+impl From<PlanFault> for RowFault {
+    fn from(fault: PlanFault) -> Self {
+        RowFault::Plan(fault)
+    }
+}
+
+impl From<io::Error> for RowFault {
+    fn from(_: io::Error) -> Self {
+        RowFault::Pipe
     }
 }

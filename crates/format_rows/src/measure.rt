@@ -82,5 +82,7 @@ fn answer_and_reads(
 /// What comes of the file by reads of a machine, and these reads: how many sections it has, or the register after it.
 pub(crate) fn machine_text(alloc: Global, verb: &str, case: &mut Case) -> Result<String, RowFault> {
     let mut machine = case.machine(alloc)?;
-    answer_and_reads(alloc, verb, &mut machine)
+    let told = answer_and_reads(alloc, verb, &mut machine);
+    drop(machine);
+    told
 }

@@ -78,7 +78,7 @@ pub(crate) fn tell_line(alloc: Global, line: &str, case: &mut Case) -> Result<St
     }
     match row_result(alloc, line, case) {
         Ok(told) => Ok(row_text(alloc, line, told.as_str())?),
-        Err(fault) if fault.is_unclear() => Ok(format!(in alloc; "? {line}\n")?),
+        Err(RowFault::Unclear) => Ok(format!(in alloc; "? {line}\n")?),
         Err(fault) => Err(fault),
     }
 }
