@@ -21,14 +21,19 @@ struct Parts {
     contents: Vec<Vec<u8>>,
 }
 
-// The parts of words that are a name and bytes.
+// The part of a word that is a name and bytes.
+fn part_of(alloc: Global, word: &str) -> Result<(SectionName, Vec<u8>), RowFault> {
+    let (name, bytes) = split_at_mark(word, '=')?;
+    Ok((part_name(name)?, bytes_of(alloc, bytes)?))
+}
+
 fn parts_of(alloc: Global, rest: &str) -> Result<Parts, RowFault> {
     let mut names = Vec::new(alloc);
     let mut contents = Vec::new(alloc);
     for word in rest.split_whitespace() {
-        let (name, bytes) = split_at_mark(word, '=')?;
-        names.push(part_name(name)?)?;
-        contents.push(bytes_of(alloc, bytes)?)?;
+        let (name, bytes) = part_of(alloc, word)?;
+        names.push(name)?;
+        contents.push(bytes)?;
     }
     Ok(Parts { names, contents })
 }
