@@ -31,12 +31,7 @@ fn command_of(alloc: Global, words: &Vec<String>) -> Result<Option<Command>, All
     ensures { IfOk result (λ found. found ≡ in_script (meaning (texts words.now.items))) }
 {
     match Command::read(alloc, words) {
-        Ok(command) => {
-            if is_plain(&command) {
-                return Ok(Some(command));
-            }
-            Ok(None)
-        }
+        Ok(command) => Ok(Some(command).filter(is_plain)),
         Err(WordsFault::Usage { .. }) => Ok(None),
         Err(WordsFault::Memory) => Err(AllocError),
     }

@@ -72,6 +72,7 @@ fn run_command<M: Machine>(alloc: Global, command: Command, machine: &mut M) -> 
     if !is_script(&command) {
         return run_lines(alloc, &[Line::Plain(command)], machine);
     }
+    drop(command);
     let lines = read_script(alloc, machine)?;
     run_lines(alloc, lines.as_slice(), machine)
 }
