@@ -40,13 +40,25 @@ pub fn refusal_plan(alloc: Global, why: &Refusal) -> Result<Plan, AllocError>
     ensures makeable { IfOk result (λ plan. IsMakeable plan.change) }
     ensures idle { IfOk result (λ plan. plan.change ≡ Change.Nothing) }
 {
+    let text = refusal_line(alloc, why)?;
     Ok(Plan {
         change: Change::Nothing,
         outcome: Outcome::Refused {
             number: why.number(),
         },
-        text: refusal_line(alloc, why)?,
+        text,
     })
+}
+
+/// The plan of a refusal that nothing else is to be told of.
+pub(crate) fn plan_to_refuse(alloc: Global, why: Refusal) -> Result<Plan, AllocError>
+    ensures plans { IfOk result (λ plan. (s : State) → Plans s plan (refusal (seen s) why)) }
+    ensures makeable { IfOk result (λ plan. IsMakeable plan.change) }
+    ensures idle { IfOk result (λ plan. plan.change ≡ Change.Nothing) }
+{
+    let plan = refusal_plan(alloc, &why);
+    drop(why);
+    plan
 }
 
 /// The plan of the refusal of a command's words.
@@ -57,6 +69,6 @@ pub fn plan_declined(alloc: Global, declined: Declined) -> Result<Plan, AllocErr
 {
     match declined {
         Declined::Memory => Err(AllocError),
-        Declined::Refused(why) => refusal_plan(alloc, &why),
+        Declined::Refused(why) => plan_to_refuse(alloc, why),
     }
 }

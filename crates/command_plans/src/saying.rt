@@ -12,7 +12,7 @@ ghost use Rattle.command_plans.specs.Refusing.{PlansUnsaid};
 
 use crate::outcome::{Outcome, Stop};
 use crate::plan::{Change, Plan};
-use crate::refusing::refusal_plan;
+use crate::refusing::plan_to_refuse;
 use crate::unsaid::Unsaid;
 use boot_base::Bytes;
 use std::alloc::Global;
@@ -27,7 +27,7 @@ pub fn plan_unsaid(alloc: Global, unsaid: Unsaid) -> Result<Plan, Stop>
     match unsaid {
         Unsaid::Memory => Err(Stop::Memory),
         Unsaid::Disk => Err(Stop::Disk),
-        Unsaid::Refused(why) => Ok(refusal_plan(alloc, &why)?),
+        Unsaid::Refused(why) => Ok(plan_to_refuse(alloc, why)?),
     }
 }
 

@@ -196,7 +196,10 @@ fn check_entry<M: Machine>(
 {
     let target = words.target.copy(alloc)?;
     match uki_item(alloc, machine, &words.from, target) {
-        Ok(_) => Ok(()),
+        Ok(entry) => {
+            drop(entry);
+            Ok(())
+        }
         Err(fault) => Err(unfit_unsaid(alloc, fault)),
     }
 }

@@ -36,12 +36,22 @@ pub(crate) fn already_there(alloc: Global, path: &BootPath) -> Result<Refusal, A
     Ok(Refusal::TargetExists { path })
 }
 
+// What is printed of a refusal.
+fn printed_line(alloc: Global, why: Refusal) -> Result<RefusalLine, AllocError>
+    ensures number { IfOk result (λ refusal. refusal.number ≡ number_of why) }
+    ensures line { IfOk result (λ refusal. refusal.line ≡ line_of why) }
+{
+    let refusal = RefusalLine::of(alloc, &why);
+    drop(why);
+    refusal
+}
+
 /// What is printed where the file at a path is gone that was to be taken away, copied or moved.
 pub(crate) fn gone_line(alloc: Global, path: &BootPath) -> Result<RefusalLine, AllocError>
     ensures number { IfOk result (λ gone. gone.number ≡ number_of (Refusal.NotFound (printed_path path.now))) }
     ensures line { IfOk result (λ gone. gone.line ≡ line_of (Refusal.NotFound (printed_path path.now))) }
 {
-    RefusalLine::of(alloc, &not_there(alloc, path)?)
+    printed_line(alloc, not_there(alloc, path)?)
 }
 
 // The move, with what is printed where a machine has changed its mind about the two files.
@@ -49,7 +59,7 @@ fn move_of(alloc: Global, from: &BootPath, to: &BootPath) -> Result<Change, Allo
     ensures { IfOk result (IsMove from.now to.now) }
 {
     let gone = gone_line(alloc, from)?;
-    let exists = RefusalLine::of(alloc, &already_there(alloc, to)?)?;
+    let exists = printed_line(alloc, already_there(alloc, to)?)?;
     let intent = Target::of(alloc, BootPath::intent(alloc)?)?;
     Ok(Change::Move {
         from: from.copy(alloc)?,

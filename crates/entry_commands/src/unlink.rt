@@ -98,7 +98,10 @@ fn removal_missing(alloc: Global, path: &BootPath) -> Result<Plan, AllocError>
     ensures makeable { IfOk result (λ plan. IsMakeable plan.change) }
     ensures idle { IfOk result (λ plan. plan.change ≡ Change.Nothing) }
 {
-    refusal_plan(alloc, &not_there(alloc, path)?)
+    let why = not_there(alloc, path)?;
+    let plan = refusal_plan(alloc, &why);
+    drop(why);
+    plan
 }
 
 // The plan for the entry at a path, by the length of the file there.

@@ -337,10 +337,10 @@ fn two_lists(
 fn build(alloc: Global, items: &[Item<'_>]) -> Result<Command, AllocError>
     ensures { IfOk result (λ made. made ≡ command_from Build (gather_items Build (items_shown items.now))) }
 {
+    let lists = two_lists(alloc, items, "--initrd", "--section")?;
     let paths = build_paths(alloc, items)?;
     let texts = text_parts(alloc, items)?;
     let parts = plain_parts(alloc, items, "--devicetree", "--microcode")?;
-    let lists = two_lists(alloc, items, "--initrd", "--section")?;
     let measure = is_given(items, "--measure");
     Ok(Command::Build(build_of(paths, texts, parts, lists, measure)))
 }
@@ -350,9 +350,9 @@ fn calculate(alloc: Global, items: &[Item<'_>]) -> Result<Command, AllocError>
     ensures { IfOk result (λ made. made ≡ command_from Calculate (gather_items Calculate (items_shown items.now))) }
 {
     let linux = required_value(alloc, items, "--linux")?;
+    let lists = two_lists(alloc, items, "--bank", "--phase")?;
     let files = file_parts(alloc, items)?;
     let parts = plain_parts(alloc, items, "--dtb", "--ucode")?;
-    let lists = two_lists(alloc, items, "--bank", "--phase")?;
     Ok(Command::Calculate(calculation_of(linux, files, parts, lists)))
 }
 
