@@ -2,39 +2,78 @@
 use boot_base::PathFault;
 use boot_machine::{DiskFault, NamesFault};
 use install_steps::RecoverFault;
-use std::alloc::AllocError;
+use std::alloc::{AllocError, AllocFailed};
 use std::io;
-use thiserror::Error;
 use tool_words::LineFault;
 
-#[derive(Debug, Drop, Error)]
+#[derive(Clone, Copy, Debug)]
 pub(crate) enum StoryFault {
-    #[error("a line isn't understood")]
+    /// A line isn't understood.
     Unclear,
-    #[error("out of memory")]
-    Memory(#[from(alloc)] AllocError),
-    #[error("{0}")]
-    Path(#[from] PathFault),
-    #[error("{0}")]
-    Words(#[from] LineFault),
-    #[error("a file isn't written: {0:?}")]
-    Recovery(#[from] RecoverFault),
-    #[error("a file isn't read or written")]
-    Disk(#[from] DiskFault),
-    #[error("a folder isn't read: {0:?}")]
-    Names(#[from] NamesFault),
-    #[error("{0}")]
-    Io(#[from] io::Error),
+    /// There is no memory.
+    Memory,
+    /// A file isn't read or written, or a folder isn't read.
+    Disk,
+    /// Standard input isn't read, or standard output isn't written.
+    Pipe,
 }
 
-impl StoryFault {
-    // Whether the line of the story is at fault.
-    pub(crate) fn is_unclear(&self) -> bool {
-        matches!(
-            self,
-            StoryFault::Unclear
-                | StoryFault::Path(PathFault::BadPath)
-                | StoryFault::Words(LineFault::OpenQuote)
-        )
+impl From<AllocError> for StoryFault {
+    fn from(_: AllocError) -> Self {
+        StoryFault::Memory
+    }
+}
+
+impl<T: Drop> From<AllocFailed<T>> for StoryFault {
+    fn from(_: AllocFailed<T>) -> Self {
+        StoryFault::Memory
+    }
+}
+
+impl From<PathFault> for StoryFault {
+    fn from(fault: PathFault) -> Self {
+        match fault {
+            PathFault::Memory => StoryFault::Memory,
+            PathFault::BadPath => StoryFault::Unclear,
+        }
+    }
+}
+
+impl From<LineFault> for StoryFault {
+    fn from(fault: LineFault) -> Self {
+        match fault {
+            LineFault::Memory => StoryFault::Memory,
+            LineFault::OpenQuote => StoryFault::Unclear,
+        }
+    }
+}
+
+impl From<RecoverFault> for StoryFault {
+    fn from(fault: RecoverFault) -> Self {
+        match fault {
+            RecoverFault::Memory => StoryFault::Memory,
+            RecoverFault::Disk => StoryFault::Disk,
+        }
+    }
+}
+
+impl From<NamesFault> for StoryFault {
+    fn from(fault: NamesFault) -> Self {
+        match fault {
+            NamesFault::Memory => StoryFault::Memory,
+            NamesFault::Disk => StoryFault::Disk,
+        }
+    }
+}
+
+impl From<DiskFault> for StoryFault {
+    fn from(_: DiskFault) -> Self {
+        StoryFault::Disk
+    }
+}
+
+impl From<io::Error> for StoryFault {
+    fn from(_: io::Error) -> Self {
+        StoryFault::Pipe
     }
 }

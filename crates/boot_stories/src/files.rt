@@ -1,9 +1,13 @@
 //! The files of a machine, read, written and told.
+ghost use Rattle.std.specs.Prelude.{◌≡◌, IfOk};
+ghost use Rattle.boot_base.specs.Paths.{IsFree, intent as intent_path};
+
 use crate::contents::content_text;
 use crate::fault::StoryFault;
+use crate::replies::{or_none, push_line};
 use crate::samples::Sample;
 use boot_base::{BootPath, Target, TempPath, ends_as_temp};
-use boot_machine::Machine;
+use boot_machine::{DiskFault, Machine};
 use install_steps::{put_in_place, recover, settle, write_bytes};
 use memory_machine::MemMachine;
 use std::alloc::{AllocError, Global};
@@ -17,9 +21,35 @@ pub(crate) const CALLS_OF_PUT_INTENT: u64 = 6;
 /// How many calls of the machine `leave` makes.
 pub(crate) const CALLS_OF_LEAVE: u64 = 2;
 
-fn intent_target(alloc: Global) -> Result<Target, AllocError> {
-    let path = BootPath::intent(alloc)?;
-    Target::of(alloc, path)
+// Where the intent of a rename stands.
+fn intent_target(alloc: Global) -> Result<Target, AllocError>
+    ensures { IfOk result (λ target. target.path ≡ intent_path) }
+{
+    Target::of(alloc, BootPath::intent(alloc)?)
+}
+
+// Where the file at a path is to stand.
+fn target(alloc: Global, path: &str) -> Result<Target, StoryFault>
+    ensures { IfOk result (λ target. IsFree target.path) }
+{
+    let path = BootPath::read(alloc, path)?;
+    Ok(Target::of(alloc, path)?)
+}
+
+// Writes a file at the target, after what a stop has left is finished.
+fn write_at(
+    alloc: Global,
+    machine: &mut MemMachine,
+    intent: &Target,
+    target: &Target,
+    bytes: &[u8],
+) -> Result<(), StoryFault>
+    requires at_intent { intent.now.path ≡ intent_path }
+    requires free { IsFree target.now.path }
+{
+    recover(alloc, machine, intent)?;
+    write_bytes(machine, target, bytes)?;
+    Ok(())
 }
 
 /// Writes a file, after what a stop has left is finished.
@@ -29,11 +59,21 @@ pub(crate) fn put(
     path: &str,
     bytes: &[u8],
 ) -> Result<(), StoryFault> {
-    let target = Target::of(alloc, BootPath::read(alloc, path)?)?;
-    let intent = Target::of(alloc, BootPath::intent(alloc)?)?;
-    recover(alloc, machine, &intent)?;
-    write_bytes(machine, &target, bytes)?;
-    Ok(())
+    let target = target(alloc, path)?;
+    let intent = intent_target(alloc)?;
+    write_at(alloc, machine, &intent, &target, bytes)
+}
+
+// Writes a file at the target, whatever its path.
+fn write_anywhere(
+    machine: &mut MemMachine,
+    target: &Target,
+    bytes: &[u8],
+) -> Result<(), DiskFault> {
+    settle(machine)?;
+    machine.create(&target.temp)?;
+    machine.append(&target.temp, bytes)?;
+    put_in_place(machine, target)
 }
 
 /// Writes the intent of a rename.
@@ -42,19 +82,14 @@ pub(crate) fn put_intent(
     machine: &mut MemMachine,
     bytes: &[u8],
 ) -> Result<(), StoryFault> {
-    let target = intent_target(alloc)?;
-    settle(machine)?;
-    machine.create(&target.temp)?;
-    machine.append(&target.temp, bytes)?;
-    put_in_place(machine, &target)?;
+    write_anywhere(machine, &intent_target(alloc)?, bytes)?;
     Ok(())
 }
 
 /// Makes a temporary file, and leaves it.
-pub(crate) fn leave(machine: &mut MemMachine, path: &TempPath) -> Result<(), StoryFault> {
+pub(crate) fn leave(machine: &mut MemMachine, path: &TempPath) -> Result<(), DiskFault> {
     settle(machine)?;
-    machine.create(path)?;
-    Ok(())
+    machine.create(path)
 }
 
 /// The bytes of the file at a path, if it is there.
@@ -71,22 +106,57 @@ pub(crate) fn bytes_at(
     Ok(Some(bytes))
 }
 
+/// The same, where the path is a text.
+pub(crate) fn bytes_of(
+    alloc: Global,
+    machine: &mut MemMachine,
+    path: &str,
+) -> Result<Option<Vec<u8>>, StoryFault> {
+    let path = BootPath::read(alloc, path)?;
+    bytes_at(alloc, machine, &path)
+}
+
 /// The names of the files directly in a folder, in order.
 pub(crate) fn names_in(
     alloc: Global,
     machine: &mut MemMachine,
     folder: &BootPath,
 ) -> Result<Vec<String>, StoryFault> {
+    let found = machine.names(alloc, folder)?;
     let mut names = Vec::new(alloc);
-    for name in machine.names(alloc, folder)? {
+    for name in &found {
         names.push(String::from_str(alloc, name.as_str())?)?;
     }
     names.sort()?;
     Ok(names)
 }
 
-/// A name, and what its file has. Of a temporary file the name alone is told.
+// What the file at a path has, or an empty one where it isn't there.
+fn content_at(
+    alloc: Global,
+    machine: &mut MemMachine,
+    samples: &[Sample],
+    path: &BootPath,
+) -> Result<String, StoryFault> {
+    let bytes = bytes_at(alloc, machine, path)?.unwrap_or(Vec::new(alloc));
+    Ok(content_text(alloc, samples, bytes.as_slice())?)
+}
+
+/// A name, and what its file has.
 pub(crate) fn file_text(
+    alloc: Global,
+    machine: &mut MemMachine,
+    samples: &[Sample],
+    folder: &BootPath,
+    name: &str,
+) -> Result<String, StoryFault> {
+    let path = BootPath::under(alloc, folder, name)?;
+    let content = content_at(alloc, machine, samples, &path)?;
+    Ok(format!(in alloc; "{name} {content}")?)
+}
+
+// The same, but of a temporary file the name alone.
+fn text_in_folder(
     alloc: Global,
     machine: &mut MemMachine,
     samples: &[Sample],
@@ -96,10 +166,23 @@ pub(crate) fn file_text(
     if ends_as_temp(name) {
         return Ok(String::from_str(alloc, name)?);
     }
-    let path = BootPath::under(alloc, folder, name)?;
-    let bytes = bytes_at(alloc, machine, &path)?.unwrap_or(Vec::new(alloc));
-    let content = content_text(alloc, samples, bytes.as_slice())?;
-    Ok(format!(in alloc; "{name} {content}")?)
+    file_text(alloc, machine, samples, folder, name)
+}
+
+// The lines of the files directly in a folder.
+fn lines_in(
+    alloc: Global,
+    machine: &mut MemMachine,
+    samples: &[Sample],
+    folder: &BootPath,
+) -> Result<String, StoryFault> {
+    let names = names_in(alloc, machine, folder)?;
+    let mut text = String::new(alloc);
+    for name in &names {
+        let file = text_in_folder(alloc, machine, samples, folder, name.as_str())?;
+        push_line(&mut text, file.as_str())?;
+    }
+    Ok(text)
 }
 
 /// The files directly in a folder, one line for each.
@@ -110,14 +193,6 @@ pub(crate) fn folder_text(
     folder: &str,
 ) -> Result<String, StoryFault> {
     let folder = BootPath::read(alloc, folder)?;
-    let mut text = String::new(alloc);
-    for name in names_in(alloc, machine, &folder)? {
-        let file = file_text(alloc, machine, samples, &folder, name.as_str())?;
-        text.push_str(file.as_str())?;
-        text.push_str("\n")?;
-    }
-    if text.is_empty() {
-        text.push_str("none\n")?;
-    }
-    Ok(text)
+    let text = lines_in(alloc, machine, samples, &folder)?;
+    Ok(or_none(text)?)
 }

@@ -11,14 +11,6 @@ pub(crate) struct Known {
 }
 
 impl Known {
-    /// No file at all.
-    pub(crate) fn new(alloc: Global) -> Known {
-        Known {
-            samples: Vec::new(alloc),
-            paths: Vec::new(alloc),
-        }
-    }
-
     /// Takes these for the files that the story begins with.
     pub(crate) fn set_samples(&mut self, samples: Vec<Sample>) {
         self.samples = samples;
@@ -26,8 +18,9 @@ impl Known {
 
     /// Adds a path that isn't among them.
     pub(crate) fn add(&mut self, alloc: Global, path: &str) -> Result<(), AllocError> {
-        if !self.paths.iter().any(|other| other.as_str() == path) {
-            self.paths.push(String::from_str(alloc, path)?)?;
+        let path = String::from_str(alloc, path)?;
+        if !self.paths.contains(&path) {
+            self.paths.push(path)?;
         }
         Ok(())
     }

@@ -1,12 +1,12 @@
 //! All files that a machine has.
 use crate::contents::content_text;
 use crate::fault::StoryFault;
-use crate::files::{bytes_at, file_text, names_in};
+use crate::files::{bytes_at, bytes_of, file_text, names_in};
 use crate::known::Known;
 use crate::samples::{Sample, sample_of};
 use boot_base::{BootPath, ends_as_temp};
 use memory_machine::MemMachine;
-use std::alloc::Global;
+use std::alloc::{AllocError, Global};
 
 /// The folders of boot entries, and that of the boot loader's settings.
 pub(crate) const FOLDERS: [&str; 3] = ["efi/loader/entries", "efi/EFI/Linux", "efi/loader"];
@@ -35,13 +35,13 @@ fn add_folder(
     alloc: Global,
     machine: &mut MemMachine,
     samples: &[Sample],
-    folder: &str,
+    folder: &BootPath,
     told: &mut Told,
 ) -> Result<(), StoryFault> {
-    let folder = BootPath::read(alloc, folder)?;
-    for name in names_in(alloc, machine, &folder)? {
+    let names = names_in(alloc, machine, folder)?;
+    for name in &names {
         if !ends_as_temp(name.as_str()) {
-            told.add(file_text(alloc, machine, samples, &folder, name.as_str())?)?;
+            told.add(file_text(alloc, machine, samples, folder, name.as_str())?)?;
         }
     }
     Ok(())
@@ -55,7 +55,25 @@ fn is_in_folder(path: &str) -> bool {
     }
 }
 
-// Adds the file at a path, unless it is the sample of that path.
+// Adds a file with these bytes, unless it is the sample of its path.
+fn add_content(
+    alloc: Global,
+    samples: &[Sample],
+    path: &str,
+    bytes: &[u8],
+    told: &mut Told,
+) -> Result<(), StoryFault> {
+    match sample_of(samples, bytes) {
+        Some(sample) if sample == path => told.count_one(),
+        _ => {
+            let content = content_text(alloc, samples, bytes)?;
+            told.add(format!(in alloc; "/{path} {content}")?)?;
+        }
+    }
+    Ok(())
+}
+
+// Adds the file at a path, or that it is gone.
 fn add_file(
     alloc: Global,
     machine: &mut MemMachine,
@@ -63,18 +81,10 @@ fn add_file(
     path: &str,
     told: &mut Told,
 ) -> Result<(), StoryFault> {
-    let Some(bytes) = bytes_at(alloc, machine, &BootPath::read(alloc, path)?)? else {
-        told.texts.push(format!(in alloc; "/{path} is gone")?)?;
-        return Ok(());
-    };
-    match sample_of(samples, bytes.as_slice()) {
-        Some(sample) if sample == path => told.count_one(),
-        _ => {
-            let content = content_text(alloc, samples, bytes.as_slice())?;
-            told.add(format!(in alloc; "/{path} {content}")?)?;
-        }
+    match bytes_of(alloc, machine, path)? {
+        Some(bytes) => add_content(alloc, samples, path, bytes.as_slice(), told),
+        None => Ok(told.texts.push(format!(in alloc; "/{path} is gone")?)?),
     }
-    Ok(())
 }
 
 // Adds the files elsewhere that the story knows of.
@@ -98,44 +108,44 @@ fn add_files(
     Ok(())
 }
 
-// The intent of a rename, if it is there.
+// The intent of a rename, or an empty text where it isn't there.
 fn intent_text(
     alloc: Global,
     machine: &mut MemMachine,
-    known: &Known,
-) -> Result<Option<String>, StoryFault> {
-    match bytes_at(alloc, machine, &BootPath::intent(alloc)?)? {
-        Some(bytes) => {
-            let content = content_text(alloc, known.samples.as_slice(), bytes.as_slice())?;
-            Ok(Some(format!(in alloc; ", with the intent {content}")?))
-        }
-        None => Ok(None),
-    }
+    samples: &[Sample],
+) -> Result<String, StoryFault> {
+    let path = BootPath::intent(alloc)?;
+    let Some(bytes) = bytes_at(alloc, machine, &path)? else {
+        return Ok(String::new(alloc));
+    };
+    let content = content_text(alloc, samples, bytes.as_slice())?;
+    Ok(format!(in alloc; ", with the intent {content}")?)
 }
 
-// All files but temporary ones, samples in their own place, and the intent, parted by `; `.
-fn files_text(
+// Tells of all files but temporary ones, samples in their own place, and the intent.
+fn tell_files(
     alloc: Global,
     machine: &mut MemMachine,
     known: &Known,
-    intents: u64,
-) -> Result<String, StoryFault> {
-    let mut told = Told {
-        texts: Vec::new(alloc),
-        count: intents,
-    };
+    told: &mut Told,
+) -> Result<(), StoryFault> {
     for folder in FOLDERS {
-        add_folder(alloc, machine, known.samples.as_slice(), folder, &mut told)?;
+        let folder = BootPath::read(alloc, folder)?;
+        add_folder(alloc, machine, known.samples.as_slice(), &folder, told)?;
     }
-    add_files(alloc, machine, known, &mut told)?;
-    let more = machine.view_files().saturating_sub(told.count);
+    add_files(alloc, machine, known, told)
+}
+
+// The texts, and how many of the files have none, parted by `; `.
+fn join_texts(alloc: Global, told: &mut Told, files: u64) -> Result<String, AllocError> {
+    let more = files.saturating_sub(told.count);
     if more > 0 {
         told.texts.push(format!(in alloc; "{more} more")?)?;
     }
     if told.texts.is_empty() {
-        told.texts.push(String::from_str(alloc, "none")?)?;
+        return String::from_str(alloc, "none");
     }
-    Ok(told.texts.as_slice().join(alloc, "; ")?)
+    told.texts.as_slice().join(alloc, "; ")
 }
 
 /// All files but temporary ones and samples in their own place, and the intent of a rename.
@@ -144,11 +154,12 @@ pub(crate) fn left_text(
     machine: &mut MemMachine,
     known: &Known,
 ) -> Result<String, StoryFault> {
-    match intent_text(alloc, machine, known)? {
-        Some(intent) => {
-            let files = files_text(alloc, machine, known, 1)?;
-            Ok(format!(in alloc; "{files}{intent}")?)
-        }
-        None => files_text(alloc, machine, known, 0),
-    }
+    let intent = intent_text(alloc, machine, known.samples.as_slice())?;
+    let mut told = Told {
+        texts: Vec::new(alloc),
+        count: u64::from(!intent.is_empty()),
+    };
+    tell_files(alloc, machine, known, &mut told)?;
+    let files = join_texts(alloc, &mut told, machine.view_files())?;
+    Ok(format!(in alloc; "{files}{intent}")?)
 }

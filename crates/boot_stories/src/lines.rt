@@ -9,7 +9,10 @@ pub(crate) fn split_at_space(text: &str) -> Result<(&str, &str), StoryFault> {
 
 /// The same, where the second part may be missing.
 pub(crate) fn parted_or_whole(text: &str) -> (&str, &str) {
-    text.split_once(' ').unwrap_or((text, ""))
+    match text.split_once(' ') {
+        Some(parts) => parts,
+        None => (text, ""),
+    }
 }
 
 pub(crate) fn number(text: &str) -> Result<u64, StoryFault> {
@@ -19,20 +22,25 @@ pub(crate) fn number(text: &str) -> Result<u64, StoryFault> {
     }
 }
 
-// The byte that stands behind a backslash, and the text behind it.
-fn read_escape(text: &str) -> Result<(u8, &str), StoryFault> {
-    if let Some(rest) = text.strip_prefix('n') {
-        return Ok((b'\n', rest));
-    }
-    let Some((digits, rest)) = text
-        .strip_prefix('x')
-        .and_then(|number| number.split_at_checked(2))
-    else {
+// The byte of two hexadecimal digits, and the text behind them.
+fn read_digits(text: &str) -> Result<(u8, &str), StoryFault> {
+    let Some((digits, rest)) = text.split_at_checked(2) else {
         return Err(StoryFault::Unclear);
     };
     match u8::from_str_radix(digits, 16) {
         Ok(byte) => Ok((byte, rest)),
         Err(_) => Err(StoryFault::Unclear),
+    }
+}
+
+// The byte that stands behind a backslash, and the text behind it.
+fn read_escape(text: &str) -> Result<(u8, &str), StoryFault> {
+    if let Some(rest) = text.strip_prefix('n') {
+        return Ok((b'\n', rest));
+    }
+    match text.strip_prefix('x') {
+        Some(digits) => read_digits(digits),
+        None => Err(StoryFault::Unclear),
     }
 }
 

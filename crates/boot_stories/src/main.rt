@@ -38,14 +38,13 @@
 
 mod contents;
 mod fault;
-mod faults;
 mod files;
 mod known;
 mod left;
 mod lines;
+mod outcomes;
 mod replies;
 mod samples;
-mod stops;
 mod story;
 mod tell;
 mod writes;

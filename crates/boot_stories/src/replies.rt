@@ -1,7 +1,25 @@
 //! What a run has printed, and how it ended.
-use boot_machine::{Channel, Printed};
-use memory_machine::ReadSeen;
+use boot_machine::{Channel, Machine, Printed};
+use boot_run::run;
+use memory_machine::{MemMachine, ReadSeen};
 use std::alloc::{AllocError, Global};
+
+/// Runs the program on these words, and says its status.
+pub(crate) fn status_of<M: Machine>(alloc: Global, words: &Vec<String>, machine: &mut M) -> u8 {
+    run(alloc, words, machine)
+}
+
+/// Runs the program on these words: what it prints, and its status.
+pub(crate) fn answer<'a>(
+    alloc: Global,
+    words: &Vec<String>,
+    machine: &'a mut MemMachine,
+) -> (&'a [Printed], u8) {
+    let before = machine.printed_bytes().len();
+    let status = status_of(alloc, words, machine);
+    let printed = machine.printed_bytes();
+    (&printed[before.min(printed.len())..], status)
+}
 
 /// Adds a printed byte to a text. A newline and printable ASCII stand for themselves, but that a backslash is written
 /// twice; every other byte is `\x` with two digits.
@@ -62,8 +80,14 @@ pub(crate) fn acknowledged_lines(alloc: Global, printed: &[Printed]) -> Result<u
     Ok(count)
 }
 
-// The text, or that there is none.
-fn or_none(text: String) -> Result<String, AllocError> {
+/// Adds a line to a text.
+pub(crate) fn push_line(text: &mut String, line: &str) -> Result<(), AllocError> {
+    text.push_str(line)?;
+    text.push_str("\n")
+}
+
+/// The text, or that there is none.
+pub(crate) fn or_none(text: String) -> Result<String, AllocError> {
     let mut told = text;
     if told.is_empty() {
         told.push_str("none\n")?;
@@ -77,8 +101,7 @@ pub(crate) fn sources_text(alloc: Global, printed: &[Printed]) -> Result<String,
     let mut text = String::new(alloc);
     for line in list.as_str().lines() {
         if let Some(source) = line.strip_prefix("      source: ") {
-            text.push_str(source)?;
-            text.push_str("\n")?;
+            push_line(&mut text, source)?;
         }
     }
     or_none(text)

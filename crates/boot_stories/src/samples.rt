@@ -1,10 +1,156 @@
 //! The files that a story begins with.
 use crate::fault::StoryFault;
 use sample_images::{DATA, Field, OSREL_TEXT, SBAT_TEXT, SampleImage, Section};
-use std::alloc::{AllocError, Global};
+use std::alloc::Global;
 
 /// A file by its path.
 pub(crate) type Sample = (&'static str, SampleImage);
+
+// What a sample is made of.
+#[derive(Clone, Copy)]
+enum Base {
+    // These bytes, which aren't an image.
+    Plain(&'static [u8]),
+    Stub,
+    StubWithSbat,
+    StubWithOsrel,
+    SignedStub,
+    UsualStub,
+    KernelImage,
+    // An image with a section of this name and this text beside its kernel.
+    ImageOfTwo(&'static str, &'static str),
+    // An image with a titled text behind its kernel.
+    TitledImage,
+}
+
+// How a sample differs from what it is made of.
+#[derive(Clone, Copy)]
+enum Change {
+    Set(Field, u32),
+    Put(usize, &'static [u8]),
+    NameFirstSection(&'static [u8]),
+    Cut(usize),
+}
+
+type Row = (&'static str, Base, &'static [Change]);
+
+// A kernel, a stub and an image of both; and images that are entries, or aren't for want of a title.
+static ENTRIES: [Row; 6] = [
+    ("k", Base::Plain(b"abc"), &[]),
+    ("stub", Base::Stub, &[]),
+    ("u.efi", Base::ImageOfTwo(".osrel", OSREL_TEXT), &[]),
+    (
+        "v.efi",
+        Base::ImageOfTwo(".osrel", "ID=demo\nPRETTY_NAME=\"Next\"\n"),
+        &[],
+    ),
+    ("out.efi", Base::KernelImage, &[]),
+    ("untitled.efi", Base::ImageOfTwo(".osrel", "ID=\n"), &[]),
+];
+
+// What images are built of: plain files, and then stubs, or files that can't be one. Whole images, and files that are
+// none for want of a number or a byte. Images of which as many bytes are loaded as may be, or one more, or none of the
+// kernel.
+static PARTS: [Row; 37] = [
+    ("k", Base::Plain(b"abc"), &[]),
+    ("e", Base::Plain(b""), &[]),
+    ("osr", Base::Plain(b"ID=demo\nPRETTY_NAME=\"Demo\"\n"), &[]),
+    ("c", Base::Plain(b"quiet"), &[]),
+    ("c2", Base::Plain(b"  a\tb \n"), &[]),
+    ("i", Base::Plain(b"i"), &[]),
+    ("a", Base::Plain(b"aaaaa"), &[]),
+    ("b", Base::Plain(b"bbb"), &[]),
+    ("w", Base::Plain(b"w"), &[]),
+    ("d", Base::Plain(b"d"), &[]),
+    ("v", Base::Plain(b"6.8"), &[]),
+    ("s", Base::Plain(b"s"), &[]),
+    (
+        "t",
+        Base::Plain(
+            b"sbat,1,SBAT Version,sbat,1,https://github.com/rhboot/shim/blob/main/SBAT.md\nlocal,1,Local,local,1,https://example.org/\n",
+        ),
+        &[],
+    ),
+    ("p", Base::Plain(b"p"), &[]),
+    ("sig", Base::Plain(b"1234567"), &[]),
+    ("stub", Base::Stub, &[]),
+    ("s2", Base::StubWithSbat, &[]),
+    (
+        "s280",
+        Base::StubWithSbat,
+        &[Change::Set(Field::SizeOfHeaders, 280)],
+    ),
+    (
+        "kernel.efi",
+        Base::StubWithSbat,
+        &[
+            Change::Set(Field::VirtualSize(1), 18),
+            Change::Put(1024, b"sbat,1\nkernel,1,K\n\0"),
+        ],
+    ),
+    ("osrelstub", Base::StubWithOsrel, &[]),
+    (
+        "head288",
+        Base::Stub,
+        &[Change::Set(Field::SizeOfHeaders, 288)],
+    ),
+    (
+        "head240",
+        Base::Stub,
+        &[Change::Set(Field::SizeOfHeaders, 240)],
+    ),
+    // a section at the end of the address space
+    (
+        "high",
+        Base::Stub,
+        &[Change::Set(Field::VirtualAddress(0), 0xFFFF_E000)],
+    ),
+    (
+        "high240",
+        Base::Stub,
+        &[
+            Change::Set(Field::VirtualAddress(0), 0xFFFF_E000),
+            Change::Set(Field::SizeOfHeaders, 240),
+        ],
+    ),
+    ("signed", Base::SignedStub, &[]),
+    (
+        "signedcut",
+        Base::SignedStub,
+        &[Change::Set(Field::SizeOfRawData(0), 1024)],
+    ),
+    ("usual", Base::UsualStub, &[]),
+    (
+        "odd",
+        Base::Stub,
+        &[Change::NameFirstSection(b"a\x7f \xff\0")],
+    ),
+    ("pe32", Base::Stub, &[Change::Set(Field::Magic, 0x10B)]),
+    ("image.efi", Base::KernelImage, &[]),
+    ("cut.efi", Base::KernelImage, &[Change::Cut(1535)]),
+    ("u.efi", Base::ImageOfTwo(".osrel", OSREL_TEXT), &[]),
+    ("sig.efi", Base::ImageOfTwo(".pcrsig", "1234567"), &[]),
+    (
+        "empty.efi",
+        Base::ImageOfTwo(".osrel", OSREL_TEXT),
+        &[Change::Set(Field::VirtualSize(2), 0)],
+    ),
+    (
+        "fitting.efi",
+        Base::TitledImage,
+        &[Change::Set(Field::VirtualSize(2), 65_536)],
+    ),
+    (
+        "overlong.efi",
+        Base::TitledImage,
+        &[Change::Set(Field::VirtualSize(2), 65_537)],
+    ),
+    (
+        "bare.efi",
+        Base::TitledImage,
+        &[Change::Set(Field::VirtualSize(1), 0)],
+    ),
+];
 
 // A file of these bytes, which isn't an image.
 fn plain_file(bytes: &[u8]) -> SampleImage {
@@ -14,123 +160,54 @@ fn plain_file(bytes: &[u8]) -> SampleImage {
     file
 }
 
-// A kernel, a stub and an image of both; and images that are entries, or aren't for want of a title.
-fn entries() -> [Sample; 6] {
-    [
-        ("k", plain_file(b"abc")),
-        ("stub", SampleImage::stub()),
-        (
-            "u.efi",
-            SampleImage::image_of_two(b".osrel", OSREL_TEXT.as_bytes()),
-        ),
-        (
-            "v.efi",
-            SampleImage::image_of_two(b".osrel", b"ID=demo\nPRETTY_NAME=\"Next\"\n"),
-        ),
-        ("out.efi", SampleImage::kernel_image()),
-        (
-            "untitled.efi",
-            SampleImage::image_of_two(b".osrel", b"ID=\n"),
-        ),
-    ]
-}
-
-// What images are built of, beside stubs.
-const PARTS: [(&str, &[u8]); 15] = [
-    ("k", b"abc"),
-    ("e", b""),
-    ("osr", b"ID=demo\nPRETTY_NAME=\"Demo\"\n"),
-    ("c", b"quiet"),
-    ("c2", b"  a\tb \n"),
-    ("i", b"i"),
-    ("a", b"aaaaa"),
-    ("b", b"bbb"),
-    ("w", b"w"),
-    ("d", b"d"),
-    ("v", b"6.8"),
-    ("s", b"s"),
-    (
-        "t",
-        b"sbat,1,SBAT Version,sbat,1,https://github.com/rhboot/shim/blob/main/SBAT.md\nlocal,1,Local,local,1,https://example.org/\n",
-    ),
-    ("p", b"p"),
-    ("sig", b"1234567"),
-];
-
-// Stubs that images are built on, or can't be.
-fn stubs() -> [Sample; 12] {
-    let stub = SampleImage::stub();
-    let with_sbat = SampleImage::stub_with_sbat(SBAT_TEXT.as_bytes());
-    let mut kernel = with_sbat.with(Field::VirtualSize(1), 18);
-    kernel.put(1024, b"sbat,1\nkernel,1,K\n\0");
-    // a section at the end of the address space
-    let high = stub.with(Field::VirtualAddress(0), 0xFFFF_E000);
-    let signed = SampleImage::signed_stub();
-    [
-        ("stub", stub),
-        ("s2", with_sbat),
-        ("s280", with_sbat.with(Field::SizeOfHeaders, 280)),
-        ("kernel.efi", kernel),
-        (
-            "osrelstub",
-            SampleImage::stub_with(b".osrel", 600, b"ID=stub\n"),
-        ),
-        ("head288", stub.with(Field::SizeOfHeaders, 288)),
-        ("head240", stub.with(Field::SizeOfHeaders, 240)),
-        ("high", high),
-        ("high240", high.with(Field::SizeOfHeaders, 240)),
-        ("signed", signed),
-        ("signedcut", signed.with(Field::SizeOfRawData(0), 1024)),
-        ("usual", SampleImage::usual_stub()),
-    ]
-}
-
-// Whole images, and files that are none for want of a number or a byte.
-fn images() -> [Sample; 7] {
-    let mut odd = SampleImage::stub();
-    odd.set_name(0, b"a\x7f \xff\0");
-    let whole = SampleImage::kernel_image();
-    let unified = SampleImage::image_of_two(b".osrel", OSREL_TEXT.as_bytes());
-    [
-        ("odd", odd),
-        ("pe32", SampleImage::stub().with(Field::Magic, 0x10B)),
-        ("image.efi", whole),
-        ("cut.efi", plain_file(whole.front(1535))),
-        ("u.efi", unified),
-        ("sig.efi", SampleImage::image_of_two(b".pcrsig", b"1234567")),
-        ("empty.efi", unified.with(Field::VirtualSize(2), 0)),
-    ]
-}
-
-// Images with a titled text behind the kernel: as many bytes of it are loaded as may be, or one more, or none of the
-// kernel.
-fn titled_samples() -> [Sample; 3] {
-    let image = image_of(b"PRETTY_NAME=A\n");
-    [
-        ("fitting.efi", image.with(Field::VirtualSize(2), 65_536)),
-        ("overlong.efi", image.with(Field::VirtualSize(2), 65_537)),
-        ("bare.efi", image.with(Field::VirtualSize(1), 0)),
-    ]
-}
-
-fn parts(alloc: Global) -> Result<Vec<Sample>, AllocError> {
-    let mut samples = Vec::new(alloc);
-    for (path, bytes) in PARTS {
-        samples.push((path, plain_file(bytes)))?;
+fn image_by(base: Base) -> SampleImage {
+    match base {
+        Base::Plain(bytes) => plain_file(bytes),
+        Base::Stub => SampleImage::stub(),
+        Base::StubWithSbat => SampleImage::stub_with_sbat(SBAT_TEXT.as_bytes()),
+        Base::StubWithOsrel => SampleImage::stub_with(b".osrel", 600, b"ID=stub\n"),
+        Base::SignedStub => SampleImage::signed_stub(),
+        Base::UsualStub => SampleImage::usual_stub(),
+        Base::KernelImage => SampleImage::kernel_image(),
+        Base::ImageOfTwo(name, text) => {
+            SampleImage::image_of_two(name.as_bytes(), text.as_bytes())
+        }
+        Base::TitledImage => image_of(b"PRETTY_NAME=A\n"),
     }
-    samples.extend_from_slice(&stubs())?;
-    samples.extend_from_slice(&images())?;
-    samples.extend_from_slice(&titled_samples())?;
-    Ok(samples)
+}
+
+fn make_change(image: &mut SampleImage, change: Change) {
+    match change {
+        Change::Set(field, value) => image.set(field, value),
+        Change::Put(place, bytes) => image.put(place, bytes),
+        Change::NameFirstSection(name) => image.set_name(0, name),
+        Change::Cut(length) => image.resize(length),
+    }
+}
+
+fn image_with(base: Base, changes: &[Change]) -> SampleImage {
+    let mut image = image_by(base);
+    for change in changes {
+        make_change(&mut image, *change);
+    }
+    image
+}
+
+fn rows_of(set: &str) -> Result<&'static [Row], StoryFault> {
+    match set {
+        "" => Ok(&ENTRIES),
+        "parts" => Ok(&PARTS),
+        _ => Err(StoryFault::Unclear),
+    }
 }
 
 /// The samples of the set of that name.
 pub(crate) fn samples(alloc: Global, set: &str) -> Result<Vec<Sample>, StoryFault> {
-    match set {
-        "" => Ok(entries().to_vec(alloc)?),
-        "parts" => Ok(parts(alloc)?),
-        _ => Err(StoryFault::Unclear),
+    let mut samples = Vec::new(alloc);
+    for (path, base, changes) in rows_of(set)? {
+        samples.push((*path, image_with(*base, changes)))?;
     }
+    Ok(samples)
 }
 
 /// An image with this os-release text behind its kernel.

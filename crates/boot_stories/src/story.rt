@@ -1,34 +1,34 @@
 //! The machine of a story.
 use crate::fault::StoryFault;
 use crate::files::{
-    CALLS_OF_LEAVE, CALLS_OF_PUT, CALLS_OF_PUT_INTENT, bytes_at, leave, names_in, put, put_intent,
+    CALLS_OF_LEAVE, CALLS_OF_PUT, CALLS_OF_PUT_INTENT, bytes_at, bytes_of, leave, names_in, put,
+    put_intent,
 };
 use crate::known::Known;
 use crate::left::FOLDERS;
+use crate::replies::answer;
 use crate::samples::samples;
 use boot_base::{BootPath, TempPath, ends_as_temp};
 use boot_machine::{Machine, Printed};
-use boot_run::run;
 use memory_machine::{FailMode, MemMachine, ReadSeen};
 use std::alloc::{AllocError, Global};
+use std::mem;
 
 #[derive(Drop)]
 pub(crate) struct Story {
     pub(crate) machine: MemMachine,
     pub(crate) known: Known,
-    /// How many of the printed bytes are told.
-    told: usize,
     /// How many of the reads were made before the last run.
     read: usize,
     /// The standard input of the next run.
     pub(crate) input: Vec<u8>,
-    /// The words of the run that is stopped, or of which one call fails.
-    pub(crate) stopped: String,
-    /// Whether one call of that run fails.
+    /// The words of the run that is looked at.
+    pub(crate) looked_at: String,
+    /// Whether one call of that run fails. Otherwise it is stopped.
     pub(crate) is_faulty: bool,
 }
 
-pub(crate) fn new_machine(alloc: Global) -> Result<MemMachine, AllocError> {
+fn new_machine(alloc: Global) -> Result<MemMachine, AllocError> {
     MemMachine::new(alloc, Vec::new(alloc))
 }
 
@@ -36,13 +36,13 @@ pub(crate) fn new_machine(alloc: Global) -> Result<MemMachine, AllocError> {
 fn add_folder(
     alloc: Global,
     machine: &mut MemMachine,
-    folder: &str,
+    folder: &BootPath,
     known: &mut Known,
 ) -> Result<(), StoryFault> {
-    let folder = BootPath::read(alloc, folder)?;
-    for name in names_in(alloc, machine, &folder)? {
+    let names = names_in(alloc, machine, folder)?;
+    for name in &names {
         if !ends_as_temp(name.as_str()) {
-            let path = BootPath::under(alloc, &folder, name.as_str())?;
+            let path = BootPath::under(alloc, folder, name.as_str())?;
             known.add(alloc, path.as_str())?;
         }
     }
@@ -54,11 +54,13 @@ impl Story {
     pub(crate) fn new(alloc: Global) -> Result<Story, AllocError> {
         Ok(Story {
             machine: new_machine(alloc)?,
-            known: Known::new(alloc),
-            told: 0,
+            known: Known {
+                samples: Vec::new(alloc),
+                paths: Vec::new(alloc),
+            },
             read: 0,
             input: Vec::new(alloc),
-            stopped: String::new(alloc),
+            looked_at: String::new(alloc),
             is_faulty: false,
         })
     }
@@ -85,31 +87,22 @@ impl Story {
         Ok(())
     }
 
-    /// Runs the program, and says its status.
-    pub(crate) fn run(&mut self, alloc: Global, words: &Vec<String>) -> Result<u8, AllocError> {
-        self.machine.set_input(self.input.as_slice().to_vec(alloc)?);
-        self.input.clear();
+    /// Runs the program: what it prints, and its status.
+    pub(crate) fn run(&mut self, alloc: Global, words: &Vec<String>) -> (&[Printed], u8) {
+        let input = mem::replace(&mut self.input, Vec::new(alloc));
+        self.machine.set_input(input);
         self.read = self.machine.reads().len();
-        Ok(run(alloc, words, &mut self.machine))
+        answer(alloc, words, &mut self.machine)
     }
 
     /// The reads of the last run that gave bytes.
     pub(crate) fn new_reads(&self) -> &[ReadSeen] {
         let reads = self.machine.reads();
-        reads.get(self.read..).unwrap_or(reads)
-    }
-
-    /// What was printed since the last call.
-    pub(crate) fn new_printed(&mut self) -> &[Printed] {
-        let told = self.told;
-        let printed = self.machine.printed_bytes();
-        self.told = printed.len();
-        printed.get(told..).unwrap_or(printed)
+        &reads[self.read.min(reads.len())..]
     }
 
     /// From now on this is the story's machine.
     pub(crate) fn go_on_with(&mut self, machine: MemMachine) {
-        self.told = machine.printed_bytes().len();
         self.read = machine.reads().len();
         self.machine = machine;
     }
@@ -117,7 +110,8 @@ impl Story {
     // Finds the files that the runs have written.
     fn find_paths(&mut self, alloc: Global) -> Result<(), StoryFault> {
         for folder in FOLDERS {
-            add_folder(alloc, &mut self.machine, folder, &mut self.known)?;
+            let folder = BootPath::read(alloc, folder)?;
+            add_folder(alloc, &mut self.machine, &folder, &mut self.known)?;
         }
         Ok(())
     }
@@ -126,8 +120,7 @@ impl Story {
     fn copy_files(&mut self, alloc: Global, copy: &mut MemMachine) -> Result<u64, StoryFault> {
         let mut calls = 0u64;
         for text in self.known.paths.iter() {
-            let path = BootPath::read(alloc, text.as_str())?;
-            if let Some(bytes) = bytes_at(alloc, &mut self.machine, &path)? {
+            if let Some(bytes) = bytes_of(alloc, &mut self.machine, text.as_str())? {
                 put(alloc, copy, text.as_str(), bytes.as_slice())?;
                 calls = calls.saturating_add(CALLS_OF_PUT);
             }
@@ -137,26 +130,25 @@ impl Story {
 
     // The same with the intent.
     fn copy_intent(&mut self, alloc: Global, copy: &mut MemMachine) -> Result<u64, StoryFault> {
-        match bytes_at(alloc, &mut self.machine, &BootPath::intent(alloc)?)? {
-            Some(bytes) => {
-                put_intent(alloc, copy, bytes.as_slice())?;
-                Ok(CALLS_OF_PUT_INTENT)
-            }
-            None => Ok(0),
-        }
+        let path = BootPath::intent(alloc)?;
+        let Some(bytes) = bytes_at(alloc, &mut self.machine, &path)? else {
+            return Ok(0);
+        };
+        put_intent(alloc, copy, bytes.as_slice())?;
+        Ok(CALLS_OF_PUT_INTENT)
     }
 
     // The same with the temporary files of a folder, of which only the names are copied.
     fn copy_leftovers(
         &mut self,
         alloc: Global,
-        folder: &str,
+        folder: &BootPath,
         copy: &mut MemMachine,
     ) -> Result<u64, StoryFault> {
-        let folder = BootPath::read(alloc, folder)?;
+        let names = self.machine.names(alloc, folder)?;
         let mut calls = 0u64;
-        for name in self.machine.names(alloc, &folder)? {
-            if let Some(path) = TempPath::leftover(alloc, &folder, &name)? {
+        for name in &names {
+            if let Some(path) = TempPath::leftover(alloc, folder, name)? {
                 leave(copy, &path)?;
                 calls = calls.saturating_add(CALLS_OF_LEAVE);
             }
@@ -164,16 +156,21 @@ impl Story {
         Ok(calls)
     }
 
+    // Copies all files to another machine, and says how many calls of it that takes.
+    fn copy_to(&mut self, alloc: Global, copy: &mut MemMachine) -> Result<u64, StoryFault> {
+        let mut calls = self.copy_files(alloc, copy)?;
+        for folder in FOLDERS {
+            let folder = BootPath::read(alloc, folder)?;
+            calls = calls.saturating_add(self.copy_leftovers(alloc, &folder, copy)?);
+        }
+        Ok(calls.saturating_add(self.copy_intent(alloc, copy)?))
+    }
+
     /// A new machine with the same files and the same input, and how many calls it has answered.
     pub(crate) fn copy_machine(&mut self, alloc: Global) -> Result<(MemMachine, u64), StoryFault> {
         self.find_paths(alloc)?;
         let mut copy = new_machine(alloc)?;
-        let mut calls = self.copy_files(alloc, &mut copy)?;
-        for folder in FOLDERS {
-            let more = self.copy_leftovers(alloc, folder, &mut copy)?;
-            calls = calls.saturating_add(more);
-        }
-        calls = calls.saturating_add(self.copy_intent(alloc, &mut copy)?);
+        let calls = self.copy_to(alloc, &mut copy)?;
         copy.set_input(self.input.as_slice().to_vec(alloc)?);
         Ok((copy, calls))
     }

@@ -1,21 +1,19 @@
 //! The lines of a story, and what comes of each.
 use crate::fault::StoryFault;
-use crate::faults::faults_text;
 use crate::files::folder_text;
 use crate::left::left_text;
 use crate::lines::{number, parted_or_whole, split_at_space};
+use crate::outcomes::{left_by, outcomes_text, stopped_after};
 use crate::replies::{bytes_text, reads_text, reply_text, sources_text};
-use crate::stops::{left_by, stopped_after, stops_text};
 use crate::story::Story;
 use crate::writes::{bytes_of_file, write_files};
 use memory_machine::FailMode;
-use std::alloc::Global;
+use std::alloc::{AllocError, Global};
 use tool_words::split_line;
 
-fn add_line(story: &mut Story, rest: &str) -> Result<(), StoryFault> {
-    story.input.extend_from_slice(rest.as_bytes())?;
-    story.input.push(b'\n')?;
-    Ok(())
+fn add_line(alloc: Global, story: &mut Story, rest: &str) -> Result<(), AllocError> {
+    let line = format!(in alloc; "{rest}\n")?;
+    story.input.extend_from_slice(line.as_bytes())
 }
 
 fn take_input(alloc: Global, story: &mut Story, path: &str) -> Result<(), StoryFault> {
@@ -23,26 +21,29 @@ fn take_input(alloc: Global, story: &mut Story, path: &str) -> Result<(), StoryF
     Ok(())
 }
 
+fn fail_mode(text: &str) -> Result<FailMode, StoryFault> {
+    match text {
+        "before" => Ok(FailMode::Before),
+        "after" => Ok(FailMode::After),
+        _ => Err(StoryFault::Unclear),
+    }
+}
+
 fn fail(alloc: Global, story: &mut Story, rest: &str) -> Result<(), StoryFault> {
     let (call, mode) = split_at_space(rest)?;
-    let mode = match mode {
-        "before" => FailMode::Before,
-        "after" => FailMode::After,
-        _ => return Err(StoryFault::Unclear),
-    };
-    story.fail_at(alloc, number(call)?, mode)
+    story.fail_at(alloc, number(call)?, fail_mode(mode)?)
 }
 
 fn run_words(alloc: Global, story: &mut Story, rest: &str) -> Result<String, StoryFault> {
     let words = split_line(alloc, rest)?;
-    let status = story.run(alloc, &words)?;
-    Ok(reply_text(alloc, story.new_printed(), status)?)
+    let (printed, status) = story.run(alloc, &words);
+    Ok(reply_text(alloc, printed, status)?)
 }
 
 fn menu(alloc: Global, story: &mut Story) -> Result<String, StoryFault> {
     let words = split_line(alloc, "bootctl list")?;
-    let _status = story.run(alloc, &words)?;
-    Ok(sources_text(alloc, story.new_printed())?)
+    let (printed, _) = story.run(alloc, &words);
+    Ok(sources_text(alloc, printed)?)
 }
 
 fn tell_left(alloc: Global, story: &mut Story) -> Result<String, StoryFault> {
@@ -67,30 +68,27 @@ fn tell_same(alloc: Global, story: &mut Story, rest: &str) -> Result<String, Sto
     Ok(String::from_str(alloc, told)?)
 }
 
-fn total(alloc: Global, story: &Story) -> Result<String, StoryFault> {
+fn total(alloc: Global, story: &Story) -> Result<String, AllocError> {
     let count = story.machine.view_files();
-    Ok(format!(in alloc; "{count}\n")?)
+    format!(in alloc; "{count}\n")
 }
 
-fn stops(alloc: Global, story: &mut Story, rest: &str) -> Result<String, StoryFault> {
-    story.stopped = String::from_str(alloc, rest)?;
-    story.is_faulty = false;
-    stops_text(alloc, story, rest, None)
-}
-
-fn faults(alloc: Global, story: &mut Story, rest: &str) -> Result<String, StoryFault> {
-    story.stopped = String::from_str(alloc, rest)?;
-    story.is_faulty = true;
-    faults_text(alloc, story, rest, None)
+// Looks at a run of these words, and tells what comes of it if a call of it fails, or if it is stopped.
+fn look_at(
+    alloc: Global,
+    story: &mut Story,
+    words: &str,
+    is_faulty: bool,
+) -> Result<String, StoryFault> {
+    story.looked_at = String::from_str(alloc, words)?;
+    story.is_faulty = is_faulty;
+    outcomes_text(alloc, story, words, None)
 }
 
 fn then(alloc: Global, story: &mut Story, rest: &str) -> Result<String, StoryFault> {
     let next = split_line(alloc, rest)?;
-    let stopped = String::from_str(alloc, story.stopped.as_str())?;
-    if story.is_faulty {
-        return faults_text(alloc, story, stopped.as_str(), Some(next));
-    }
-    stops_text(alloc, story, stopped.as_str(), Some(next))
+    let words = String::from_str(alloc, story.looked_at.as_str())?;
+    outcomes_text(alloc, story, words.as_str(), Some(next))
 }
 
 fn stop(alloc: Global, story: &mut Story, rest: &str) -> Result<(), StoryFault> {
@@ -103,14 +101,16 @@ fn stop(alloc: Global, story: &mut Story, rest: &str) -> Result<(), StoryFault> 
     Ok(())
 }
 
+fn begin(alloc: Global, story: &mut Story, set: &str) -> Result<(), StoryFault> {
+    *story = Story::with_samples(alloc, set)?;
+    Ok(())
+}
+
 // What comes of a line that changes the story, and tells nothing.
 fn change(alloc: Global, verb: &str, rest: &str, story: &mut Story) -> Result<(), StoryFault> {
     match verb {
-        "machine" => {
-            *story = Story::with_samples(alloc, rest)?;
-            Ok(())
-        }
-        "line" => add_line(story, rest),
+        "machine" => begin(alloc, story, rest),
+        "line" => Ok(add_line(alloc, story, rest)?),
         "input" => take_input(alloc, story, rest),
         "fail" => fail(alloc, story, rest),
         "stop" => stop(alloc, story, rest),
@@ -118,25 +118,44 @@ fn change(alloc: Global, verb: &str, rest: &str, story: &mut Story) -> Result<()
     }
 }
 
+fn change_silently(
+    alloc: Global,
+    verb: &str,
+    rest: &str,
+    story: &mut Story,
+) -> Result<String, StoryFault> {
+    change(alloc, verb, rest, story)?;
+    Ok(String::new(alloc))
+}
+
+// What comes of a line that runs the program, or looks at runs of it.
+fn run_result(
+    alloc: Global,
+    verb: &str,
+    rest: &str,
+    story: &mut Story,
+) -> Result<String, StoryFault> {
+    match verb {
+        "run" => run_words(alloc, story, rest),
+        "menu" => menu(alloc, story),
+        "faults" => look_at(alloc, story, rest, true),
+        "stops" => look_at(alloc, story, rest, false),
+        "then" => then(alloc, story, rest),
+        _ => change_silently(alloc, verb, rest, story),
+    }
+}
+
 // What comes of a line.
 fn line_result(alloc: Global, line: &str, story: &mut Story) -> Result<String, StoryFault> {
     let (verb, rest) = parted_or_whole(line);
     match verb {
-        "run" => run_words(alloc, story, rest),
-        "menu" => menu(alloc, story),
         "reads" => Ok(reads_text(alloc, story.new_reads())?),
         "files" => folder_text(alloc, &mut story.machine, &story.known.samples, rest),
         "left" => tell_left(alloc, story),
         "same" => tell_same(alloc, story, rest),
         "text" => text(alloc, story, rest),
-        "total" => total(alloc, story),
-        "faults" => faults(alloc, story, rest),
-        "stops" => stops(alloc, story, rest),
-        "then" => then(alloc, story, rest),
-        _ => {
-            change(alloc, verb, rest, story)?;
-            Ok(String::new(alloc))
-        }
+        "total" => Ok(total(alloc, story)?),
+        _ => run_result(alloc, verb, rest, story),
     }
 }
 
@@ -151,7 +170,7 @@ pub(crate) fn tell_line(
     }
     match line_result(alloc, line, story) {
         Ok(told) => Ok(format!(in alloc; "> {line}\n{told}")?),
-        Err(fault) if fault.is_unclear() => Ok(format!(in alloc; "? {line}\n")?),
+        Err(StoryFault::Unclear) => Ok(format!(in alloc; "? {line}\n")?),
         Err(fault) => Err(fault),
     }
 }

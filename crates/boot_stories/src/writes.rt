@@ -1,6 +1,6 @@
 //! The lines of a story that write files.
 use crate::fault::StoryFault;
-use crate::files::{bytes_at, leave, put_intent};
+use crate::files::{bytes_of, leave, put_intent};
 use crate::lines::{number, parted_or_whole, split_at_space, unescape};
 use crate::samples::image_of;
 use crate::story::Story;
@@ -12,13 +12,20 @@ fn repeat_byte(alloc: Global, count: usize, byte: u8) -> Result<Vec<u8>, AllocEr
     vec![in alloc; byte; count]
 }
 
-// So many bytes, of which two that are a piece apart differ.
-fn series(alloc: Global, count: u64) -> Result<Vec<u8>, AllocError> {
-    let mut bytes = Vec::new(alloc);
-    for place in 0..count {
+// Fills up to so many bytes, of which two that are a piece apart differ.
+fn add_series(bytes: &mut Vec<u8>, count: u64) -> Result<(), AllocError> {
+    for place in 0..count.saturating_sub(bytes.len() as u64) {
         bytes.push((place % 251) as u8)?;
     }
-    Ok(bytes)
+    Ok(())
+}
+
+// Fills up to so many bytes with zeros.
+fn add_zeros(bytes: &mut Vec<u8>, count: u64) -> Result<(), AllocError> {
+    for _ in bytes.len() as u64..count {
+        bytes.push(0)?;
+    }
+    Ok(())
 }
 
 /// The bytes of a file that is there.
@@ -27,8 +34,7 @@ pub(crate) fn bytes_of_file(
     story: &mut Story,
     path: &str,
 ) -> Result<Vec<u8>, StoryFault> {
-    let path = BootPath::read(alloc, path)?;
-    bytes_at(alloc, &mut story.machine, &path)?.ok_or(StoryFault::Unclear)
+    bytes_of(alloc, &mut story.machine, path)?.ok_or(StoryFault::Unclear)
 }
 
 fn copy_file(alloc: Global, story: &mut Story, rest: &str) -> Result<(), StoryFault> {
@@ -49,50 +55,78 @@ fn write_image(alloc: Global, story: &mut Story, rest: &str) -> Result<(), Story
     story.write(alloc, path, image_of(osrel.as_slice()).bytes())
 }
 
+fn first_byte(alloc: Global, text: &str) -> Result<u8, StoryFault> {
+    let bytes = unescape(alloc, text)?;
+    bytes.first().copied().ok_or(StoryFault::Unclear)
+}
+
 fn write_filled(alloc: Global, story: &mut Story, rest: &str) -> Result<(), StoryFault> {
     let (path, rest) = split_at_space(rest)?;
     let (count, byte) = split_at_space(rest)?;
-    let byte = *unescape(alloc, byte)?.first().ok_or(StoryFault::Unclear)?;
+    let byte = first_byte(alloc, byte)?;
     let bytes = repeat_byte(alloc, number(count)? as usize, byte)?;
     story.write(alloc, path, bytes.as_slice())
 }
 
-fn write_series(alloc: Global, story: &mut Story, rest: &str) -> Result<(), StoryFault> {
-    let (path, count) = split_at_space(rest)?;
-    let bytes = series(alloc, number(count)?)?;
+// Writes these bytes, filled up by a series.
+fn write_series(
+    alloc: Global,
+    story: &mut Story,
+    path: &str,
+    begin: Vec<u8>,
+    count: u64,
+) -> Result<(), StoryFault> {
+    let mut bytes = begin;
+    add_series(&mut bytes, count)?;
     story.write(alloc, path, bytes.as_slice())
+}
+
+fn write_new_series(alloc: Global, story: &mut Story, rest: &str) -> Result<(), StoryFault> {
+    let (path, count) = split_at_space(rest)?;
+    write_series(alloc, story, path, Vec::new(alloc), number(count)?)
 }
 
 fn extend_file(alloc: Global, story: &mut Story, rest: &str) -> Result<(), StoryFault> {
     let (path, count) = split_at_space(rest)?;
-    let mut bytes = bytes_of_file(alloc, story, path)?;
-    let more = series(alloc, number(count)?.saturating_sub(bytes.len() as u64))?;
-    bytes.extend_from_slice(more.as_slice())?;
-    story.write(alloc, path, bytes.as_slice())
+    let count = number(count)?;
+    let bytes = bytes_of_file(alloc, story, path)?;
+    write_series(alloc, story, path, bytes, count)
 }
 
 // Writes the intent of a rename: a text, filled up with zeros to so many bytes.
 fn write_intent(alloc: Global, story: &mut Story, rest: &str) -> Result<(), StoryFault> {
     let (count, text) = parted_or_whole(rest);
+    let count = number(count)?;
     let mut bytes = unescape(alloc, text)?;
-    let more = number(count)?.saturating_sub(bytes.len() as u64);
-    bytes.extend_from_slice(repeat_byte(alloc, more as usize, 0)?.as_slice())?;
+    add_zeros(&mut bytes, count)?;
     put_intent(alloc, &mut story.machine, bytes.as_slice())
+}
+
+// Writes an empty file into the folder, named by that number.
+fn write_numbered(
+    alloc: Global,
+    story: &mut Story,
+    folder: &str,
+    place: u64,
+    suffix: &str,
+) -> Result<(), StoryFault> {
+    let path = format!(in alloc; "{folder}/a{place}{suffix}")?;
+    story.write(alloc, path.as_str(), b"")
 }
 
 fn write_crowd(alloc: Global, story: &mut Story, rest: &str) -> Result<(), StoryFault> {
     let (folder, rest) = split_at_space(rest)?;
     let (count, suffix) = split_at_space(rest)?;
     for place in 0..number(count)? {
-        let path = format!(in alloc; "{folder}/a{place}{suffix}")?;
-        story.write(alloc, path.as_str(), b"")?;
+        write_numbered(alloc, story, folder, place, suffix)?;
     }
     Ok(())
 }
 
 fn leave_temp(alloc: Global, story: &mut Story, path: &str) -> Result<(), StoryFault> {
     let temp = TempPath::of(alloc, &BootPath::read(alloc, path)?)?;
-    leave(&mut story.machine, &temp)
+    leave(&mut story.machine, &temp)?;
+    Ok(())
 }
 
 /// Writes files as a line with this verb says. Any other verb is unclear.
@@ -107,7 +141,7 @@ pub(crate) fn write_files(
         "write" => write_text(alloc, story, rest),
         "image" => write_image(alloc, story, rest),
         "fill" => write_filled(alloc, story, rest),
-        "series" => write_series(alloc, story, rest),
+        "series" => write_new_series(alloc, story, rest),
         "extend" => extend_file(alloc, story, rest),
         "intent" => write_intent(alloc, story, rest),
         "crowd" => write_crowd(alloc, story, rest),

@@ -3,7 +3,7 @@ use Rattle.boot_base.specs.Paths.{Path}
 use Rattle.boot_machine.specs.Disk.{State, has}
 use Rattle.boot_machine.specs.Rows.{after_append, after_create}
 use Rattle.boot_machine.proofs.Written.{has-created, has-appended}
-use Rattle.boot_stories.proofs.files.put_intent.Goals as goal
+use Rattle.boot_stories.proofs.files.write_anywhere.Goals as goal
 
 created_there : (p : Path) (old made : State) → made ≡ after_create p old → has made.files p ≡ true
 created_there p old made is = rw is (has-created old.files p)
