@@ -13,23 +13,25 @@ use boot_machine::Machine;
 use command_plans::{Outcome, Plan, Stop, perform};
 
 /// Carries out a plan, as `perform` does it.
-pub(crate) fn carry_out<M: Machine>(plan: &Plan, machine: &mut M) -> Result<Outcome, Stop>
+pub(crate) fn carry_out<M: Machine>(plan: Plan, machine: &mut M) -> Result<Outcome, Stop>
     requires rested { IsTrue M.tells → IsRested (M.state machine.old) }
-    requires makeable { IsMakeable plan.now.change }
-    requires there { IsTrue M.tells → CanMake (M.state machine.old) plan.now.change }
+    requires makeable { IsMakeable plan.change }
+    requires there { IsTrue M.tells → CanMake (M.state machine.old) plan.change }
     ensures performs { IsTrue M.tells → IsFirm (M.state machine.old)
         → Performs M.time M.state end_of machine.old machine.new
-        (deed_of_answer (answer_of_plan (seen (M.state machine.old)) plan.now)) result }
+        (deed_of_answer (answer_of_plan (seen (M.state machine.old)) plan)) result }
     ensures syncs { IsTrue M.tells → IsFirm (M.state machine.old)
         → Syncs M.time M.state machine.old machine.new
-        (deed_of_answer (answer_of_plan (seen (M.state machine.old)) plan.now)) result }
+        (deed_of_answer (answer_of_plan (seen (M.state machine.old)) plan)) result }
     ensures tidies { IsTrue M.tells → (c : Command)
-        → ((files : Files) → Drops plan.now.change (M.state machine.old).files files → LeavesTidied c files)
+        → ((files : Files) → Drops plan.change (M.state machine.old).files files → LeavesTidied c files)
         → TidiesTo result c (M.state machine.old) (M.state machine.new) }
     ensures input { IsTrue M.tells → (M.state machine.new).input ≡ (M.state machine.old).input }
     ensures rests { IsTrue M.tells → LeavesRested result (M.state machine.new) }
     ensures temps { IsTrue M.tells → LeavesNoTemp result (M.state machine.old) (M.state machine.new) }
     ensures counts { CountsStop result (M.counts machine.old) (M.counts machine.new) }
 {
-    Ok(perform(plan, machine)?)
+    let result = perform(&plan, machine);
+    drop(plan);
+    Ok(result?)
 }

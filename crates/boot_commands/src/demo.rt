@@ -116,7 +116,10 @@ fn listing(alloc: Global, machine: &mut MemMachine) -> Result<Reply, AllocError>
         ≡ plain_reply (seen (mem_state machine.old)) (ListCommand demo_esp)) }
 {
     let esp = Text::of(alloc, ESP)?;
-    reply_of(alloc, &Command::List { esp }, machine)
+    let command = Command::List { esp };
+    let reply = reply_of(alloc, &command, machine);
+    drop(command);
+    reply
 }
 
 // The SHA-256 of what `bootctl list` prints on Out, in lower-case hex.

@@ -220,6 +220,8 @@ impl Demo {
         ensures ready { OnOk result (IsReady (mem_state machine.new)) }
     {
         let command = self.draw(alloc)?;
-        self.run(alloc, &command, machine)
+        let result = self.run(alloc, &command, machine);
+        drop(command);
+        result
     }
 }

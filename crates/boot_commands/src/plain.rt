@@ -107,5 +107,5 @@ pub fn plain_step<M: Machine>(
     ensures counts { CountsStop result (M.counts machine.old) (M.counts machine.new) }
 {
     let plan = plan_plain(alloc, command, machine)?;
-    carry_out(&plan, machine)
+    carry_out(plan, machine)
 }

@@ -63,5 +63,5 @@ pub fn step<M: Machine>(alloc: Global, command: &Command, machine: &mut M) -> Re
     ensures counts { CountsStop result (M.counts machine.old) (M.counts machine.new) }
 {
     let plan = plan_of(alloc, command, machine)?;
-    carry_out(&plan, machine)
+    carry_out(plan, machine)
 }

@@ -8,33 +8,33 @@ use Rattle.command_plans.proofs.Syncing.{syncs_done, syncs_stopped}
 use Rattle.boot_commands.proofs.Tidies.{tidies_failed}
 use Rattle.boot_commands.proofs.carrying.carry_out.Goals as goal
 
-pub returns-in_err-perform-clause-performs : goal.returns-in_err-perform-clause-performs
-returns-in_err-perform-clause-performs g c told firm =
+pub returns-in_err-result-clause-performs : goal.returns-in_err-result-clause-performs
+returns-in_err-result-clause-performs g c told firm =
     let old = c.args.machine.now in
-    stopped_by g.M.Machine.time g.M.Machine.state old c.perform.new.machine (deed_of_answer (answer_of_plan (seen (g.M.Machine.state old)) c.args.plan.now)) c.in_err-perform.field-0.0 c.from_residual.result
-    c.from_residual.ensures.0 c.from_residual.ensures.1 (c.in_err-perform.ensures.performs told firm)
+    stopped_by g.M.Machine.time g.M.Machine.state old c.perform-result.new.machine (deed_of_answer (answer_of_plan (seen (g.M.Machine.state old)) c.args.plan)) c.in_err-result.field-0.0 c.from_residual.result
+    c.from_residual.ensures.0 c.from_residual.ensures.1 (c.in_err-result.ensures.performs told firm)
 
 pub returns-clause-performs : goal.returns-clause-performs
 returns-clause-performs g c told firm =
     let old = c.args.machine.now in
-    done_by g.M.Machine.time g.M.Machine.state old c.perform.new.machine (deed_of_answer (answer_of_plan (seen (g.M.Machine.state old)) c.args.plan.now)) c.in_ok-perform.field-0 (c.in_ok-perform.ensures.performs told firm)
+    done_by g.M.Machine.time g.M.Machine.state old c.perform-result.new.machine (deed_of_answer (answer_of_plan (seen (g.M.Machine.state old)) c.args.plan)) c.in_ok-result.field-0 (c.in_ok-result.ensures.performs told firm)
 
-pub returns-in_err-perform-clause-syncs : goal.returns-in_err-perform-clause-syncs
-returns-in_err-perform-clause-syncs g c told firm =
+pub returns-in_err-result-clause-syncs : goal.returns-in_err-result-clause-syncs
+returns-in_err-result-clause-syncs g c told firm =
     let old = c.args.machine.now in
-    syncs_stopped g.M.Machine.time g.M.Machine.state old c.perform.new.machine (deed_of_answer (answer_of_plan (seen (g.M.Machine.state old)) c.args.plan.now)) c.in_err-perform.field-0.0 c.from_residual.result
-    c.from_residual.ensures.0 (c.in_err-perform.ensures.syncs told firm)
+    syncs_stopped g.M.Machine.time g.M.Machine.state old c.perform-result.new.machine (deed_of_answer (answer_of_plan (seen (g.M.Machine.state old)) c.args.plan)) c.in_err-result.field-0.0 c.from_residual.result
+    c.from_residual.ensures.0 (c.in_err-result.ensures.syncs told firm)
 
 pub returns-clause-syncs : goal.returns-clause-syncs
 returns-clause-syncs g c told firm =
     let old = c.args.machine.now in
-    syncs_done {E = MachineFault} g.M.Machine.time g.M.Machine.state old c.perform.new.machine (deed_of_answer (answer_of_plan (seen (g.M.Machine.state old)) c.args.plan.now)) c.in_ok-perform.field-0 (c.in_ok-perform.ensures.syncs told firm)
+    syncs_done {E = MachineFault} g.M.Machine.time g.M.Machine.state old c.perform-result.new.machine (deed_of_answer (answer_of_plan (seen (g.M.Machine.state old)) c.args.plan)) c.in_ok-result.field-0 (c.in_ok-result.ensures.syncs told firm)
 
-pub returns-in_err-perform-clause-tidies : goal.returns-in_err-perform-clause-tidies
-returns-in_err-perform-clause-tidies g c told command so =
+pub returns-in_err-result-clause-tidies : goal.returns-in_err-result-clause-tidies
+returns-in_err-result-clause-tidies g c told command so =
     let old = g.M.Machine.state c.args.machine.now in
-    tidies_failed c.from_residual.result c.in_err-perform.field-0.0 c.args.plan.now.change command old old (g.M.Machine.state c.perform.new.machine)
-    c.from_residual.ensures.0 c.from_residual.ensures.1 refl so (c.in_err-perform.ensures.drops told)
+    tidies_failed c.from_residual.result c.in_err-result.field-0.0 c.args.plan.change command old old (g.M.Machine.state c.perform-result.new.machine)
+    c.from_residual.ensures.0 c.from_residual.ensures.1 refl so (c.in_err-result.ensures.drops told)
 
 pub returns-clause-tidies : goal.returns-clause-tidies
-returns-clause-tidies g c told command so = so _ (c.in_ok-perform.ensures.drops told)
+returns-clause-tidies g c told command so = so _ (c.in_ok-result.ensures.drops told)

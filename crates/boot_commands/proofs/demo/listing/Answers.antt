@@ -7,5 +7,5 @@ use Rattle.boot_commands.specs.Plain.{plain_reply}
 use Rattle.boot_commands.proofs.demo.listing.Goals as goal
 
 pub returns : goal.returns
-returns c = IfOk-weaker c.reply_of.result _ _ (λ reply is.
-    is ∙ ap (λ (esp : List ℕ). plain_reply (seen (mem_state c.args.machine.now)) (command.List esp)) c.in_ok-esp.ensures) c.reply_of.ensures.reply
+returns c = IfOk-weaker c.reply_of-reply.result _ _ (λ reply is.
+    is ∙ ap (λ (esp : List ℕ). plain_reply (seen (mem_state c.args.machine.now)) (command.List esp)) c.in_ok-esp.ensures) c.reply_of-reply.ensures.reply
