@@ -97,10 +97,41 @@ fn remove_own_folder(rt: &HostRuntime) -> io::Result<()> {
 }
 
 fn target(alloc: Global, path: &str) -> Result<Target, Fail> {
-    Ok(Target::of(alloc, BootPath::read(alloc, path)?)?)
+    let path = BootPath::read(alloc, path)?;
+    Ok(Target::of(alloc, path)?)
 }
 
-// Whether the call is answered Ok.
+// Whether the file of the target is moved to that path.
+fn is_renamed<R: Runtime<File = File> + AllocGlobal, E: Print + Drop>(
+    machine: &mut HostMachine<R, E>,
+    alloc: Global,
+    target: &Target,
+    to: &str,
+) -> Result<bool, Fail> {
+    let to = BootPath::read(alloc, to)?;
+    Ok(machine.rename_name(&target.path, &to).is_ok())
+}
+
+// Whether the call at the target is answered Ok.
+fn is_answered<R: Runtime<File = File> + AllocGlobal, E: Print + Drop>(
+    machine: &mut HostMachine<R, E>,
+    alloc: Global,
+    target: &Target,
+    act: Act,
+) -> Result<bool, Fail> {
+    let answer = match act {
+        Act::Create => machine.create(&target.temp),
+        Act::Append(bytes) => machine.append(&target.temp, bytes),
+        Act::SyncFile => machine.sync_file(&target.temp),
+        Act::UnlinkTemp => machine.unlink_temp(&target.temp),
+        Act::RenameTemp => machine.rename_temp(&target.temp, &target.path),
+        Act::Rename(to) => return is_renamed(machine, alloc, target, to),
+        Act::Unlink => machine.unlink(&target.path),
+    };
+    Ok(answer.is_ok())
+}
+
+// Whether the call at the path is answered Ok.
 fn is_done<R: Runtime<File = File> + AllocGlobal, E: Print + Drop>(
     machine: &mut HostMachine<R, E>,
     alloc: Global,
@@ -108,16 +139,7 @@ fn is_done<R: Runtime<File = File> + AllocGlobal, E: Print + Drop>(
     act: Act,
 ) -> Result<bool, Fail> {
     let target = target(alloc, path)?;
-    let answer = match act {
-        Act::Create => machine.create(&target.temp),
-        Act::Append(bytes) => machine.append(&target.temp, bytes),
-        Act::SyncFile => machine.sync_file(&target.temp),
-        Act::UnlinkTemp => machine.unlink_temp(&target.temp),
-        Act::RenameTemp => machine.rename_temp(&target.temp, &target.path),
-        Act::Rename(to) => machine.rename_name(&target.path, &BootPath::read(alloc, to)?),
-        Act::Unlink => machine.unlink(&target.path),
-    };
-    Ok(answer.is_ok())
+    is_answered(machine, alloc, &target, act)
 }
 
 // Whether each call of the write is answered Ok.
@@ -142,25 +164,40 @@ fn is_put<R: Runtime<File = File> + AllocGlobal>(
     Ok(machine.sync_names().is_ok() && is_put)
 }
 
-fn size_of<R: Runtime<File = File> + AllocGlobal>(
+fn has_size<R: Runtime<File = File> + AllocGlobal>(
     machine: &mut HostMachine<R, Stderr>,
     alloc: Global,
     path: &str,
-) -> Result<Option<u64>, Fail> {
-    Ok(machine.size(&BootPath::read(alloc, path)?)?)
+    wanted: Option<u64>,
+) -> Result<bool, Fail> {
+    let path = BootPath::read(alloc, path)?;
+    Ok(machine.size(&path)? == wanted)
 }
 
-// Whether a buffer of so many bytes gets these.
-fn gets<R: Runtime<File = File> + AllocGlobal>(
+// Whether a buffer gets these bytes.
+fn fills<R: Runtime<File = File> + AllocGlobal>(
     machine: &mut HostMachine<R, Stderr>,
     path: &BootPath,
+    at: u64,
+    into: &mut [u8],
+    wanted: &[u8],
+) -> Result<bool, Fail> {
+    let count = machine.read_at(path, at, into)?;
+    Ok(&into[..count.min(into.len())] == wanted)
+}
+
+// Whether a buffer of so many bytes, at most eight, gets these.
+fn gets<R: Runtime<File = File> + AllocGlobal>(
+    machine: &mut HostMachine<R, Stderr>,
+    alloc: Global,
+    path: &str,
     at: u64,
     room: usize,
     wanted: &[u8],
 ) -> Result<bool, Fail> {
+    let path = BootPath::read(alloc, path)?;
     let mut into = [0u8; 8];
-    let count = machine.read_at(path, at, &mut into[..room.min(8)])?;
-    Ok(&into[..count.min(8)] == wanted)
+    fills(machine, &path, at, &mut into[..room.min(8)], wanted)
 }
 
 fn count_names<R: Runtime<File = File> + AllocGlobal>(
@@ -168,7 +205,8 @@ fn count_names<R: Runtime<File = File> + AllocGlobal>(
     alloc: Global,
     folder: &str,
 ) -> Result<usize, Fail> {
-    Ok(machine.names(alloc, &BootPath::read(alloc, folder)?)?.len())
+    let folder = BootPath::read(alloc, folder)?;
+    Ok(machine.names(alloc, &folder)?.len())
 }
 
 fn write_at(rt: &HostRuntime, path: &str, bytes: &[u8], seconds: u64) -> io::Result<()> {
@@ -180,10 +218,14 @@ fn write_at(rt: &HostRuntime, path: &str, bytes: &[u8], seconds: u64) -> io::Res
     }
 }
 
+fn write_numbered(rt: &HostRuntime, folder: &str, number: u64, ending: &str) -> io::Result<()> {
+    let path = format!(in rt.alloc(); "{folder}/{number}{ending}")?;
+    fs::write(rt, path.as_str(), b"".as_slice())
+}
+
 fn write_crowd(rt: &HostRuntime, folder: &str, count: u64, ending: &str) -> io::Result<()> {
     for number in 0..count {
-        let path = format!(in rt.alloc(); "{folder}/{number}{ending}")?;
-        fs::write(rt, path.as_str(), b"".as_slice())?;
+        write_numbered(rt, folder, number, ending)?;
     }
     Ok(())
 }
@@ -199,8 +241,14 @@ fn make_change(rt: &HostRuntime, change: Change) -> io::Result<()> {
     }
 }
 
-fn holds(rt: &HostRuntime, path: &str, bytes: &[u8]) -> io::Result<bool> {
-    Ok(fs::read(rt, path)?.as_slice() == bytes)
+fn holds(rt: &HostRuntime, path: &str, bytes: &[u8]) -> Result<bool, Fail> {
+    let held = fs::read(rt, path)?;
+    Ok(held.as_slice() == bytes)
+}
+
+fn are_same(rt: &HostRuntime, path: &str, other: &str) -> Result<bool, Fail> {
+    let bytes = fs::read(rt, other)?;
+    holds(rt, path, bytes.as_slice())
 }
 
 // The words of a line, which single spaces part.
@@ -212,14 +260,38 @@ fn words_of(alloc: Global, line: &str) -> Result<Vec<String>, AllocError> {
     Ok(words)
 }
 
-// How the program ends on the words of this line.
-fn status_of<R: Runtime<File = File> + AllocGlobal>(
-    alloc: Global,
+// Runs the program on these words, and says its status.
+fn status_of<M: Machine>(alloc: Global, words: &Vec<String>, machine: &mut M) -> u8 {
+    boot_run::run(alloc, words, machine)
+}
+
+// Whether the program ends on the words of this line with that status.
+fn ends_with<R: Runtime<File = File> + AllocGlobal>(
     machine: &mut HostMachine<R, Stderr>,
+    alloc: Global,
     line: &str,
-) -> Result<u8, AllocError> {
+    status: u8,
+) -> Result<bool, Fail> {
     let words = words_of(alloc, line)?;
-    Ok(boot_run::run(alloc, &words, machine))
+    Ok(status_of(alloc, &words, machine) == status)
+}
+
+// Whether what the step looks at is as it must be. A step of another kind isn't one of these.
+fn is_seen<R: Runtime<File = File> + AllocGlobal>(
+    rt: &HostRuntime,
+    machine: &mut HostMachine<R, Stderr>,
+    step: Step,
+) -> Result<bool, Fail> {
+    match step {
+        Step::Size(path, wanted) => has_size(machine, rt.alloc(), path, wanted),
+        Step::Reads(path, at, room, wanted) => { gets(machine, rt.alloc(), path, at, room, wanted) }
+        Step::Names(folder, wanted) => Ok(count_names(machine, rt.alloc(), folder)? == wanted),
+        Step::HasNames(folder) => Ok(count_names(machine, rt.alloc(), folder)? > 0),
+        Step::Holds(path, bytes) => holds(rt, path, bytes),
+        Step::Lacks(path) => Ok(!fs::exists(rt, path)?),
+        Step::Same(path, other) => are_same(rt, path, other),
+        _ => Ok(false),
+    }
 }
 
 // Whether of the step comes what must.
@@ -228,25 +300,29 @@ fn is_right<R: Runtime<File = File> + AllocGlobal>(
     machine: &mut HostMachine<R, Stderr>,
     step: Step,
 ) -> Result<bool, Fail> {
-    let alloc = rt.alloc();
     match step {
-        Step::Does(path, act) => is_done(machine, alloc, path, act),
-        Step::Fails(path, act) => Ok(!is_done(machine, alloc, path, act)?),
+        Step::Does(path, act) => is_done(machine, rt.alloc(), path, act),
+        Step::Fails(path, act) => Ok(!is_done(machine, rt.alloc(), path, act)?),
         Step::Syncs(wanted) => Ok(machine.sync_names().is_ok() == wanted),
-        Step::Puts(path, first, second) => is_put(machine, alloc, path, [first, second]),
-        Step::Size(path, wanted) => Ok(size_of(machine, alloc, path)? == wanted),
-        Step::Reads(path, at, room, wanted) => {
-            gets(machine, &BootPath::read(alloc, path)?, at, room, wanted)
-        }
-        Step::Names(folder, wanted) => Ok(count_names(machine, alloc, folder)? == wanted),
-        Step::HasNames(folder) => Ok(count_names(machine, alloc, folder)? > 0),
+        Step::Puts(path, first, second) => is_put(machine, rt.alloc(), path, [first, second]),
         Step::Faults(wanted) => Ok(machine.disk_faults() == wanted && machine.pipe_faults() == 0),
         Step::Beside(change) => Ok(make_change(rt, change).is_ok()),
-        Step::Holds(path, bytes) => Ok(holds(rt, path, bytes)?),
-        Step::Lacks(path) => Ok(!fs::exists(rt, path)?),
-        Step::Same(path, other) => Ok(holds(rt, path, fs::read(rt, other)?.as_slice())?),
-        Step::Runs(words, wanted) => Ok(status_of(alloc, machine, words)? == wanted),
+        Step::Runs(words, wanted) => ends_with(machine, rt.alloc(), words, wanted),
+        _ => is_seen(rt, machine, step),
     }
+}
+
+// Requires that of the step at that place comes what must.
+fn require<R: Runtime<File = File> + AllocGlobal>(
+    rt: &HostRuntime,
+    machine: &mut HostMachine<R, Stderr>,
+    place: usize,
+    step: Step,
+) -> Result<(), Fail> {
+    if is_right(rt, machine, step)? {
+        return Ok(());
+    }
+    Err(Fail::new(format_args!("at step {place}")))
 }
 
 fn go_through<R: Runtime<File = File> + AllocGlobal>(
@@ -255,22 +331,29 @@ fn go_through<R: Runtime<File = File> + AllocGlobal>(
     steps: &[Step],
 ) -> Result<(), Fail> {
     for (place, step) in steps.iter().enumerate() {
-        if !is_right(rt, machine, *step)? {
-            return Err(Fail::new(format_args!("at step {place}")));
-        }
+        require(rt, machine, place, *step)?;
     }
     Ok(())
 }
 
-// Goes through the steps in a folder of this process' own, with a machine over that system.
+// Goes through the steps with a machine over that system.
+fn go_through_over<R: Runtime<File = File> + AllocGlobal>(
+    rt: &HostRuntime,
+    system: R,
+    steps: &[Step],
+) -> Result<(), Fail> {
+    let mut machine = HostMachine::new(system, rt.stderr());
+    go_through(rt, &mut machine, steps)
+}
+
+// The same in a folder of this process' own.
 fn run<R: Runtime<File = File> + AllocGlobal>(
     rt: &HostRuntime,
     system: R,
     steps: &[Step],
 ) -> Result<(), Fail> {
     enter_own_folder(rt)?;
-    let mut machine = HostMachine::new(system, rt.stderr());
-    go_through(rt, &mut machine, steps)?;
+    go_through_over(rt, system, steps)?;
     remove_own_folder(rt)?;
     Ok(())
 }

@@ -5,7 +5,7 @@ use super::Step::{Beside, Does, Fails, Faults, Holds, Names, Puts, Reads, Size, 
 use super::{Step, run};
 use std::test::Fail;
 
-const PIECES: [Step; 10] = [
+static PIECES: [Step; 10] = [
     Names("efi/EFI/Linux", 0),
     Puts("efi/EFI/Linux/a.efi", b"abc", b"def"),
     Size("efi/EFI/Linux/a.efi", Some(6)),
@@ -23,7 +23,7 @@ fn pieces_are_read_back(rt: HostRuntime) -> Result<(), Fail> {
     run(&rt, rt, &PIECES)
 }
 
-const REPLACED: [Step; 16] = [
+static REPLACED: [Step; 16] = [
     Puts("x/a", b"old", b"!"),
     Reads("x/a", 0, 8, b"old!"),
     // in place of a file that is there, and that was just read
@@ -50,7 +50,7 @@ fn files_are_replaced_moved_and_removed(rt: HostRuntime) -> Result<(), Fail> {
     run(&rt, rt, &REPLACED)
 }
 
-const GONE: [Step; 9] = [
+static GONE: [Step; 9] = [
     Does("x/a", Create),
     Does("x/a", Append(b"abc")),
     Beside(RemoveFolder("x")),

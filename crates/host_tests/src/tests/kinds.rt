@@ -2,8 +2,7 @@
 use super::Act::Create;
 use super::Change::{Link, MakeFolder, Write};
 use super::Step::{Beside, Fails, Faults, HasNames, Holds, Lacks, Names, Puts, Reads, Size, Syncs};
-use super::{Step, enter_own_folder, go_through, remove_own_folder, run};
-use host_machine::HostMachine;
+use super::{Step, enter_own_folder, go_through_over, remove_own_folder, run};
 use std::os::fd::AsRawFd;
 use std::os::unix::fs::symlink;
 use std::test::Fail;
@@ -17,7 +16,7 @@ fn link_pipe(rt: &HostRuntime, pipe: i32) -> io::Result<()> {
 }
 
 // The folder has names of each kind: two of files, and six of what is none.
-const KINDS: [Step; 30] = [
+static KINDS: [Step; 30] = [
     Beside(MakeFolder("d/folder")),
     Beside(Write("d/file", b"abc")),
     Beside(Link("file", "d/link")),
@@ -57,13 +56,12 @@ fn other_kinds_are_not_there(rt: HostRuntime) -> Result<(), Fail> {
     enter_own_folder(&rt)?;
     let (reader, _writer) = io::pipe(&rt)?;
     link_pipe(&rt, reader.as_raw_fd())?;
-    let mut machine = HostMachine::new(rt, rt.stderr());
-    go_through(&rt, &mut machine, &KINDS)?;
+    go_through_over(&rt, rt, &KINDS)?;
     remove_own_folder(&rt)?;
     Ok(())
 }
 
-const IN_THE_WAY: [Step; 19] = [
+static IN_THE_WAY: [Step; 19] = [
     Beside(MakeFolder("d")),
     Beside(MakeFolder("e.tmp")),
     Beside(Write("file", b"abc")),

@@ -12,7 +12,7 @@ const CHANGED: &[u8] = b"efi/EFI/a\nnew/c/d\nefi/EFI\nefi\nnew/c\nnew\n.\nefi/lo
 
 const LOOKED_AT: &[u8] = b"efi/loader\nefi\n.\n";
 
-const SYNCED: [Step; 20] = [
+static SYNCED: [Step; 20] = [
     Beside(MakeFolder("efi/loader")),
     Beside(Write("efi/b", b"b")),
     // looks at a file, and at the names in a folder

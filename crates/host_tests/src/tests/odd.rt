@@ -6,7 +6,7 @@ use super::noted::NotedSystem;
 use super::{Step, run};
 use std::test::Fail;
 
-const CHANGED: [Step; 7] = [
+static CHANGED: [Step; 7] = [
     Beside(MakeFolder("odd/folder")),
     Names("odd", 0),
     Syncs(true),
@@ -22,7 +22,7 @@ fn a_changed_folder_must_be_synced(rt: HostRuntime) -> Result<(), Fail> {
     run(&rt, NotedSystem { rt }, &CHANGED)
 }
 
-const RENAMED: [Step; 4] = [
+static RENAMED: [Step; 4] = [
     Beside(Write("taken.tmp", b"abc")),
     Fails("taken", Create),
     Faults(1),

@@ -2,9 +2,10 @@
 use super::Act::{Append, Create};
 use super::Change::{Crowd, Link, MakeFolder, RemoveFolder, Write};
 use super::Step::{Beside, Does, Faults, Holds, Lacks, Names, Runs, Same};
-use super::{Step, enter_own_folder, go_through, remove_own_folder};
+use super::{Step, enter_own_folder, go_through, go_through_over, remove_own_folder};
 use host_machine::HostMachine;
 use sample_images::{OSREL_TEXT, SampleImage};
+use std::io::Stderr;
 use std::test::Fail;
 use std::{fs, io};
 
@@ -19,7 +20,7 @@ fn write_images(rt: &HostRuntime) -> io::Result<()> {
 
 const BUILD: &str = "ukify build --stub=stub --linux=k --output=out.efi";
 
-const RUNS: [Step; 36] = [
+static RUNS: [Step; 36] = [
     Beside(MakeFolder("efi/EFI/Linux")),
     Beside(Write("efi/EFI/Linux/a.efi", b"a")),
     Beside(Write("efi/EFI/Linux/z.efi.tmp", b"z")),
@@ -65,8 +66,7 @@ const RUNS: [Step; 36] = [
 fn run_with_images(rt: &HostRuntime, steps: &[Step]) -> Result<(), Fail> {
     enter_own_folder(rt)?;
     write_images(rt)?;
-    let mut machine = HostMachine::new(*rt, rt.stderr());
-    go_through(rt, &mut machine, steps)?;
+    go_through_over(rt, *rt, steps)?;
     remove_own_folder(rt)?;
     Ok(())
 }
@@ -77,7 +77,7 @@ fn the_program_runs_in_a_folder(rt: HostRuntime) -> Result<(), Fail> {
 }
 
 // At most 4,096 entry files of both folders are read. The image alone is an entry.
-const CROWDS: [Step; 13] = [
+static CROWDS: [Step; 13] = [
     Beside(MakeFolder("efi/loader/entries")),
     Beside(MakeFolder("efi/EFI/Linux")),
     Beside(Crowd("efi/loader/entries", 4095, ".conf")),
@@ -98,23 +98,34 @@ fn more_entry_files_than_are_read_are_refused(rt: HostRuntime) -> Result<(), Fai
     run_with_images(&rt, &CROWDS)
 }
 
-const HALF_WRITTEN: [Step; 2] = [Does("out.efi", Create), Does("out.efi", Append(b"half"))];
+static HALF_WRITTEN: [Step; 2] = [Does("out.efi", Create), Does("out.efi", Append(b"half"))];
 
-const AT_THE_SAME_TIME: [Step; 3] = [Runs(BUILD, 3), Faults(1), Holds("out.efi.tmp", b"half")];
+static AT_THE_SAME_TIME: [Step; 3] = [Runs(BUILD, 3), Faults(1), Holds("out.efi.tmp", b"half")];
 
-const AFTERWARDS: [Step; 3] = [Runs(BUILD, 0), Faults(1), Same("out.efi", "kernel.efi")];
+static AFTERWARDS: [Step; 3] = [Runs(BUILD, 0), Faults(1), Same("out.efi", "kernel.efi")];
+
+// Goes through the steps of a second run while a first one has half written its output. The first run is gone then, and
+// has left its temporary file.
+fn build_at_the_same_time(
+    rt: &HostRuntime,
+    second: &mut HostMachine<HostRuntime, Stderr>,
+) -> Result<(), Fail> {
+    let mut first = HostMachine::new(*rt, rt.stderr());
+    go_through(rt, &mut first, &HALF_WRITTEN)?;
+    go_through(rt, second, &AT_THE_SAME_TIME)
+}
+
+fn build_twice(rt: &HostRuntime) -> Result<(), Fail> {
+    let mut second = HostMachine::new(*rt, rt.stderr());
+    build_at_the_same_time(rt, &mut second)?;
+    go_through(rt, &mut second, &AFTERWARDS)
+}
 
 #[test]
 fn a_second_build_of_an_output_fails(rt: HostRuntime) -> Result<(), Fail> {
     enter_own_folder(&rt)?;
     write_images(&rt)?;
-    let mut first = HostMachine::new(rt, rt.stderr());
-    let mut second = HostMachine::new(rt, rt.stderr());
-    go_through(&rt, &mut first, &HALF_WRITTEN)?;
-    go_through(&rt, &mut second, &AT_THE_SAME_TIME)?;
-    // the first run is gone, and has left its temporary file
-    drop(first);
-    go_through(&rt, &mut second, &AFTERWARDS)?;
+    build_twice(&rt)?;
     remove_own_folder(&rt)?;
     Ok(())
 }

@@ -2,12 +2,13 @@
 use super::Act::{Append, Create, RenameTemp, SyncFile, UnlinkTemp};
 use super::Change::{Write, WriteAt};
 use super::Step::{Beside, Does, Fails, Faults, Holds, Puts, Syncs};
-use super::{Step, enter_own_folder, is_right, remove_own_folder, run};
+use super::{Step, enter_own_folder, remove_own_folder, require, run};
 use host_machine::HostMachine;
+use std::io::Stderr;
 use std::test::Fail;
 
 // The steps of two runs, and which of them makes each.
-const TWO_RUNS: [(u8, Step); 16] = [
+static TWO_RUNS: [(u8, Step); 16] = [
     (1, Does("x/a", Create)),
     (1, Does("x/a", Append(b"abc"))),
     (2, Fails("x/a", Create)),
@@ -27,20 +28,36 @@ const TWO_RUNS: [(u8, Step); 16] = [
     (2, Faults(5)),
 ];
 
+fn go_through_both(
+    rt: &HostRuntime,
+    first: &mut HostMachine<HostRuntime, Stderr>,
+    second: &mut HostMachine<HostRuntime, Stderr>,
+) -> Result<(), Fail> {
+    for (place, (run, step)) in TWO_RUNS.iter().enumerate() {
+        if *run == 1 {
+            require(rt, first, place, *step)?;
+        } else {
+            require(rt, second, place, *step)?;
+        }
+    }
+    Ok(())
+}
+
+fn run_both(rt: &HostRuntime) -> Result<(), Fail> {
+    let mut first = HostMachine::new(*rt, rt.stderr());
+    let mut second = HostMachine::new(*rt, rt.stderr());
+    go_through_both(rt, &mut first, &mut second)
+}
+
 #[test]
 fn the_second_run_is_refused(rt: HostRuntime) -> Result<(), Fail> {
     enter_own_folder(&rt)?;
-    let mut first = HostMachine::new(rt, rt.stderr());
-    let mut second = HostMachine::new(rt, rt.stderr());
-    for (place, (run, step)) in TWO_RUNS.iter().enumerate() {
-        let machine = if *run == 1 { &mut first } else { &mut second };
-        assert!(rt; is_right(&rt, machine, *step)?, "step {place}");
-    }
+    run_both(&rt)?;
     remove_own_folder(&rt)?;
     Ok(())
 }
 
-const TAKEN_OVER: [Step; 9] = [
+static TAKEN_OVER: [Step; 9] = [
     Beside(Write("a", b"old")),
     Beside(Write("a.tmp", b"a longer leftover")),
     Puts("a", b"ne", b"w"),
@@ -59,7 +76,7 @@ fn a_leftover_is_taken_over(rt: HostRuntime) -> Result<(), Fail> {
 }
 
 // A leftover that was changed at the same time and is as long as the file is left alone.
-const LEFT_ALONE: [Step; 19] = [
+static LEFT_ALONE: [Step; 19] = [
     Beside(WriteAt("a", b"abc", 1_000_000)),
     Beside(WriteAt("a.tmp", b"abc", 1_000_000)),
     Fails("a", Create),

@@ -44,13 +44,13 @@ boot_tools: remove e: No such file or directory (os error 2)
 boot_tools: rename e.tmp: No such file or directory (os error 2)
 ";
 
-const FAILING: [(&str, Act); 3] = [("d", Create), ("e", Unlink), ("e", RenameTemp)];
+static FAILING: [(&str, Act); 3] = [("d", Create), ("e", Unlink), ("e", RenameTemp)];
 
 // How many of these calls fail.
 fn count_failing(rt: HostRuntime, are_wanted: bool) -> Result<u64, Fail> {
     let mut machine = HostMachine::new(rt, Notes { rt }).with_reports(are_wanted);
-    for (path, act) in FAILING {
-        is_done(&mut machine, rt.alloc(), path, act)?;
+    for (path, act) in &FAILING {
+        is_done(&mut machine, rt.alloc(), path, *act)?;
     }
     Ok(machine.disk_faults())
 }
@@ -96,7 +96,7 @@ impl Env for OneVariable {
     }
 }
 
-const VARIABLES: [(&str, &str, bool); 5] = [
+static VARIABLES: [(&str, &str, bool); 5] = [
     ("BOOT_TOOLS_LOG", "1", true),
     ("BOOT_TOOLS_LOG", "0", false),
     ("BOOT_TOOLS_LOG", "", false),
@@ -106,11 +106,11 @@ const VARIABLES: [(&str, &str, bool); 5] = [
 
 #[test]
 fn the_environment_asks_for_it(rt: HostRuntime) {
-    for (name, value, wanted) in VARIABLES {
+    for (name, value, wanted) in &VARIABLES {
         let environment = OneVariable { name, value };
         assert_eq!(rt;
             reports_are_wanted(&environment),
-            wanted,
+            *wanted,
             "of {name}={value}"
         );
     }
