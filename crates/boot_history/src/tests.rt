@@ -37,12 +37,12 @@ fn check_printed(
 #[test]
 fn runs_print_one_behind_the_other(rt: HostRuntime) -> Result<(), Fail> {
     let alloc = rt.alloc();
-    let mut machine = empty_machine(alloc)?;
     let calls = vec![in alloc;
         words_of(alloc, "tidy")?,
         words_of(alloc, "bootctl list")?,
         words_of(alloc, "bootctl lst")?,
     ]?;
+    let mut machine = empty_machine(alloc)?;
     run_each(alloc, calls.as_slice(), &mut machine);
     let wanted = "cleaned\nrefusal 13: no entries\nusage: unknown verb lst\n";
     check_printed(&rt, alloc, &machine, wanted)
