@@ -63,15 +63,15 @@ fn sizes_of(
     Ok(sizes)
 }
 
-/// An image, and how long it is by its plan.
+// An image, and how long it is by its plan.
 #[derive(Drop)]
-struct Built {
+struct PlannedImage {
     planned: u64,
     image: Vec<u8>,
 }
 
 // The image of the file and these parts.
-fn image_of(alloc: Global, case: &Case, parts: &Parts) -> Result<Built, RowFault> {
+fn image_of(alloc: Global, case: &Case, parts: &Parts) -> Result<PlannedImage, RowFault> {
     if parts.contents.len() > PART_LIMIT {
         return Err(RowFault::Unclear);
     }
@@ -82,12 +82,12 @@ fn image_of(alloc: Global, case: &Case, parts: &Parts) -> Result<Built, RowFault
     let plan = Plan::make(alloc, &pe, stub.len() as u32, &sizes, sbat)?;
     let image = image_bytes(alloc, &plan, stub, &parts.contents, &case.sbat)?;
     let planned = plan.image_length();
-    Ok(Built { planned, image })
+    Ok(PlannedImage { planned, image })
 }
 
 // Makes an image the file, and says how long it is by its plan and by its bytes.
-fn take_image(alloc: Global, case: &mut Case, built: Built) -> Result<String, RowFault> {
-    let Built { planned, image } = built;
+fn take_image(alloc: Global, case: &mut Case, planned: PlannedImage) -> Result<String, RowFault> {
+    let PlannedImage { planned, image } = planned;
     let made = image.len();
     case.set_file(image)?;
     Ok(format!(in alloc; "{planned} bytes are planned, {made} are made")?)
@@ -98,7 +98,7 @@ fn take_image(alloc: Global, case: &mut Case, built: Built) -> Result<String, Ro
 pub(crate) fn build(alloc: Global, case: &mut Case, rest: &str) -> Result<String, RowFault> {
     let parts = parts_of(alloc, rest)?;
     match image_of(alloc, case, &parts) {
-        Ok(built) => take_image(alloc, case, built),
+        Ok(planned) => take_image(alloc, case, planned),
         Err(RowFault::Plan(fault)) => Ok(fault_text(alloc, fault)?),
         Err(fault) => Err(fault),
     }
