@@ -1,5 +1,6 @@
 pub mod AppendLemmas
 pub mod CopyLemmas
+pub mod KeepLemmas
 pub mod LeftoverLemmas
 pub mod MoveLemmas
 pub mod QuietLemmas

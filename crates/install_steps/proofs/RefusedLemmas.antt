@@ -1,5 +1,6 @@
 -- What a step leads to where it refuses, and where it doesn't.
-use Rattle.std.proofs.Common.{◌≡◌, true, false, refl}
+use Rattle.std.proofs.Common.{◌≡◌, ℕ, true, false, List, length, Option, Some, None, is_some, refl, sym, ap, ◌∙◌}
+use Rattle.std.specs.Option.{option_map}
 use Rattle.std.specs.FinMap as map
 use Rattle.boot_base.specs.Paths.{Path}
 use Rattle.boot_machine.specs.Disk.{Files, has}
@@ -20,3 +21,11 @@ moved_not_there from to files none = rw none refl
 
 pub moved_over : (from to : Path) (files : Files) → has files from ≡ true → has files to ≡ true → after_move from to files ≡ files
 moved_over from to files there over = rw (there, over) refl
+
+-- a file is there where it has a size
+pub has-sized : (m : Files) (q : Path) (found : Option ℕ) → found ≡ option_map length (map.get m q) → has m q ≡ is_some found
+has-sized m q found is = by_cases (map.get m q) ∙ ap is_some (sym is)
+  where
+    by_cases : (o : Option (List ℕ)) → is_some o ≡ is_some (option_map length o)
+    by_cases None = refl
+    by_cases (Some bytes) = refl

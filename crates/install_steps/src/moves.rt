@@ -3,6 +3,7 @@ ghost use Rattle.std.specs.Prelude.{◌≡◌, ◌≢◌, ◌++◌, ◌∷◌, [
 ghost use Rattle.boot_base.specs.Paths.{IsFree, intent as intent_path};
 ghost use Rattle.boot_machine.specs.Disk.{HasOneCandidate, IsRested, has, intent_names, recovered_view};
 ghost use Rattle.boot_machine.specs.Images.{IsFirm};
+ghost use Rattle.boot_machine.specs.Reading.{OnlyReads};
 ghost use Rattle.boot_machine.specs.Rows.{move_in};
 ghost use Rattle.boot_machine.specs.Counts.{CountsDisk};
 ghost use Rattle.boot_machine.specs.Taken.{TakesNone};
@@ -122,6 +123,27 @@ fn move_intended<M: Machine>(
     unlink_synced(machine, &intent.path)
 }
 
+// Refuses a move of a file that isn't there, and one to a path at which one is.
+fn allow_move<M: Machine>(machine: &mut M, from: &BootPath, to: &BootPath) -> Result<(), MoveFault>
+    ensures found { OnOk result (IsTrue M.tells → (has (M.state machine.old).files from.now ≡ true)
+        × (has (M.state machine.old).files to.now ≡ false)) }
+    ensures not_found { IsErrOf result MoveFault.NotFound → IsTrue M.tells
+        → has (M.state machine.old).files from.now ≡ false }
+    ensures exists { IsErrOf result MoveFault.TargetExists → IsTrue M.tells
+        → (has (M.state machine.old).files from.now ≡ true) × (has (M.state machine.old).files to.now ≡ true) }
+    ensures reads { IsTrue M.tells → OnlyReads M.time M.state machine.old machine.new }
+    ensures counts { CountsMove result (M.counts machine.old) (M.counts machine.new) }
+    ensures taken { IsTrue M.tells → TakesNone (M.taken machine.old) (M.taken machine.new) }
+{
+    if machine.size(from)?.is_none() {
+        return Err(MoveFault::NotFound);
+    }
+    if machine.size(to)?.is_some() {
+        return Err(MoveFault::TargetExists);
+    }
+    Ok(())
+}
+
 /// Moves a boot file to a path at which none is. A stop at any moment leaves what boot saw before, or the
 /// file at its new path alone: the intent says which of two names counts. `NotFound` comes exactly where `from`
 /// isn't there, and is looked at first; `TargetExists` where both paths are. After both nothing has changed.
@@ -159,12 +181,7 @@ pub fn move_name<M: Machine>(
 {
     from.know();
     to.know();
-    if machine.size(from)?.is_none() {
-        return Err(MoveFault::NotFound);
-    }
-    if machine.size(to)?.is_some() {
-        return Err(MoveFault::TargetExists);
-    }
+    allow_move(machine, from, to)?;
     move_intended(machine, from, to, intent)?;
     Ok(())
 }

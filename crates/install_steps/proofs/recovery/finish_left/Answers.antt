@@ -5,6 +5,7 @@ use Rattle.boot_machine.proofs.Recovering.{whole-unread}
 use Rattle.boot_machine.proofs.Going.{goes-read}
 use Rattle.install_steps.specs.Names.{names_of}
 use Rattle.install_steps.proofs.RecoverLemmas.{size_there}
+use Rattle.install_steps.proofs.KeepLemmas.{keeps_on, keeps_same, takes_first, takes_later, takes_nothing, temps_on, temps_same}
 use Rattle.install_steps.proofs.StepLemmas.{begins_same, goes-reads, steps_same, steps_then}
 use Rattle.install_steps.proofs.QuietLemmas.{quiet-read, quiet_reads, quiet_start, quiet_then}
 use Rattle.install_steps.proofs.recovery.finish_left.Goals as goal
@@ -165,3 +166,99 @@ returns-in_default-2-clause-quiet g c told =
     let named = quiet_reads _ _ _ _ _ looked (c.left_names.ensures.reads told) in
     let ended = quiet_then _ _ _ _ _ named (c.drop_intent.ensures.quiet told) (c.drop_intent.ensures.keeps told) in
     ended.moments
+
+pub returns-in_err-size-clause-keeps : goal.returns-in_err-size-clause-keeps
+returns-in_err-size-clause-keeps g c told =
+    keeps_same (g.M.Machine.state c.args.machine.now) (g.M.Machine.state c.size.new.self) (c.size.ensures.row told).same
+
+pub returns-in_err-size-clause-temps : goal.returns-in_err-size-clause-temps
+returns-in_err-size-clause-temps g c told =
+    temps_same (g.M.Machine.state c.args.machine.now) (g.M.Machine.state c.size.new.self) (c.size.ensures.row told).same
+
+pub returns-in_err-size-clause-taken : goal.returns-in_err-size-clause-taken
+returns-in_err-size-clause-taken g c told =
+    takes_nothing 2050 (g.M.Machine.taken c.args.machine.now) (g.M.Machine.taken c.size.new.self) (c.size.ensures.taken told)
+
+pub returns-in_default-clause-keeps : goal.returns-in_default-clause-keeps
+returns-in_default-clause-keeps g c told =
+    keeps_same (g.M.Machine.state c.args.machine.now) (g.M.Machine.state c.size.new.self) (c.size.ensures.row told).same
+
+pub returns-in_default-clause-temps : goal.returns-in_default-clause-temps
+returns-in_default-clause-temps g c told =
+    temps_same (g.M.Machine.state c.args.machine.now) (g.M.Machine.state c.size.new.self) (c.size.ensures.row told).same
+
+pub returns-in_default-clause-taken : goal.returns-in_default-clause-taken
+returns-in_default-clause-taken g c told =
+    takes_nothing 2050 (g.M.Machine.taken c.args.machine.now) (g.M.Machine.taken c.size.new.self) (c.size.ensures.taken told)
+
+pub returns-in_err-names-clause-keeps : goal.returns-in_err-names-clause-keeps
+returns-in_err-names-clause-keeps g c told =
+    keeps_same (g.M.Machine.state c.args.machine.now) (g.M.Machine.state c.left_names.new.machine) ((c.left_names.ensures.reads told).same ∙ (c.size.ensures.row told).same)
+
+pub returns-in_err-names-clause-temps : goal.returns-in_err-names-clause-temps
+returns-in_err-names-clause-temps g c told =
+    temps_same (g.M.Machine.state c.args.machine.now) (g.M.Machine.state c.left_names.new.machine) ((c.left_names.ensures.reads told).same ∙ (c.size.ensures.row told).same)
+
+pub returns-in_err-names-clause-taken : goal.returns-in_err-names-clause-taken
+returns-in_err-names-clause-taken g c told =
+    takes_later 2050 (g.M.Machine.taken c.args.machine.now) (g.M.Machine.taken c.size.new.self) (g.M.Machine.taken c.left_names.new.machine) (c.size.ensures.taken told) (c.left_names.ensures.taken told)
+
+pub returns-in_err-drop_intent-clause-keeps : goal.returns-in_err-drop_intent-clause-keeps
+returns-in_err-drop_intent-clause-keeps g c told =
+    keeps_on _ _ _ (keeps_same (g.M.Machine.state c.args.machine.now) (g.M.Machine.state c.left_names.new.machine) ((c.left_names.ensures.reads told).same ∙ (c.size.ensures.row told).same)) (c.drop_intent.ensures.keeps told)
+
+pub returns-in_err-drop_intent-clause-temps : goal.returns-in_err-drop_intent-clause-temps
+returns-in_err-drop_intent-clause-temps g c told =
+    temps_on (g.M.Machine.state c.args.machine.now) (g.M.Machine.state c.left_names.new.machine) (g.M.Machine.state c.drop_intent.new.machine) (temps_same (g.M.Machine.state c.args.machine.now) (g.M.Machine.state c.left_names.new.machine) ((c.left_names.ensures.reads told).same ∙ (c.size.ensures.row told).same)) (c.drop_intent.ensures.temps told)
+
+pub returns-in_err-drop_intent-clause-taken : goal.returns-in_err-drop_intent-clause-taken
+returns-in_err-drop_intent-clause-taken g c told =
+    takes_first 2050 (g.M.Machine.taken c.args.machine.now) (g.M.Machine.taken c.left_names.new.machine) (g.M.Machine.taken c.drop_intent.new.machine) (takes_later 2050 (g.M.Machine.taken c.args.machine.now) (g.M.Machine.taken c.size.new.self) (g.M.Machine.taken c.left_names.new.machine) (c.size.ensures.taken told) (c.left_names.ensures.taken told)) (c.drop_intent.ensures.taken told)
+
+pub returns-in_default-2-clause-keeps : goal.returns-in_default-2-clause-keeps
+returns-in_default-2-clause-keeps g c told =
+    keeps_on _ _ _ (keeps_same (g.M.Machine.state c.args.machine.now) (g.M.Machine.state c.left_names.new.machine) ((c.left_names.ensures.reads told).same ∙ (c.size.ensures.row told).same)) (c.drop_intent.ensures.keeps told)
+
+pub returns-in_default-2-clause-temps : goal.returns-in_default-2-clause-temps
+returns-in_default-2-clause-temps g c told =
+    temps_on (g.M.Machine.state c.args.machine.now) (g.M.Machine.state c.left_names.new.machine) (g.M.Machine.state c.drop_intent.new.machine) (temps_same (g.M.Machine.state c.args.machine.now) (g.M.Machine.state c.left_names.new.machine) ((c.left_names.ensures.reads told).same ∙ (c.size.ensures.row told).same)) (c.drop_intent.ensures.temps told)
+
+pub returns-in_default-2-clause-taken : goal.returns-in_default-2-clause-taken
+returns-in_default-2-clause-taken g c told =
+    takes_first 2050 (g.M.Machine.taken c.args.machine.now) (g.M.Machine.taken c.left_names.new.machine) (g.M.Machine.taken c.drop_intent.new.machine) (takes_later 2050 (g.M.Machine.taken c.args.machine.now) (g.M.Machine.taken c.size.new.self) (g.M.Machine.taken c.left_names.new.machine) (c.size.ensures.taken told) (c.left_names.ensures.taken told)) (c.drop_intent.ensures.taken told)
+
+pub returns-in_err-drop_left-clause-keeps : goal.returns-in_err-drop_left-clause-keeps
+returns-in_err-drop_left-clause-keeps g c told =
+    keeps_on _ _ _ (keeps_same (g.M.Machine.state c.args.machine.now) (g.M.Machine.state c.left_names.new.machine) ((c.left_names.ensures.reads told).same ∙ (c.size.ensures.row told).same)) (c.drop_left.ensures.keeps told)
+
+pub returns-in_err-drop_left-clause-temps : goal.returns-in_err-drop_left-clause-temps
+returns-in_err-drop_left-clause-temps g c told =
+    temps_on (g.M.Machine.state c.args.machine.now) (g.M.Machine.state c.left_names.new.machine) (g.M.Machine.state c.drop_left.new.machine) (temps_same (g.M.Machine.state c.args.machine.now) (g.M.Machine.state c.left_names.new.machine) ((c.left_names.ensures.reads told).same ∙ (c.size.ensures.row told).same)) (c.drop_left.ensures.temps told)
+
+pub returns-in_err-drop_left-clause-taken : goal.returns-in_err-drop_left-clause-taken
+returns-in_err-drop_left-clause-taken g c told =
+    takes_first 2050 (g.M.Machine.taken c.args.machine.now) (g.M.Machine.taken c.left_names.new.machine) (g.M.Machine.taken c.drop_left.new.machine) (takes_later 2050 (g.M.Machine.taken c.args.machine.now) (g.M.Machine.taken c.size.new.self) (g.M.Machine.taken c.left_names.new.machine) (c.size.ensures.taken told) (c.left_names.ensures.taken told)) (c.drop_left.ensures.taken told)
+
+pub returns-in_err-drop_intent-2-clause-keeps : goal.returns-in_err-drop_intent-2-clause-keeps
+returns-in_err-drop_intent-2-clause-keeps g c told =
+    keeps_on _ _ _ (keeps_on _ _ _ (keeps_same (g.M.Machine.state c.args.machine.now) (g.M.Machine.state c.left_names.new.machine) ((c.left_names.ensures.reads told).same ∙ (c.size.ensures.row told).same)) (c.drop_left.ensures.keeps told)) (c.drop_intent-2.ensures.keeps told)
+
+pub returns-in_err-drop_intent-2-clause-temps : goal.returns-in_err-drop_intent-2-clause-temps
+returns-in_err-drop_intent-2-clause-temps g c told =
+    temps_on (g.M.Machine.state c.args.machine.now) (g.M.Machine.state c.drop_left.new.machine) (g.M.Machine.state c.drop_intent-2.new.machine) (temps_on (g.M.Machine.state c.args.machine.now) (g.M.Machine.state c.left_names.new.machine) (g.M.Machine.state c.drop_left.new.machine) (temps_same (g.M.Machine.state c.args.machine.now) (g.M.Machine.state c.left_names.new.machine) ((c.left_names.ensures.reads told).same ∙ (c.size.ensures.row told).same)) (c.drop_left.ensures.temps told)) (c.drop_intent-2.ensures.temps told)
+
+pub returns-in_err-drop_intent-2-clause-taken : goal.returns-in_err-drop_intent-2-clause-taken
+returns-in_err-drop_intent-2-clause-taken g c told =
+    takes_first 2050 (g.M.Machine.taken c.args.machine.now) (g.M.Machine.taken c.drop_left.new.machine) (g.M.Machine.taken c.drop_intent-2.new.machine) (takes_first 2050 (g.M.Machine.taken c.args.machine.now) (g.M.Machine.taken c.left_names.new.machine) (g.M.Machine.taken c.drop_left.new.machine) (takes_later 2050 (g.M.Machine.taken c.args.machine.now) (g.M.Machine.taken c.size.new.self) (g.M.Machine.taken c.left_names.new.machine) (c.size.ensures.taken told) (c.left_names.ensures.taken told)) (c.drop_left.ensures.taken told)) (c.drop_intent-2.ensures.taken told)
+
+pub returns-clause-keeps : goal.returns-clause-keeps
+returns-clause-keeps g c told =
+    keeps_on _ _ _ (keeps_on _ _ _ (keeps_same (g.M.Machine.state c.args.machine.now) (g.M.Machine.state c.left_names.new.machine) ((c.left_names.ensures.reads told).same ∙ (c.size.ensures.row told).same)) (c.drop_left.ensures.keeps told)) (c.drop_intent-2.ensures.keeps told)
+
+pub returns-clause-temps : goal.returns-clause-temps
+returns-clause-temps g c told =
+    temps_on (g.M.Machine.state c.args.machine.now) (g.M.Machine.state c.drop_left.new.machine) (g.M.Machine.state c.drop_intent-2.new.machine) (temps_on (g.M.Machine.state c.args.machine.now) (g.M.Machine.state c.left_names.new.machine) (g.M.Machine.state c.drop_left.new.machine) (temps_same (g.M.Machine.state c.args.machine.now) (g.M.Machine.state c.left_names.new.machine) ((c.left_names.ensures.reads told).same ∙ (c.size.ensures.row told).same)) (c.drop_left.ensures.temps told)) (c.drop_intent-2.ensures.temps told)
+
+pub returns-clause-taken : goal.returns-clause-taken
+returns-clause-taken g c told =
+    takes_first 2050 (g.M.Machine.taken c.args.machine.now) (g.M.Machine.taken c.drop_left.new.machine) (g.M.Machine.taken c.drop_intent-2.new.machine) (takes_first 2050 (g.M.Machine.taken c.args.machine.now) (g.M.Machine.taken c.left_names.new.machine) (g.M.Machine.taken c.drop_left.new.machine) (takes_later 2050 (g.M.Machine.taken c.args.machine.now) (g.M.Machine.taken c.size.new.self) (g.M.Machine.taken c.left_names.new.machine) (c.size.ensures.taken told) (c.left_names.ensures.taken told)) (c.drop_left.ensures.taken told)) (c.drop_intent-2.ensures.taken told)

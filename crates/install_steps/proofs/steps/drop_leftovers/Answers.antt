@@ -1,4 +1,4 @@
-use Rattle.std.proofs.Common.{◌≡◌, ⊎_elim, true, refl, sym, subst, rules, arith, []}
+use Rattle.std.proofs.Common.{◌≡◌, ⊎_elim, true, refl, sym, subst, ◌∙◌, []}
 use Rattle.std.specs.FinMap as map
 use Rattle.boot_machine.specs.Disk.{has, recovered_view}
 use Rattle.boot_machine.specs.Rows.{after_unlink}
@@ -7,7 +7,7 @@ use Rattle.boot_machine.proofs.Soft.{now_sees, by_done_or_not}
 use Rattle.boot_machine.proofs.Going.{goes-unlink, goes-sync_names}
 use Rattle.install_steps.specs.Steps.{Keeps}
 use Rattle.install_steps.proofs.StepLemmas.{OldOrNext, begins, steps_to, is_done}
-use Rattle.install_steps.proofs.LeftoverLemmas.{calm_lacks, lacks_none, lacks_more, still_there}
+use Rattle.install_steps.proofs.LeftoverLemmas.{calm_lacks, lacks_all, lacks_none, lacks_more, none_new, still_there}
 use Rattle.install_steps.proofs.QuietLemmas.{quiet-sync_names, quiet-unlink, quiet_start}
 use Rattle.install_steps.proofs.steps.drop_leftovers.Goals as goal
 
@@ -55,8 +55,8 @@ loop-path-preserved g c = record {
       gone;
   lacks = λ told. rw (c.in_ok-unlink_temp.ensures.row told) (lacks_more c.args.paths.now c.loop-path.path-index c.path-item.result (g.M.Machine.state c.args.machine.now).files (g.M.Machine.state c.loop-path.machine).files c.loop-path-test.true c.path-item.is (c.loop-path.invariant.lacks told));
   keeps = λ told. let kept = c.loop-path.invariant.keeps told in rw (c.in_ok-unlink_temp.ensures.row told) (record { printed = kept.printed; input = kept.input });
-  taken = λ told. omega (arith, c.loop-path.invariant.taken told, c.unlink_temp.ensures.taken told);
-  counts = search rules;
+  taken = λ told. c.unlink_temp.ensures.taken told ∙ c.loop-path.invariant.taken told;
+  counts = c.in_ok-unlink_temp.ensures.counts ∙ c.loop-path.invariant.counts;
 }
 
 pub returns-in_err-sync_names-clause-step : goal.returns-in_err-sync_names-clause-step
@@ -98,3 +98,31 @@ pub returns-clause-quiet : goal.returns-clause-quiet
 returns-clause-quiet g c told =
     let ended = quiet-sync_names _ _ _ _ _ (c.loop-path.invariant.quiet told) (λ m o. g.met.M.Machine.only_now c.loop-path.machine m o told) (c.sync_names.ensures.moments told) c.sync_names.result (c.sync_names.ensures.row told) in
     ended.moments
+
+pub returns-clause-gone : goal.returns-clause-gone
+returns-clause-gone g c told =
+    rw (c.in_ok-sync_names.ensures.row told) (lacks_all c.args.paths.now c.loop-path.path-index (g.M.Machine.state c.args.machine.now).files (g.M.Machine.state c.loop-path.machine).files c.loop-path-test.false (c.loop-path.invariant.lacks told))
+
+pub returns-clause-temps : goal.returns-clause-temps
+returns-clause-temps g c told q temp there =
+    none_new _ (g.M.Machine.state c.args.machine.now).files (g.M.Machine.state c.loop-path.machine).files (c.loop-path.invariant.lacks told) q (rw (c.in_ok-sync_names.ensures.row told) at there)
+
+pub returns-in_err-sync_names-clause-keeps : goal.returns-in_err-sync_names-clause-keeps
+returns-in_err-sync_names-clause-keeps g c told = rw (c.in_err-sync_names.ensures.row told) (c.loop-path.invariant.keeps told)
+
+pub returns-clause-keeps : goal.returns-clause-keeps
+returns-clause-keeps g c told =
+    let kept = c.loop-path.invariant.keeps told in
+    rw (c.in_ok-sync_names.ensures.row told) (record { printed = kept.printed; input = kept.input })
+
+pub returns-in_err-unlink_temp-clause-taken : goal.returns-in_err-unlink_temp-clause-taken
+returns-in_err-unlink_temp-clause-taken g c told = c.unlink_temp.ensures.taken told ∙ c.loop-path.invariant.taken told
+
+pub returns-in_err-sync_names-clause-taken : goal.returns-in_err-sync_names-clause-taken
+returns-in_err-sync_names-clause-taken g c told = c.sync_names.ensures.taken told ∙ c.loop-path.invariant.taken told
+
+pub returns-clause-taken : goal.returns-clause-taken
+returns-clause-taken g c told = c.sync_names.ensures.taken told ∙ c.loop-path.invariant.taken told
+
+pub returns-clause-counts : goal.returns-clause-counts
+returns-clause-counts g c = c.in_ok-sync_names.ensures.counts ∙ c.loop-path.invariant.counts

@@ -1,6 +1,7 @@
-use Rattle.std.proofs.Common.{◌≡◌, true, false, [], refl, subst, rules, arith}
+use Rattle.std.proofs.Common.{◌≡◌, ◌≤◌, true, false, length, [], refl, ◌∙◌, subst, rules, arith}
 use Rattle.std.specs.FinMap as map
 use Rattle.boot_machine.specs.Disk.{Files, has}
+use Rattle.boot_machine.specs.Rows.{contents}
 use Rattle.boot_machine.proofs.Going.{goes-create, goes-read}
 use Rattle.boot_machine.proofs.Recovering.{has-recovered_view}
 use Rattle.boot_machine.proofs.Written.{has-created}
@@ -8,6 +9,7 @@ use Rattle.install_steps.specs.Steps.{StepsTo, IsDone}
 use Rattle.install_steps.specs.AppendLaws.{appends-there}
 use Rattle.install_steps.proofs.AppendLemmas.{calm_left, copied_file, goes-appends, temps_left}
 use Rattle.install_steps.proofs.CopyLemmas.{sees_copy, size_there, size_within}
+use Rattle.install_steps.proofs.KeepLemmas.{keeps_appends, keeps_create, keeps_on, keeps_same, takes_first, takes_later, takes_nothing, takes_part}
 use Rattle.install_steps.proofs.StepLemmas.{begins_same, firm_so_far, settled_so_far, steps_same, steps_on, off_intent}
 use Rattle.install_steps.proofs.QuietLemmas.{quiet_appends, quiet-create, quiet-read, quiet_start, quiet_then}
 use Rattle.install_steps.proofs.write.write_whole.Goals as goal
@@ -156,3 +158,60 @@ returns-clause-quiet g c told =
     let written = quiet_appends _ _ c.args.target.now.temp _ _ _ made (c.copy_part.ensures.appends told) in
     let ended = quiet_then _ _ _ _ _ written (c.put_in_place.ensures.quiet told) (c.put_in_place.ensures.keeps told) in
     ended.moments
+
+pub returns-in_err-size-clause-keeps : goal.returns-in_err-size-clause-keeps
+returns-in_err-size-clause-keeps g c told =
+    keeps_same (g.M.Machine.state c.args.machine.now) (g.M.Machine.state c.size.new.self) (c.size.ensures.row told).same
+
+pub returns-in_err-size-clause-taken : goal.returns-in_err-size-clause-taken
+returns-in_err-size-clause-taken g c told =
+    takes_nothing (length (contents (g.M.Machine.state c.args.machine.now).files c.args.from.now)) (g.M.Machine.taken c.args.machine.now) (g.M.Machine.taken c.size.new.self) (c.size.ensures.taken told)
+
+pub returns-in_default-clause-keeps : goal.returns-in_default-clause-keeps
+returns-in_default-clause-keeps g c told =
+    keeps_same (g.M.Machine.state c.args.machine.now) (g.M.Machine.state c.size.new.self) (c.size.ensures.row told).same
+
+pub returns-in_default-clause-taken : goal.returns-in_default-clause-taken
+returns-in_default-clause-taken g c told =
+    takes_nothing (length (contents (g.M.Machine.state c.args.machine.now).files c.args.from.now)) (g.M.Machine.taken c.args.machine.now) (g.M.Machine.taken c.size.new.self) (c.size.ensures.taken told)
+
+pub returns-in_err-create-clause-keeps : goal.returns-in_err-create-clause-keeps
+returns-in_err-create-clause-keeps g c told =
+    keeps_on _ _ _ (keeps_same (g.M.Machine.state c.args.machine.now) (g.M.Machine.state c.size.new.self) (c.size.ensures.row told).same) (keeps_create (g.M.Machine.state c.size.new.self) (g.M.Machine.state c.create.new.self) c.args.target.now.temp c.create.result (c.create.ensures.row told))
+
+pub returns-in_err-create-clause-taken : goal.returns-in_err-create-clause-taken
+returns-in_err-create-clause-taken g c told =
+    takes_nothing (length (contents (g.M.Machine.state c.args.machine.now).files c.args.from.now)) (g.M.Machine.taken c.args.machine.now) (g.M.Machine.taken c.create.new.self) (c.create.ensures.taken told ∙ c.size.ensures.taken told)
+
+pub returns-in_err-copy_part-clause-keeps : goal.returns-in_err-copy_part-clause-keeps
+returns-in_err-copy_part-clause-keeps g c told =
+    keeps_on _ _ _ (keeps_on _ _ _ (keeps_same (g.M.Machine.state c.args.machine.now) (g.M.Machine.state c.size.new.self) (c.size.ensures.row told).same) (keeps_create (g.M.Machine.state c.size.new.self) (g.M.Machine.state c.create.new.self) c.args.target.now.temp c.create.result (c.create.ensures.row told))) (keeps_appends (g.M.Machine.state c.create.new.self) (g.M.Machine.state c.copy_part.new.machine) c.args.target.now.temp (c.copy_part.ensures.appends told).left)
+
+pub returns-in_err-copy_part-clause-taken : goal.returns-in_err-copy_part-clause-taken
+returns-in_err-copy_part-clause-taken g c told =
+    let limit = length (contents (g.M.Machine.state c.args.machine.now).files c.args.from.now) in
+    let size = (size_there (g.M.Machine.state c.args.machine.now).files c.args.from.now c.in_ok-size.field-0 c.in-Some.size (c.in_ok-size.ensures.row told).answer c.in-Some.is).0 in
+    let within : c.min-size.result ≤ limit = omega (arith, size, c.min-size.ensures) in
+    takes_later limit (g.M.Machine.taken c.args.machine.now) (g.M.Machine.taken c.create.new.self) (g.M.Machine.taken c.copy_part.new.machine) (c.create.ensures.taken told ∙ c.size.ensures.taken told) (takes_part c.min-size.result limit (g.M.Machine.taken c.create.new.self) (g.M.Machine.taken c.copy_part.new.machine) within (c.copy_part.ensures.taken told))
+
+pub returns-in_err-put_in_place-clause-keeps : goal.returns-in_err-put_in_place-clause-keeps
+returns-in_err-put_in_place-clause-keeps g c told =
+    keeps_on _ _ _ (keeps_on _ _ _ (keeps_on _ _ _ (keeps_same (g.M.Machine.state c.args.machine.now) (g.M.Machine.state c.size.new.self) (c.size.ensures.row told).same) (keeps_create (g.M.Machine.state c.size.new.self) (g.M.Machine.state c.create.new.self) c.args.target.now.temp c.create.result (c.create.ensures.row told))) (keeps_appends (g.M.Machine.state c.create.new.self) (g.M.Machine.state c.copy_part.new.machine) c.args.target.now.temp (c.copy_part.ensures.appends told).left)) (c.put_in_place.ensures.keeps told)
+
+pub returns-in_err-put_in_place-clause-taken : goal.returns-in_err-put_in_place-clause-taken
+returns-in_err-put_in_place-clause-taken g c told =
+    let limit = length (contents (g.M.Machine.state c.args.machine.now).files c.args.from.now) in
+    let size = (size_there (g.M.Machine.state c.args.machine.now).files c.args.from.now c.in_ok-size.field-0 c.in-Some.size (c.in_ok-size.ensures.row told).answer c.in-Some.is).0 in
+    let within : c.min-size.result ≤ limit = omega (arith, size, c.min-size.ensures) in
+    takes_first limit (g.M.Machine.taken c.args.machine.now) (g.M.Machine.taken c.copy_part.new.machine) (g.M.Machine.taken c.put_in_place.new.machine) (takes_later limit (g.M.Machine.taken c.args.machine.now) (g.M.Machine.taken c.create.new.self) (g.M.Machine.taken c.copy_part.new.machine) (c.create.ensures.taken told ∙ c.size.ensures.taken told) (takes_part c.min-size.result limit (g.M.Machine.taken c.create.new.self) (g.M.Machine.taken c.copy_part.new.machine) within (c.copy_part.ensures.taken told))) (c.put_in_place.ensures.taken told)
+
+pub returns-clause-keeps : goal.returns-clause-keeps
+returns-clause-keeps g c told =
+    keeps_on _ _ _ (keeps_on _ _ _ (keeps_on _ _ _ (keeps_same (g.M.Machine.state c.args.machine.now) (g.M.Machine.state c.size.new.self) (c.size.ensures.row told).same) (keeps_create (g.M.Machine.state c.size.new.self) (g.M.Machine.state c.create.new.self) c.args.target.now.temp c.create.result (c.create.ensures.row told))) (keeps_appends (g.M.Machine.state c.create.new.self) (g.M.Machine.state c.copy_part.new.machine) c.args.target.now.temp (c.copy_part.ensures.appends told).left)) (c.put_in_place.ensures.keeps told)
+
+pub returns-clause-taken : goal.returns-clause-taken
+returns-clause-taken g c told =
+    let limit = length (contents (g.M.Machine.state c.args.machine.now).files c.args.from.now) in
+    let size = (size_there (g.M.Machine.state c.args.machine.now).files c.args.from.now c.in_ok-size.field-0 c.in-Some.size (c.in_ok-size.ensures.row told).answer c.in-Some.is).0 in
+    let within : c.min-size.result ≤ limit = omega (arith, size, c.min-size.ensures) in
+    takes_first limit (g.M.Machine.taken c.args.machine.now) (g.M.Machine.taken c.copy_part.new.machine) (g.M.Machine.taken c.put_in_place.new.machine) (takes_later limit (g.M.Machine.taken c.args.machine.now) (g.M.Machine.taken c.create.new.self) (g.M.Machine.taken c.copy_part.new.machine) (c.create.ensures.taken told ∙ c.size.ensures.taken told) (takes_part c.min-size.result limit (g.M.Machine.taken c.create.new.self) (g.M.Machine.taken c.copy_part.new.machine) within (c.copy_part.ensures.taken told))) (c.put_in_place.ensures.taken told)
