@@ -7,6 +7,7 @@ mod Known
 mod WithoutRepeats
 pub mod Performed
 pub mod Registers
+pub mod Replies
 pub mod Sizes
 pub mod Syncing
 pub mod Unsaying

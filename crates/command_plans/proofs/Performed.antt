@@ -19,8 +19,9 @@ use Rattle.command_plans.specs.declared.outcome.Outcome.{Outcome}
 use Rattle.command_plans.specs.declared.outcome.Stop.{Stop}
 use Rattle.command_plans.specs.declared.outcome.Stop.TheVariants as stops
 use Rattle.command_plans.specs.declared.outcome.MachineFault.{MachineFault}
-use Rattle.command_plans.specs.declared.outcome.MachineFault.TheVariants.{Disk, Pipe}
+use Rattle.command_plans.specs.declared.outcome.MachineFault.TheVariants.{Disk}
 use Rattle.command_plans.proofs.Exits.{if_ok, if_err}
+use Rattle.command_plans.proofs.Replies.{Replied}
 
 module _ {D : Type 0} (time : Timeline D) (state : D → State) (old : D) (outcome : Outcome) (after : Files) (to : Channel) (bytes : (List ℕ)) where
   abbrev deed : Deed
@@ -96,35 +97,30 @@ module _ {D : Type 0} (time : Timeline D) (state : D → State) (old : D) (outco
   same_firm : (s : State) (shown : (List ℕ)) → IsFirm s → IsFirm (with_printed to shown s)
   same_firm s shown firm = record { unseen = firm.unseen; intent = firm.intent; unnamed = firm.unnamed }
 
-  -- the reply couldn't be printed
-  pub reply_failed : (mid done new : D) (result : Result Outcome MachineFault) → IsErr result → IsErrAnd result (λ stop. stop ≡ Pipe) → ((m : Files) → IsImage (state old) m → IsIn (recovered_view m) (recovered_views (state old)))
+  -- the reply is printed, or couldn't be
+  pub replied : (mid done new : D) (result : Result Outcome MachineFault) → ((m : Files) → IsImage (state old) m → IsIn (recovered_view m) (recovered_views (state old)))
       → Keeps (state old) (state mid) → (state mid).files ≡ (state old).files → EachSince time old mid (λ m o. IsImage (state old) m × (o ≡ (state old).printed))
       → Keeps (state mid) (state done) → IsInstalled (state done) after → EachSince time mid done (Sees (state mid) after)
-      → EachSince time done new (PrintsPart (state done) (on_channel to bytes)) → (k : ℕ) × (state new ≡ with_printed to (take k bytes) (state done))
+      → EachSince time done new (PrintsPart (state done) (on_channel to bytes)) → Replied outcome to bytes (state done) (state new) result
       → Performs time state end_by old new deed result
-  reply_failed mid done new result failed is sees keeps files settling keeps_too installed moments printing shown = record {
-    firm = subst IsFirm (sym shown.1) (same_firm (state done) (take shown.0 bytes) installed.firm);
-    ok = if_ok result _ failed;
-    err = if_err result Pipe _ is (
-      on_channel to (take shown.0 bytes),
-      ap (λ (s : State). s.printed) shown.1 ∙ ap (λ (l : Sent). l ++ on_channel to (take shown.0 bytes)) (keeps_too.printed ∙ keeps.printed),
-      inr (tagged_part to shown.0 bytes, one_left done new (take shown.0 bytes) installed shown.1),
-    );
-    moments = until_reply mid done new sees keeps files settling keeps_too installed moments printing;
-  }
-
-  -- the command is done
-  pub all_done : (mid done new : D) → ((m : Files) → IsImage (state old) m → IsIn (recovered_view m) (recovered_views (state old)))
-      → Keeps (state old) (state mid) → (state mid).files ≡ (state old).files → EachSince time old mid (λ m o. IsImage (state old) m × (o ≡ (state old).printed))
-      → Keeps (state mid) (state done) → IsInstalled (state done) after → EachSince time mid done (Sees (state mid) after)
-      → EachSince time done new (PrintsPart (state done) (on_channel to bytes)) → state new ≡ with_printed to bytes (state done)
-      → Performs time state end_by old new deed (Ok outcome)
-  all_done mid done new sees keeps files settling keeps_too installed moments printing shown = record {
-    firm = subst IsFirm (sym shown) (same_firm (state done) bytes installed.firm);
-    ok = (refl, one_left done new bytes installed shown, ap (λ (s : State). s.printed) shown ∙ ap (λ (l : Sent). l ++ on_channel to bytes) (keeps_too.printed ∙ keeps.printed));
+  replied mid done new (Ok told) sees keeps files settling keeps_too installed moments printing is = record {
+    firm = subst IsFirm (sym is.1) (same_firm (state done) bytes installed.firm);
+    ok = (is.0, one_left done new bytes installed is.1, ap (λ (s : State). s.printed) is.1 ∙ ap (λ (l : Sent). l ++ on_channel to bytes) (keeps_too.printed ∙ keeps.printed));
     err = tt;
     moments = until_reply mid done new sees keeps files settling keeps_too installed moments printing;
   }
+  replied mid done new (Err fault) sees keeps files settling keeps_too installed moments printing is =
+      let shown = is.1 in
+      record {
+        firm = subst IsFirm (sym shown.1) (same_firm (state done) (take shown.0 bytes) installed.firm);
+        ok = tt;
+        err = subst (λ fault. Adds (state old).printed (state new).printed (λ part. Breaks deed (recovered_views (state old)) (recovered_views (state new)) part (end_by fault))) (sym is.0) (
+          on_channel to (take shown.0 bytes),
+          ap (λ (s : State). s.printed) shown.1 ∙ ap (λ (l : Sent). l ++ on_channel to (take shown.0 bytes)) (keeps_too.printed ∙ keeps.printed),
+          inr (tagged_part to shown.0 bytes, one_left done new (take shown.0 bytes) installed shown.1),
+        );
+        moments = until_reply mid done new sees keeps files settling keeps_too installed moments printing;
+      }
 
 module _ {D : Type 0} (time : Timeline D) (state : D → State) (old : D) (deed : Deed) where
   abbrev Within : State → Files → Sent → Type 0

@@ -53,6 +53,10 @@ module _ {D : Type 0} (time : Timeline D) (state : D → State) (old : D) (outco
         (printing.before (time.clock mid) m o moments.later left),
   )
 
+  pub late_by : {E : Type 0} {new : D} (result : Result Outcome E) → LateFrom time state old new deed → Syncs time state old new deed result
+  late_by (Ok told) late = record { ok = λ settles. late; err = tt }
+  late_by (Err fault) late = record { ok = tt; err = inr late }
+
 module _ {D : Type 0} (time : Timeline D) (state : D → State) (old : D) (deed : Deed) where
   late_after_reads : (mid new : D) → OnlyReads time state old mid → LateFrom time state mid new deed → LateFrom time state old new deed
   late_after_reads mid new reads late = (

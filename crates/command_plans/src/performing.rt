@@ -1,18 +1,20 @@
 //! A plan is carried out.
-ghost use Rattle.std.specs.Prelude.{◌≡◌, ◌≤◌, true, length, IfOk, IsErrOf, OnOk, IsTrue};
+ghost use Rattle.std.specs.Prelude.{◌≡◌, ◌≤◌, ℕ, true, length, take, IfOk, IsErrOf, MatchResult, OnOk, IsTrue};
 ghost use Rattle.std.specs.FinMap.{insert};
 ghost use Rattle.boot_base.specs.Limits.{file_limit};
 ghost use Rattle.boot_base.specs.Paths.{IsFree};
 ghost use Rattle.boot_machine.specs.Counts.{CountsDisk};
 ghost use Rattle.boot_machine.specs.Disk.{HasOneCandidate, IsRested, has};
 ghost use Rattle.boot_machine.specs.Images.{IsFirm};
+ghost use Rattle.boot_machine.specs.Moments.{EachSince};
 ghost use Rattle.boot_machine.specs.Reading.{TakesAtMost};
-ghost use Rattle.boot_machine.specs.Rows.{contents};
-ghost use Rattle.boot_machine.specs.Sent.{seen};
+ghost use Rattle.boot_machine.specs.Rows.{contents, on_channel, with_printed};
+ghost use Rattle.boot_machine.specs.Sent.{PrintsPart, seen};
 ghost use Rattle.boot_machine.specs.Taken.{TakesNone};
 ghost use Rattle.image_writer.specs.Sourced.{IsSourced};
 ghost use Rattle.image_writer.specs.Taken.{writing_length};
 ghost use Rattle.install_steps.specs.Steps.{CountsStep, IsDone, Keeps, NoNewTemp, RestsUnless, StepsTo};
+ghost use Rattle.command_plans.specs.Answers.{channel_of};
 ghost use Rattle.command_plans.specs.Deeds.{deed_of_answer};
 ghost use Rattle.command_plans.specs.Performs.{CountsFault, LeavesNoTempBy, LeavesRestedBy, Performs, Syncs, end_by};
 ghost use Rattle.command_plans.specs.Plans.{CanMake, Drops, DropsBy, IsMakeable, with_copy, effect, making_length, answer_of_plan, view_with_image};
@@ -20,7 +22,7 @@ ghost use Rattle.command_plans.specs.Plans.{CanMake, Drops, DropsBy, IsMakeable,
 use crate::outcome::{MachineFault, Outcome};
 use crate::plan::{Change, Plan, RefusalLine};
 use boot_base::{BootPath, PIECE_SIZE, Target};
-use boot_machine::{Channel, DiskFault, Machine, print_all};
+use boot_machine::{DiskFault, Machine, print_all};
 use image_writer::{Sources, write_planned};
 use install_steps::{
     MoveFault, StepFault, drop_leftovers, drop_name, move_name, settle, write_bytes, write_whole,
@@ -171,6 +173,26 @@ fn apply<'a, M: Machine>(change: &'a Change, machine: &mut M) -> Result<Applied<
     }
 }
 
+// Prints the whole reply of a command, on the channel of its outcome, and gives that outcome.
+fn reply<M: Machine>(
+    outcome: Outcome,
+    text: &[u8],
+    machine: &mut M,
+) -> Result<Outcome, MachineFault>
+    ensures printed { IsTrue M.tells → MatchResult result
+        (λ told. (told ≡ outcome)
+        × (M.state machine.new ≡ with_printed (channel_of outcome) text.now (M.state machine.old)))
+        (λ fault. (fault ≡ MachineFault.Pipe) × ((k : ℕ)
+        × (M.state machine.new ≡ with_printed (channel_of outcome) (take k text.now) (M.state machine.old)))) }
+    ensures moments { IsTrue M.tells → EachSince M.time machine.old machine.new
+        (PrintsPart (M.state machine.old) (on_channel (channel_of outcome) text.now)) }
+    ensures counts { CountsFault result (M.counts machine.old) (M.counts machine.new) }
+    ensures taken { IsTrue M.tells → TakesNone (M.taken machine.old) (M.taken machine.new) }
+{
+    print_all(outcome.channel(), text, machine)?;
+    Ok(outcome)
+}
+
 /// Settles the machine, makes the change of a plan and prints its reply. It takes no memory.
 pub fn perform<M: Machine>(plan: &Plan, machine: &mut M) -> Result<Outcome, MachineFault>
     requires rested { IsTrue M.tells → IsRested (M.state machine.old) }
@@ -193,15 +215,12 @@ pub fn perform<M: Machine>(plan: &Plan, machine: &mut M) -> Result<Outcome, Mach
 {
     settle(machine)?;
     match apply(&plan.change, machine)? {
-        Applied::Done => {
-            print_all(plan.outcome.channel(), plan.text.as_slice(), machine)?;
-            Ok(plan.outcome)
-        }
+        Applied::Done => reply(plan.outcome, plan.text.as_slice(), machine),
         Applied::Refused(refusal) => {
-            print_all(Channel::Err, refusal.line.as_slice(), machine)?;
-            Ok(Outcome::Refused {
+            let outcome = Outcome::Refused {
                 number: refusal.number,
-            })
+            };
+            reply(outcome, refusal.line.as_slice(), machine)
         }
     }
 }
