@@ -1,6 +1,6 @@
 //! How often the system has failed.
 ghost use Rattle.std.specs.Prelude.{◌≡◌, IfOk};
-ghost use Rattle.boot_machine.specs.Counts.{CountsDisk, CountsPipe, DiskFailed, DiskFailsOnce};
+ghost use Rattle.boot_machine.specs.Counts.{CountsDisk, CountsPipe, DiskFailed, DiskFailsOnce, PipeFailed, PipeFailsOnce};
 ghost use Rattle.host_machine.specs.Hosts.{counts_of, CountsDiskOnce, CountsPipeOnce};
 
 use boot_machine::{DiskFault, PipeFault};
@@ -20,6 +20,14 @@ impl Faults {
         ensures once { DiskFailsOnce (counts_of self.old) (counts_of self.new) }
     {
         self.disk = self.disk.saturating_add(1);
+    }
+
+    // Counts a failure of a pipe.
+    fn pipe_failed(&mut self)
+        ensures failed { PipeFailed (counts_of self.old) (counts_of self.new) }
+        ensures once { PipeFailsOnce (counts_of self.old) (counts_of self.new) }
+    {
+        self.pipe = self.pipe.saturating_add(1);
     }
 
     // Passes an answer of the disk on, and counts a failure.
@@ -46,7 +54,7 @@ impl Faults {
         match answer {
             Ok(value) => Ok(value),
             Err(_) => {
-                self.pipe = self.pipe.saturating_add(1);
+                self.pipe_failed();
                 Err(PipeFault)
             }
         }
