@@ -25,17 +25,17 @@ use Rattle.boot_commands.specs.Plain.{plain_reply}
 abbrev pub is_long_number : List ℕ → Bool
 is_long_number word = not (length word == 0) && nat_le (length word) 20 && list_all is_ascii_digit word
 
--- the number that a word writes with 1 to 20 digits, up to a limit
 -- the number that such a word writes, below 2^64
 abbrev pub long_number : List ℕ → Option ℕ
 long_number word =
     if is_long_number word && nat_lt (digits_value 10 word) (2 ^ 64) then Some (digits_value 10 word) else None
 
--- the number, up to a limit
+-- that number, where it is up to a limit
 abbrev pub number_or : ℕ → List ℕ → Option ℕ → Result ℕ Refusal
 number_or limit word None = Err (refusals.BadNumber word)
 number_or limit word (Some number) = if nat_le number limit then Ok number else Err (refusals.BadNumber word)
 
+-- the number that a word writes with 1 to 20 digits, up to a limit
 abbrev pub number_up_to : ℕ → List ℕ → Result ℕ Refusal
 number_up_to limit word = number_or limit word (long_number word)
 

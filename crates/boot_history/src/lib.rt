@@ -31,9 +31,9 @@ pub fn kept_law()
 {}
 
 /// A good entry stays: where a valid entry without a boot counter stands at a path in each view at the start of some
-/// run, and no command from that run on is told to build over it, to unlink it, or to bless it as bad or as
-/// indeterminate, one stands there in each later view. It is listed where the two folders hold at most 4,096 entry
-/// files.
+/// run, and no command from that run on is told to build over it, to unlink it, to bless it as bad or as indeterminate,
+/// or to write a `loader.conf` in its place, one stands there in each later view. It is listed where the two folders
+/// hold at most 4,096 entry files.
 pub fn good_entry_law()
     ensures stays { GoodEntryLaw }
     ensures listed { ListedLaw }
