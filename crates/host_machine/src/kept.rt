@@ -1,6 +1,6 @@
 //! Open files that are kept from one call to the next, and the lock on a temporary file.
 use crate::answers::if_there;
-use boot_base::TEMP_SUFFIX;
+use crate::intent::open_file;
 use std::alloc::{AllocError, Global};
 use std::fs::{File, Metadata, OpenOptions};
 use std::io::ErrorKind;
@@ -59,7 +59,7 @@ pub(crate) fn open_locked<R: Files<File = File>>(
     }
 }
 
-fn is_same(named: &Metadata, opened: &Metadata) -> bool {
+pub(crate) fn is_same(named: &Metadata, opened: &Metadata) -> bool {
     named.dev() == opened.dev() && named.ino() == opened.ino()
 }
 
@@ -74,27 +74,10 @@ pub(crate) fn require_replaceable<R: Files>(rt: &R, path: &str) -> io::Result<()
     }
 }
 
-// A temporary file that has the length and the time of change of the file that it was for may be that very file. After
-// a power cut FAT can keep both names of a rename over the same clusters, and then to cut or remove the one takes the
-// bytes of the other. Only a check of the file system tells them apart. FAT's times are whole seconds, and even ones.
-pub(crate) fn require_own_clusters<R: Files>(rt: &R, temp: &str) -> io::Result<()> {
-    let Some(left) = if_there(fs::symlink_metadata(rt, temp))? else {
-        return Ok(());
-    };
-    let target = temp.strip_suffix(TEMP_SUFFIX).unwrap_or(temp);
-    match if_there(fs::symlink_metadata(rt, target))? {
-        Some(target) if may_share(&left, &target) => Err(io::Error::other(
-            "may be another name of the same file: check the file system",
-        )),
-        _ => Ok(()),
+// No other run may be about to rename this temporary file.
+pub(crate) fn require_not_written<R: Files<File = File>>(rt: &R, temp: &str) -> io::Result<()> {
+    match open_file(rt, temp)? {
+        Some(file) => Ok(file.try_lock()?),
+        None => Ok(()),
     }
-}
-
-fn may_share(left: &Metadata, target: &Metadata) -> bool {
-    left.len() > 0
-        && left.len() == target.len()
-        && left.mtime() == target.mtime()
-        && left.mtime() % 2 == 0
-        && left.mtime_nsec() == 0
-        && target.mtime_nsec() == 0
 }

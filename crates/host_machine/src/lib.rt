@@ -5,10 +5,14 @@
 #![tactic(auto)]
 
 mod answers;
+mod clusters;
 mod faults;
+mod half;
 mod host;
+mod intent;
 mod kept;
 mod listing;
+mod looks;
 mod named;
 mod reports;
 mod streams;

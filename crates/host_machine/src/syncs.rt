@@ -57,14 +57,14 @@ pub(crate) fn sync_seen<R: Files<File = File>>(rt: &R, named: &Named) {
     }
 }
 
-fn sync_file<R: Files<File = File>>(rt: &R, path: &str) -> io::Result<()> {
+pub(crate) fn sync_file<R: Files<File = File>>(rt: &R, path: &str) -> io::Result<()> {
     match if_there(fs::metadata(rt, path))? {
         Some(found) if found.is_file() => sync_path(rt, path),
         _ => Ok(()),
     }
 }
 
-fn sync_folder<R: Files<File = File>>(rt: &R, path: &str) -> io::Result<()> {
+pub(crate) fn sync_folder<R: Files<File = File>>(rt: &R, path: &str) -> io::Result<()> {
     match if_there(fs::metadata(rt, path))? {
         Some(found) if found.is_dir() => sync_path(rt, path),
         _ => Ok(()),
@@ -76,4 +76,19 @@ fn sync_path<R: Files<File = File>>(rt: &R, path: &str) -> io::Result<()> {
         Some(file) => file.sync_all(),
         None => Ok(()),
     }
+}
+
+// After a removal the file system must still be one that can be written. FAT's driver makes it read-only if the clusters
+// of the removed file were free already, and answers Ok all the same. A rename of a name to itself changes nothing.
+pub(crate) fn require_writable<R: Files, E: Print + Drop>(
+    rt: &R,
+    removed: Option<&String>,
+    reports: &Reports<E>,
+) -> io::Result<()> {
+    let Some(removed) = removed else {
+        return Ok(());
+    };
+    let path = removed.as_str();
+    reports.report("sync", path, if_there(fs::rename(rt, path, path)))?;
+    Ok(())
 }

@@ -5,11 +5,17 @@
 ghost use Rattle.std.specs.Prelude.{◌≤◌, length, IfOk};
 
 use crate::answers::{if_there, read_once, read_once_at, write_whole};
-use crate::kept::{KeptFile, copy_path, open_locked, require_own_clusters, require_replaceable};
+use crate::clusters::{require_apart_from_temp, require_temp_apart, temp_of};
+use crate::half::{Removal, removal_of_old, rescue_of};
+use crate::intent::{
+    HeldIntent, INTENT, Names, open_file, parted, require_intent, require_no_other_move,
+};
+use crate::kept::{KeptFile, copy_path, open_locked, require_not_written, require_replaceable};
 use crate::listing::names_in;
+use crate::looks::Looks;
 use crate::named::Named;
 use crate::reports::Reports;
-use crate::syncs::{sync_changed, sync_seen};
+use crate::syncs::{require_writable, sync_changed, sync_file, sync_folder, sync_seen};
 use boot_base::{FileName, TEMP_SUFFIX};
 use std::alloc::Global;
 use std::fs::{File, OpenOptions};
@@ -22,6 +28,11 @@ use std::{fs, io};
 pub(crate) struct System<R: Runtime<File = File> + AllocGlobal> {
     rt: R,
     named: Named,
+    looks: Looks,
+    /// the intent of this run's move, or the one that a stop has left, with its lock
+    intent: Option<HeldIntent>,
+    /// the file that was removed last, until the names are synced
+    removed: Option<String>,
     /// the temporary file that is written, with its lock
     written: Option<KeptFile>,
     /// the same after its rename, until it is synced there
@@ -35,9 +46,13 @@ pub(crate) struct System<R: Runtime<File = File> + AllocGlobal> {
 impl<R: Runtime<File = File> + AllocGlobal> System<R> {
     pub(crate) fn new(rt: R) -> Self {
         let named = Named::new(rt.alloc());
+        let looks = Looks::new(rt.alloc());
         System {
             rt,
             named,
+            looks,
+            intent: None,
+            removed: None,
             written: None,
             moved: None,
             looked: None,
@@ -45,15 +60,30 @@ impl<R: Runtime<File = File> + AllocGlobal> System<R> {
         }
     }
 
-    // The length of a file, and None where none is there.
+    // The length of a file, and None if none is there.
     pub(crate) fn size_of(&mut self, path: &str) -> io::Result<Option<u64>> {
         self.named.look_at(path)?;
+        if path == INTENT {
+            return self.size_of_intent();
+        }
         let found = if_there(fs::metadata(&self.rt, path))?;
+        self.looks.add(path, found.as_ref())?;
         Ok(
             found
                 .filter(|found| found.is_file())
                 .map(|found| found.len()),
         )
+    }
+
+    // The length of the intent, which this run holds from then on.
+    fn size_of_intent(&mut self) -> io::Result<Option<u64>> {
+        if self.intent.is_none() {
+            self.intent = HeldIntent::take(&self.rt, self.rt.alloc())?;
+        }
+        match &self.intent {
+            Some(held) => Ok(Some(held.length()?)),
+            None => Ok(None),
+        }
     }
 
     // Some of the file's bytes from that place on, and none where no file is there.
@@ -79,29 +109,32 @@ impl<R: Runtime<File = File> + AllocGlobal> System<R> {
     fn open_looked(&mut self, path: &str) -> io::Result<Option<KeptFile>> {
         self.named.look_at(path)?;
         let kept = copy_path(self.rt.alloc(), path)?;
-        match if_there(fs::metadata(&self.rt, path))? {
-            Some(found) if found.is_file() => {
-                let file = if_there(fs::open(&self.rt, path))?;
-                Ok(file.map(|file| KeptFile::new(kept, file)))
-            }
-            _ => Ok(None),
-        }
+        let Some(file) = open_file(&self.rt, path)? else {
+            self.looks.add(path, None)?;
+            return Ok(None);
+        };
+        self.looks.add(path, Some(&file.metadata()?))?;
+        Ok(Some(KeptFile::new(kept, file)))
     }
 
-    // The names of the files directly in a folder. Names that are not UTF-8 are passed over.
+    // The names of the files directly in a folder. Names that are not UTF-8 are passed over. While another run moves a file
+    // its names may come and go, so that is a fault.
     pub(crate) fn names_in(&mut self, alloc: Global, folder: &str) -> io::Result<Vec<FileName>> {
         self.named.look_into(folder)?;
-        names_in(&self.rt, alloc, folder)
+        let names = names_in(&self.rt, alloc, folder)?;
+        require_no_other_move(&self.rt, self.intent.as_ref())?;
+        Ok(names)
     }
 
-    // An empty temporary file, in folders that are made where they are missing. Nothing is changed where the
-    // path that it is for is a folder, where another run holds it, or where it may be that path's own file.
+    // An empty temporary file, in folders that are made if they are missing. Nothing is changed if the path that it is for
+    // is a folder, if another run holds it or moves a file, or if it may be that path's own file.
     pub(crate) fn create_file(&mut self, path: &str) -> io::Result<()> {
         self.looked = None;
         self.written = None;
         let kept = copy_path(self.rt.alloc(), path)?;
         require_replaceable(&self.rt, path.strip_suffix(TEMP_SUFFIX).unwrap_or(path))?;
-        require_own_clusters(&self.rt, path)?;
+        require_temp_apart(&self.rt, path)?;
+        require_no_other_move(&self.rt, self.intent.as_ref())?;
         self.named.change(path)?;
         self.make_folders(path)?;
         let file = open_locked(&self.rt, path, OpenOptions::new().append(true).create(true))?;
@@ -148,13 +181,28 @@ impl<R: Runtime<File = File> + AllocGlobal> System<R> {
     pub(crate) fn move_temp(&mut self, from: &str, to: &str) -> io::Result<()> {
         let kept = copy_path(self.rt.alloc(), to)?;
         let written = self.take_written(from)?;
-        self.move_file(from, to)?;
+        if to == INTENT {
+            require_intent(&self.rt, self.rt.alloc(), from)?;
+        } else {
+            require_no_other_move(&self.rt, self.intent.as_ref())?;
+            self.looks.require_same(&self.rt, to)?;
+        }
+        self.rename(from, to)?;
         self.moved = Some(written.with_path(kept));
         Ok(())
     }
 
-    // Renames a file, into folders that are made where they are missing.
+    // Renames a boot file, unless another run is about to put a file in place at the new path.
     pub(crate) fn move_file(&mut self, from: &str, to: &str) -> io::Result<()> {
+        require_apart_from_temp(&self.rt, self.rt.alloc(), from)?;
+        let temp = temp_of(self.rt.alloc(), to)?;
+        require_not_written(&self.rt, temp.as_str())?;
+        self.looks.require_same(&self.rt, to)?;
+        self.rename(from, to)
+    }
+
+    // Renames a file, into folders that are made if they are missing.
+    fn rename(&mut self, from: &str, to: &str) -> io::Result<()> {
         self.looked = None;
         self.moved = None;
         require_replaceable(&self.rt, to)?;
@@ -168,12 +216,12 @@ impl<R: Runtime<File = File> + AllocGlobal> System<R> {
         let found = if_there(fs::symlink_metadata(&self.rt, path))?;
         let _held = match found {
             Some(found) if found.is_file() => {
-                require_own_clusters(&self.rt, path)?;
+                require_temp_apart(&self.rt, path)?;
                 Some(self.take_removed(path)?)
             }
             _ => None,
         };
-        self.remove_file(path)
+        self.unlink(path)
     }
 
     fn take_removed(&mut self, path: &str) -> io::Result<File> {
@@ -183,11 +231,64 @@ impl<R: Runtime<File = File> + AllocGlobal> System<R> {
         }
     }
 
-    // Removes a file.
+    // Removes a boot file. The old name of a rename that a stop has left half done goes as its bytes allow.
     pub(crate) fn remove_file(&mut self, path: &str) -> io::Result<()> {
+        require_apart_from_temp(&self.rt, self.rt.alloc(), path)?;
+        if path == INTENT {
+            return self.remove_intent();
+        }
+        match self.emptied_name(path)? {
+            Some(to) => self.rename(path, to.as_str()),
+            None => self.unlink(path),
+        }
+    }
+
+    fn left_names(&self) -> Option<&Names> {
+        self.intent.as_ref().and_then(HeldIntent::left)
+    }
+
+    // The new name of the rename that a stop has left half done, if this is its old name and the new one has lost its bytes.
+    fn emptied_name(&self, path: &str) -> io::Result<Option<String>> {
+        let Some(names) = self.left_names() else {
+            return Ok(None);
+        };
+        if names.from.as_str() != path {
+            return Ok(None);
+        }
+        match removal_of_old(&self.rt, names)? {
+            Removal::RenameOver => Ok(Some(copy_path(self.rt.alloc(), names.to.as_str())?)),
+            Removal::Unlink => Ok(None),
+        }
+    }
+
+    // Removes the intent, once the file that it names has its bytes on the disk.
+    fn remove_intent(&mut self) -> io::Result<()> {
+        self.rescue_left()?;
+        self.unlink(INTENT)?;
+        self.intent = None;
+        Ok(())
+    }
+
+    fn rescue_left(&self) -> io::Result<()> {
+        let Some(names) = self.left_names() else {
+            return Ok(());
+        };
+        let Some(rescue) = rescue_of(&self.rt, names)? else {
+            return Ok(());
+        };
+        fs::rename(&self.rt, rescue.alias.as_str(), rescue.name)?;
+        sync_file(&self.rt, rescue.name)?;
+        let (folder, _) = parted(rescue.name);
+        sync_folder(&self.rt, if folder.is_empty() { "." } else { folder })
+    }
+
+    fn unlink(&mut self, path: &str) -> io::Result<()> {
         self.looked = None;
+        let removed = copy_path(self.rt.alloc(), path)?;
         self.named.change(path)?;
-        fs::remove_file(&self.rt, path)
+        fs::remove_file(&self.rt, path)?;
+        self.removed = Some(removed);
+        Ok(())
     }
 
     // Makes the folders above a file that aren't there.
@@ -209,10 +310,22 @@ impl<R: Runtime<File = File> + AllocGlobal> System<R> {
         let answer = sync_changed(&self.rt, &self.named, self.moved.as_ref(), reports);
         self.has_lost = answer.is_err();
         answer?;
+        require_writable(&self.rt, self.removed.as_ref(), reports)?;
         sync_seen(&self.rt, &self.named);
-        self.moved = None;
+        self.keep_intent();
+        self.removed = None;
         self.named.clear();
+        self.looks.sync();
         Ok(())
+    }
+
+    // A file that was renamed is synced and needs no lock any more, but for the intent.
+    fn keep_intent(&mut self) {
+        if let Some(moved) = self.moved.take()
+            && moved.is_at(INTENT)
+        {
+            self.intent = Some(HeldIntent::new(moved.file));
+        }
     }
 
     fn require_no_loss(&self) -> io::Result<()> {

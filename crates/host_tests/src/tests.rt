@@ -12,6 +12,7 @@ use std::time::{Duration, SystemTime};
 use std::{env, fs, io, process};
 
 mod contents;
+mod intents;
 mod kinds;
 mod naming;
 mod noted;
@@ -96,9 +97,16 @@ fn remove_own_folder(rt: &HostRuntime) -> io::Result<()> {
     fs::remove_dir_all(rt, own_folder(rt)?.as_str())
 }
 
+// The path of a file, which may be the intent.
+fn path_of(alloc: Global, path: &str) -> Result<BootPath, Fail> {
+    if path == "boot_tools.intent" {
+        return Ok(BootPath::intent(alloc)?);
+    }
+    Ok(BootPath::read(alloc, path)?)
+}
+
 fn target(alloc: Global, path: &str) -> Result<Target, Fail> {
-    let path = BootPath::read(alloc, path)?;
-    Ok(Target::of(alloc, path)?)
+    Ok(Target::of(alloc, path_of(alloc, path)?)?)
 }
 
 // Whether the file of the target is moved to that path.
@@ -170,7 +178,7 @@ fn has_size<R: Runtime<File = File> + AllocGlobal>(
     path: &str,
     wanted: Option<u64>,
 ) -> Result<bool, Fail> {
-    let path = BootPath::read(alloc, path)?;
+    let path = path_of(alloc, path)?;
     Ok(machine.size(&path)? == wanted)
 }
 

@@ -32,8 +32,9 @@ fn go_through_both(
     rt: &HostRuntime,
     first: &mut HostMachine<HostRuntime, Stderr>,
     second: &mut HostMachine<HostRuntime, Stderr>,
+    steps: &[(u8, Step)],
 ) -> Result<(), Fail> {
-    for (place, (run, step)) in TWO_RUNS.iter().enumerate() {
+    for (place, (run, step)) in steps.iter().enumerate() {
         if *run == 1 {
             require(rt, first, place, *step)?;
         } else {
@@ -43,18 +44,23 @@ fn go_through_both(
     Ok(())
 }
 
-fn run_both(rt: &HostRuntime) -> Result<(), Fail> {
+fn run_both_here(rt: &HostRuntime, steps: &[(u8, Step)]) -> Result<(), Fail> {
     let mut first = HostMachine::new(*rt, rt.stderr());
     let mut second = HostMachine::new(*rt, rt.stderr());
-    go_through_both(rt, &mut first, &mut second)
+    go_through_both(rt, &mut first, &mut second, steps)
+}
+
+// Goes through the steps of two runs in a folder of this process' own.
+pub(super) fn run_both(rt: &HostRuntime, steps: &[(u8, Step)]) -> Result<(), Fail> {
+    enter_own_folder(rt)?;
+    run_both_here(rt, steps)?;
+    remove_own_folder(rt)?;
+    Ok(())
 }
 
 #[test]
 fn the_second_run_is_refused(rt: HostRuntime) -> Result<(), Fail> {
-    enter_own_folder(&rt)?;
-    run_both(&rt)?;
-    remove_own_folder(&rt)?;
-    Ok(())
+    run_both(&rt, &TWO_RUNS)
 }
 
 static TAKEN_OVER: [Step; 9] = [
