@@ -24,7 +24,7 @@ const PATH_LIMIT: usize = 1024;
 pub const TEMP_SUFFIX: &str = ".tmp";
 
 /// The path of the file that names a rename while it is made.
-const INTENT: &str = "boot_tools.intent";
+pub const INTENT: &str = "boot_tools.intent";
 
 /// Why there is no path or name.
 #[derive(Debug, PartialEq, Eq, Drop, Error)]

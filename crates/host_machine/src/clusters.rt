@@ -14,9 +14,7 @@ use std::{fs, io};
 
 // Why a file that may have another's clusters is left as it is.
 pub(crate) fn may_share_fault() -> io::Error {
-    io::Error::other(
-        "may be another name of the same file: run fsck.vfat -a on the partition, then this command again",
-    )
+    io::Error::other("may be one file under two names: run fsck.vfat -a, then this command again")
 }
 
 // FAT keeps whole seconds, and even ones.

@@ -63,7 +63,7 @@ pub(crate) fn rescue_of<'a, R: Runtime + AllocGlobal>(
         (None, Some(found)) => rescue_at(to, &found, aliases),
         (None, None) if aliases.is_empty() => Ok(None),
         (None, None) => Err(io::Error::other(
-            "names a file that may have kept a short alias alone, as FEDORA~1.EFI: rename that by hand",
+            "names a file of which only a short alias is left: rename that by hand",
         )),
     }
 }
@@ -87,7 +87,7 @@ fn rescue_at<'a>(
     }
     if is_empty && has_time_of_fat(found) {
         return Err(io::Error::other(
-            "names a file that has lost its bytes: see what fsck.vfat has found, and remove the file by hand",
+            "names a file that has lost its bytes: look for them, and remove it by hand",
         ));
     }
     Ok(None)

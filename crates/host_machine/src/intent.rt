@@ -2,17 +2,14 @@
 //! it is gone, and believed only if this program can have written it.
 use crate::answers::{if_there, read_once_at};
 use crate::kept::is_same;
-use boot_base::BootPath;
+use boot_base::{BootPath, INTENT};
 use menu_order::Counted;
 use std::alloc::Global;
-use std::fs::File;
+use std::fs::{File, TryLockError};
 use std::io::ErrorKind;
 use std::os::unix::fs::MetadataExt;
 use std::rt::Files;
 use std::{fs, io, str};
-
-/// The path of the intent.
-pub(crate) const INTENT: &str = "boot_tools.intent";
 
 /// The most bytes of an intent: two paths of 1,024 bytes, each with a NUL.
 const INTENT_LIMIT: usize = 2050;
@@ -131,14 +128,20 @@ fn open_locked_intent<R: Files<File = File>>(rt: &R) -> io::Result<Option<File>>
     let Some(file) = open_file(rt, INTENT)? else {
         return Ok(None);
     };
-    if file.try_lock().is_err() {
-        return Err(other_move_fault());
-    }
+    lock_intent(&file)?;
     // Its run may have ended between opening and locking.
     match if_there(fs::metadata(rt, INTENT))? {
         Some(found) if is_same(&found, &file.metadata()?) => Ok(Some(file)),
         Some(_) => Err(other_move_fault()),
         None => Ok(None),
+    }
+}
+
+fn lock_intent(file: &File) -> io::Result<()> {
+    match file.try_lock() {
+        Ok(()) => Ok(()),
+        Err(TryLockError::WouldBlock) => Err(other_move_fault()),
+        Err(TryLockError::Error(error)) => Err(error),
     }
 }
 
@@ -156,10 +159,10 @@ fn other_move_fault() -> io::Error {
 
 // After the recovery of this run an intent that it doesn't hold is that of another run.
 pub(crate) fn require_no_other_move<R: Files>(rt: &R, held: Option<&HeldIntent>) -> io::Result<()> {
-    if held.is_none() && if_there(fs::symlink_metadata(rt, INTENT))?.is_some() {
-        return Err(other_move_fault());
+    match if_there(fs::metadata(rt, INTENT))? {
+        Some(found) if held.is_none() && found.is_file() => Err(other_move_fault()),
+        _ => Ok(()),
     }
-    Ok(())
 }
 
 // This run's own intent is put in its place only if a later run will believe it, and no other one stands there.
@@ -191,7 +194,7 @@ fn require_own<R: Files>(rt: &R, path: &str, names: &Names) -> io::Result<()> {
     }
     Err(io::Error::new(
         ErrorKind::InvalidData,
-        "names files that no move of this program renames, or a folder behind a link: look at them, then remove it by hand",
+        "isn't from a move of this program, or leads over a link: remove it by hand",
     ))
 }
 

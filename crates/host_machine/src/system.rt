@@ -7,16 +7,14 @@ ghost use Rattle.std.specs.Prelude.{◌≤◌, length, IfOk};
 use crate::answers::{if_there, read_once, read_once_at, write_whole};
 use crate::clusters::{require_apart_from_temp, require_temp_apart, temp_of};
 use crate::half::{Removal, removal_of_old, rescue_of};
-use crate::intent::{
-    HeldIntent, INTENT, Names, open_file, parted, require_intent, require_no_other_move,
-};
+use crate::intent::{HeldIntent, Names, open_file, parted, require_intent, require_no_other_move};
 use crate::kept::{KeptFile, copy_path, open_locked, require_not_written, require_replaceable};
 use crate::listing::names_in;
 use crate::looks::Looks;
 use crate::named::Named;
 use crate::reports::Reports;
 use crate::syncs::{require_writable, sync_changed, sync_file, sync_folder, sync_seen};
-use boot_base::{FileName, TEMP_SUFFIX};
+use boot_base::{FileName, INTENT, TEMP_SUFFIX};
 use std::alloc::Global;
 use std::fs::{File, OpenOptions};
 use std::io::ErrorKind;

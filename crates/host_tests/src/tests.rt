@@ -1,5 +1,5 @@
 //! The calls on a real folder, whose answers no clause tells. A test is a table of steps.
-use boot_base::{BootPath, Target};
+use boot_base::{BootPath, INTENT, Target};
 use boot_machine::Machine;
 use host_machine::HostMachine;
 use std::alloc::{AllocError, Global};
@@ -99,7 +99,7 @@ fn remove_own_folder(rt: &HostRuntime) -> io::Result<()> {
 
 // The path of a file, which may be the intent.
 fn path_of(alloc: Global, path: &str) -> Result<BootPath, Fail> {
-    if path == "boot_tools.intent" {
+    if path == INTENT {
         return Ok(BootPath::intent(alloc)?);
     }
     Ok(BootPath::read(alloc, path)?)

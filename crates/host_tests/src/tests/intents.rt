@@ -4,6 +4,7 @@ use super::Change::{Link, MakeFolder, Write, WriteAt};
 use super::Step::{Beside, Does, Fails, Faults, Holds, Lacks, Puts, Runs, Size, Syncs};
 use super::runs::run_both;
 use super::{Step, run};
+use boot_base::INTENT;
 use std::test::Fail;
 
 const FOLDER: &str = "efi/EFI/Linux";
@@ -14,7 +15,6 @@ const NEW: &str = "efi/EFI/Linux/e+2-1.efi";
 
 const ALIAS: &str = "efi/EFI/Linux/E_3~1.EFI";
 
-const INTENT: &str = "boot_tools.intent";
 
 const OF_MOVE: &[u8] = b"efi/EFI/Linux/e+3.efi\0efi/EFI/Linux/e+2-1.efi\0";
 
