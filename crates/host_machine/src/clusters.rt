@@ -1,15 +1,18 @@
-//! Files that may have the same clusters on FAT, and what is never done to such files.
+//! Files that may have the same clusters on FAT.
 //!
-//! FAT makes a rename in steps. A power cut between two of them can leave the old name and the new one over the same
-//! clusters. Who then removes, cuts or replaces the one file frees the clusters of the other. Only a check of the file
-//! system parts them, and until then neither name may go.
+//! FAT makes a rename in steps. A power cut between two of them can leave two of these names over the same clusters: the
+//! old name, the new one, and a short alias, which is a name of 8 and 3 letters whose long name isn't on the disk. Who
+//! then removes, cuts or replaces the one file frees the clusters of the other. Only a check of the file system parts
+//! them. So a file is changed only if it has one name.
 use crate::answers::if_there;
-use crate::kept::copy_path;
+use crate::intent::parted;
+use crate::kept::{copy_path, is_same};
 use boot_base::TEMP_SUFFIX;
 use std::alloc::Global;
-use std::fs::Metadata;
+use std::fs::{DirEntry, Metadata};
+use std::io::ErrorKind;
 use std::os::unix::fs::MetadataExt;
-use std::rt::Files;
+use std::rt::{Files, Runtime};
 use std::{fs, io};
 
 // Why a file that may have another's clusters is left as it is.
@@ -39,28 +42,35 @@ pub(crate) fn file_at<R: Files>(rt: &R, path: &str) -> io::Result<Option<Metadat
     Ok(found.filter(|found| found.is_file()))
 }
 
-fn require_apart<R: Files>(rt: &R, one: &str, other: &str) -> io::Result<()> {
-    let Some(first) = file_at(rt, one)? else {
+// Beside a file there must be no other name that it may have: that of its temporary file, or, of a temporary file, that of
+// its output; or a short alias.
+pub(crate) fn require_one_name<R: Runtime + AllocGlobal>(rt: &R, path: &str) -> io::Result<()> {
+    let found = file_at(rt, path)?.filter(|found| found.len() > 0 && has_time_of_fat(found));
+    let Some(found) = found else {
         return Ok(());
     };
-    match file_at(rt, other)? {
-        Some(second) if may_share(&first, &second) => Err(may_share_fault()),
-        _ => Ok(()),
+    let other = other_name(rt.alloc(), path)?;
+    if let Some(other) = file_at(rt, other.as_str())? {
+        require_apart(&found, &other)?;
     }
+    for alias in aliases_beside(rt, path)? {
+        require_apart(&found, &alias.found)?;
+    }
+    Ok(())
 }
 
-// A temporary file must not have the clusters of the file that it was for.
-pub(crate) fn require_temp_apart<R: Files>(rt: &R, temp: &str) -> io::Result<()> {
-    require_apart(rt, temp, temp.strip_suffix(TEMP_SUFFIX).unwrap_or(temp))
+fn require_apart(one: &Metadata, other: &Metadata) -> io::Result<()> {
+    if may_share(one, other) && !is_same(one, other) {
+        return Err(may_share_fault());
+    }
+    Ok(())
 }
 
-// The same of a file whose temporary file may be left.
-pub(crate) fn require_apart_from_temp<R: Files>(
-    rt: &R,
-    alloc: Global,
-    path: &str,
-) -> io::Result<()> {
-    require_apart(rt, path, temp_of(alloc, path)?.as_str())
+fn other_name(alloc: Global, path: &str) -> io::Result<String> {
+    match path.strip_suffix(TEMP_SUFFIX) {
+        Some(output) => Ok(copy_path(alloc, output)?),
+        None => temp_of(alloc, path),
+    }
 }
 
 // The path of a file's temporary file.
@@ -68,4 +78,64 @@ pub(crate) fn temp_of(alloc: Global, path: &str) -> io::Result<String> {
     let mut temp = copy_path(alloc, path)?;
     temp.push_str(TEMP_SUFFIX)?;
     Ok(temp)
+}
+
+/// A short alias that has bytes.
+#[derive(Drop)]
+pub(crate) struct Alias {
+    pub(crate) path: String,
+    pub(crate) found: Metadata,
+}
+
+// The short aliases with bytes in the folder of a file.
+pub(crate) fn aliases_beside<R: Runtime + AllocGlobal>(
+    rt: &R,
+    path: &str,
+) -> io::Result<Vec<Alias>> {
+    let mut aliases = Vec::new(rt.alloc());
+    let Some(entries) = if_there(fs::read_dir(rt, folder_of(path)))? else {
+        return Ok(aliases);
+    };
+    for entry in entries {
+        match entry {
+            Ok(entry) => {
+                if let Some(alias) = alias_in(rt.alloc(), &entry)? {
+                    aliases.push(alias)?;
+                }
+            }
+            // a name that isn't UTF-8
+            Err(error) if error.kind() == ErrorKind::InvalidFilename => {}
+            Err(error) => return Err(error),
+        }
+    }
+    Ok(aliases)
+}
+
+// The folder of a file, as the system takes it.
+pub(crate) fn folder_of(path: &str) -> &str {
+    let (folder, _) = parted(path);
+    if folder.is_empty() { "." } else { folder }
+}
+
+fn alias_in<R: Files>(alloc: Global, entry: &DirEntry<R, Global>) -> io::Result<Option<Alias>> {
+    if !is_short_alias(entry.file_name()) {
+        return Ok(None);
+    }
+    let Some(found) = if_there(entry.metadata())? else {
+        return Ok(None);
+    };
+    if !found.is_file() || found.len() == 0 {
+        return Ok(None);
+    }
+    let path = copy_path(alloc, entry.path().as_str())?;
+    Ok(Some(Alias { path, found }))
+}
+
+// Whether a name is in the form that FAT gives to a long one: `FEDORA~1.EFI`.
+fn is_short_alias(name: &str) -> bool {
+    let (stem, extension) = name.rsplit_once('.').unwrap_or((name, ""));
+    stem.len() <= 8
+        && extension.len() <= 3
+        && stem.contains('~')
+        && !name.bytes().any(|byte| byte.is_ascii_lowercase())
 }

@@ -1,5 +1,5 @@
-//! The intent of a move: the file that names the two paths of a rename while it is made. It is locked from its creation until
-//! it is gone, and believed only if this program can have written it.
+//! The intent of a move: the file that names the two paths of a rename while it is made. It is locked from its creation
+//! until it is gone, and believed only if this program can have written it.
 use crate::answers::{if_there, read_once_at};
 use crate::kept::is_same;
 use boot_base::{BootPath, INTENT};
@@ -99,8 +99,8 @@ impl HeldIntent {
         HeldIntent { file, left: None }
     }
 
-    // The intent that a stop has left, and None if none is there. Another run's is a fault, and so is one with paths that
-    // this program can't have written.
+    // The intent that a stop has left, and None if none is there. Another run's is a fault, and so is one with paths
+    // that this program can't have written.
     pub(crate) fn take<R: Files<File = File>>(
         rt: &R,
         alloc: Global,

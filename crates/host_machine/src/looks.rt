@@ -36,7 +36,8 @@ struct Look {
     found: Option<Identity>,
 }
 
-/// What was looked at since the last sync of names but one. A command reads, then syncs the names, and then makes its change.
+/// What was looked at since the last sync of names but one. A command reads, then syncs the names, and then makes its
+/// change.
 #[derive(Drop)]
 pub(crate) struct Looks {
     before_sync: Vec<Look>,
@@ -72,7 +73,8 @@ impl Looks {
         self.since_sync.clear();
     }
 
-    // A file that was looked at must still be the same before another one takes its place, and none may stand where none was.
+    // A file that was looked at must still be the same before another one takes its place, and none may stand where
+    // none was.
     pub(crate) fn require_same<R: Files>(&self, rt: &R, path: &str) -> io::Result<()> {
         let Some(look) = look_at(&self.since_sync, path).or(look_at(&self.before_sync, path)) else {
             return Ok(());

@@ -78,8 +78,9 @@ fn sync_path<R: Files<File = File>>(rt: &R, path: &str) -> io::Result<()> {
     }
 }
 
-// After a removal the file system must still be one that can be written. FAT's driver makes it read-only if the clusters
-// of the removed file were free already, and answers Ok all the same. A rename of a name to itself changes nothing.
+// After a removal the file system must still be one that can be written. FAT's driver makes it read-only if the
+// clusters of the removed file were free already, and answers Ok all the same. A rename of a name to itself changes
+// nothing.
 pub(crate) fn require_writable<R: Files, E: Print + Drop>(
     rt: &R,
     removed: Option<&String>,

@@ -5,9 +5,9 @@
 ghost use Rattle.std.specs.Prelude.{◌≤◌, length, IfOk};
 
 use crate::answers::{if_there, read_once, read_once_at, write_whole};
-use crate::clusters::{require_apart_from_temp, require_temp_apart, temp_of};
+use crate::clusters::{folder_of, require_one_name, temp_of};
 use crate::half::{Removal, removal_of_old, rescue_of};
-use crate::intent::{HeldIntent, Names, open_file, parted, require_intent, require_no_other_move};
+use crate::intent::{HeldIntent, Names, open_file, require_intent, require_no_other_move};
 use crate::kept::{KeptFile, copy_path, open_locked, require_not_written, require_replaceable};
 use crate::listing::names_in;
 use crate::looks::Looks;
@@ -115,8 +115,8 @@ impl<R: Runtime<File = File> + AllocGlobal> System<R> {
         Ok(Some(KeptFile::new(kept, file)))
     }
 
-    // The names of the files directly in a folder. Names that are not UTF-8 are passed over. While another run moves a file
-    // its names may come and go, so that is a fault.
+    // The names of the files directly in a folder. Names that are not UTF-8 are passed over. While another run moves a
+    // file its names may come and go, so that is a fault.
     pub(crate) fn names_in(&mut self, alloc: Global, folder: &str) -> io::Result<Vec<FileName>> {
         self.named.look_into(folder)?;
         let names = names_in(&self.rt, alloc, folder)?;
@@ -124,14 +124,16 @@ impl<R: Runtime<File = File> + AllocGlobal> System<R> {
         Ok(names)
     }
 
-    // An empty temporary file, in folders that are made if they are missing. Nothing is changed if the path that it is for
-    // is a folder, if another run holds it or moves a file, or if it may be that path's own file.
+    // An empty temporary file, in folders that are made if they are missing. Nothing is changed if the path that it is
+    // for is a folder, if another run holds it or moves a file, or if it may be that path's own file.
     pub(crate) fn create_file(&mut self, path: &str) -> io::Result<()> {
         self.looked = None;
         self.written = None;
         let kept = copy_path(self.rt.alloc(), path)?;
-        require_replaceable(&self.rt, path.strip_suffix(TEMP_SUFFIX).unwrap_or(path))?;
-        require_temp_apart(&self.rt, path)?;
+        let output = path.strip_suffix(TEMP_SUFFIX).unwrap_or(path);
+        require_replaceable(&self.rt, output)?;
+        require_one_name(&self.rt, output)?;
+        require_one_name(&self.rt, path)?;
         require_no_other_move(&self.rt, self.intent.as_ref())?;
         self.named.change(path)?;
         self.make_folders(path)?;
@@ -192,7 +194,7 @@ impl<R: Runtime<File = File> + AllocGlobal> System<R> {
 
     // Renames a boot file, unless another run is about to put a file in place at the new path.
     pub(crate) fn move_file(&mut self, from: &str, to: &str) -> io::Result<()> {
-        require_apart_from_temp(&self.rt, self.rt.alloc(), from)?;
+        require_one_name(&self.rt, from)?;
         let temp = temp_of(self.rt.alloc(), to)?;
         require_not_written(&self.rt, temp.as_str())?;
         self.looks.require_same(&self.rt, to)?;
@@ -214,7 +216,7 @@ impl<R: Runtime<File = File> + AllocGlobal> System<R> {
         let found = if_there(fs::symlink_metadata(&self.rt, path))?;
         let _held = match found {
             Some(found) if found.is_file() => {
-                require_temp_apart(&self.rt, path)?;
+                require_one_name(&self.rt, path)?;
                 Some(self.take_removed(path)?)
             }
             _ => None,
@@ -231,7 +233,7 @@ impl<R: Runtime<File = File> + AllocGlobal> System<R> {
 
     // Removes a boot file. The old name of a rename that a stop has left half done goes as its bytes allow.
     pub(crate) fn remove_file(&mut self, path: &str) -> io::Result<()> {
-        require_apart_from_temp(&self.rt, self.rt.alloc(), path)?;
+        require_one_name(&self.rt, path)?;
         if path == INTENT {
             return self.remove_intent();
         }
@@ -245,7 +247,8 @@ impl<R: Runtime<File = File> + AllocGlobal> System<R> {
         self.intent.as_ref().and_then(HeldIntent::left)
     }
 
-    // The new name of the rename that a stop has left half done, if this is its old name and the new one has lost its bytes.
+    // The new name of the rename that a stop has left half done, if this is its old name and the new one has lost its
+    // bytes.
     fn emptied_name(&self, path: &str) -> io::Result<Option<String>> {
         let Some(names) = self.left_names() else {
             return Ok(None);
@@ -276,8 +279,7 @@ impl<R: Runtime<File = File> + AllocGlobal> System<R> {
         };
         fs::rename(&self.rt, rescue.alias.as_str(), rescue.name)?;
         sync_file(&self.rt, rescue.name)?;
-        let (folder, _) = parted(rescue.name);
-        sync_folder(&self.rt, if folder.is_empty() { "." } else { folder })
+        sync_folder(&self.rt, folder_of(rescue.name))
     }
 
     fn unlink(&mut self, path: &str) -> io::Result<()> {

@@ -1,5 +1,5 @@
 // The intent of a move: which one is believed, who holds it, and what a power cut on FAT leaves of the names in it.
-use super::Act::{Append, Create, Rename, RenameTemp, SyncFile, Unlink};
+use super::Act::{Append, Create, Rename, RenameTemp, SyncFile, Unlink, UnlinkTemp};
 use super::Change::{Link, MakeFolder, Write, WriteAt};
 use super::Step::{Beside, Does, Fails, Faults, Holds, Lacks, Puts, Runs, Size, Syncs};
 use super::runs::run_both;
@@ -15,11 +15,10 @@ const NEW: &str = "efi/EFI/Linux/e+2-1.efi";
 
 const ALIAS: &str = "efi/EFI/Linux/E_3~1.EFI";
 
-
 const OF_MOVE: &[u8] = b"efi/EFI/Linux/e+3.efi\0efi/EFI/Linux/e+2-1.efi\0";
 
-// Two names that may have the same clusters stay until a check of the file system has emptied one. The bytes come under the new
-// name, whichever that is. The times of change are those that FAT keeps.
+// Two names that may have the same clusters stay until a check of the file system has emptied one. The bytes come under
+// the new name, whichever that is. The times of change are those that FAT keeps.
 static BOTH_NAMES: [Step; 22] = [
     Beside(MakeFolder(FOLDER)),
     Beside(WriteAt(OLD, b"abc", 1_000_000)),
@@ -112,8 +111,9 @@ fn bytes_under_a_short_alias_are_kept(rt: HostRuntime) -> Result<(), Fail> {
     run(&rt, rt, &ALIASES)
 }
 
-// A file whose temporary file may have the same clusters is neither removed nor moved.
-static BESIDE_ITS_TEMP: [Step; 8] = [
+// A file is neither removed, moved nor replaced beside a second name that it may have: its temporary file's, or a short
+// alias. A temporary file isn't cut then either.
+static SECOND_NAMES: [Step; 17] = [
     Beside(MakeFolder(FOLDER)),
     Beside(WriteAt(OLD, b"abc", 1_000_000)),
     Beside(WriteAt("efi/EFI/Linux/e+3.efi.tmp", b"abc", 1_000_000)),
@@ -121,16 +121,25 @@ static BESIDE_ITS_TEMP: [Step; 8] = [
     Fails(OLD, Rename(NEW)),
     Runs("bootctl unlink e+3.efi", 3),
     Holds(OLD, b"abc"),
-    Faults(3),
+    Beside(WriteAt("f.efi", b"abcd", 1_000_000)),
+    Beside(WriteAt("F~1.TMP", b"abcd", 1_000_000)),
+    Fails("f.efi", Unlink),
+    Fails("f.efi", Create),
+    Lacks("f.efi.tmp"),
+    Beside(WriteAt("g.efi.tmp", b"abcde", 1_000_000)),
+    Beside(WriteAt("G~1.EFI", b"abcde", 1_000_000)),
+    Fails("g.efi", Create),
+    Fails("g.efi", UnlinkTemp),
+    Faults(7),
 ];
 
 #[test]
-fn a_file_beside_its_temporary_name_stays(rt: HostRuntime) -> Result<(), Fail> {
-    run(&rt, rt, &BESIDE_ITS_TEMP)
+fn a_file_with_a_second_name_stays(rt: HostRuntime) -> Result<(), Fail> {
+    run(&rt, rt, &SECOND_NAMES)
 }
 
-// An intent that no move of this program writes: a link on the way, two folders, two entries, names that are no entry's, and an
-// intent with a link to it. One that names nothing is removed.
+// An intent that no move of this program writes: a link on the way, two folders, two entries, names that are no
+// entry's, and an intent with a link to it. One that names nothing is removed.
 static FOREIGN: [Step; 28] = [
     Beside(MakeFolder("victim")),
     Beside(Write("victim/e+3.efi", b"a")),
@@ -250,7 +259,8 @@ fn a_move_and_a_write_see_each_other(rt: HostRuntime) -> Result<(), Fail> {
     run_both(&rt, &ONE_PUTS)
 }
 
-// What was read is what is replaced, also if nothing was there. One sync of names stands between the reading and the change.
+// What was read is what is replaced, also if nothing was there. One sync of names stands between the reading and the
+// change.
 static REPLACED: [Step; 17] = [
     Beside(Write("c", b"old")),
     Size("c", Some(3)),
