@@ -19,10 +19,11 @@ use Rattle.image_build.specs.declared.source.Source.TheVariants as sources
 use Rattle.image_build.specs.Building.{Contents, Material, NamedFiles}
 use Rattle.boot_base.specs.Limits.{file_limit}
 
--- what was read, by the bytes of the files that it names
+-- a part that was read, by the bytes of the files that it names: its name, and what its pieces hold
 abbrev pub part_as : Reading → Part → SectionName × List ℕ
 part_as files part = (part.name, bytes_of files part.pieces.items)
 
+-- all that an image is made of, by the bytes of the files that it names
 abbrev pub material_as : Reading → BuildParts → Material
 material_as files built = record {
   headers = headers_of built.head;
@@ -32,11 +33,12 @@ material_as files built = record {
   sbat = built.sbat.items;
 }
 
--- how many bytes come from a source at most, and from several, each filled up to a multiple of four bytes
+-- how many bytes come from a source at most
 abbrev pub source_limit : Source → ℕ
 source_limit (sources.Said text) = length text
 source_limit (sources.At path) = file_limit
 
+-- how many bytes come from several sources at most, each filled up to a multiple of four bytes
 abbrev pub sources_limit : List Source → ℕ
 sources_limit found = sum_by source_limit found + 3 * length found
 
@@ -51,7 +53,7 @@ pub record PartFrom (from : PartSources) (part : Part) : Type 0 where
 abbrev pub PartHasSizes : Reading → Part → Type 0
 PartHasSizes files part = HasSizes files part.pieces.items
 
--- the files that a build reads, and the text of `--sbat`
+-- what a build finds in the files that it reads, by their bytes
 abbrev pub contents_as : Reading → BuildFiles → Contents
 contents_as files found = record {
   stub = files found.stub;
@@ -60,6 +62,7 @@ contents_as files found = record {
   sbat = found.sbat.items;
 }
 
+-- what was found is that of these words, whatever the machine, and the stub and the kernel aren't too large
 pub record FilesFrom (from : BuildSources) (found : BuildFiles) : Type 0 where
   pub stub : found.stub ≡ from.stub
   pub linux : found.linux ≡ from.linux
@@ -68,6 +71,7 @@ pub record FilesFrom (from : BuildSources) (found : BuildFiles) : Type 0 where
   pub linux_small : found.linux_length ≤ file_limit
   pub parts : AllZip PartFrom from.parts.items found.parts.items
 
+-- the files have the sizes that were found
 pub record FilesHaveSizes (files : Reading) (found : BuildFiles) : Type 0 where
   pub stub : length (files found.stub) ≡ found.stub_length
   pub linux : length (files found.linux) ≡ found.linux_length
@@ -89,6 +93,7 @@ pub record BuiltFrom (from : BuildSources) (built : BuildParts) : Type 0 where
   pub linux : IsKernel built.linux
   pub parts : AllZip PartFrom from.parts.items built.parts.items
 
+-- the files have the sizes that were read
 pub record BuiltHasSizes (files : Reading) (built : BuildParts) : Type 0 where
   pub stub : length (files built.stub) ≡ built.stub_length
   pub linux : PartHasSizes files built.linux

@@ -48,6 +48,7 @@ finished_loaded h sizes contents (Some sbat) stub name =
     if bytes_eq sbat_name name then sbat else loaded_or_part stub (find (is_named name) h.sections)
     (content_named name sizes contents)
 
+-- The finished image has loaded of each name the new `.sbat` of that name, what the stub had, or the part.
 abbrev pub ImageLoads : Type 0
 ImageLoads = (h : Headers) (sizes : List WideSize) (contents : List (List ℕ)) (sbat : Option (List ℕ)) (stub : List ℕ) →
     HasFinished h sizes contents sbat stub → (name : List ℕ) →
