@@ -1,10 +1,11 @@
 -- What was read of the files that the words of a build name.
 use Rattle.std.specs.Prelude.{◌≡◌, ◌≤◌, ℕ, ◌+◌, ◌-◌, ◌*◌, ◌^◌, All, List, Option, Some, None, codes, length, map, min, sum_by}
 use Rattle.boot_base.specs.Paths.{Path}
-use Rattle.pe_reader.specs.LoadedBytes.{loaded_bytes}
+use Rattle.pe_reader.specs.Grammar.{pe_of}
 use Rattle.pe_builder.specs.Replaced.{sbat_name}
 use Rattle.std.specs.List.{AllZip}
 use Rattle.pe_reader.specs.Reads.{ReadFrom, headers_of}
+use Rattle.stub_replay.specs.Measured.{named_raw_length}
 use Rattle.uki_parts.specs.Names.{padded_name}
 use Rattle.uki_parts.specs.Pieces.{HasSizes, Reading, bytes_of, total_length}
 use Rattle.uki_parts.specs.declared.kind.PartKind.TheVariants as kinds
@@ -105,12 +106,12 @@ source_file_length files None = 0
 source_file_length files (Some (sources.Said text)) = 0
 source_file_length files (Some (sources.At path)) = length (files path)
 
--- how many bytes the file at a path has loaded of `.sbat`
+-- how many bytes the file at a path has loaded of its `.sbat`, without the zeros behind them
 abbrev pub loaded_sbat_length : Reading → Path → ℕ
-loaded_sbat_length files path = length (loaded_bytes (files path) sbat_name)
+loaded_sbat_length files path = named_raw_length sbat_name (pe_of (files path))
 
 -- How many bytes of files are read before an image is planned, at most: the file of `--sbat`, and of the stub and the
--- kernel the headers, which are at most 69,463 bytes, and what they have loaded of `.sbat`.
+-- kernel the headers, which are at most 69,463 bytes, and the raw data that they have loaded of `.sbat`.
 abbrev pub reading_length : Reading → NamedFiles → ℕ
 reading_length files named =
     source_file_length files named.sbat
