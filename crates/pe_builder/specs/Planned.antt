@@ -80,7 +80,7 @@ IsFinished plan stub contents sbat image =
     option_map length (sbat_if_in_place in_place sbat) ≡ in_place →
     image ≡ finished_image h sizes contents (sbat_if_in_place in_place sbat) stub
 
--- What follows is said of the private steps that make the bytes.
+-- ---- the bytes that a plan makes, by its own numbers: an image that is written is planned as these
 
 -- the stub with a new `.sbat` at its place
 abbrev pub replaced_by : Option SbatPlace → List ℕ → List ℕ → List ℕ
