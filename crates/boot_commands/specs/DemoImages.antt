@@ -23,6 +23,6 @@ osrel_text digit =
     codes "ID=demo\nPRETTY_NAME=\"Demo " ++ (decimal digit
     ++ (codes "\"\nVERSION_ID=" ++ (decimal digit ++ codes "\n")))
 
--- the image of a digit: headers, the os-release text and a kernel of three bytes, each padded to 512
+-- the image of a digit: headers, the os-release text from 1,024 on, and a kernel of three bytes from 1,536 on
 abbrev pub demo_image : ℕ → List ℕ
 demo_image digit = with_zeros (with_zeros (with_zeros headers 1024 ++ osrel_text digit) 1536 ++ codes "abc") 2048

@@ -56,7 +56,7 @@ demo_esp = codes "efi"
 abbrev pub demo_name : ℕ → List ℕ
 demo_name digit = codes "demo-" ++ decimal digit
 
--- the command that installs an image by its digit under a name, with three tries
+-- the command that installs an image under a name, each by its digit, with three tries
 abbrev pub drawn_install : ℕ → ℕ → Command
 drawn_install image name =
     command.Install (codes "u" ++ (decimal image ++ codes ".efi")) (demo_name name) (Some (codes "3")) demo_esp

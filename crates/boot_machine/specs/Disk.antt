@@ -8,7 +8,7 @@ use Rattle.std.specs.FinSet as set
 use Rattle.boot_base.specs.Paths.{Path, is_temp, intent, read_intent}
 use Rattle.boot_machine.specs.declared.machine.Printed.{Printed}
 
--- the order of paths: byte by byte, the shorter one first
+-- the order of paths: that of their bytes, a first part before the whole
 abbrev pub path_cmp : Path → Path → Ordering
 path_cmp = slice_cmp nat_cmp
 

@@ -86,7 +86,7 @@ blessed_by view verb paths target choices.FromCounted = Ok (blessed_from view ve
 blessed_by view verb paths target choices.FromBad = Ok (blessed_from view verb target paths.bad)
 blessed_by view verb paths target choices.NoSource = Err (refusals.NoSource (printed_path paths.counted))
 
--- what becomes of the entry with these names: that one of its files is renamed which the verb chooses
+-- what becomes of the entry with these names: the verb says which of its files gets another name, if any
 abbrev pub bless_entry : Files → BlessVerb → EntryPaths → Result Answer Refusal
 bless_entry view verb paths =
     blessed_by view verb paths (path_at paths (target_of verb)) (choice_of verb (present_at view paths))

@@ -21,7 +21,7 @@ is_entry_name name = is_file_name name && (is_type1_name name || ends_with nat_e
 abbrev pub entry_below : List ℕ → List ℕ
 entry_below name = (if is_type1_name name then codes "loader/entries/" else codes "EFI/Linux/") ++ name
 
--- its path, or the refusal of a name that no entry has
+-- the path of the entry of that name in an ESP, or the refusal of a name that no entry has
 abbrev pub entry_under : Path → List ℕ → Result Path Refusal
 entry_under esp name = if is_entry_name name then path_under esp (entry_below name) else Err (refusals.BadName name)
 

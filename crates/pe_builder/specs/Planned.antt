@@ -101,7 +101,7 @@ FitsPlace None stub_length sbat_length = Unit {0}
 FitsPlace (Some p) stub_length sbat_length =
     (sbat_length ≤ p.raw_size) × (p.raw_place + p.raw_size ≤ stub_length) × (p.size_place + 4 ≤ stub_length)
 
--- all that a plan writes into the stub lies in a stub of that length, and its units are numbers above 0
+-- all that a plan writes into the stub lies in a stub of that length, and FileAlignment isn't 0
 pub record FitsStub (plan : Plan) (stub_length sbat_length : ℕ) : Type 0 where
   pub alignment : 0 < plan.before.file_alignment
   pub before : plan.before.pe_place + 136 ≤ plan.before.table_place
