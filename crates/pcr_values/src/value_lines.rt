@@ -6,7 +6,12 @@ ghost use Rattle.pcr_values.specs.Values.{pcr_bank, pcr_bytes, pcr_value};
 ghost use Rattle.pcr_values.specs.declared.bank.Bank.{Bank};
 ghost use Rattle.pcr_values.specs.Phases.{HasDistinctPaths};
 ghost use Rattle.pcr_values.specs.ValueLines.{
-    HasDistinctBanks, heading_of, line_after, register_lines, value_line, value_lines
+  HasDistinctBanks,
+  heading_of,
+  line_after,
+  register_lines,
+  value_line,
+  value_lines,
 };
 
 use crate::pcr::Pcr;
