@@ -1,14 +1,13 @@
 -- The entries of a `.sbat` whose zeros aren't made.
-use Rattle.std.proofs.Common.{◌≡◌, ◌≤◌, ◌+◌, ℕ, zero, suc, Bool, cond, not, List, [], ◌∷◌, ◌++◌, length, take, replicate, Result, Ok, Err, nat_eq, refl, sym, ap, subst, ◌∙◌, arith}
+use Rattle.std.proofs.Common.{◌≡◌, ◌≤◌, ◌+◌, ℕ, zero, suc, Bool, cond, not, List, ◌++◌, length, take, replicate, Result, Ok, Err, nat_eq, refl, sym, ap, ◌∙◌, arith}
 use Rattle.std.specs.Prelude.{◌==◌}
-use Rattle.std.specs.List.{before_first, position_or_len, prefix_len, slice_split}
+use Rattle.std.specs.List.{before_first, position_or_len, slice_split}
 use Rattle.std.proofs.lemmas.Bool.Decides.{nat_tests}
 use Rattle.std.proofs.lemmas.List.{take-append-le}
 use Rattle.std.proofs.lemmas.List.Folds.{prefix_len-append}
 use Rattle.std.proofs.lemmas.List.Sums.{prefix_len-le-length}
-use Rattle.boot_base.specs.declared.refusal.Refusal.{Refusal}
 use Rattle.uki_parts.specs.Sbat.{entries_among, is_sbat_newline, sbat_entries}
-use Rattle.command_plans.specs.Unsaying.{Says, UnsaidFor}
+use Rattle.command_plans.specs.Unsaying.{Says}
 use Rattle.command_plans.specs.declared.unsaid.Unsaid.{Unsaid}
 use Rattle.command_plans.proofs.Unsaying.{unrefused}
 

@@ -1,4 +1,4 @@
-use Rattle.std.proofs.Common.{◌≡◌, ◌≤◌, ◌-◌, replicate}
+use Rattle.std.proofs.Common.{◌≤◌, ◌-◌, replicate}
 use Rattle.std.specs.List.{AllZip}
 use Rattle.stub_replay.specs.Registers.{Takes}
 use Rattle.stub_replay.proofs.pieces.take_from_zeros.Given as goal
