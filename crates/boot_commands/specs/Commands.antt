@@ -12,6 +12,7 @@ use Rattle.entry_commands.specs.Tidying.{IsTidied}
 use Rattle.boot_commands.specs.Demonstration.{demo_result}
 use Rattle.boot_commands.specs.Plain.{answer_or_none, plain_answer}
 
+-- what each command that is a step comes to, a demonstration too; none for `script`
 abbrev pub answer_of : Files → Command → Option Answer
 answer_of view (command.Demo seed count) = Some (answer_of_read view (demo_result seed count))
 answer_of view c = plain_answer view c
@@ -35,5 +36,7 @@ stop_tidies stops.Disk c old new = Unit {0}
 stop_tidies stops.Pipe c old new = new.printed ≢ old.printed → LeavesTidied c new.files
 stop_tidies stops.Memory c old new = Unit {0}
 
+-- what of temporary files is gone after a command, by what it returned: after Ok it has tidied, after a stop as far as
+-- that tells
 abbrev pub TidiesTo : {T : Type 0} → Result T Stop → Command → State → State → Type 0
 TidiesTo result c old new = MatchResult result (λ _. LeavesTidied c new.files) (λ stop. stop_tidies stop c old new)

@@ -17,10 +17,12 @@ with_number bytes field = with_zeros bytes field.0 ++ to_le_bytes w32 field.1
 abbrev pub headers : List ℕ
 headers = fold with_number [] HEADERS
 
+-- the os-release text of an image by its digit
 abbrev pub osrel_text : ℕ → List ℕ
 osrel_text digit =
     codes "ID=demo\nPRETTY_NAME=\"Demo " ++ (decimal digit
     ++ (codes "\"\nVERSION_ID=" ++ (decimal digit ++ codes "\n")))
 
+-- the image of a digit: headers, the os-release text from 1,024 on, and a kernel of three bytes from 1,536 on
 abbrev pub demo_image : ℕ → List ℕ
 demo_image digit = with_zeros (with_zeros (with_zeros headers 1024 ++ osrel_text digit) 1536 ++ codes "abc") 2048

@@ -11,6 +11,7 @@ pub record IsReady (s : State) : Type 0 where
   pub firm : IsFirm s
   pub rested : IsRested s
 
+-- how far a demonstration has come, with the boot files of its machine
 abbrev pub demo_state : Demo → Files → DemoState
 demo_state demo files =
     record { number = demo.draws.number; entry = demo.entry; done = demo.done; refused = demo.refused; files = files }

@@ -52,9 +52,11 @@ pub record DemoState : Type 0 where
 abbrev pub demo_esp : List ℕ
 demo_esp = codes "efi"
 
+-- the name of an entry by a digit
 abbrev pub demo_name : ℕ → List ℕ
 demo_name digit = codes "demo-" ++ decimal digit
 
+-- the command that installs an image under a name, each by its digit, with three tries
 abbrev pub drawn_install : ℕ → ℕ → Command
 drawn_install image name =
     command.Install (codes "u" ++ (decimal image ++ codes ".efi")) (demo_name name) (Some (codes "3")) demo_esp
@@ -81,6 +83,7 @@ entry_after c answer entry = entry
 abbrev pub count_if : Bool → ℕ → ℕ
 count_if here count = if here then suc count else count
 
+-- how far it has come after a command that had this answer
 abbrev pub after_command : DemoState → ℕ → Command → Answer → DemoState
 after_command state number c answer =
     record {
@@ -91,6 +94,7 @@ after_command state number c answer =
       files = answer.after;
     }
 
+-- how far it has come after a command on its boot files
 abbrev pub run_drawn : DemoState → ℕ → Command → DemoState
 run_drawn state number c = after_command state number c (plain_reply state.files c)
 
@@ -119,9 +123,11 @@ demo_entries =
     (codes "u0.efi", demo_image 0) ∷ (codes "u1.efi", demo_image 1) ∷ (codes "u2.efi", demo_image 2)
     ∷ (codes "u3.efi", demo_image 3) ∷ []
 
+-- those files as a map
 abbrev pub demo_files : Files
 demo_files = maps.from_entries demo_entries
 
+-- how far it has come before its first turn
 abbrev pub demo_start : ℕ → DemoState
 demo_start seed = record {
   number = seed;
@@ -135,15 +141,19 @@ demo_start seed = record {
 abbrev pub listed_on_out : Answer → List ℕ
 listed_on_out answer = if is_refusal answer.outcome then [] else answer.text
 
+-- the SHA-256 digest, in hex, of what a `bootctl list` of its ESP prints on Out
 abbrev pub list_digest : Files → List ℕ
 list_digest files = encode_lower (digest_of banks.Sha256 (listed_on_out (plain_reply files (command.List demo_esp))))
 
+-- the first line: what was asked for
 abbrev pub run_line : ℕ → ℕ → List ℕ
 run_line seed count = codes "demo " ++ (decimal seed ++ (codes " " ++ (decimal count ++ codes "\n")))
 
+-- the second and the third line: how many commands were done, and how many were refused
 abbrev pub count_lines : ℕ → ℕ → List ℕ
 count_lines done refused = codes "ok " ++ (decimal done ++ (codes "\nrefused " ++ (decimal refused ++ codes "\n")))
 
+-- the last two lines: how many boot files there are, and the digest of the list
 abbrev pub end_lines : ℕ → List ℕ → List ℕ
 end_lines files list = codes "files " ++ (decimal files ++ (codes "\nlist " ++ (list ++ codes "\n")))
 
@@ -153,6 +163,7 @@ demo_text seed count state =
     run_line seed count ++ count_lines state.done state.refused
     ++ end_lines (maps.len state.files) (list_digest state.files)
 
+-- what `demo` says by its two words, or the refusal of a word that is no number or one too high
 abbrev pub demo_result : List ℕ → List ℕ → Result (List ℕ) Refusal
 demo_result seed count =
     number_up_to 18446744073709551615 seed >>= λ seed. number_up_to 10000 count

@@ -58,5 +58,6 @@ abbrev pub answer_or_none : Files → Option Answer → Answer
 answer_or_none view (Some answer) = answer
 answer_or_none view None = refusal view (refusals.BadScript 0)
 
+-- the reply of a command that runs no other
 abbrev pub plain_reply : Files → Command → Answer
 plain_reply view c = answer_or_none view (plain_answer view c)

@@ -12,6 +12,7 @@ use Rattle.menu_order.specs.Menu.{menu_of}
 use Rattle.boot_folder.specs.Records.{type1_entry, type2_entry}
 use Rattle.boot_folder.specs.declared.folders.Folders.{Folders}
 
+-- the two folders, if both have paths
 abbrev pub folders_from : Option Path → Option Path → Option Folders
 folders_from None images = None
 folders_from (Some entries) None = None

@@ -56,6 +56,7 @@ abbrev pub read_counts : ReadFault → Counts → Counts → Type 0
 read_counts reads.Memory old new = new ≡ old
 read_counts reads.Disk old new = DiskFailed old new
 
+-- the counts after the reading of entries: a fault of the disk has its cause, and every other answer leaves them
 abbrev pub CountsRead : {X : Type 0} → Result X ReadFault → Counts → Counts → Type 0
 CountsRead result old new = MatchResult result (λ _. new ≡ old) (λ fault. read_counts fault old new)
 
@@ -66,6 +67,7 @@ scan_counts faults.Disk old new = DiskFailed old new
 scan_counts faults.LongEsp old new = new ≡ old
 scan_counts (faults.TooMany count) old new = new ≡ old
 
+-- the counts after a scan: a fault of the disk has its cause, and every other answer leaves them
 abbrev pub CountsScan : {X : Type 0} → Result X ScanFault → Counts → Counts → Type 0
 CountsScan result old new = MatchResult result (λ _. new ≡ old) (λ fault. scan_counts fault old new)
 

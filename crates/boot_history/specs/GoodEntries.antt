@@ -23,6 +23,7 @@ LineSpares path (Numbered number command) = Spares path command
 LineSpares path (Unread number) = Unit {0}
 LineSpares path TooLong = Unit {0}
 
+-- all these lines spare the good entry at this path
 abbrev pub AllSpare : Path → List Line → Type 0
 AllSpare path [] = Unit {0}
 AllSpare path (line ∷ lines) = LineSpares path line × AllSpare path lines

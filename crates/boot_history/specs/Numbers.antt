@@ -24,6 +24,7 @@ pub record DoesNothing (line : Sent) (sent : Sent) (n : ℕ) : Type 0 where
   pub none : n ≡ 0
   pub front : IsPrefix sent line
 
+-- how many lines a run may have done, by what its words ask for: lines, or nothing where they are no command
 abbrev pub MayDoBy : Files → Result (List Line) UsageReason → Sent → ℕ → Type 0
 MayDoBy view (Ok lines) sent n = MayDo view lines sent n
 MayDoBy view (Err reason) sent n = DoesNothing (on_channel ErrChannel (usage_line reason)) sent n

@@ -8,6 +8,7 @@ use Rattle.std.specs.FinSet as set
 use Rattle.boot_base.specs.Paths.{Path, is_temp, intent, read_intent}
 use Rattle.boot_machine.specs.declared.machine.Printed.{Printed}
 
+-- the order of paths: that of their bytes, a first part before the whole
 abbrev pub path_cmp : Path → Path → Ordering
 path_cmp = slice_cmp nat_cmp
 
@@ -19,9 +20,11 @@ is_same_path q p = eq_by_cmp path_cmp q p
 abbrev pub Files : Type 0
 Files = map.FinMap path_cmp (List ℕ)
 
+-- a set of paths
 abbrev pub Paths : Type 0
 Paths = set.FinSet path_cmp
 
+-- a file is there at this path
 abbrev pub has : Files → Path → Bool
 has files path = map.contains_key files path
 
@@ -65,6 +68,7 @@ recovered_view files = map.retain_keys files (is_recovered files)
 unfoldable pub is_intended : Files → Path → Bool
 is_intended files path = of_intent (intent_names files) (λ from to. is_same_path path from || is_same_path path to)
 
+-- what a machine holds
 pub record State : Type 0 where
   pub files : Files
   -- the files as they were at the last sync of names and after each change of names since, but for the last
@@ -79,13 +83,16 @@ pub record State : Type 0 where
 abbrev pub candidates : State → List Files
 candidates s = s.earlier ++ s.files ∷ []
 
+-- the map is one of these
 abbrev pub IsIn : Files → List Files → Type 0
 IsIn m [] = ⊥
 IsIn m (c ∷ cs) = (m ≡ c) ⊎ IsIn m cs
 
+-- a stop may leave the names of this map
 abbrev pub IsCandidate : State → Files → Type 0
 IsCandidate s c = IsIn c (candidates s)
 
+-- every stop leaves the names that are there: all changes of names are synced
 abbrev pub HasOneCandidate : State → Type 0
 HasOneCandidate s = s.earlier ≡ []
 

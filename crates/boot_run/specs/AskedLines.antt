@@ -25,6 +25,7 @@ abbrev pub command_in : List ℕ → Option Command
 command_in piece =
     if is_utf8 piece && not (is_open (chars piece)) then in_script (meaning (line_words (chars piece))) else None
 
+-- the line of that number: a command, or one that is no command
 abbrev pub line_at : ℕ → Option Command → Line
 line_at number None = Unread number
 line_at number (Some c) = Numbered number c
@@ -40,6 +41,7 @@ lines_from number [] = []
 lines_from number (piece ∷ pieces) =
     (if is_passed_over piece then [] else line_at number (command_in piece) ∷ []) ++ lines_from (suc number) pieces
 
+-- the byte that ends a line of a script
 abbrev pub is_script_newline : ℕ → Bool
 is_script_newline byte = byte == 10
 
@@ -55,6 +57,7 @@ lines_in input = if nat_lt script_limit (length input) then TooLong ∷ [] else 
 abbrev pub lines_for : List ℕ → Command → List Line
 lines_for input c = if is_script c then lines_in (take (script_limit + 1) input) else Plain c ∷ []
 
+-- the lines that a run's words stand for, or why they are no command
 abbrev pub lines_to_run : List ℕ → Result Command UsageReason → Result (List Line) UsageReason
 lines_to_run input (Err reason) = Err reason
 lines_to_run input (Ok c) = Ok (lines_for input c)

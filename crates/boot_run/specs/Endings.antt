@@ -40,6 +40,7 @@ ended_by (Err stops.Disk) = Disk
 ended_by (Err stops.Pipe) = Pipe
 ended_by (Err stops.Memory) = Memory
 
+-- how the last command was left where a run ended so
 abbrev pub end_at : Ended → End
 end_at Done = Finished
 end_at Refused = Finished

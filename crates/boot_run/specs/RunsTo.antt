@@ -21,6 +21,7 @@ at_part stops.Disk old new P = Unit {0}
 at_part stops.Pipe old new P = new.printed ≢ old.printed → P
 at_part stops.Memory old new P = Unit {0}
 
+-- it is so after Ok, and after a pipe's failure if something was printed
 abbrev pub WherePrinted : {T : Type 0} → Result T Stop → State → State → Type 0 → Type 0
 WherePrinted result old new P = MatchResult result (λ _. P) (λ stop. at_part stop old new P)
 

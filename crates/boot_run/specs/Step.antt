@@ -32,6 +32,7 @@ pub record Acknowledges (all : List Sent) (sent : Sent) (k : ℕ) : Type 0 where
   pub whole : IsPrefix (join_replies (take k all)) sent
   pub most : (j : ℕ) → j ≤ length all → IsPrefix (join_replies (take j all)) sent → j ≤ k
 
+-- none of these lines is a command
 abbrev pub AllUnread : List Line → Type 0
 AllUnread [] = Unit {0}
 AllUnread (line ∷ lines) = (is_unread line ≡ true) × AllUnread lines

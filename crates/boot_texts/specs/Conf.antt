@@ -19,6 +19,7 @@ abbrev pub names_variable : List ℕ → Bool
 names_variable [] = false
 names_variable (first ∷ _) = first == 64
 
+-- the value doesn't begin with `@`
 abbrev pub names_no_variable : List ℕ → Bool
 names_no_variable value = not (names_variable value)
 
@@ -34,22 +35,27 @@ is_timeout value = is_seconds value || bytes_eq value (codes "menu-force") || by
 abbrev pub conf_default : List ℕ → Option (List ℕ)
 conf_default text = value_if names_no_variable (entry_value (codes "default") text)
 
+-- the value of the last line that has `timeout`, where it is one that counts
 abbrev pub conf_timeout : List ℕ → Option (List ℕ)
 conf_timeout text = value_if is_timeout (entry_value (codes "timeout") text)
 
+-- what a text says of both keys
 abbrev pub conf_of : List ℕ → LoaderConf
 conf_of text = record { default = conf_default text; timeout = conf_timeout text }
 
 -- ---- keys
 
+-- how a key is written
 abbrev pub conf_key_name : ConfKey → List ℕ
 conf_key_name Default = codes "default"
 conf_key_name Timeout = codes "timeout"
 
+-- the other of the two keys
 abbrev pub other_conf_key : ConfKey → ConfKey
 other_conf_key Default = Timeout
 other_conf_key Timeout = Default
 
+-- what was read for a key
 abbrev pub conf_value : ConfKey → LoaderConf → Option (List ℕ)
 conf_value Default conf = conf.default
 conf_value Timeout conf = conf.timeout
@@ -71,6 +77,7 @@ IsConfValue Timeout value = is_timeout value ≡ true
 
 -- ---- the same as functions
 
+-- whether a value is a pattern that may be the default
 unfoldable pub may_be_default : List ℕ → Bool
 may_be_default value =
     not (length value == 0) && nat_le (length value) 255 && list_all is_ascii_graphic value

@@ -10,6 +10,7 @@ use Rattle.boot_texts.specs.KeyValues.{Pair, last_value, values_of}
 abbrev pub is_gap : ℕ → Bool
 is_gap byte = byte == 32 || byte == 9
 
+-- a byte that is neither a space nor a tab
 abbrev pub is_not_gap : ℕ → Bool
 is_not_gap byte = not (is_gap byte)
 

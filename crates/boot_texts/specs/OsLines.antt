@@ -15,6 +15,7 @@ is_key_start byte = is_ascii_alphabetic byte || byte == 95
 abbrev pub is_key_byte : ℕ → Bool
 is_key_byte byte = is_ascii_alphanumeric byte || byte == 95
 
+-- a text of which the first byte may begin a key and each other may go on with it
 abbrev pub is_key : List ℕ → Bool
 is_key [] = false
 is_key (first ∷ rest) = is_key_start first && list_all is_key_byte rest
@@ -42,6 +43,7 @@ pub data Piece : Type 0 where
   -- a backslash and a byte that it doesn't escape
   kept : ℕ → Piece
 
+-- the byte of a piece is one that its case names
 abbrev pub is_piece : Piece → Bool
 is_piece (plain byte) = not (byte == 34) && not (byte == 92)
 is_piece (escaped byte) = is_escapable byte
@@ -92,6 +94,7 @@ single_reading text =
     let end = position_or_len (λ byte. byte == 39) text in if end + 1 == length text
     then Some (before_first (λ byte. byte == 39) text) else None
 
+-- bytes in front of a value, if there is one
 abbrev pub behind : List ℕ → Option (List ℕ) → Option (List ℕ)
 behind front value = option_map (λ rest. front ++ rest) value
 

@@ -35,10 +35,12 @@ abbrev pub item_passes : PatternItem → (List ℕ → Bool) → List ℕ → Bo
 item_passes any_run test text = any_end test text
 item_passes item test text = first_passes item test text
 
+-- items match the whole of a text, one behind the other
 abbrev pub items_match : List PatternItem → List ℕ → Bool
 items_match [] text = length text == 0
 items_match (item ∷ items) text = item_passes item (items_match items) text
 
+-- whether the items of a pattern match a text; where it isn't a pattern they don't
 abbrev pub items_decide : Option (List PatternItem) → List ℕ → Bool
 items_decide None text = false
 items_decide (Some items) text = items_match items text

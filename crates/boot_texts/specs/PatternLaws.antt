@@ -25,6 +25,7 @@ IsInSet byte between =
     Contains (members_of between) (single byte)
     ⊎ ((low : ℕ) × (high : ℕ) × Contains (members_of between) (range low high) × (low ≤ byte) × (byte ≤ high))
 
+-- a set in brackets, and what follows it, match a byte in the set and what follows that byte
 abbrev pub SetMatches : Type 0
 SetMatches =
     (between pattern text : List ℕ) → between ≢ [] → list_all is_inside_set between ≡ true

@@ -8,6 +8,7 @@ use Rattle.boot_machine.specs.declared.machine.Channel.TheVariants as channels
 use Rattle.command_plans.specs.declared.outcome.Outcome.{Outcome}
 use Rattle.command_plans.specs.declared.outcome.Outcome.TheVariants.{Done, Refused}
 
+-- whether a command was refused
 abbrev pub is_refusal : Outcome → Bool
 is_refusal Done = false
 is_refusal (Refused number) = true

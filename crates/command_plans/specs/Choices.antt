@@ -11,6 +11,7 @@ unfoldable pub without_repeats : {X : Type 0} → (X → X → Bool) → List X 
 without_repeats same [] = []
 without_repeats same (x ∷ xs) = x ∷ filter (λ y. not (same y x)) (without_repeats same xs)
 
+-- whether two banks have one name
 abbrev pub same_bank : Bank → Bank → Bool
 same_bank one other = bytes_eq (bank_name one) (bank_name other)
 

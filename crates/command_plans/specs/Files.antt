@@ -17,6 +17,7 @@ readable_bytes path None = Err (refusals.NotFound (printed_path path))
 readable_bytes path (Some bytes) =
     if nat_lt file_limit (length bytes) then Err (refusals.TooLarge (printed_path path) (length bytes)) else Ok bytes
 
+-- the bytes of the file at a path, or the refusal
 abbrev pub bytes_at : Files → Path → Result (List ℕ) Refusal
 bytes_at view path = readable_bytes path (get view path)
 

@@ -31,6 +31,7 @@ abbrev pub names_stop : NamesFault → Stop
 names_stop names.Memory = stops.Memory
 names_stop names.Disk = stops.Disk
 
+-- the end that a fault of the machine makes of a command
 abbrev pub end_by : MachineFault → End
 end_by fault = end_of (stop_of fault)
 
@@ -86,6 +87,7 @@ stop_temps stops.Disk old new = Unit {0}
 stop_temps stops.Pipe old new = NoNewTemp old new
 stop_temps stops.Memory old new = NoNewTemp old new
 
+-- whatever was returned, no temporary file is left that wasn't there, but after a fault of the disk
 abbrev pub LeavesNoTemp : {T : Type 0} → Result T Stop → State → State → Type 0
 LeavesNoTemp result old new = MatchResult result (λ _. NoNewTemp old new) (λ stop. stop_temps stop old new)
 
@@ -100,6 +102,7 @@ stop_rests stops.Disk new = Unit {0}
 stop_rests stops.Pipe new = IsRested new
 stop_rests stops.Memory new = IsRested new
 
+-- whatever was returned, the machine is rested, but maybe after a fault of the disk
 abbrev pub LeavesRested : {T : Type 0} → Result T Stop → State → Type 0
 LeavesRested result new = MatchResult result (λ _. IsRested new) (λ stop. stop_rests stop new)
 

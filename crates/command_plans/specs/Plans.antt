@@ -92,6 +92,7 @@ abbrev pub fault_drops : MachineFault → Change → Files → Files → Type 0
 fault_drops faults.Disk change old new = Unit {0}
 fault_drops faults.Pipe change old new = Drops change old new
 
+-- what of the temporary files is gone after a change, by what the machine answered
 abbrev pub DropsBy : {T : Type 0} → Result T MachineFault → Change → Files → Files → Type 0
 DropsBy result change old new =
     MatchResult result (λ _. Drops change old new) (λ fault. fault_drops fault change old new)

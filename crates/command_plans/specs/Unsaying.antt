@@ -28,5 +28,6 @@ unsaid_counts unsaid.Memory old new = new ≡ old
 unsaid_counts (unsaid.Refused why) old new = new ≡ old
 unsaid_counts unsaid.Disk old new = DiskFailed old new
 
+-- the counts after what was said or not: a fault of the disk has its cause, and every other answer leaves them
 abbrev pub CountsUnsaid : {X : Type 0} → Result X Unsaid → Counts → Counts → Type 0
 CountsUnsaid result old new = MatchResult result (λ _. new ≡ old) (λ fault. unsaid_counts fault old new)

@@ -30,6 +30,7 @@ good_name_in path =
     name_or path (good_name_of (file_name_of path)) >>= λ good.
     if is_some (split_of good) then Err (refusals.BadName (file_name_of path)) else Ok good
 
+-- its bad name: the counter has no boot left
 abbrev pub bad_name_in : Path → Result (List ℕ) Refusal
 bad_name_in path = name_or path (bad_name_of (file_name_of path))
 
@@ -62,6 +63,7 @@ present_at view paths = record {
   bad = has view paths.bad;
 }
 
+-- how a verb is told
 abbrev pub verb_text : BlessVerb → List ℕ
 verb_text verbs.Good = codes "good"
 verb_text verbs.Bad = codes "bad"
@@ -84,10 +86,12 @@ blessed_by view verb paths target choices.FromCounted = Ok (blessed_from view ve
 blessed_by view verb paths target choices.FromBad = Ok (blessed_from view verb target paths.bad)
 blessed_by view verb paths target choices.NoSource = Err (refusals.NoSource (printed_path paths.counted))
 
+-- what becomes of the entry with these names: the verb says which of its files gets another name, if any
 abbrev pub bless_entry : Files → BlessVerb → EntryPaths → Result Answer Refusal
 bless_entry view verb paths =
     blessed_by view verb paths (path_at paths (target_of verb)) (choice_of verb (present_at view paths))
 
+-- what becomes of the entry that the words of a command name, or the first refusal
 abbrev pub bless_result : Files → BlessVerb → List ℕ → List ℕ → Result Answer Refusal
 bless_result view verb word esp = reported_paths word esp >>= bless_entry view verb
 
@@ -99,9 +103,11 @@ status_by paths present =
     else (if present.bad then Ok (codes "bad\n")
     else Err (refusals.NoSource (printed_path paths.counted))))
 
+-- how the entry is marked that the words of a command name, or the first refusal
 abbrev pub status_result : Files → List ℕ → List ℕ → Result (List ℕ) Refusal
 status_result view word esp = reported_paths word esp >>= λ paths. status_by paths (present_at view paths)
 
+-- what `bless` answers for each of its verbs
 abbrev pub bless_answer : Files → BlessWord → List ℕ → List ℕ → Answer
 bless_answer view words.Good word esp = answer_or_refusal view (bless_result view verbs.Good word esp)
 bless_answer view words.Bad word esp = answer_or_refusal view (bless_result view verbs.Bad word esp)

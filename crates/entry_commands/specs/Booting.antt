@@ -20,6 +20,7 @@ abbrev pub first_of : List MenuItem → Result MenuItem Refusal
 first_of [] = Err refusals.NoEntries
 first_of (item ∷ items) = Ok item
 
+-- what is told of the path that was booted
 abbrev pub booted_text : Path → List ℕ
 booted_text path = codes "booted " ++ (printed_path path ++ codes "\n")
 
@@ -34,6 +35,7 @@ abbrev pub booted_entry : Files → Path → Path → Option (List ℕ) → Resu
 booted_entry view folder path None = Ok (done_answer view (booted_text path))
 booted_entry view folder path (Some name) = path_under folder name >>= renamed_entry view path
 
+-- what becomes of an entry of the menu: it has a try less, where it has one left
 abbrev pub boot_entry : Files → Folders → MenuItem → Result Answer Refusal
 boot_entry view folders item =
     booted_entry view (folder_of folders item.suffix) item.path (booted_name_of (file_name_of item.path))
@@ -43,5 +45,6 @@ abbrev pub boot_result : Files → List ℕ → Result Answer Refusal
 boot_result view word =
     folders_of word >>= λ folders. menu_at view folders >>= λ menu. first_of menu >>= boot_entry view folders
 
+-- what `boot` answers
 abbrev pub boot_answer : Files → List ℕ → Answer
 boot_answer view word = answer_or_refusal view (boot_result view word)

@@ -8,6 +8,7 @@ use Rattle.boot_folder.specs.declared.folders.Folders.{Folders}
 abbrev pub entries_below : List ℕ
 entries_below = codes "loader/entries"
 
+-- the folder of images in an ESP
 abbrev pub images_below : List ℕ
 images_below = codes "EFI/Linux"
 

@@ -35,6 +35,7 @@ is_name_text name =
 abbrev pub is_install_name : List ℕ → Bool
 is_install_name name = is_name_text name && is_none (split_of (name ++ suffix_text Efi))
 
+-- the name, or the refusal of one that no image may be installed under
 abbrev pub install_name : List ℕ → Result (List ℕ) Refusal
 install_name name = if is_install_name name then Ok name else Err (refusals.BadName name)
 
@@ -43,6 +44,7 @@ abbrev pub tries_or : List ℕ → Option ℕ → Result ℕ Refusal
 tries_or word None = Err (refusals.BadNumber word)
 tries_or word (Some tries) = if tries == 0 then Err (refusals.BadNumber word) else Ok tries
 
+-- the tries that a word writes, or its refusal
 abbrev pub tries_in : List ℕ → Result ℕ Refusal
 tries_in word = tries_or word (number_in word)
 
@@ -57,6 +59,7 @@ pub record IsImageName (file : List ℕ) : Type 0 where
   pub kept : is_kept file ≡ true
   pub no_slash : list_any is_slash file ≡ false
 
+-- the name of the image's file by the words of a command, or the first refusal
 abbrev pub image_name_in : List ℕ → Option (List ℕ) → Result (List ℕ) Refusal
 image_name_in name tries = install_name name >>= λ name. if_given tries_in tries >>= λ tries. Ok (image_name name tries)
 
@@ -88,17 +91,21 @@ abbrev pub installed_image : Files → Installation → Result (List ℕ) Refusa
 installed_image view words =
     bytes_at view words.from >>= λ bytes. entry_or (uki_of words.target bytes) >>= λ item. Ok bytes
 
+-- what is told of the path of an image that was installed
 abbrev pub installed_text : Path → List ℕ
 installed_text target = codes "installed " ++ (printed_path target ++ codes "\n")
 
+-- the bytes stand at their path
 abbrev pub installed_entry : Files → Installation → List ℕ → Answer
 installed_entry view words bytes = done_answer (insert view words.target bytes) (installed_text words.target)
 
+-- what becomes of the words of a command, or the first refusal
 abbrev pub install_result : Files → List ℕ → List ℕ → Option (List ℕ) → List ℕ → Result Answer Refusal
 install_result view file name tries esp =
     installation_of file name tries esp >>= λ words.
     installed_image view words >>= λ bytes.
     Ok (installed_entry view words bytes)
 
+-- what `install` answers
 abbrev pub install_answer : Files → List ℕ → List ℕ → Option (List ℕ) → List ℕ → Answer
 install_answer view file name tries esp = answer_or_refusal view (install_result view file name tries esp)

@@ -25,6 +25,7 @@ abbrev pub menu_result : List MenuItem → Result (List ℕ) Refusal
 menu_result [] = Err refusals.NoEntries
 menu_result (item ∷ items) = Ok (list_text (item ∷ items))
 
+-- what is told of an ESP by its word: the text of its menu, or the first refusal
 abbrev pub list_result : Files → List ℕ → Result (List ℕ) Refusal
 list_result view word = folders_of word >>= λ folders. menu_at view folders >>= menu_result
 

@@ -25,6 +25,7 @@ abbrev pub CleanAt : Files → Result Folders Refusal → Type 0
 CleanAt files (Ok folders) = AreClean files folders
 CleanAt files (Err why) = Unit {0}
 
+-- no temporary file stands in the two folders of the ESP that a word names
 abbrev pub IsTidied : List ℕ → Files → Type 0
 IsTidied word files = CleanAt files (folders_of word)
 

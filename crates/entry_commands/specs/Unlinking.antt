@@ -21,6 +21,7 @@ is_entry_name name = is_file_name name && (is_type1_name name || ends_with nat_e
 abbrev pub entry_below : List ℕ → List ℕ
 entry_below name = (if is_type1_name name then codes "loader/entries/" else codes "EFI/Linux/") ++ name
 
+-- the path of the entry of that name in an ESP, or the refusal of a name that no entry has
 abbrev pub entry_under : Path → List ℕ → Result Path Refusal
 entry_under esp name = if is_entry_name name then path_under esp (entry_below name) else Err (refusals.BadName name)
 
@@ -28,6 +29,7 @@ entry_under esp name = if is_entry_name name then path_under esp (entry_below na
 abbrev pub entry_path : List ℕ → List ℕ → Result Path Refusal
 entry_path name word = path_in word >>= λ esp. entry_under esp name
 
+-- what is told of the path that was removed
 abbrev pub unlinked_text : Path → List ℕ
 unlinked_text path = codes "unlinked " ++ (printed_path path ++ codes "\n")
 
@@ -36,5 +38,6 @@ abbrev pub removal : Files → Path → Option (List ℕ) → Answer
 removal view path None = refusal view (refusals.NotFound (printed_path path))
 removal view path (Some bytes) = done_answer (remove view path) (unlinked_text path)
 
+-- what `bootctl unlink` answers for the path of an entry
 abbrev pub unlink_answer : Files → Path → Answer
 unlink_answer view path = removal view path (get view path)

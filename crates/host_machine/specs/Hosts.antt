@@ -9,6 +9,7 @@ use Rattle.boot_machine.specs.declared.machine.NamesFault.{NamesFault}
 use Rattle.boot_machine.specs.declared.machine.NamesFault.TheVariants.{Memory, Disk}
 use Rattle.host_machine.specs.declared.faults.Faults.{Faults}
 
+-- the counts of faults, as the clauses of a machine speak of them
 abbrev pub counts_of : Faults → Counts
 counts_of faults = record { disk_faults = faults.disk; pipe_faults = faults.pipe }
 
@@ -16,13 +17,16 @@ counts_of faults = record { disk_faults = faults.disk; pipe_faults = faults.pipe
 abbrev pub CountsDiskOnce : {T E : Type 0} → Result T E → Counts → Counts → Type 0
 CountsDiskOnce result old new = MatchResult result (λ _. new ≡ old) (λ _. DiskFailsOnce old new)
 
+-- a failed call of a pipe has raised the pipes' count by one and the other not at all, and another answer leaves both
 abbrev pub CountsPipeOnce : {T E : Type 0} → Result T E → Counts → Counts → Type 0
 CountsPipeOnce result old new = MatchResult result (λ _. new ≡ old) (λ _. PipeFailsOnce old new)
 
+-- a failure to list names: of the disk, which is counted once, or of memory, which leaves the counts
 abbrev pub names_fault_once : NamesFault → Counts → Counts → Type 0
 names_fault_once Memory old new = new ≡ old
 names_fault_once Disk old new = DiskFailsOnce old new
 
+-- the counts after a call that lists names
 abbrev pub CountsNamesOnce : {T : Type 0} → Result T NamesFault → Counts → Counts → Type 0
 CountsNamesOnce result old new = MatchResult result (λ _. new ≡ old) (λ fault. names_fault_once fault old new)
 

@@ -2,6 +2,7 @@ mod BuildCounts
 mod BuiltImage
 mod Countable
 mod CountedBuilds
+mod Cut
 mod Imaged
 mod Lines
 mod Listed

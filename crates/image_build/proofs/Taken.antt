@@ -17,7 +17,6 @@ use Rattle.stub_replay.proofs.Turns.{IsName}
 use Rattle.stub_replay.specs.Measured.{measured_names}
 use Rattle.stub_replay.specs.Parts.{IsWhole, content_or, files_length, given_part, read_length}
 use Rattle.stub_replay.specs.declared.measurable.Content.{Content}
-use Rattle.stub_replay.specs.declared.measurable.Content.TheVariants as sources
 use Rattle.stub_replay.specs.declared.measurable.Measurable.{Measurable}
 use Rattle.boot_machine.specs.Reading.{TakesAtMost}
 use Rattle.uki_parts.specs.Pieces.{Reading}

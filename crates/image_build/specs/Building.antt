@@ -41,18 +41,20 @@ use Rattle.pcr_values.specs.Banks.{all_banks}
 use Rattle.pcr_values.specs.Phases.{default_phase_paths}
 use Rattle.stub_replay.specs.Measured.{stub_pcr}
 
--- A value of `--section=`: a section's name, and behind the first colon a text, or `@` and the path of a file. Without
--- a colon, or where no section has that name, it is refused.
+-- the name that the text before the colon gives, or the refusal of the text
 abbrev pub section_name : List ℕ → Option SectionName → Result SectionName Refusal
 section_name text None = Err (refusals.BadSectionName text)
 section_name text (Some name) = Ok name
 
+-- what a value of `--section=` gives by the place of its first colon, or the refusal
 abbrev pub section_cut : List ℕ → Option ℕ → Result (SectionName × Given) Refusal
 section_cut value None = Err (refusals.BadSectionName value)
 section_cut value (Some colon) =
     section_name (take colon value) (read_name (take colon value))
     >>= λ name. Ok (name, inline_or_file (drop (colon + 1) value))
 
+-- A value of `--section=`: a section's name, and behind the first colon a text, or `@` and the path of a file. Without
+-- a colon, or where no section has that name, it is refused.
 abbrev pub section_of : List ℕ → Result (SectionName × Given) Refusal
 section_of value = section_cut value (position (λ byte. byte == 58) value)
 
@@ -62,10 +64,12 @@ pub record WantedPart : Type 0 where
   pub name : SectionName
   pub sources : List Given
 
+-- a part of that name, where it has some source
 abbrev pub optional_part : PartKind → List ℕ → List Given → List WantedPart
 optional_part kind name [] = []
 optional_part kind name (source ∷ more) = record { kind = kind; name = padded_name name; sources = source ∷ more } ∷ []
 
+-- what was given, as a list
 abbrev pub given_list : Option Given → List Given
 given_list None = []
 given_list (Some source) = source ∷ []
@@ -103,9 +107,11 @@ pub record NamedPart : Type 0 where
   pub name : SectionName
   pub sources : List Source
 
+-- a part by its kind, its name and its sources
 abbrev pub named_part : PartKind → SectionName → List Source → NamedPart
 named_part kind name sources = record { kind = kind; name = name; sources = sources }
 
+-- a wanted part with the files and texts that it comes from, or the refusal of a word that is no path
 abbrev pub sources_of : WantedPart → Result NamedPart Refusal
 sources_of part = each source_of part.sources >>= λ found. Ok (named_part part.kind part.name found)
 
@@ -137,9 +143,11 @@ pub record BuiltImage : Type 0 where
   pub output : Path
   pub image : List ℕ
 
+-- whether a part has bytes
 abbrev pub has_bytes : SectionName × List ℕ → Bool
 has_bytes part = not (length part.1 == 0)
 
+-- what the builder knows of a part: its name, its length and its flags
 abbrev pub size_of_part : SectionName × List ℕ → WideSize
 size_of_part part = record { name = part.0; length = length part.1; flags = part_flags part.0 }
 
@@ -154,6 +162,7 @@ image_or output headers stub parts sbat None =
           (map (λ part. part.1) parts) sbat stub;
     })
 
+-- the image of these parts and of a `.sbat` that takes the place of the stub's, or the builder's first refusal
 abbrev pub image_of_parts : Path → Headers → List ℕ → List (SectionName × List ℕ) → Option (List ℕ)
     → Result BuiltImage Refusal
 image_of_parts output headers stub parts sbat =
@@ -242,6 +251,7 @@ material contents =
       sbat = sbat_of contents;
     })
 
+-- what an image is made of on a view, or the first refusal
 abbrev pub material_of : Files → NamedFiles → Result Material Refusal
 material_of view named = contents_of view named >>= material
 
@@ -249,6 +259,7 @@ material_of view named = contents_of view named >>= material
 abbrev pub part_named : PartSources → NamedPart
 part_named part = named_part part.kind part.name part.sources.items
 
+-- what was found in the words, by its paths, texts and names
 abbrev pub named_as : BuildSources → NamedFiles
 named_as found = record {
   stub = found.stub;
@@ -291,5 +302,6 @@ abbrev pub built_answer : Files → Bool → Result BuiltImage Refusal → Answe
 built_answer view measure (Err why) = refusal view why
 built_answer view measure (Ok built) = done_answer (insert view built.output built.image) (built_text measure built)
 
+-- what `ukify build` answers
 abbrev pub build_answer : Files → BuildWords → Answer
 build_answer view words = built_answer view words.measure (build_of view words)

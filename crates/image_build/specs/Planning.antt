@@ -72,6 +72,7 @@ pub record IsContent (files : Reading) (content : Option Content) (bytes : List 
 abbrev pub measuring_length : Bool → List ℕ → ℕ
 measuring_length measure image = if measure then measured_length image else 0
 
+-- how many bytes of files are read to measure what is built, at most; none where it is refused
 abbrev pub built_measuring : Bool → Result BuiltImage Refusal → ℕ
 built_measuring measure (Err why) = 0
 built_measuring measure (Ok built) = measuring_length measure built.image

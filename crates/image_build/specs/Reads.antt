@@ -1,10 +1,11 @@
 -- What was read of the files that the words of a build name.
 use Rattle.std.specs.Prelude.{◌≡◌, ◌≤◌, ℕ, ◌+◌, ◌-◌, ◌*◌, ◌^◌, All, List, Option, Some, None, codes, length, map, min, sum_by}
 use Rattle.boot_base.specs.Paths.{Path}
-use Rattle.pe_reader.specs.LoadedBytes.{loaded_bytes}
+use Rattle.pe_reader.specs.Grammar.{pe_of}
 use Rattle.pe_builder.specs.Replaced.{sbat_name}
 use Rattle.std.specs.List.{AllZip}
 use Rattle.pe_reader.specs.Reads.{ReadFrom, headers_of}
+use Rattle.stub_replay.specs.Measured.{named_raw_length}
 use Rattle.uki_parts.specs.Names.{padded_name}
 use Rattle.uki_parts.specs.Pieces.{HasSizes, Reading, bytes_of, total_length}
 use Rattle.uki_parts.specs.declared.kind.PartKind.TheVariants as kinds
@@ -19,10 +20,11 @@ use Rattle.image_build.specs.declared.source.Source.TheVariants as sources
 use Rattle.image_build.specs.Building.{Contents, Material, NamedFiles}
 use Rattle.boot_base.specs.Limits.{file_limit}
 
--- what was read, by the bytes of the files that it names
+-- a part that was read, by the bytes of the files that it names: its name, and what its pieces hold
 abbrev pub part_as : Reading → Part → SectionName × List ℕ
 part_as files part = (part.name, bytes_of files part.pieces.items)
 
+-- all that an image is made of, by the bytes of the files that it names
 abbrev pub material_as : Reading → BuildParts → Material
 material_as files built = record {
   headers = headers_of built.head;
@@ -32,11 +34,12 @@ material_as files built = record {
   sbat = built.sbat.items;
 }
 
--- how many bytes come from a source at most, and from several, each filled up to a multiple of four bytes
+-- how many bytes come from a source at most
 abbrev pub source_limit : Source → ℕ
 source_limit (sources.Said text) = length text
 source_limit (sources.At path) = file_limit
 
+-- how many bytes come from several sources at most, each filled up to a multiple of four bytes
 abbrev pub sources_limit : List Source → ℕ
 sources_limit found = sum_by source_limit found + 3 * length found
 
@@ -51,7 +54,7 @@ pub record PartFrom (from : PartSources) (part : Part) : Type 0 where
 abbrev pub PartHasSizes : Reading → Part → Type 0
 PartHasSizes files part = HasSizes files part.pieces.items
 
--- the files that a build reads, and the text of `--sbat`
+-- what a build finds in the files that it reads, by their bytes
 abbrev pub contents_as : Reading → BuildFiles → Contents
 contents_as files found = record {
   stub = files found.stub;
@@ -60,6 +63,7 @@ contents_as files found = record {
   sbat = found.sbat.items;
 }
 
+-- what was found is that of these words, whatever the machine, and the stub and the kernel aren't too large
 pub record FilesFrom (from : BuildSources) (found : BuildFiles) : Type 0 where
   pub stub : found.stub ≡ from.stub
   pub linux : found.linux ≡ from.linux
@@ -68,6 +72,7 @@ pub record FilesFrom (from : BuildSources) (found : BuildFiles) : Type 0 where
   pub linux_small : found.linux_length ≤ file_limit
   pub parts : AllZip PartFrom from.parts.items found.parts.items
 
+-- the files have the sizes that were found
 pub record FilesHaveSizes (files : Reading) (found : BuildFiles) : Type 0 where
   pub stub : length (files found.stub) ≡ found.stub_length
   pub linux : length (files found.linux) ≡ found.linux_length
@@ -89,6 +94,7 @@ pub record BuiltFrom (from : BuildSources) (built : BuildParts) : Type 0 where
   pub linux : IsKernel built.linux
   pub parts : AllZip PartFrom from.parts.items built.parts.items
 
+-- the files have the sizes that were read
 pub record BuiltHasSizes (files : Reading) (built : BuildParts) : Type 0 where
   pub stub : length (files built.stub) ≡ built.stub_length
   pub linux : PartHasSizes files built.linux
@@ -100,12 +106,12 @@ source_file_length files None = 0
 source_file_length files (Some (sources.Said text)) = 0
 source_file_length files (Some (sources.At path)) = length (files path)
 
--- how many bytes the file at a path has loaded of `.sbat`
+-- how many bytes the file at a path has loaded of its `.sbat`, without the zeros behind them
 abbrev pub loaded_sbat_length : Reading → Path → ℕ
-loaded_sbat_length files path = length (loaded_bytes (files path) sbat_name)
+loaded_sbat_length files path = named_raw_length sbat_name (pe_of (files path))
 
 -- How many bytes of files are read before an image is planned, at most: the file of `--sbat`, and of the stub and the
--- kernel the headers, which are at most 69,463 bytes, and what they have loaded of `.sbat`.
+-- kernel the headers, which are at most 69,463 bytes, and the raw data that they have loaded of `.sbat`.
 abbrev pub reading_length : Reading → NamedFiles → ℕ
 reading_length files named =
     source_file_length files named.sbat

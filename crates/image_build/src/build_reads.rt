@@ -6,9 +6,11 @@ ghost use Rattle.boot_machine.specs.Rows.{contents};
 ghost use Rattle.boot_machine.specs.Sent.{seen};
 ghost use Rattle.pe_builder.specs.Replaced.{sbat_name};
 ghost use Rattle.pe_reader.specs.Grammar.{pe_of};
-ghost use Rattle.pe_reader.specs.LoadedBytes.{bytes_in, loaded_bytes};
+ghost use Rattle.pe_reader.specs.Fields.{part};
+ghost use Rattle.pe_reader.specs.LoadedBytes.{loaded_bytes};
 ghost use Rattle.pe_reader.specs.Reads.{headers_of};
 ghost use Rattle.uki_parts.specs.Pieces.{HasSizes, Reading, bytes_of, piece_bytes, piece_length, total_length};
+ghost use Rattle.uki_parts.specs.Sbat.{sbat_entries};
 ghost use Rattle.image_build.specs.Building.{contents_of, given_sbat, material_of, named_as, part_bytes, part_named, sbat_of, source_bytes};
 ghost use Rattle.boot_base.specs.Limits.{file_limit};
 ghost use Rattle.command_plans.specs.Files.{bytes_at, each};
@@ -157,29 +159,28 @@ fn parts_of_sources<M: Machine>(
     Ok(parts)
 }
 
-// The bytes of a range of a file, with its zeros.
-fn range_bytes<M: Machine>(
+// The bytes of a file that a range has, without the zeros behind them.
+fn raw_bytes<M: Machine>(
     alloc: Global,
     path: &BootPath,
     range: LoadedRange,
     machine: &mut M,
 ) -> Result<Vec<u8>, Unsaid>
     requires place { range.place < 2 ^ 32 }
-    requires size { range.length + range.zeros < 2 ^ 32 }
+    requires size { range.length < 2 ^ 32 }
     ensures says { IsTrue M.tells → range.length
         ≤ length (drop range.place (contents (seen (M.state machine.old)) path.now))
         → Says (λ content. content.items) result
-        (Ok (bytes_in (contents (seen (M.state machine.old)) path.now) range)) }
+        (Ok (part (contents (seen (M.state machine.old)) path.now) range.place range.length)) }
     ensures reads { IsTrue M.tells → OnlyReads M.time M.state machine.old machine.new }
     ensures counts { CountsUnsaid result (M.counts machine.old) (M.counts machine.new) }
     ensures taken { IsTrue M.tells → TakesAtMost range.length (M.taken machine.old) (M.taken machine.new) }
 {
-    let mut content = file_part(alloc, path, range.place, range.length, machine)?;
-    content.resize(content.len() + range.zeros as usize, 0)?;
-    Ok(content)
+    file_part(alloc, path, range.place, range.length, machine)
 }
 
-// The loaded `.sbat` of the file at a path, by what it reads as.
+// Bytes with the entries of the `.sbat` that the file at a path has loaded, by what it reads as. Entries stand before the
+// first NUL, so these bytes are the raw data alone, however many zeros are loaded behind them.
 fn loaded_sbat<M: Machine>(
     alloc: Global,
     path: &BootPath,
@@ -187,8 +188,8 @@ fn loaded_sbat<M: Machine>(
     machine: &mut M,
 ) -> Result<Vec<u8>, Unsaid>
     requires { IsTrue M.tells → pe_of (contents (seen (M.state machine.old)) path.now) ≡ Ok (headers_of head.now) }
-    ensures says { IsTrue M.tells → Says (λ content. content.items) result
-        (Ok (loaded_bytes (contents (seen (M.state machine.old)) path.now) sbat_name)) }
+    ensures says { IsTrue M.tells → Says (λ content. sbat_entries content.items) result
+        (Ok (sbat_entries (loaded_bytes (contents (seen (M.state machine.old)) path.now) sbat_name))) }
     ensures reads { IsTrue M.tells → OnlyReads M.time M.state machine.old machine.new }
     ensures counts { CountsUnsaid result (M.counts machine.old) (M.counts machine.new) }
     ensures taken { IsTrue M.tells → TakesAtMost
@@ -197,11 +198,11 @@ fn loaded_sbat<M: Machine>(
 {
     match head.find(b".sbat") {
         None => Ok(Vec::new(alloc)),
-        Some(index) => range_bytes(alloc, path, head.loaded_range(index), machine),
+        Some(index) => raw_bytes(alloc, path, head.loaded_range(index), machine),
     }
 }
 
-// The loaded `.sbat` of a kernel of that size, which is empty where the kernel is no PE32+ file.
+// The same of a kernel of that size; there are none where it is no PE32+ file.
 fn kernel_sbat<M: Machine>(
     alloc: Global,
     path: &BootPath,
@@ -210,8 +211,8 @@ fn kernel_sbat<M: Machine>(
 ) -> Result<Vec<u8>, Unsaid>
     requires small { size ≤ 268435456 }
     requires size { IsTrue M.tells → size ≡ length (contents (seen (M.state machine.old)) path.now) }
-    ensures says { IsTrue M.tells → Says (λ content. content.items) result
-        (Ok (loaded_bytes (contents (seen (M.state machine.old)) path.now) sbat_name)) }
+    ensures says { IsTrue M.tells → Says (λ content. sbat_entries content.items) result
+        (Ok (sbat_entries (loaded_bytes (contents (seen (M.state machine.old)) path.now) sbat_name))) }
     ensures reads { IsTrue M.tells → OnlyReads M.time M.state machine.old machine.new }
     ensures counts { CountsUnsaid result (M.counts machine.old) (M.counts machine.new) }
     ensures taken { IsTrue M.tells → TakesAtMost

@@ -9,7 +9,7 @@ use Rattle.boot_machine.specs.Disk.{Files}
 use Rattle.pe_reader.specs.Grammar.{Headers, pe_of}
 use Rattle.pe_reader.specs.declared.fault.FailedCheck.{FailedCheck}
 use Rattle.pe_reader.specs.declared.section.Section.{Section}
-use Rattle.stub_replay.specs.Measured.{measured_length}
+use Rattle.stub_replay.specs.Measured.{measured_raw_length, raw_length}
 use Rattle.stub_replay.specs.Parts.{HaveSizes, IsWhole, files_length, named_bytes, read_length}
 use Rattle.stub_replay.specs.declared.measurable.Measurable.{Measurable}
 use Rattle.stub_replay.proofs.Fitting.{content_fits}
@@ -18,7 +18,7 @@ use Rattle.command_plans.proofs.Each.{bind_ok, each_cut, none_made}
 use Rattle.command_plans.specs.Files.{bytes_at, each, headers_or, image_at}
 use Rattle.command_plans.specs.Declining.{◌>>=◌, path_in}
 use Rattle.image_commands.specs.Calculating.{under_name}
-use Rattle.image_commands.specs.Taking.{all_raw_length, found_bytes, named_content, raw_length}
+use Rattle.image_commands.specs.Taking.{all_raw_length, found_bytes, named_content}
 
 -- bytes with the headers that they read as
 abbrev with_headers : List ℕ → Result Headers FailedCheck → Result (List ℕ × Headers) Refusal
@@ -44,11 +44,11 @@ pub image_read : (view : Files) (path : Path) (file : List ℕ) (h : Headers) �
 image_read view path file h is = found_image pe_of (bytes_at view path) file h is
 
 -- of an image whose measured sections are read
-pub image_taken : (view : Files) (path : Path) (file now : List ℕ) (h : Headers) (start middle after : ℕ) → image_at view path ≡ Ok (file, h) → now ≡ file → middle ≤ start + 69463 → after ≤ middle + measured_length now
-    → after ≤ start + (69463 + measured_length (found_bytes (bytes_at view path)))
+pub image_taken : (view : Files) (path : Path) (file now : List ℕ) (h : Headers) (start middle after : ℕ) → image_at view path ≡ Ok (file, h) → now ≡ file → middle ≤ start + 69463 → after ≤ middle + measured_raw_length now
+    → after ≤ start + (69463 + measured_raw_length (found_bytes (bytes_at view path)))
 image_taken view path file now h start middle after is same first second =
     let read = image_read view path file h is in
-    omega (arith, first, second, ap measured_length same, ap (λ (r : Result (List ℕ) Refusal). measured_length (found_bytes r)) read.0)
+    omega (arith, first, second, ap measured_raw_length same, ap (λ (r : Result (List ℕ) Refusal). measured_raw_length (found_bytes r)) read.0)
 
 -- or whose sections are all read
 pub inspected_taken : (view : Files) (path : Path) (file : List ℕ) (h : Headers) (start middle after : ℕ) → image_at view path ≡ Ok (file, h) → middle ≤ start + 69463 → after ≤ middle + sum_by raw_length h.sections

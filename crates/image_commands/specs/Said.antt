@@ -40,9 +40,11 @@ abbrev pub inspection : Path → List ℕ → Headers → List ℕ
 inspection path bytes headers =
     first_line path (length headers.sections) ++ flat_map (section_lines bytes) headers.sections
 
+-- what `ukify inspect` says of the image at a path, or the refusal
 abbrev pub inspection_at : Files → Path → Result (List ℕ) Refusal
 inspection_at view path = image_at view path >>= λ image. Ok (inspection path image.0 image.1)
 
+-- what `ukify inspect` says by its word, or the first refusal
 abbrev pub inspect_result : Files → List ℕ → Result (List ℕ) Refusal
 inspect_result view file = path_in file >>= inspection_at view
 
@@ -56,9 +58,11 @@ kind_of bytes (Ok headers) =
     if has_loaded bytes (codes ".linux") && has_loaded bytes (codes ".osrel") then codes "uki\n" else codes "pe\n"
 kind_of bytes (Err check) = codes "unknown\n"
 
+-- what `bootctl kernel-identify` says of the file at a path, or the refusal
 abbrev pub kind_at : Files → Path → Result (List ℕ) Refusal
 kind_at view path = bytes_at view path >>= λ bytes. Ok (kind_of bytes (pe_of bytes))
 
+-- what `bootctl kernel-identify` says by its word, or the refusal
 abbrev pub identify_result : Files → List ℕ → Result (List ℕ) Refusal
 identify_result view file = path_in file >>= kind_at view
 
@@ -67,5 +71,6 @@ abbrev pub values_at : Files → List (List ℕ) → List (List ℕ) → Path �
 values_at view bank_names phase_texts path =
     image_at view path >>= λ image. Ok (value_lines (stub_pcr image.0) (banks_of bank_names) (paths_of phase_texts))
 
+-- what `measure image` says by its words, or the first refusal
 abbrev pub measure_result : Files → List ℕ → List (List ℕ) → List (List ℕ) → Result (List ℕ) Refusal
 measure_result view file bank_names phase_texts = path_in file >>= values_at view bank_names phase_texts

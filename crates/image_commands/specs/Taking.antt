@@ -3,9 +3,8 @@ use Rattle.std.specs.Prelude.{ℕ, List, [], Result, Ok, Err, length, sum_by}
 use Rattle.boot_base.specs.declared.refusal.Refusal.{Refusal}
 use Rattle.boot_machine.specs.Disk.{Files}
 use Rattle.pe_reader.specs.declared.fault.FailedCheck.{FailedCheck}
-use Rattle.pe_reader.specs.declared.section.Section.{Section}
 use Rattle.pe_reader.specs.Grammar.{Headers}
-use Rattle.pe_reader.specs.LoadedBytes.{range_of}
+use Rattle.stub_replay.specs.Measured.{raw_length}
 use Rattle.tool_words.specs.declared.command.CalculateWords.{CalculateWords}
 use Rattle.command_plans.specs.Declining.{◌>>=◌, path_in}
 use Rattle.command_plans.specs.Files.{bytes_at}
@@ -19,10 +18,6 @@ found_bytes (Err why) = []
 -- the bytes of the file that a word names, none where it is refused
 abbrev pub named_content : Files → List ℕ → List ℕ
 named_content view word = found_bytes (path_in word >>= bytes_at view)
-
--- how many bytes of the file a section has loaded
-abbrev pub raw_length : Section → ℕ
-raw_length s = (range_of s).length
 
 -- how many bytes of the file all sections have loaded together, none where it is no PE32+ file
 abbrev pub all_raw_length : Result Headers FailedCheck → ℕ

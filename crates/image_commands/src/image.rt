@@ -7,7 +7,7 @@ ghost use Rattle.pcr_values.specs.Banks.{fold_pcr};
 ghost use Rattle.pcr_values.specs.Values.{pcr_bank, pcr_value};
 ghost use Rattle.pe_reader.specs.Grammar.{pe_of};
 ghost use Rattle.pe_reader.specs.Reads.{headers_of};
-ghost use Rattle.stub_replay.specs.Measured.{measured_length, measured_list};
+ghost use Rattle.stub_replay.specs.Measured.{measured_raw_length, measured_list};
 ghost use Rattle.command_plans.specs.Answers.{answer_of_read};
 ghost use Rattle.command_plans.specs.Performs.{CountsStop};
 ghost use Rattle.command_plans.specs.Plans.{IsMakeable, Plans};
@@ -42,7 +42,7 @@ fn registers<M: Machine>(
     ensures reads { IsTrue M.tells → OnlyReads M.time M.state machine.old machine.new }
     ensures counts { CountsUnsaid result (M.counts machine.old) (M.counts machine.new) }
     ensures taken { IsTrue M.tells
-        → TakesAtMost (measured_length (contents (M.state machine.old).files path.now))
+        → TakesAtMost (measured_raw_length (contents (M.state machine.old).files path.now))
         (M.taken machine.old) (M.taken machine.new) }
 {
     let mut buffer = [0; PIECE_SIZE];
@@ -66,7 +66,7 @@ fn values<M: Machine>(
     ensures reads { IsTrue M.tells → OnlyReads M.time M.state machine.old machine.new }
     ensures counts { CountsUnsaid result (M.counts machine.old) (M.counts machine.new) }
     ensures taken { IsTrue M.tells → TakesAtMost
-        (69463 + measured_length (found_bytes (bytes_at (seen (M.state machine.old)) path.now)))
+        (69463 + measured_raw_length (found_bytes (bytes_at (seen (M.state machine.old)) path.now)))
         (M.taken machine.old) (M.taken machine.new) }
 {
     let head = image_head(alloc, path, machine)?;
@@ -90,7 +90,7 @@ fn measure_result<M: Machine>(
     ensures counts { CountsUnsaid result (M.counts machine.old) (M.counts machine.new) }
     ensures words { DeclinesWords (path_in file.now) result }
     ensures taken { IsTrue M.tells → TakesAtMost
-        (69463 + measured_length (named_content (seen (M.state machine.old)) file.now))
+        (69463 + measured_raw_length (named_content (seen (M.state machine.old)) file.now))
         (M.taken machine.old) (M.taken machine.new) }
 {
     let path = path_in(alloc, file)?;
@@ -116,7 +116,7 @@ pub fn plan_image<M: Machine>(
     ensures counts { CountsStop result (M.counts machine.old) (M.counts machine.new) }
     ensures words { RefusesWords (path_in file.now) result }
     ensures taken { IsTrue M.tells → TakesAtMost
-        (69463 + measured_length (named_content (seen (M.state machine.old)) file.now))
+        (69463 + measured_raw_length (named_content (seen (M.state machine.old)) file.now))
         (M.taken machine.old) (M.taken machine.new) }
 {
     let text = measure_result(alloc, file, banks, phases, machine);

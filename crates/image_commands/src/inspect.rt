@@ -18,7 +18,8 @@ ghost use Rattle.command_plans.specs.Files.{bytes_at};
 ghost use Rattle.command_plans.specs.Declining.{path_in, printed_path};
 ghost use Rattle.command_plans.specs.Names.{shown_byte};
 ghost use Rattle.image_commands.specs.Said.{first_line, inspect_result, inspection_at, measures, section_lines};
-ghost use Rattle.image_commands.specs.Taking.{all_raw_length, found_bytes, named_content, raw_length};
+ghost use Rattle.stub_replay.specs.Measured.{raw_length};
+ghost use Rattle.image_commands.specs.Taking.{all_raw_length, found_bytes, named_content};
 ghost use Rattle.command_plans.specs.Unsaying.{CountsUnsaid, Says};
 
 use boot_base::{BootPath, PIECE_SIZE, short_name};

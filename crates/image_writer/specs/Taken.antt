@@ -19,6 +19,7 @@ chunk_length (chunks.Long value) = 0
 chunk_length chunks.Sbat = 0
 chunk_length (chunks.Zeros count) = 0
 
+-- how many bytes of the stub's file several chunks have
 abbrev pub chunks_length : List Chunk → ℕ
 chunks_length cs = sum_by chunk_length cs
 

@@ -65,13 +65,16 @@ move_fault MDisk old new = DiskFailed old new
 move_fault MNotFound old new = new ≡ old
 move_fault TargetExists old new = new ≡ old
 
+-- the counts after a move: a fault of the disk has its cause, and every other answer leaves them
 abbrev pub CountsMove : {T : Type 0} → Result T MoveFault → Counts → Counts → Type 0
 CountsMove result old new = MatchResult result (λ _. new ≡ old) (λ fault. move_fault fault old new)
 
+-- for another step's fault: the disk failed, or the counts stay
 abbrev pub step_fault : StepFault → Counts → Counts → Type 0
 step_fault SDisk old new = DiskFailed old new
 step_fault SNotFound old new = new ≡ old
 
+-- the counts after another step: a fault of the disk has its cause, and every other answer leaves them
 abbrev pub CountsStep : {T : Type 0} → Result T StepFault → Counts → Counts → Type 0
 CountsStep result old new = MatchResult result (λ _. new ≡ old) (λ fault. step_fault fault old new)
 
@@ -85,6 +88,7 @@ abbrev pub recover_fault : RecoverFault → Counts → Counts → Type 0
 recover_fault RDisk old new = DiskFailed old new
 recover_fault RMemory old new = new ≡ old
 
+-- the counts after a recovery: a fault of the disk has its cause, and every other answer leaves them
 abbrev pub CountsRecover : {T : Type 0} → Result T RecoverFault → Counts → Counts → Type 0
 CountsRecover result old new = MatchResult result (λ _. new ≡ old) (λ fault. recover_fault fault old new)
 

@@ -42,6 +42,7 @@ pub record ChangesOneKey (view : Files) (key : ConfKey) (value word : List ℕ) 
   pub set : conf_value key (conf_of text) ≡ Some value
   pub other : conf_value (other_conf_key key) (conf_of text) ≡ conf_value (other_conf_key key) (conf_of bytes)
 
+-- whatever text a command on a key is going to write changes that key alone
 abbrev pub SettingChangesOneKey : Type 0
 SettingChangesOneKey =
     (view : Files) (key : ConfKey) (value word : List ℕ) (path : Path) (text : List ℕ)

@@ -19,6 +19,7 @@ use Rattle.menu_order.specs.declared.item.MenuItem.{MenuItem}
 abbrev pub conf_limit : ℕ
 conf_limit = 65536
 
+-- where loader.conf stands in an ESP
 abbrev pub conf_below : List ℕ
 conf_below = codes "loader/loader.conf"
 
@@ -45,6 +46,7 @@ abbrev pub conf_or_empty : Path → Option (List ℕ) → Result (List ℕ) Refu
 conf_or_empty path None = Ok []
 conf_or_empty path (Some bytes) = within_limit path bytes
 
+-- the bytes of the loader.conf at a path, or that they are too many
 abbrev pub conf_bytes : Files → Path → Result (List ℕ) Refusal
 conf_bytes view path = conf_or_empty path (get view path)
 

@@ -18,6 +18,7 @@ abbrev pub bad_value : ConfKey → List ℕ → Refusal
 bad_value Default word = refusals.BadPattern word
 bad_value Timeout word = refusals.BadNumber word
 
+-- the value that a word gives for a key, or the refusal
 abbrev pub value_in : ConfKey → List ℕ → Result (List ℕ) Refusal
 value_in key word = if may_be_value key word then Ok word else Err (bad_value key word)
 
@@ -46,8 +47,10 @@ set_text key value = conf_key_name key ++ (codes " " ++ (value ++ codes "\n"))
 abbrev pub changed_conf : Files → ConfKey → List ℕ → Path × List ℕ → Answer
 changed_conf view key value change = done_answer (insert view change.0 change.1) (set_text key value)
 
+-- what becomes of the words of a command, or the first refusal
 abbrev pub set_result : Files → ConfKey → List ℕ → List ℕ → Result Answer Refusal
 set_result view key value word = conf_update view key value word >>= λ change. Ok (changed_conf view key value change)
 
+-- what `loader set-default` and `loader set-timeout` answer
 abbrev pub set_answer : Files → ConfKey → List ℕ → List ℕ → Answer
 set_answer view key value word = answer_or_refusal view (set_result view key value word)

@@ -19,6 +19,7 @@ entry_id item = item.base ++ suffix_text item.suffix
 abbrev pub default_item : Option (List ℕ) → List MenuItem → Option MenuItem
 default_item default menu = option_and_then (slice_get menu) (default_place default (map entry_id menu))
 
+-- the timeout, or `none`
 abbrev pub timeout_or_none : Option (List ℕ) → List ℕ
 timeout_or_none None = codes "none"
 timeout_or_none (Some timeout) = timeout
@@ -30,6 +31,7 @@ show_text item timeout =
     ++ (codes "\nsource " ++ (printed_path item.path
     ++ (codes "\ntimeout " ++ (timeout_or_none timeout ++ codes "\n")))))
 
+-- what is told of an entry that was chosen; where the menu is empty, that there are no entries
 abbrev pub shown_or_empty : Option (List ℕ) → Option MenuItem → Result (List ℕ) Refusal
 shown_or_empty timeout None = Err refusals.NoEntries
 shown_or_empty timeout (Some item) = Ok (show_text item timeout)
@@ -45,5 +47,6 @@ show_result view word =
     conf_bytes view paths.conf >>= λ bytes.
     loader_menu view paths.folders >>= menu_shown bytes
 
+-- what `loader show` answers
 abbrev pub show_answer : Files → List ℕ → Answer
 show_answer view word = answer_of_read view (show_result view word)

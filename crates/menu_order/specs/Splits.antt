@@ -65,6 +65,7 @@ split_from suffix (Some parts) =
     if length parts.0 == 0 then None
     else option_map (λ numbers. counted_of parts.0 numbers.0 numbers.1 suffix) (counter_in parts.1)
 
+-- what a stem is split into
 abbrev pub split_stem : Suffix → List ℕ → Option Counted
 split_stem suffix stem = split_from suffix (cut_last 43 stem)
 

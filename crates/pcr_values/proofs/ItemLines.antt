@@ -5,12 +5,8 @@ use Rattle.std.proofs.lemmas.List.Sums.{fold-append}
 use Rattle.pcr_values.specs.declared.bank.Bank.{Bank}
 use Rattle.pcr_values.specs.declared.pcr.Pcr.{Pcr}
 use Rattle.pcr_values.specs.Banks.{extend_data, extend_all, fold_of, fold_pcr, zero_of}
-use Rattle.pcr_values.specs.Values.{pcr_bank, pcr_bytes, pcr_value}
-use Rattle.pcr_values.specs.ValueLines.{heading_of, value_line, value_lines}
-
--- the line of a register, after the words of a path
-abbrev pub line_after : List (List ℕ) → Pcr → List ℕ
-line_after path start = value_line (pcr_bank start) (extend_all (pcr_bank start) (pcr_bytes start) path)
+use Rattle.pcr_values.specs.Values.{pcr_value}
+use Rattle.pcr_values.specs.ValueLines.{heading_of, line_after, value_line, value_lines}
 
 -- the heading of a path, and the lines of registers after the path's words
 abbrev pub lines_of : List Pcr → List (List ℕ) → List ℕ

@@ -1,11 +1,18 @@
 //! The lines that predict PCR 11.
 ghost use Rattle.std.specs.Prelude.{◌≡◌, ◌++◌, ℕ, List, map, IfOk, OnOk, OnErr};
 ghost use Rattle.std.specs.List.{flat_map};
-ghost use Rattle.pcr_values.specs.Banks.{extend_all, fold_of, fold_pcr};
+ghost use Rattle.pcr_values.specs.Banks.{fold_of, fold_pcr};
 ghost use Rattle.pcr_values.specs.Values.{pcr_bank, pcr_bytes, pcr_value};
 ghost use Rattle.pcr_values.specs.declared.bank.Bank.{Bank};
 ghost use Rattle.pcr_values.specs.Phases.{HasDistinctPaths};
-ghost use Rattle.pcr_values.specs.ValueLines.{HasDistinctBanks, heading_of, value_line, value_lines};
+ghost use Rattle.pcr_values.specs.ValueLines.{
+  HasDistinctBanks,
+  heading_of,
+  line_after,
+  register_lines,
+  value_line,
+  value_lines,
+};
 
 use crate::pcr::Pcr;
 use crate::phase_path::{PhasePath, after_phases};
@@ -42,8 +49,8 @@ fn append_lines(
     starts: &[Pcr],
     path: &PhasePath,
 ) -> Result<(), AllocError>
-    ensures { OnOk result (out.new.items ≡ out.old.items ++ (heading_of path.now ++ flat_map (λ start.
-        value_line (pcr_bank start) (extend_all (pcr_bank start) (pcr_bytes start) path.now)) starts.now)) }
+    ensures { OnOk result (out.new.items
+        ≡ out.old.items ++ (heading_of path.now ++ flat_map (line_after path.now) starts.now)) }
 {
     append_heading(out, path)?;
     for start in starts {
@@ -52,10 +59,9 @@ fn append_lines(
     Ok(())
 }
 
-/// The lines for registers that have measured the sections: for each path its heading, and below it
-/// a value for each of the registers, which are of different banks, after the path's words. A
-/// register that the items of its bank have extended from the start has then been extended by those
-/// items and the path's words.
+/// The lines of registers, which are of different banks: for each path its heading, and below it a
+/// value for each register after the path's words. If the items of a register's bank have extended
+/// it from the start, then its value is that of those items and the path's words.
 pub fn result_lines(
     alloc: Global,
     starts: &[Pcr],
@@ -63,7 +69,8 @@ pub fn result_lines(
 ) -> Result<Vec<u8>, AllocError>
     requires banks { HasDistinctBanks starts.now }
     requires paths { HasDistinctPaths paths.now }
-    ensures { IfOk result (λ lines. (items : Bank → List (List ℕ)) (banks : List Bank)
+    ensures lines { IfOk result (λ lines. lines.items ≡ register_lines starts.now paths.now) }
+    ensures folds { IfOk result (λ lines. (items : Bank → List (List ℕ)) (banks : List Bank)
         → map pcr_value starts.now ≡ map (λ bank. fold_pcr (items bank) bank) banks
         → lines.items ≡ value_lines (λ bank path. fold_of bank (items bank ++ path)) banks paths.now) }
 {

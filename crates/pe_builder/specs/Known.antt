@@ -9,10 +9,11 @@ use Rattle.pe_builder.specs.declared.plan.SbatPlace.{SbatPlace}
 abbrev pub planned_stub_length : Plan → ℕ
 planned_stub_length plan = plan.stub_length
 
--- the stub's head, and the image's
+-- the stub's head
 abbrev pub planned_before : Plan → Head
 planned_before plan = plan.before
 
+-- the image's head
 abbrev pub planned_after : Plan → Head
 planned_after plan = plan.after
 

@@ -5,9 +5,9 @@ use Rattle.std.specs.Str.{bytes_eq}
 use Rattle.pe_reader.specs.Grammar.{Headers, pe_of}
 use Rattle.pe_reader.specs.LoadedBytes.{is_named, loaded_bytes}
 use Rattle.pe_builder.specs.declared.size.WideSize.{WideSize}
-use Rattle.pe_builder.specs.Layout.{length_after}
+use Rattle.pe_builder.specs.Layout.{head_with, length_after, new_sections}
 use Rattle.pe_builder.specs.Replaced.{sbat_name}
-use Rattle.pe_builder.specs.Refusals.{IsBuildable}
+use Rattle.pe_builder.specs.Refusals.{IsBuildable, image_size, initialized_size}
 use Rattle.pe_builder.specs.Image.{content_named, loaded_or_part, finished_image, finished_headers}
 use Rattle.pe_builder.specs.Bytes.{finished_byte}
 
@@ -48,7 +48,15 @@ finished_loaded h sizes contents (Some sbat) stub name =
     if bytes_eq sbat_name name then sbat else loaded_or_part stub (find (is_named name) h.sections)
     (content_named name sizes contents)
 
+-- The finished image has loaded of each name the new `.sbat` of that name, what the stub had, or the part.
 abbrev pub ImageLoads : Type 0
 ImageLoads = (h : Headers) (sizes : List WideSize) (contents : List (List ℕ)) (sbat : Option (List ℕ)) (stub : List ℕ) →
     HasFinished h sizes contents sbat stub → (name : List ℕ) →
     loaded_bytes (finished_image h sizes contents sbat stub) name ≡ finished_loaded h sizes contents sbat stub name
+
+-- The numbers that the refusals go by are those of the finished headers: SizeOfImage by the end of the last section and
+-- SizeOfInitializedData by the lengths of the parts.
+abbrev pub SizesAgree : Type 0
+SizesAgree = (h : Headers) (stub_length : ℕ) (parts : List WideSize) →
+    (image_size h parts ≡ (head_with h (new_sections h stub_length parts)).image_size)
+    × (initialized_size h parts ≡ (head_with h (new_sections h stub_length parts)).initialized_size)

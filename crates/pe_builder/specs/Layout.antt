@@ -28,7 +28,7 @@ section_for h file_length address p = record {
   flags = p.flags;
 }
 
--- the file's length and the address behind a section
+-- the file's length behind a section
 abbrev pub raw_end : Section → ℕ
 raw_end s = s.raw_place + s.raw_size
 
@@ -40,17 +40,19 @@ sections_for h file_length address (p ∷ parts) =
     ∷ sections_for h (raw_end (section_for h file_length address p))
     (virtual_end (section_for h file_length address p)) parts
 
--- the file's length, and the address, behind one part more
+-- the file's length behind one part more
 abbrev pub file_behind : Head → ℕ → WideSize → ℕ
 file_behind h file_length p = next_multiple_of file_length h.file_alignment + next_multiple_of p.length h.file_alignment
 
+-- the address behind one part more
 abbrev pub address_behind : Head → ℕ → WideSize → ℕ
 address_behind h address p = next_multiple_of address h.section_alignment + p.length
 
--- the file's length, and the address, behind parts
+-- the file's length behind parts
 unfoldable pub length_after : Head → ℕ → List WideSize → ℕ
 length_after h file_length parts = fold (file_behind h) file_length parts
 
+-- the address behind parts
 unfoldable pub address_after : Head → ℕ → List WideSize → ℕ
 address_after h address parts = fold (address_behind h) address parts
 
@@ -58,7 +60,7 @@ address_after h address parts = fold (address_behind h) address parts
 abbrev pub new_sections : Headers → ℕ → List WideSize → List Section
 new_sections h stub_length parts = sections_for h.head stub_length (end_after h.head.header_size h.sections) parts
 
--- the headers with more sections
+-- the stub's head with the numbers of an image that has more sections
 abbrev pub head_with : Headers → List Section → Head
 head_with h new = record h.head {
   section_count = h.head.section_count + length new;
@@ -66,6 +68,7 @@ head_with h new = record h.head {
   image_size = next_multiple_of (end_after h.head.header_size (h.sections ++ new)) h.head.section_alignment;
 }
 
+-- the headers with more sections
 abbrev pub headers_with : Headers → List Section → Headers
 headers_with h new = record { head = head_with h new; sections = h.sections ++ new }
 

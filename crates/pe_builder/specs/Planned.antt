@@ -80,7 +80,7 @@ IsFinished plan stub contents sbat image =
     option_map length (sbat_if_in_place in_place sbat) ≡ in_place →
     image ≡ finished_image h sizes contents (sbat_if_in_place in_place sbat) stub
 
--- What follows is said of the private steps that make the bytes.
+-- ---- the bytes that a plan makes, by its own numbers: an image that is written is planned as these
 
 -- the stub with a new `.sbat` at its place
 abbrev pub replaced_by : Option SbatPlace → List ℕ → List ℕ → List ℕ
@@ -101,6 +101,7 @@ FitsPlace None stub_length sbat_length = Unit {0}
 FitsPlace (Some p) stub_length sbat_length =
     (sbat_length ≤ p.raw_size) × (p.raw_place + p.raw_size ≤ stub_length) × (p.size_place + 4 ≤ stub_length)
 
+-- all that a plan writes into the stub lies in a stub of that length, and FileAlignment isn't 0
 pub record FitsStub (plan : Plan) (stub_length sbat_length : ℕ) : Type 0 where
   pub alignment : 0 < plan.before.file_alignment
   pub before : plan.before.pe_place + 136 ≤ plan.before.table_place

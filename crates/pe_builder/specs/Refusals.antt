@@ -27,6 +27,7 @@ abbrev pub or_else : Option PlanFault → Option PlanFault → Option PlanFault
 or_else None rest = rest
 or_else (Some fault) rest = Some fault
 
+-- whether a part has this name
 abbrev pub part_is_named : List ℕ → WideSize → Bool
 part_is_named name p = bytes_eq (name_bytes p.name) name
 
@@ -46,25 +47,29 @@ first_taken sections earlier (p ∷ parts) =
 abbrev pub sbat_room : Headers → ℕ
 sbat_room h = (section_at_index h.sections (sbat_index h)).raw_size
 
+-- the refusal of a new `.sbat` that has more bytes than there is room for
 abbrev pub sbat_refusal : Headers → Option ℕ → Option PlanFault
 sbat_refusal h None = None
 sbat_refusal h (Some length) = refuse (nat_lt (sbat_room h) length) (SbatDoesNotFit length (sbat_room h)) None
 
--- the bytes that headers need, and have: up to SizeOfHeaders, and no more than 96 section headers
+-- the bytes that headers need
 abbrev pub need : Headers → List WideSize → ℕ
 need h parts = h.head.table_place + 40 * (h.head.section_count + length parts)
 
+-- the bytes that headers have: up to SizeOfHeaders, and no more than 96 section headers
 abbrev pub have : Headers → ℕ
 have h = min h.head.header_size (h.head.table_place + 3840)
 
--- SizeOfImage and SizeOfInitializedData of the image
+-- SizeOfImage of the image
 abbrev pub image_size : Headers → List WideSize → ℕ
 image_size h parts =
     next_multiple_of (address_after h.head (end_after h.head.header_size h.sections) parts) h.head.section_alignment
 
+-- SizeOfInitializedData of the image
 abbrev pub initialized_size : Headers → List WideSize → ℕ
 initialized_size h parts = h.head.initialized_size + sum_by (λ p. p.length) parts
 
+-- the first refusal that rests on sizes: of the headers, of addresses, of SizeOfInitializedData, of the file
 unfoldable pub size_refusal : Headers → ℕ → List WideSize → Option PlanFault
 size_refusal h stub_length parts =
     refuse (nat_lt (have h) (need h parts)) (NoHeaderSpace (need h parts) (have h)) (

@@ -23,14 +23,16 @@ MayReplace h (Some size) = (1 ≤ size) × (sbat_index h < length h.sections)
 abbrev pub resized_section : Headers → ℕ → ℕ → Section
 resized_section h i size = record (section_at_index h.sections i) { virtual_size = size }
 
+-- headers with another VirtualSize of the section at an index
 abbrev pub resized_headers : Headers → ℕ → ℕ → Headers
 resized_headers h i size = record h { sections = set h.sections i (resized_section h i size) }
 
--- the headers with a new `.sbat` of that length, where it is given
+-- the sections with a new `.sbat` of that length, where it is given
 abbrev pub resized_sections : Headers → Option ℕ → List Section
 resized_sections h None = h.sections
 resized_sections h (Some size) = set h.sections (sbat_index h) (resized_section h (sbat_index h) size)
 
+-- the headers with a new `.sbat` of that length, where it is given
 abbrev pub with_sbat_size : Headers → Option ℕ → Headers
 with_sbat_size h sbat = record h { sections = resized_sections h sbat }
 

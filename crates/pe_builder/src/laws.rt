@@ -1,6 +1,6 @@
 //! What holds of every finished image.
 
-ghost use Rattle.pe_builder.specs.Laws.{ImageReads, ImageByPlace, ImageLoads};
+ghost use Rattle.pe_builder.specs.Laws.{ImageReads, ImageByPlace, ImageLoads, SizesAgree};
 
 /// The finished image is again a PE32+ file, with the stub's sections and the new ones.
 pub fn image_reads()
@@ -17,4 +17,9 @@ pub fn image_by_place()
 /// of that name.
 pub fn image_loads()
     ensures { ImageLoads }
+{}
+
+/// SizeOfImage and SizeOfInitializedData, by which an image is refused, are those of the finished headers.
+pub fn sizes_agree()
+    ensures { SizesAgree }
 {}

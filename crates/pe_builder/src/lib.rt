@@ -21,7 +21,7 @@ mod taken;
 
 pub use fault::PlanFault;
 pub use image::image_bytes;
-pub use laws::{image_by_place, image_loads, image_reads};
+pub use laws::{image_by_place, image_loads, image_reads, sizes_agree};
 pub use plan::{Plan, SbatPlace};
 pub use refusal::plan_refusal;
 pub use size::{PartSize, WideSize};

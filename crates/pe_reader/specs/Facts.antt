@@ -8,35 +8,43 @@ use Rattle.pe_reader.specs.Fields.{u16_at, u32_at, part}
 use Rattle.pe_reader.specs.Grammar.{Headers}
 use Rattle.pe_reader.specs.LoadedBytes.{section_at_index}
 
--- where the signature, the optional header and the section table stand
+-- where the signature stands
 abbrev pub signature_place : List ℕ → ℕ
 signature_place bytes = u32_at bytes 60
 
+-- where the optional header stands: behind the signature and the COFF header
 abbrev pub optional_place : List ℕ → ℕ
 optional_place bytes = signature_place bytes + 24
 
+-- NumberOfSections of the COFF header
 abbrev pub section_count : List ℕ → ℕ
 section_count bytes = u16_at bytes (signature_place bytes + 6)
 
+-- SizeOfOptionalHeader of the COFF header
 abbrev pub optional_size : List ℕ → ℕ
 optional_size bytes = u16_at bytes (signature_place bytes + 20)
 
+-- where the section table stands: behind the optional header
 abbrev pub table_place : List ℕ → ℕ
 table_place bytes = optional_place bytes + optional_size bytes
 
+-- where the section table ends
 abbrev pub section_table_end : List ℕ → ℕ
 section_table_end bytes = table_place bytes + 40 * section_count bytes
 
--- fields of the optional header
+-- SectionAlignment of the optional header
 abbrev pub section_alignment : List ℕ → ℕ
 section_alignment bytes = u32_at bytes (optional_place bytes + 32)
 
+-- FileAlignment of the optional header
 abbrev pub file_alignment : List ℕ → ℕ
 file_alignment bytes = u32_at bytes (optional_place bytes + 36)
 
+-- SizeOfHeaders of the optional header
 abbrev pub header_size : List ℕ → ℕ
 header_size bytes = u32_at bytes (optional_place bytes + 60)
 
+-- NumberOfRvaAndSizes of the optional header
 abbrev pub directory_count : List ℕ → ℕ
 directory_count bytes = u32_at bytes (optional_place bytes + 108)
 

@@ -25,12 +25,13 @@ abbrev pub head_fault : PeFault → HeadFault
 head_fault Memory = heads.Memory
 head_fault (NotPe reason offset) = heads.NotPe reason offset
 
--- the same of a machine's file, unless memory ran out or the disk failed
+-- the fault is the first check that fails, unless memory ran out or the disk failed
 abbrev pub FailsFrom : {Y : Type 0} → HeadFault → Result Y FailedCheck → Type 0
 FailsFrom heads.Memory read = Unit {0}
 FailsFrom heads.Disk read = Unit {0}
 FailsFrom (heads.NotPe reason offset) read = read ≡ Err (record { reason = reason; offset = offset })
 
+-- what was returned, seen by view, is what reading gives, unless memory ran out or the disk failed
 abbrev pub GivesFrom : {X Y : Type 0} → (X → Y) → Result X HeadFault → Result Y FailedCheck → Type 0
 GivesFrom view (Ok x) read = read ≡ Ok (view x)
 GivesFrom view (Err e) read = FailsFrom e read
@@ -41,6 +42,7 @@ head_counts heads.Memory old new = new ≡ old
 head_counts (heads.NotPe reason offset) old new = new ≡ old
 head_counts heads.Disk old new = DiskFailed old new
 
+-- the counts after the reading of headers: a fault of the disk has its cause, and every other answer leaves them
 abbrev pub CountsHead : {X : Type 0} → Result X HeadFault → Counts → Counts → Type 0
 CountsHead result old new = MatchResult result (λ _. new ≡ old) (λ fault. head_counts fault old new)
 

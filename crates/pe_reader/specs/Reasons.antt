@@ -3,6 +3,7 @@ use Rattle.std.specs.Prelude.{ℕ, List, codes}
 use Rattle.pe_reader.specs.declared.reason.PeReason.{PeReason}
 use Rattle.pe_reader.specs.declared.reason.PeReason.TheVariants as reasons
 
+-- the text of a failed check, as the refusal prints it
 abbrev pub pe_reason_text : PeReason → List ℕ
 pe_reason_text reasons.ShortFile = codes "short file"
 pe_reason_text reasons.NoMz = codes "no MZ"

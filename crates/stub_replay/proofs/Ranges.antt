@@ -1,5 +1,5 @@
 -- The loaded bytes of a section, by the range of the file that they stand in, and what is measured of them.
-use Rattle.std.proofs.Common.{◌≡◌, ◌<◌, ◌≤◌, ◌+◌, ℕ, List, [], ◌∷◌, ◌++◌, length, drop, Ok, refl, sym, ap, subst, ◌∙◌, arith}
+use Rattle.std.proofs.Common.{◌≡◌, ◌<◌, ◌≤◌, ℕ, List, [], ◌∷◌, ◌++◌, length, drop, Ok, refl, sym, ap, subst, ◌∙◌, arith}
 use Rattle.std.specs.Prelude.{Some, position}
 use Rattle.pe_reader.specs.declared.section.LoadedRange.{LoadedRange}
 use Rattle.pe_reader.specs.Grammar.{Headers, pe_of}

@@ -10,10 +10,10 @@ use Rattle.pcr_values.specs.Banks.{fold_of}
 use Rattle.pcr_values.specs.Hashes.{HoldsData}
 use Rattle.pcr_values.specs.Values.{pcr_bank, pcr_bytes}
 use Rattle.stub_replay.specs.declared.register.Register.{Register}
-use Rattle.stub_replay.specs.Measured.{section_items, measured_names, measured_by, measured_list}
+use Rattle.stub_replay.specs.Measured.{found_raw_length, named_raw_length, section_items, measured_names, measured_by, measured_list}
 use Rattle.stub_replay.specs.Registers.{AllHold, Holds, Takes, Extends}
 use Rattle.stub_replay.specs.Taking.{TakesWhere, ExtendsWhere, AreBetween}
-use Rattle.pe_reader.proofs.Finding.{loaded_bytes-none}
+use Rattle.pe_reader.proofs.Finding.{find-position, loaded_bytes-none}
 use Rattle.stub_replay.proofs.Measuring.{extends_none, extends_more, between_after}
 use Rattle.stub_replay.proofs.Ranges.{items_none, found_range}
 use Rattle.stub_replay.proofs.Turns.{IsName, items_until, items_more, items_all}
@@ -42,10 +42,13 @@ section_some P file seen name h i r xs ys same reads at inside is extends = (
 
 pub section_long : (P : Type 0) (file name : List ℕ) (h : Headers) (i : ℕ) (r : LoadedRange) (before after : ℕ) → (P → pe_of file ≡ Ok h)
     → position (is_named name) h.sections ≡ Some i → i < length h.sections → r ≡ range_of (section_at_index h.sections i)
-    → (P → after ≤ before + r.length) → P → after ≤ before + length (loaded_bytes file name)
+    → (P → after ≤ before + r.length) → P → after ≤ before + named_raw_length name (pe_of file)
 section_long P file name h i r before after reads at inside is taken told =
-    let range = found_range file name h i r (reads told) at inside is in
-    omega (arith, range.long, taken told)
+    let long : named_raw_length name (pe_of file) ≡ r.length =
+    ap (named_raw_length name) (reads told)
+    ∙ ap found_raw_length (find-position (is_named name) h.sections i at)
+    ∙ sym (ap (λ (q : LoadedRange). q.length) is) in
+    omega (arith, long, taken told)
 
 -- one section more
 pub sections_more : (P : Type 0) (file seen name : List ℕ) (i : ℕ) (xs ys zs : List Register) → (P → seen ≡ file) → IsName i name

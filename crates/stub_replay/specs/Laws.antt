@@ -23,6 +23,7 @@ abbrev pub kept_of : Option (List ℕ) → List ℕ → List ℕ → List ℕ
 kept_of None stub name = loaded_bytes stub name
 kept_of (Some sbat) stub name = if bytes_eq sbat_name name then sbat else loaded_bytes stub name
 
+-- what a part has, or else what is kept
 abbrev pub or_kept : Option (List ℕ) → List ℕ → List ℕ
 or_kept (Some content) kept = content
 or_kept None kept = kept

@@ -1,9 +1,11 @@
 -- What a stub measures of an image, and the value of PCR 11 that it comes to (UAPI Unified Kernel Image; systemd's
 -- TPM2 PCR document, PCR 11).
-use Rattle.std.specs.Prelude.{◌≡◌, ℕ, List, [], ◌∷◌, ◌++◌, codes, length, sum_by, IsOk}
-use Rattle.std.specs.List.{flat_map, AllByRecursion}
-use Rattle.pe_reader.specs.Grammar.{pe_of}
-use Rattle.pe_reader.specs.LoadedBytes.{loaded_bytes}
+use Rattle.std.specs.Prelude.{◌≡◌, ℕ, List, [], ◌∷◌, ◌++◌, codes, length, sum_by, IsOk, Option, Some, None, Result, Ok, Err}
+use Rattle.std.specs.List.{find, flat_map, AllByRecursion}
+use Rattle.pe_reader.specs.declared.fault.FailedCheck.{FailedCheck}
+use Rattle.pe_reader.specs.declared.section.Section.{Section}
+use Rattle.pe_reader.specs.Grammar.{Headers, pe_of}
+use Rattle.pe_reader.specs.LoadedBytes.{is_named, loaded_bytes, range_of}
 use Rattle.pcr_values.specs.declared.bank.Bank.{Bank}
 use Rattle.pcr_values.specs.Banks.{fold_of}
 
@@ -38,6 +40,24 @@ measured_list image = measured_by (loaded_bytes image)
 -- how many bytes the measured sections of an image have loaded
 unfoldable pub measured_length : List ℕ → ℕ
 measured_length image = sum_by (λ name. length (loaded_bytes image name)) measured_names
+
+-- how many bytes of the file a section has loaded: those of its raw data, without the zeros behind them
+abbrev pub raw_length : Section → ℕ
+raw_length s = (range_of s).length
+
+-- the same of a section that may be there
+abbrev pub found_raw_length : Option Section → ℕ
+found_raw_length None = 0
+found_raw_length (Some s) = raw_length s
+
+-- the same of the first section of a name
+abbrev pub named_raw_length : List ℕ → Result Headers FailedCheck → ℕ
+named_raw_length name (Ok headers) = found_raw_length (find (is_named name) headers.sections)
+named_raw_length name (Err check) = 0
+
+-- how many bytes of the file the measured sections of an image have loaded, of each name its first section
+unfoldable pub measured_raw_length : List ℕ → ℕ
+measured_raw_length image = sum_by (λ name. named_raw_length name (pe_of image)) measured_names
 
 -- PCR 11 after a stub has measured an image, and then the words of a phase path
 abbrev pub stub_pcr : List ℕ → Bank → List (List ℕ) → List ℕ

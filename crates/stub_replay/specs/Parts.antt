@@ -3,8 +3,6 @@ use Rattle.std.specs.Prelude.{ℕ, ◌+◌, ◌^◌, ◌<◌, ◌≤◌, List, [
 use Rattle.std.specs.Borrow.{Bor}
 use Rattle.std.specs.List.{All, flat_map}
 use Rattle.pe_reader.specs.LoadedBytes.{bytes_in}
-use Rattle.uki_parts.specs.declared.piece.Piece.{Piece}
-use Rattle.uki_parts.specs.declared.piece.Piece.TheVariants as pieces
 use Rattle.uki_parts.specs.Pieces.{Reading, HasSizes, total_length, bytes_of, file_length}
 use Rattle.stub_replay.specs.Measured.{section_items}
 use Rattle.stub_replay.specs.declared.measurable.Content.{Content}

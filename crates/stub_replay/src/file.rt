@@ -9,7 +9,7 @@ ghost use Rattle.pe_reader.specs.Reads.{headers_of};
 ghost use Rattle.pcr_values.specs.Banks.{digest_of, fold_of, fold_pcr};
 ghost use Rattle.pcr_values.specs.Values.{bank_of, bytes_of_digest, pcr_bank, pcr_bytes, pcr_value};
 ghost use Rattle.stub_replay.specs.Faults.{CountsPredict};
-ghost use Rattle.stub_replay.specs.Measured.{section_items, measured_list, measured_length};
+ghost use Rattle.stub_replay.specs.Measured.{measured_list, measured_raw_length, named_raw_length, section_items};
 ghost use Rattle.stub_replay.specs.Taking.{AreBetween, ExtendsWhere};
 
 use crate::fault::PredictFault;
@@ -46,7 +46,7 @@ pub fn replay<M: Machine>(
     ensures reads { IsTrue M.tells → OnlyReads M.time M.state machine.old machine.new }
     ensures counts { CountsDisk result (M.counts machine.old) (M.counts machine.new) }
     ensures taken { IsTrue M.tells
-        → TakesAtMost (measured_length (contents (M.state machine.old).files path.now)) (M.taken machine.old)
+        → TakesAtMost (measured_raw_length (contents (M.state machine.old).files path.now)) (M.taken machine.old)
         (M.taken machine.new) }
 {
     let mut register = Register::new(bank);
@@ -78,7 +78,7 @@ pub fn replay_all<M: Machine>(
     ensures reads { IsTrue M.tells → OnlyReads M.time M.state machine.old machine.new }
     ensures counts { CountsPredict result (M.counts machine.old) (M.counts machine.new) }
     ensures taken { IsTrue M.tells
-        → TakesAtMost (measured_length (contents (M.state machine.old).files path.now)) (M.taken machine.old)
+        → TakesAtMost (measured_raw_length (contents (M.state machine.old).files path.now)) (M.taken machine.old)
         (M.taken machine.new) }
 {
     let mut registers = begin_all(alloc, banks)?;
@@ -104,7 +104,7 @@ fn measure_sections<M: Machine>(
     ensures reads { IsTrue M.tells → OnlyReads M.time M.state machine.old machine.new }
     ensures counts { CountsDisk result (M.counts machine.old) (M.counts machine.new) }
     ensures taken { IsTrue M.tells
-        → TakesAtMost (measured_length (contents (M.state machine.old).files path.now)) (M.taken machine.old)
+        → TakesAtMost (measured_raw_length (contents (M.state machine.old).files path.now)) (M.taken machine.old)
         (M.taken machine.new) }
 {
     for name in measured_names() {
@@ -132,7 +132,7 @@ fn measure_section<M: Machine>(
     ensures reads { IsTrue M.tells → OnlyReads M.time M.state machine.old machine.new }
     ensures counts { CountsDisk result (M.counts machine.old) (M.counts machine.new) }
     ensures taken { IsTrue M.tells → TakesAtMost
-        (length (loaded_bytes (contents (M.state machine.old).files path.now) name.now)) (M.taken machine.old)
+        (named_raw_length name.now (pe_of (contents (M.state machine.old).files path.now))) (M.taken machine.old)
         (M.taken machine.new) }
 {
     match head.find(name) {

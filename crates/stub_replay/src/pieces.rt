@@ -98,18 +98,28 @@ fn take_piece<M: Machine>(
     }
 }
 
-// Takes so many zeros, through the buffer.
+// Takes so many zeros, through the buffer, which is filled with them once.
 fn take_zeros(registers: &mut [Register], count: u64, buffer: &mut [u8])
     requires room { 0 < length buffer.old }
     ensures length { length buffer.new ≡ length buffer.old }
     ensures data { AllZip (Takes (replicate count 0)) registers.old registers.new }
 {
+    let room = buffer.len().min(count as usize);
+    let zeros = &mut buffer[..room];
+    zeros.fill(0);
+    take_from_zeros(registers, count, zeros);
+}
+
+// Takes so many zeros, by pieces of these.
+fn take_from_zeros(registers: &mut [Register], count: u64, zeros: &[u8])
+    requires zeros { zeros.now ≡ replicate (length zeros.now) 0 }
+    requires some { 0 < count → 0 < length zeros.now }
+    ensures { AllZip (Takes (replicate count 0)) registers.old registers.new }
+{
     let mut done = 0u64;
     while done < count {
-        let room = buffer.len().min((count - done) as usize);
-        let zeros = &mut buffer[..room];
-        zeros.fill(0);
-        update_all(registers, zeros);
+        let room = zeros.len().min((count - done) as usize);
+        update_all(registers, &zeros[..room]);
         done += room as u64;
     }
 }

@@ -31,18 +31,22 @@ pub data Said : Type 0 where
   Whole : Word → Word → Said
   Open : OptionRule → Said
 
+-- the byte `=`
 abbrev pub is_equals_sign : ℕ → Bool
 is_equals_sign b = b == 61
 
+-- whether a word has that byte
 abbrev pub has_equals : Word → Bool
 has_equals word = nat_lt (position_or_len is_equals_sign word) (length word)
 
+-- whether an option stands alone, without a value
 abbrev pub is_flag : Takes → Bool
 is_flag Flag = true
 is_flag Required = false
 is_flag Once = false
 is_flag Repeated = false
 
+-- whether the values of an option are names of banks
 abbrev pub are_banks : ValueKind → Bool
 are_banks Bank = true
 are_banks Any = false
@@ -57,6 +61,7 @@ abbrev pub known_option : Option OptionRule → Word → Result OptionRule Usage
 known_option None text = Err (UnknownOption text)
 known_option (Some option) text = Ok option
 
+-- the option of a command that is written so, or that there is none
 abbrev pub option_of : CommandName → Word → Result OptionRule UsageReason
 option_of command text = known_option (find (is_text_of text) (row command).options) text
 
@@ -78,6 +83,7 @@ option_said command word =
     >>= λ option. with_value option (after_first is_equals_sign word))
     else (option_of command word >>= λ option. Ok (without_value option))
 
+-- what a word of a command says, or the first reason why it says nothing
 abbrev pub word_meaning : CommandName → Word → Result Said UsageReason
 word_meaning command word =
     if bytes_eq word (codes "--") then Ok Ends
@@ -85,6 +91,7 @@ word_meaning command word =
     else (if starts_with nat_eq word (codes "-") && nat_lt 1 (length word) then Err (UnknownOption word)
     else Ok Plain))
 
+-- an item in front of the others, or the reason why there are no others
 abbrev pub onto : Item → Result (List Item) UsageReason → Result (List Item) UsageReason
 onto item items = items >>= λ more. Ok (item ∷ more)
 
@@ -130,5 +137,6 @@ all_values option items = filter_map (item_value option) items
 abbrev pub last_option_value : Word → List Item → Option Word
 last_option_value option items = last_or None (all_values option items)
 
+-- the operands among items
 abbrev pub operands : List Item → List Word
 operands items = filter_map operand_in items

@@ -21,6 +21,7 @@ use Rattle.tool_words.specs.Items.{Item, items, all_values, last_option_value, o
 abbrev pub is_long : Word → Bool
 is_long word = nat_lt 1048576 (length word)
 
+-- there are more than 16,777,216 words, or one of them is too long
 abbrev pub are_too_long : List Word → Bool
 are_too_long words = nat_lt 16777216 (length words) || list_any is_long words
 
@@ -29,14 +30,17 @@ abbrev pub found_verb : Option CommandName → Word → List Word → Result (Co
 found_verb None verb words = Err (reason.UnknownVerb verb)
 found_verb (Some c) verb words = Ok (c, words)
 
+-- the command of a first word and the verb behind it, with the words after these
 abbrev pub with_verb : Word → List Word → Result (CommandName × List Word) UsageReason
 with_verb word [] = Err reason.NoVerb
 with_verb word (verb ∷ words) = found_verb (find (is_verbed word verb) commands) verb words
 
+-- the command of a first word, which has to be one, with its verb where its kind has verbs
 abbrev pub found_name : Option CommandName → Word → List Word → Result (CommandName × List Word) UsageReason
 found_name None word words = Err (reason.UnknownCommand word)
 found_name (Some c) word words = if is_some (row c).verb then with_verb word words else Ok (c, words)
 
+-- the command that the first words name, with the words after these, or why they name none
 abbrev pub command_of : List Word → Result (CommandName × List Word) UsageReason
 command_of [] = Err reason.NoCommand
 command_of (word ∷ words) = found_name (find (is_name_of word) commands) word words
@@ -46,6 +50,7 @@ abbrev pub check_count : ℕ → ℕ → Result (Unit {0}) UsageReason
 check_count wanted count =
     if nat_lt count wanted then Err reason.TooFew else (if nat_lt wanted count then Err reason.TooMany else Ok tt)
 
+-- whether an option may be given several times
 abbrev pub is_repeated : Takes → Bool
 is_repeated Repeated = true
 is_repeated Required = false
@@ -63,6 +68,7 @@ pub record GatheredItems : Type 0 where
   pub all : Word → List Word
   pub operand : ℕ → Word
 
+-- what is asked of the items: the last value of an option, all of them, and the operands by number
 abbrev pub gather_items : CommandName → List Item → GatheredItems
 gather_items c items = record {
   last = λ option. last_option_value option items;
@@ -70,6 +76,7 @@ gather_items c items = record {
   operand = λ n. slice_index_or (operands items) n [];
 }
 
+-- whether an option has to be given
 abbrev pub is_required : Takes → Bool
 is_required Required = true
 is_required Once = false
@@ -80,10 +87,12 @@ is_required Flag = false
 abbrev pub is_missing : (Word → Option Word) → OptionRule → Bool
 is_missing last option = is_required option.takes && is_none (last option.text)
 
+-- no option is missing, or it is told which one
 abbrev pub nothing_missing : Option OptionRule → Result (Unit {0}) UsageReason
 nothing_missing None = Ok tt
 nothing_missing (Some option) = Err (reason.Required option.text)
 
+-- all required options of a command are given, or the first that isn't is told
 abbrev pub all_required : CommandName → (Word → Option Word) → Result (Unit {0}) UsageReason
 all_required c last = nothing_missing (find (is_missing last) (row c).options)
 
@@ -100,6 +109,7 @@ required_value value = unwrap_or value []
 abbrev pub esp : (Word → Option Word) → Word
 esp last = unwrap_or (last (codes "--esp-path")) (codes "efi")
 
+-- the words of a build by its options
 abbrev pub build_words : GatheredItems → BuildWords
 build_words g = record {
   stub = required_value (g.last (codes "--stub"));
@@ -118,6 +128,7 @@ build_words g = record {
   measure = is_some (g.last (codes "--measure"));
 }
 
+-- the words of a calculation by its options
 abbrev pub calculate_words : GatheredItems → CalculateWords
 calculate_words g = record {
   linux = required_value (g.last (codes "--linux"));
@@ -167,6 +178,7 @@ command_with c items =
 abbrev pub command_by_name : CommandName → List Word → Result Command UsageReason
 command_by_name c words = items c words >>= λ items. command_with c items
 
+-- the command that words name, where they aren't too long, or the first reason why they name none
 abbrev pub read_words : List Word → Result Command UsageReason
 read_words words = command_of words >>= λ chosen. command_by_name chosen.0 chosen.1
 

@@ -3,6 +3,7 @@ use Rattle.std.specs.Prelude.{ℕ, List, ◌++◌, codes}
 use Rattle.tool_words.specs.declared.fault.UsageReason.{UsageReason}
 use Rattle.tool_words.specs.declared.fault.UsageReason.TheVariants.{TooLong, NoCommand, UnknownCommand, NoVerb, UnknownVerb, UnknownOption, NeedsValue, TakesNoValue, UnknownBank, TooFew, TooMany, Required}
 
+-- the text of a reason, as the usage line prints it
 unfoldable pub usage_reason_text : UsageReason → List ℕ
 usage_reason_text TooLong = codes "too long"
 usage_reason_text NoCommand = codes "no command"

@@ -27,6 +27,7 @@ said_shown word.Plain = meant.Plain
 said_shown (word.Whole text value) = meant.Whole text.now value.now
 said_shown (word.Open option) = meant.Open (option_shown option)
 
+-- an item as it is meant
 abbrev pub item_shown : Item → meant.Item
 item_shown (item.Value text value) = meant.Value text.now value.now
 item_shown (item.Operand word) = meant.Operand word.now

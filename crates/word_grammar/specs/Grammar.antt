@@ -18,10 +18,11 @@ pub record OptionRule : Type 0 where
   pub takes : Takes
   pub value : ValueKind
 
+-- an option by how it is written, how it is taken and what its values are
 abbrev pub option : Word → Takes → ValueKind → OptionRule
 option text takes value = record { text = text; takes = takes; value = value }
 
--- the options of a command; required ones are looked for in this order
+-- the options of `ukify build`; required ones are looked for in this order
 abbrev pub build_options : List OptionRule
 build_options =
     option (codes "--stub") Required Any
@@ -40,6 +41,7 @@ build_options =
     ∷ option (codes "--measure") Flag Any
     ∷ []
 
+-- the options of `measure calculate`
 abbrev pub calculate_options : List OptionRule
 calculate_options =
     option (codes "--linux") Required Any
@@ -56,12 +58,15 @@ calculate_options =
     ∷ option (codes "--phase") Repeated Any
     ∷ []
 
+-- the options of `measure image`
 abbrev pub image_options : List OptionRule
 image_options = option (codes "--bank") Repeated Bank ∷ option (codes "--phase") Repeated Any ∷ []
 
+-- the option of the commands on an ESP that have no other
 abbrev pub esp_options : List OptionRule
 esp_options = option (codes "--esp-path") Once Any ∷ []
 
+-- the options of `install`
 abbrev pub install_options : List OptionRule
 install_options = option (codes "--tries") Once Any ∷ option (codes "--esp-path") Once Any ∷ []
 
@@ -72,10 +77,12 @@ pub record Row : Type 0 where
   pub operands : ℕ
   pub options : List OptionRule
 
+-- a command with a verb
 abbrev pub row_with_verb : Word → Word → ℕ → List OptionRule → Row
 row_with_verb name verb operands options =
     record { name = name; verb = Some verb; operands = operands; options = options }
 
+-- a command without a verb
 abbrev pub row_without_verb : Word → ℕ → List OptionRule → Row
 row_without_verb name operands options = record { name = name; verb = None; operands = operands; options = options }
 
@@ -129,6 +136,7 @@ commands =
 abbrev pub is_name_of : Word → CommandName → Bool
 is_name_of word c = bytes_eq (row c).name word
 
+-- whether the verb is there and is this word
 abbrev pub is_verb : Option Word → Word → Bool
 is_verb None word = false
 is_verb (Some verb) word = bytes_eq verb word

@@ -5,6 +5,7 @@ use Rattle.word_grammar.specs.declared.grammar.CommandRow.{CommandRow}
 use Rattle.word_grammar.specs.declared.grammar.OptionRow.{OptionRow}
 use Rattle.word_grammar.specs.Grammar.{OptionRule, Row}
 
+-- an option of the code's table
 abbrev pub option_shown : OptionRow → OptionRule
 option_shown o = record { text = o.text.now; takes = o.takes; value = o.value }
 

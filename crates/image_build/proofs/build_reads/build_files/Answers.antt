@@ -1,5 +1,5 @@
 use Rattle.boot_machine.proofs.Reading.{reads_on}
-use Rattle.std.proofs.Common.{subst, ◌+◌, ◌∙◌, arith}
+use Rattle.std.proofs.Common.{subst, ◌∙◌, arith}
 use Rattle.boot_machine.specs.Disk.{State}
 use Rattle.boot_machine.specs.Reading.{TakesAtMost}
 use Rattle.boot_machine.specs.Rows.{contents}

@@ -26,4 +26,4 @@ returns-clause-says g c told on =
     let starts = c.in_ok-registers.registers.items in
     values_said (planned_image plan.image.plan plan.image.sources view) starts c.deref.result.now c.deref-3.result.now c.in_ok-result_lines.field-0.items
     (c.in_ok-registers.ensures.says told on) (c.deref.ensures.value ∙ c.in_ok-banks.ensures.value) (c.deref-3.ensures.value ∙ c.in_ok-paths.ensures.value)
-    (λ items bs are. c.in_ok-result_lines.ensures items bs (ap (map pcr_value) c.deref-2.ensures.value ∙ are))
+    (λ items bs are. c.in_ok-result_lines.ensures.folds items bs (ap (map pcr_value) c.deref-2.ensures.value ∙ are))

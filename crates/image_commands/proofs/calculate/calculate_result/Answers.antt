@@ -34,7 +34,7 @@ returns-clause-says g c told =
     c.in_ok-paths.ensures (c.in_ok-files.ensures.says told)
     (registers_of s (g.M.Machine.state c.part_files.new.machine) c.in_ok-files.files.items c.deref.result.now c.in_ok-banks.banks.items c.deref-2.result.now c.in_ok-registers.registers.items (c.part_files.ensures.reads told).same
     c.deref.ensures.value c.deref-2.ensures.value (c.in_ok-registers.ensures.says told) (c.in_ok-files.ensures.sizes told))
-    c.deref-3.ensures.value (search rules) (search rules) c.in_ok-result_lines.ensures
+    c.deref-3.ensures.value (search rules) (search rules) c.in_ok-result_lines.ensures.folds
 
 pub returns-clause-reads : goal.returns-clause-reads
 returns-clause-reads g c told =

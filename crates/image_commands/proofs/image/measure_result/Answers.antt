@@ -1,6 +1,6 @@
 use Rattle.std.proofs.Common.{ap, arith}
 use Rattle.boot_machine.specs.Sent.{seen}
-use Rattle.stub_replay.specs.Measured.{measured_length}
+use Rattle.stub_replay.specs.Measured.{measured_raw_length}
 use Rattle.image_commands.proofs.Taking.{named_at}
 use Rattle.boot_machine.proofs.Reading.{reads_none}
 use Rattle.image_commands.proofs.image.measure_result.Goals as goal
@@ -11,4 +11,4 @@ returns-in_err-path-clause-reads g c told =
 
 pub returns-clause-taken : goal.returns-clause-taken
 returns-clause-taken g c told =
-    omega (arith, c.values.ensures.taken told, ap measured_length (named_at (seen (g.M.Machine.state c.args.machine.now)) c.args.file.now c.in_ok-path.path c.in_ok-path.ensures))
+    omega (arith, c.values.ensures.taken told, ap measured_raw_length (named_at (seen (g.M.Machine.state c.args.machine.now)) c.args.file.now c.in_ok-path.path c.in_ok-path.ensures))

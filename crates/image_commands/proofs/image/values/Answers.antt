@@ -38,7 +38,7 @@ returns-clause-says g c told =
     values_are (seen (g.M.Machine.state c.args.machine.now)) c.args.path.now c.args.banks.now c.args.phases.now (contents (g.M.Machine.state c.args.machine.now).files c.args.path.now) _ (headers_of c.in_ok-head.head)
     c.as_slice.result.now c.as_slice-3.result.now c.in_ok-registers.registers.items c.as_slice-2.result.now c.in_ok-result_lines.field-0.items
     (c.in_ok-head.ensures.image told) (ap (λ (s : State). contents s.files c.args.path.now) (c.image_head.ensures.reads told).same) (c.in_ok-registers.ensures.says told) c.as_slice-2.ensures.value
-    (c.as_slice.ensures.value ∙ c.in_ok-banks.ensures.value) (c.as_slice-3.ensures.value ∙ c.in_ok-paths.ensures.value) c.in_ok-result_lines.ensures
+    (c.as_slice.ensures.value ∙ c.in_ok-banks.ensures.value) (c.as_slice-3.ensures.value ∙ c.in_ok-paths.ensures.value) c.in_ok-result_lines.ensures.folds
 
 pub returns-in_err-registers-clause-taken : goal.returns-in_err-registers-clause-taken
 returns-in_err-registers-clause-taken g c told =

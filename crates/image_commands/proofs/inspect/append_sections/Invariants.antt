@@ -4,7 +4,7 @@ use Rattle.std.specs.List.{flat_map}
 use Rattle.boot_machine.specs.Reading.{OnlyReads, TakesAtMost}
 use Rattle.boot_machine.specs.Rows.{contents}
 use Rattle.image_commands.specs.Said.{section_lines}
-use Rattle.image_commands.specs.Taking.{raw_length}
+use Rattle.stub_replay.specs.Measured.{raw_length}
 use Rattle.image_commands.proofs.inspect.append_sections.Given as goal
 
 abbrev pub invariant-loop-section : goal.invariant-loop-section

@@ -12,8 +12,13 @@ loop-path-preserved c =
     ∙ sym (ap (flat_map (lines_of c.args.starts.now)) (take_more c.args.paths.now c.loop-path.path-index c.path-item.result c.loop-path-test.true
     ∙ ap (λ (path : List (List ℕ)). take c.loop-path.path-index c.args.paths.now ++ path ∷ []) (sym c.path-item.is)))
 
-pub returns : goal.returns
-returns c items banks are =
+pub returns-clause-lines : goal.returns-clause-lines
+returns-clause-lines c =
+    c.loop-path.invariant
+    ∙ ap (flat_map (lines_of c.args.starts.now)) (take_all c.loop-path.path-index c.args.paths.now c.loop-path-test.false)
+
+pub returns-clause-folds : goal.returns-clause-folds
+returns-clause-folds c items banks are =
     c.loop-path.invariant
     ∙ ap (flat_map (lines_of c.args.starts.now)) (take_all c.loop-path.path-index c.args.paths.now c.loop-path-test.false)
     ∙ lines_of-items c.args.starts.now items banks are c.args.paths.now
