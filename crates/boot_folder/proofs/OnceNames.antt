@@ -1,5 +1,5 @@
 -- Names sorted by their bytes, and then each once.
-use Rattle.std.proofs.Common.{◌≡◌, ℕ, Bool, List, Ordering, true, is_lt, sym, ap, subst}
+use Rattle.std.proofs.Common.{◌≡◌, ℕ, Bool, List, Ordering, is_lt, sym, ap, subst}
 use Rattle.std.specs.Prelude.{All, Contains, IsPermutation, bytes_eq}
 use Rattle.std.specs.Cmp.{IsStrictWeakOrder}
 use Rattle.std.specs.Cmp.Lexicographic.{nat_list_cmp_total}
