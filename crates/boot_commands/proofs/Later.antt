@@ -9,7 +9,7 @@ use Rattle.install_steps.specs.Steps.{NoNewTemp}
 use Rattle.tool_words.specs.declared.command.Command.{Command}
 use Rattle.tool_words.specs.declared.command.Command.TheVariants as command
 use Rattle.boot_commands.specs.Commands.{LeavesTidied}
-use Rattle.entry_commands.specs.Folders.{folders_of}
+use Rattle.command_plans.specs.Folders.{folders_of}
 use Rattle.entry_commands.specs.Tidying.{CleanAt, IsClean}
 use Rattle.boot_folder.specs.declared.folders.Folders.{Folders}
 

@@ -21,13 +21,14 @@ use Rattle.command_plans.specs.Choices.{banks_of, without_repeats, paths_of}
 use Rattle.boot_commands.specs.Commands.{step_reply}
 use Rattle.boot_commands.specs.Plain.{plain_answer}
 use Rattle.boot_commands.specs.Demonstration.{demo_result, number_up_to}
-use Rattle.entry_commands.specs.Folders.{folders_of}
+use Rattle.command_plans.specs.Folders.{folders_of}
 use Rattle.entry_commands.proofs.Replies.{HasText, some_boot, some_install, some_line, some_list, some_marked, some_said, text_next}
 use Rattle.command_plans.specs.Declining.{◌>>=◌, path_in, printed_path}
 use Rattle.command_plans.specs.Refusing.{unless_refused}
 use Rattle.entry_commands.specs.Tidying.{tidy_answer}
 use Rattle.entry_commands.specs.Unlinking.{entry_path, removal, unlink_answer}
-use Rattle.loader_commands.specs.Places.{conf_bytes, loader_menu, loader_paths}
+use Rattle.command_plans.specs.Menus.{menu_at}
+use Rattle.loader_commands.specs.Places.{conf_bytes, loader_paths}
 use Rattle.loader_commands.specs.Setting.{changed_conf, conf_update}
 use Rattle.loader_commands.specs.Showing.{default_item, menu_shown, show_result, shown_or_empty}
 use Rattle.boot_texts.specs.Conf.{conf_default, conf_timeout}
@@ -100,7 +101,7 @@ some_text view (command.Unlink name esp) = some_unless view (entry_path name esp
 some_text view (command.Install file name tries esp) = some_install view file name tries esp
 some_text view (command.Bless verb path esp) = some_marked view verb path esp
 some_text view (command.LoaderShow esp) = some_said view (show_result view esp)
-    (text_next (loader_paths esp) _ (λ paths. text_next (conf_bytes view paths.conf) _ (λ bytes. text_next (loader_menu view paths.folders) (menu_shown bytes) (λ menu. some_shown (conf_timeout bytes) (default_item (conf_default bytes) menu)))))
+    (text_next (loader_paths esp) _ (λ paths. text_next (conf_bytes view paths.conf) _ (λ bytes. text_next (menu_at view paths.folders) (menu_shown bytes) (λ menu. some_shown (conf_timeout bytes) (default_item (conf_default bytes) menu)))))
 some_text view (command.LoaderDefault pattern esp) = some_changed view Default pattern (conf_update view Default pattern esp)
 some_text view (command.LoaderTimeout value esp) = some_changed view Timeout value (conf_update view Timeout value esp)
 some_text view command.Script = some_line (refusals.BadScript 0)

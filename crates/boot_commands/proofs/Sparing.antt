@@ -13,7 +13,7 @@ use Rattle.tool_words.specs.declared.command.Command.TheVariants as command
 use Rattle.image_build.specs.Building.{BuiltImage, build_of, built_answer}
 use Rattle.image_commands.specs.Calculating.{calculate_result}
 use Rattle.image_commands.specs.Said.{identify_result, measure_result, inspect_result}
-use Rattle.entry_commands.specs.Folders.{folders_of}
+use Rattle.command_plans.specs.Folders.{folders_of}
 use Rattle.entry_commands.specs.GoodEntries.{HasGoodEntry}
 use Rattle.entry_commands.specs.Listing.{list_result}
 use Rattle.entry_commands.specs.Tidying.{tidy_answer}

@@ -14,7 +14,7 @@ use Rattle.entry_commands.specs.Blessing.{bless_answer}
 use Rattle.entry_commands.specs.Booting.{boot_answer}
 use Rattle.entry_commands.specs.Installing.{install_answer}
 use Rattle.entry_commands.specs.Unlinking.{entry_path, unlink_answer}
-use Rattle.entry_commands.specs.Folders.{folders_of}
+use Rattle.command_plans.specs.Folders.{folders_of}
 use Rattle.entry_commands.specs.Listing.{list_result}
 use Rattle.entry_commands.specs.Tidying.{tidy_answer}
 use Rattle.loader_commands.specs.Setting.{set_answer}

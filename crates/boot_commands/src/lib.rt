@@ -10,5 +10,6 @@ mod draws;
 mod plain;
 mod stepping;
 
+pub use demo_images::demo_image;
 pub use plain::plain_step;
 pub use stepping::step;

@@ -6,5 +6,6 @@ pub mod Members
 pub mod Places
 pub mod EntryFiles
 pub mod OncePaths
+pub mod OnceNames
 pub mod Finding
 pub mod Scans

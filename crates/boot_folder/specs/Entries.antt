@@ -12,6 +12,14 @@ use Rattle.menu_order.specs.Menu.{menu_of}
 use Rattle.boot_folder.specs.Records.{type1_entry, type2_entry}
 use Rattle.boot_folder.specs.declared.folders.Folders.{Folders}
 
+-- where entries of type 1 stand below an EFI system partition
+abbrev pub entries_below : List ℕ
+entries_below = codes "loader/entries"
+
+-- where images of type 2 stand there
+abbrev pub images_below : List ℕ
+images_below = codes "EFI/Linux"
+
 -- the two folders, if both have paths
 abbrev pub folders_from : Option Path → Option Path → Option Folders
 folders_from None images = None
@@ -20,7 +28,7 @@ folders_from (Some entries) (Some images) = Some (record { entries = entries; im
 
 -- the two folders of an EFI system partition, where both are paths
 abbrev pub esp_folders : Path → Option Folders
-esp_folders esp = folders_from (path_below esp (codes "loader/entries")) (path_below esp (codes "EFI/Linux"))
+esp_folders esp = folders_from (path_below esp entries_below) (path_below esp images_below)
 
 -- the folder of the files of a type
 abbrev pub folder_of : Folders → Suffix → Path

@@ -15,6 +15,12 @@ pub struct Folders {
 }
 
 impl Folders {
+    /// Where the entries of type 1 stand below a partition.
+    pub const ENTRIES: &'static str = "loader/entries";
+
+    /// Where those of type 2 stand.
+    pub const IMAGES: &'static str = "EFI/Linux";
+
     /// The folders of the partition that stands at a path.
     ///
     /// # Errors
@@ -24,8 +30,8 @@ impl Folders {
         ensures ok { IfOk result (λ folders. esp_folders esp.now ≡ Some folders) }
         ensures bad { result ≡ Err PathFault.BadPath → esp_folders esp.now ≡ None }
     {
-        let entries = BootPath::under(alloc, esp, "loader/entries")?;
-        let images = BootPath::under(alloc, esp, "EFI/Linux")?;
+        let entries = BootPath::under(alloc, esp, Folders::ENTRIES)?;
+        let images = BootPath::under(alloc, esp, Folders::IMAGES)?;
         Ok(Folders { entries, images })
     }
 }

@@ -1,8 +1,10 @@
-//! The entries of a boot folder, as the UAPI Boot Loader Specification has them, their menu, and its text.
+//! The entries of a boot folder, as the UAPI Boot Loader Specification has them, their menu, its text, and which of them
+//! the settings choose.
 //!
 //! Of a unified kernel image the headers and the os-release text are read, and nothing else.
 #![tactic(auto)]
 
+mod choice;
 mod entry;
 mod fault;
 mod folders;
@@ -14,6 +16,7 @@ mod once;
 mod scanning;
 mod uki;
 
+pub use choice::chosen;
 pub use fault::{ItemFault, Missing, ScanFault};
 pub use folders::Folders;
 pub use laws::entries_laws;

@@ -1,5 +1,6 @@
 //! The names of entry files.
-ghost use Rattle.std.specs.Prelude.{◌≡◌, ◌≤◌, ◌<◌, All, IfErr, IfOk, IsTrue, Some, true};
+ghost use Rattle.std.specs.Prelude.{◌≡◌, ◌≤◌, ◌<◌, All, IfErr, IfOk, IsTrue, Some, bytes_eq, true};
+ghost use Rattle.std.specs.List.{IsDistinct};
 ghost use Rattle.menu_order.specs.Splits.{has_suffix};
 ghost use Rattle.menu_order.specs.declared.counted.Suffix.TheVariants.{Conf, Efi};
 ghost use Rattle.boot_folder.specs.Entries.{entry_count};
@@ -8,6 +9,7 @@ ghost use Rattle.boot_machine.specs.Reading.{OnlyReads};
 
 use crate::fault::{ReadFault, ScanFault};
 use crate::folders::Folders;
+use crate::once::each_name_once;
 use boot_base::{BootPath, FileName};
 use boot_machine::Machine;
 use menu_order::Suffix;
@@ -32,7 +34,7 @@ fn has_suffix(name: &FileName, suffix: Suffix) -> bool
     name.ends_with(suffix.as_str().as_bytes())
 }
 
-// The names with that suffix among those of the files directly in a folder.
+// The names with that suffix among those of the files directly in a folder, each once, whatever the machine gives.
 fn names_with<M: Machine>(
     alloc: Global,
     machine: &mut M,
@@ -42,16 +44,18 @@ fn names_with<M: Machine>(
     ensures names { IfOk result (λ names. IsTrue M.tells
         → AreEntryNames (M.state machine.old).files folder.now suffix names.items) }
     ensures suffix { IfOk result (λ names. All (λ name. has_suffix suffix name ≡ true) names.items) }
+    ensures distinct { IfOk result (λ names. IsDistinct bytes_eq names.items) }
     ensures reads { IsTrue M.tells → OnlyReads M.time M.state machine.old machine.new }
     ensures counts { CountsRead result (M.counts machine.old) (M.counts machine.new) }
     ensures taken { IsTrue M.tells → M.taken machine.new ≡ M.taken machine.old }
 {
     let mut names = machine.names(alloc, folder)?;
     names.retain(|name| has_suffix(name, suffix));
-    Ok(names)
+    let once = each_name_once(names)?;
+    Ok(once)
 }
 
-/// The names of the entry files in both folders, unless there are more than 4,096. No file is read.
+/// The names of the entry files in both folders, each once, unless there are more than 4,096. No file is read.
 pub(crate) fn entry_names<M: Machine>(
     alloc: Global,
     machine: &mut M,
@@ -63,6 +67,8 @@ pub(crate) fn entry_names<M: Machine>(
         → AreEntryNames (M.state machine.old).files folders.now.images Efi names.images.items) }
     ensures text_suffix { IfOk result (λ names. All (λ name. has_suffix Conf name ≡ true) names.texts.items) }
     ensures image_suffix { IfOk result (λ names. All (λ name. has_suffix Efi name ≡ true) names.images.items) }
+    ensures text_once { IfOk result (λ names. IsDistinct bytes_eq names.texts.items) }
+    ensures image_once { IfOk result (λ names. IsDistinct bytes_eq names.images.items) }
     ensures few { IfOk result (λ names. IsTrue M.tells → entry_count (M.state machine.old).files folders.now ≤ 4096) }
     ensures many { IfErr result (λ fault. fault_many fault (λ count.
         (4096 < count) × (IsTrue M.tells → entry_count (M.state machine.old).files folders.now ≡ count))) }

@@ -1,12 +1,34 @@
-//! Entries with paths of their own, in the order of the menu.
-ghost use Rattle.std.specs.Prelude.{◌≡◌, AllPairs, Contains, IfOk, IsPermutation, OnOk};
+//! Names that stand once, and entries with paths of their own, in the order of the menu.
+ghost use Rattle.std.specs.Prelude.{◌≡◌, ℕ, List, AllPairs, Contains, IfOk, IsPermutation, OnOk, bytes_eq};
+ghost use Rattle.std.specs.List.{IsDistinct};
 ghost use Rattle.std.specs.List.Sorted.{IsSorted};
 ghost use Rattle.boot_folder.specs.Scanning.{path_order};
+ghost use Rattle.boot_machine.specs.Disk.{path_cmp};
 ghost use Rattle.menu_order.specs.Menu.{HaveOwnPaths, IsBefore};
 ghost use Rattle.menu_order.specs.declared.item.MenuItem.{MenuItem};
 
+use boot_base::FileName;
 use menu_order::{MenuItem, sort_menu};
 use std::alloc::{AllocError, Global};
+
+/// The same names, each once: of a name that a machine gives twice, as none does that tells its files, one counts.
+pub(crate) fn each_name_once(mut names: Vec<FileName>) -> Result<Vec<FileName>, AllocError>
+    ensures distinct { IfOk result (λ once. IsDistinct bytes_eq once.items) }
+    ensures among { IfOk result (λ once. (name : List ℕ) → Contains once.items name → Contains names.items name) }
+    ensures all { IfOk result (λ once. (name : List ℕ) → Contains names.items name → Contains once.items name) }
+{
+    sort_names(&mut names)?;
+    names.dedup_by(|a, b| a.as_str() == b.as_str());
+    Ok(names)
+}
+
+// Puts the names in the order of their bytes.
+fn sort_names(names: &mut Vec<FileName>) -> Result<(), AllocError>
+    ensures same { IsPermutation names.old.items names.new.items }
+    ensures sorted { OnOk result (IsSorted path_cmp names.new.items) }
+{
+    names.sort_by(|a, b| a.as_str().cmp(b.as_str()))
+}
 
 /// The menu of these entries. Where several have one path, as no machine gives them that tells its files, one counts.
 pub(crate) fn menu_of(alloc: Global, items: Vec<MenuItem>) -> Result<Vec<MenuItem>, AllocError>

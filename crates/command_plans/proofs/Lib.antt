@@ -4,6 +4,7 @@ mod Effects
 pub mod Exits
 pub mod Freeing
 mod Known
+mod Scanned
 mod WithoutRepeats
 pub mod Performed
 pub mod Registers

@@ -7,4 +7,6 @@ pub mod Answers
 pub mod Deeds
 pub mod Performs
 pub mod Plans
+pub mod Folders
+pub mod Menus
 pub mod Refusing

@@ -5,14 +5,16 @@
 //! fails and wherever it is stopped, the boot files are as before the command or as after it, and no byte of
 //! the reply is printed before the change can't be undone.
 //!
-//! What planners share when they read stands here too: paths of words, files with their sizes and headers, choices
-//! of banks and phase paths, names as they are printed, and why there may be nothing to say.
+//! What planners share when they read stands here too: paths of words, files with their sizes and headers, the folders
+//! of boot entries and their menu, choices of banks and phase paths, names as they are printed, and why there may be
+//! nothing to say.
 #![tactic(auto)]
 
 mod choices;
 mod declined;
 mod files;
 mod lists;
+mod menus;
 mod names;
 mod outcome;
 mod performing;
@@ -28,6 +30,7 @@ pub use files::{
     file_bytes, file_part, head_of_size, image_head, not_pe, readable_size, sized_head,
 };
 pub use lists::push;
+pub use menus::{folders_in, menu_at};
 pub use names::shown_name;
 pub use outcome::{MachineFault, Outcome, Stop};
 pub use performing::perform;

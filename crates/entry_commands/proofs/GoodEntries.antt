@@ -30,10 +30,10 @@ use Rattle.tool_words.specs.declared.command.BlessWord.{BlessWord}
 use Rattle.tool_words.specs.declared.command.BlessWord.TheVariants as words
 use Rattle.entry_commands.specs.Blessing.{bless_answer, bless_entry, bless_result, blessed_by, path_at, present_at, reported_paths, status_result}
 use Rattle.entry_commands.specs.Booting.{boot_answer, boot_result, booted_entry, booted_text, first_of, renamed_entry}
-use Rattle.entry_commands.specs.Folders.{folders_of}
+use Rattle.command_plans.specs.Folders.{folders_of}
 use Rattle.entry_commands.specs.GoodEntries.{HasGoodEntry, SparesGoodName}
 use Rattle.entry_commands.specs.Installing.{install_answer, install_result, installation_of, installed_image}
-use Rattle.entry_commands.specs.Listing.{menu_at}
+use Rattle.command_plans.specs.Menus.{menu_at}
 use Rattle.entry_commands.specs.Unlinking.{removal, unlink_answer}
 use Rattle.entry_commands.specs.declared.bless.EntryPaths.{EntryPaths}
 use Rattle.entry_commands.proofs.Choices.{can_bless}

@@ -8,6 +8,5 @@ mod InstalledEntry
 mod Leftovers
 pub mod Replies
 mod Reported
-mod Scanned
 mod Siblings
 mod Steps

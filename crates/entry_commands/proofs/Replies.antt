@@ -20,9 +20,10 @@ use Rattle.command_plans.specs.Answers.{Answer, answer_of_read, answer_or_refusa
 use Rattle.command_plans.specs.Declining.{◌>>=◌, path_under, printed_path}
 use Rattle.entry_commands.specs.Blessing.{bless_answer, bless_entry, bless_result, blessed_by, blessed_text, present_at, reported_paths, status_by, status_result, verb_text}
 use Rattle.entry_commands.specs.Booting.{boot_answer, boot_entry, boot_result, booted_entry, booted_text, first_of, renamed_entry}
-use Rattle.entry_commands.specs.Folders.{folders_of}
+use Rattle.command_plans.specs.Folders.{folders_of}
 use Rattle.entry_commands.specs.Installing.{install_answer, install_result, installation_of, installed_image}
-use Rattle.entry_commands.specs.Listing.{list_result, menu_at, menu_result}
+use Rattle.command_plans.specs.Menus.{menu_at}
+use Rattle.entry_commands.specs.Listing.{list_result, menu_result}
 use Rattle.entry_commands.specs.declared.bless.EntryPaths.{EntryPaths}
 use Rattle.menu_order.specs.declared.item.MenuItem.{MenuItem}
 use Rattle.tool_words.specs.declared.command.BlessWord.{BlessWord}

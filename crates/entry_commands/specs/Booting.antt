@@ -11,8 +11,8 @@ use Rattle.boot_machine.specs.Disk.{Files, has}
 use Rattle.boot_machine.specs.Rows.{move_in}
 use Rattle.command_plans.specs.Answers.{Answer, answer_or_refusal, done_answer}
 use Rattle.command_plans.specs.Declining.{◌>>=◌, path_under, printed_path}
-use Rattle.entry_commands.specs.Folders.{folders_of}
-use Rattle.entry_commands.specs.Listing.{menu_at}
+use Rattle.command_plans.specs.Folders.{folders_of}
+use Rattle.command_plans.specs.Menus.{menu_at}
 use Rattle.menu_order.specs.declared.item.MenuItem.{MenuItem}
 
 -- the first entry of a menu

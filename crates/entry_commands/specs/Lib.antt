@@ -1,10 +1,8 @@
 pub mod Blessing
 pub mod Booting
-pub mod Folders
 pub mod GoodEntries
 pub mod Installing
 pub mod Listing
 pub mod Moving
-pub mod Taking
 pub mod Tidying
 pub mod Unlinking

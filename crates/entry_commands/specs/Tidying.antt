@@ -4,7 +4,7 @@ use Rattle.boot_base.specs.Paths.{Path, under, is_file_name, is_temp}
 use Rattle.boot_base.specs.declared.refusal.Refusal.{Refusal}
 use Rattle.boot_machine.specs.Disk.{Files, has}
 use Rattle.command_plans.specs.Answers.{Answer, done_answer}
-use Rattle.entry_commands.specs.Folders.{folders_of}
+use Rattle.command_plans.specs.Folders.{folders_of}
 use Rattle.boot_folder.specs.declared.folders.Folders.{Folders}
 
 -- the view stays

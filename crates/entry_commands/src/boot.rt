@@ -6,21 +6,21 @@ ghost use Rattle.boot_folder.specs.Entries.{IsEntry, folder_of};
 ghost use Rattle.boot_machine.specs.Disk.{has};
 ghost use Rattle.boot_machine.specs.Reading.{OnlyReads, TakesAtMost};
 ghost use Rattle.boot_machine.specs.Sent.{seen};
+ghost use Rattle.command_plans.specs.Folders.{folders_of};
+ghost use Rattle.command_plans.specs.Menus.{menu_limit};
 ghost use Rattle.command_plans.specs.Performs.{CountsStop};
 ghost use Rattle.command_plans.specs.Plans.{IsIdleIfRefused, IsMakeable, Plans, PlansAs};
 ghost use Rattle.command_plans.specs.Refusing.{DeclinesWords, RefusesWords};
 ghost use Rattle.command_plans.specs.Unsaying.{CountsUnsaid};
 ghost use Rattle.entry_commands.specs.Booting.{boot_answer, boot_entry, boot_result, booted_entry, booted_text, renamed_entry};
-ghost use Rattle.entry_commands.specs.Folders.{folders_of};
-ghost use Rattle.entry_commands.specs.Taking.{menu_limit};
 
-use crate::folders::folders_in;
-use crate::menus::menu_at;
 use crate::moves::{already_there, is_there, plan_move, plan_nothing};
 use boot_base::{BootPath, Refusal};
 use boot_folder::Folders;
 use boot_machine::Machine;
-use command_plans::{Plan, Stop, Unsaid, answer_or_refusal, path_in, path_under};
+use command_plans::{
+    Plan, Stop, Unsaid, answer_or_refusal, folders_in, menu_at, path_in, path_under,
+};
 use menu_order::{Counted, MenuItem, Suffix};
 use std::alloc::{AllocError, Global};
 

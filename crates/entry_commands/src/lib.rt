@@ -4,10 +4,8 @@
 
 mod bless;
 mod boot;
-mod folders;
 mod install;
 mod list;
-mod menus;
 mod moves;
 mod tidy;
 mod unlink;

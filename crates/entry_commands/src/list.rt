@@ -4,21 +4,19 @@ ghost use Rattle.boot_machine.specs.Counts.{Counts};
 ghost use Rattle.boot_machine.specs.Reading.{OnlyReads, TakesAtMost};
 ghost use Rattle.boot_machine.specs.Sent.{seen};
 ghost use Rattle.command_plans.specs.Answers.{answer_of_read};
+ghost use Rattle.command_plans.specs.Folders.{folders_of};
+ghost use Rattle.command_plans.specs.Menus.{menu_limit};
 ghost use Rattle.command_plans.specs.Performs.{CountsStop};
 ghost use Rattle.command_plans.specs.Plans.{IsMakeable, Plans};
 ghost use Rattle.command_plans.specs.Refusing.{DeclinesWords, RefusesWords};
 ghost use Rattle.command_plans.specs.declared.plan.Change.TheVariants.{Nothing};
 ghost use Rattle.command_plans.specs.Unsaying.{CountsUnsaid, Says};
-ghost use Rattle.entry_commands.specs.Folders.{folders_of};
 ghost use Rattle.entry_commands.specs.Listing.{list_result, menu_result};
-ghost use Rattle.entry_commands.specs.Taking.{menu_limit};
 
-use crate::folders::folders_in;
-use crate::menus::menu_at;
 use boot_base::Refusal;
 use boot_folder::list_text;
 use boot_machine::Machine;
-use command_plans::{Plan, Stop, Unsaid, text_or_refusal};
+use command_plans::{Plan, Stop, Unsaid, folders_in, menu_at, text_or_refusal};
 use menu_order::MenuItem;
 use std::alloc::Global;
 

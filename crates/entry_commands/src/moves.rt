@@ -1,14 +1,13 @@
 //! Boot files that get another name.
 ghost use Rattle.std.specs.Prelude.{◌≡◌, true, false, IfOk, IsTrue, string_bytes};
 ghost use Rattle.boot_base.specs.Paths.{IsFree};
-ghost use Rattle.boot_base.specs.Refusals.{line_of, number_of};
 ghost use Rattle.boot_machine.specs.Disk.{State, has};
 ghost use Rattle.boot_machine.specs.Reading.{OnlyReads, TakesAtMost};
 ghost use Rattle.boot_machine.specs.Rows.{move_in};
 ghost use Rattle.boot_machine.specs.Sent.{seen};
 ghost use Rattle.boot_machine.specs.Counts.{CountsDisk};
 ghost use Rattle.command_plans.specs.Answers.{done_answer};
-ghost use Rattle.command_plans.specs.Plans.{IsIdleIfRefused, IsMakeable, Plans};
+ghost use Rattle.command_plans.specs.Plans.{IsIdleIfRefused, IsLineOf, IsMakeable, Plans, TellsGone};
 ghost use Rattle.command_plans.specs.Declining.{printed_path};
 ghost use Rattle.entry_commands.specs.Moving.{IsMove};
 
@@ -38,8 +37,7 @@ pub(crate) fn already_there(alloc: Global, path: &BootPath) -> Result<Refusal, A
 
 // What is printed of a refusal.
 fn printed_line(alloc: Global, why: Refusal) -> Result<RefusalLine, AllocError>
-    ensures number { IfOk result (λ refusal. refusal.number ≡ number_of why) }
-    ensures line { IfOk result (λ refusal. refusal.line ≡ line_of why) }
+    ensures { IfOk result (IsLineOf why) }
 {
     let refusal = RefusalLine::of(alloc, &why);
     drop(why);
@@ -48,8 +46,7 @@ fn printed_line(alloc: Global, why: Refusal) -> Result<RefusalLine, AllocError>
 
 /// What is printed where the file at a path is gone that was to be taken away, copied or moved.
 pub(crate) fn gone_line(alloc: Global, path: &BootPath) -> Result<RefusalLine, AllocError>
-    ensures number { IfOk result (λ gone. gone.number ≡ number_of (Refusal.NotFound (printed_path path.now))) }
-    ensures line { IfOk result (λ gone. gone.line ≡ line_of (Refusal.NotFound (printed_path path.now))) }
+    ensures { IfOk result (TellsGone path.now) }
 {
     printed_line(alloc, not_there(alloc, path)?)
 }

@@ -4,18 +4,17 @@ ghost use Rattle.std.specs.List.{IsDistinct};
 ghost use Rattle.boot_base.specs.Paths.{Path};
 ghost use Rattle.boot_machine.specs.Disk.{State, has, Files};
 ghost use Rattle.boot_machine.specs.Sent.{seen};
-ghost use Rattle.entry_commands.specs.Folders.{folders_of};
 ghost use Rattle.boot_machine.specs.Reading.{OnlyReads, TakesAtMost};
+ghost use Rattle.command_plans.specs.Folders.{folders_of};
 ghost use Rattle.command_plans.specs.Performs.{CountsStop};
 ghost use Rattle.command_plans.specs.Plans.{Drops, IsIdleIfRefused, IsMakeable, Plans};
 ghost use Rattle.command_plans.specs.Refusing.{RefusesWords, unless_refused};
 ghost use Rattle.entry_commands.specs.Tidying.{AreClean, HasLeftovers, IsTidied, leftovers_among, tidy_answer};
 
-use crate::folders::folders_in;
 use boot_base::{BootPath, Bytes, FileName, TempPath};
 use boot_folder::Folders;
 use boot_machine::Machine;
-use command_plans::{Change, Outcome, Plan, Stop, Unsaid, plan_unsaid};
+use command_plans::{Change, Outcome, Plan, Stop, Unsaid, folders_in, plan_unsaid};
 use std::alloc::{AllocError, Global};
 
 // The paths of the temporary files among these names of a folder.

@@ -3,9 +3,16 @@ use crate::case::Case;
 use crate::fault::RowFault;
 use crate::image::field_of_word;
 use crate::words::{number, quote_bytes, split_at_mark};
+use boot_commands::demo_image;
 use pcr_values::{Bank, Digest};
 use sample_images::field_of;
 use std::alloc::Global;
+
+/// From now on the file is an image that a demonstration begins with.
+pub(crate) fn set_demo(alloc: Global, case: &mut Case, rest: &str) -> Result<(), RowFault> {
+    let image = demo_image(alloc, number(rest)?)?;
+    case.set_file(image)
+}
 
 /// Adds so many bytes to the file.
 pub(crate) fn fill(alloc: Global, case: &mut Case, rest: &str) -> Result<(), RowFault> {

@@ -7,6 +7,7 @@
 //!   section. A change is `FIELD=NUMBER`, of a section `FIELD.INDEX=NUMBER`, by the names of PE/COFF; `name.INDEX=TEXT`
 //!   names a section, `empty.ADDRESS=NAME` adds one without bytes, `put.PLACE=BYTES` puts bytes there, and
 //!   `length=COUNT` cuts the file or fills it up with zeros. `fill COUNT BYTE`: so many bytes more.
+//! - `demo DIGIT`: the file is that image of those which a demonstration begins with.
 //! - `fields FIELD..`, `bytes PLACE COUNT`, `sha256 PLACE COUNT`: what stands in it.
 //! - `read`: how many sections its headers name, or the first check that fails. `headers`, `range NAME`: what they say,
 //!   and where the loaded bytes of a section stand. `head`: as `read`, by reads of a machine, with the place and the
@@ -19,8 +20,8 @@
 //! Rows without a file: `digest BANK:BYTES`, `pieces BANK:BYTES|..`, `extend BANK:BYTES|..`,
 //! `extend_digest BANK:BYTES`, `heading PATH`, `name TEXT`, `cmdline TEXT`, `initrds SIZE..`, `merge STUB|GIVEN`.
 //!
-//! In bytes a backslash and a letter stand for one as in C, `TEXT*COUNT` for so many texts, and `+` stands between
-//! pieces. Lines that begin with `#` are comments. A line that isn't understood is told behind `? `.
+//! In bytes a backslash and a letter stand for one as in C, `\s` for a space, `TEXT*COUNT` for so many texts, and `+`
+//! stands between pieces. Lines that begin with `#` are comments. A line that isn't understood is told behind `? `.
 #![tactic(auto)]
 
 mod build;

@@ -2,7 +2,7 @@
 use crate::build::build;
 use crate::case::Case;
 use crate::fault::RowFault;
-use crate::file::{bytes_text, fields_text, fill, sha256_text};
+use crate::file::{bytes_text, fields_text, fill, set_demo, sha256_text};
 use crate::image::set_image;
 use crate::measure::{machine_text, replay_text};
 use crate::parts::{cmdline_text, initrds_text, merge_text, name_text};
@@ -56,6 +56,7 @@ fn row_result(alloc: Global, line: &str, case: &mut Case) -> Result<String, RowF
     match verb {
         "image" => set_image(alloc, case, rest)?,
         "fill" => fill(alloc, case, rest)?,
+        "demo" => set_demo(alloc, case, rest)?,
         "sbat" => case.sbat = bytes_of(alloc, rest)?,
         "fail" => case.failing = Some(number(rest)?),
         _ => return told_of_file(alloc, verb, rest, case),

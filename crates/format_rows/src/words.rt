@@ -32,11 +32,12 @@ fn push_escaped(bytes: &mut Vec<u8>, text: &[u8]) -> Result<(), RowFault> {
     Ok(())
 }
 
-// The byte that a letter behind a backslash stands for, as in C.
+// The byte that a letter behind a backslash stands for, as in C, and a space behind `s`.
 fn escaped_byte(letter: u8) -> Result<u8, RowFault> {
     match letter {
         b'0' => Ok(0),
         b'a' => Ok(7),
+        b's' => Ok(b' '),
         b't' => Ok(b'\t'),
         b'n' => Ok(b'\n'),
         b'v' => Ok(11),

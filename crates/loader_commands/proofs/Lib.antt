@@ -1,3 +1,2 @@
-mod Menus
 mod Limits
 mod Told

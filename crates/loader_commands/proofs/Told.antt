@@ -8,13 +8,14 @@ use Rattle.boot_folder.specs.Entries.{boot_menu, entry_count}
 use Rattle.boot_folder.specs.declared.folders.Folders.{Folders}
 use Rattle.boot_machine.specs.Disk.{Files}
 use Rattle.command_plans.specs.Declining.{◌>>=◌, printed_path}
+use Rattle.command_plans.specs.Menus.{menu_at}
 use Rattle.command_plans.specs.Unsaying.{Says}
 use Rattle.command_plans.specs.declared.unsaid.Unsaid.{Unsaid}
 use Rattle.command_plans.proofs.Declining.{done_next}
 use Rattle.loader_commands.specs.Laws.{ChangesOneKey, ShowsDefaultEntry}
-use Rattle.loader_commands.specs.Places.{conf_bytes, conf_limit, conf_path, loader_menu, loader_paths, within_limit}
+use Rattle.loader_commands.specs.Places.{conf_bytes, conf_limit, conf_path, loader_paths, within_limit}
 use Rattle.loader_commands.specs.Setting.{bad_value, conf_update, changed_text, value_in}
-use Rattle.loader_commands.specs.Showing.{default_item, entry_id, menu_shown, show_result, show_text, shown_or_empty}
+use Rattle.loader_commands.specs.Showing.{default_item, menu_shown, show_result, show_text, shown_or_empty}
 use Rattle.loader_commands.specs.declared.places.LoaderPaths.{LoaderPaths}
 use Rattle.boot_texts.specs.ConfChoice.{IsDefaultEntry, default_place}
 use Rattle.boot_texts.specs.Conf.{IsConfValue, conf_default, conf_key_name, conf_of, conf_timeout, conf_value, may_be_value, other_conf_key}
@@ -24,6 +25,7 @@ use Rattle.boot_texts.specs.declared.conf_change.ConfKey.TheVariants.{Default, T
 use Rattle.boot_texts.proofs.ConfChanges.{conf_lines, conf_other, conf_set as value_set}
 use Rattle.boot_texts.proofs.ConfChoices.{entry_at}
 use Rattle.boot_texts.proofs.PatternDecisions.{default_decides}
+use Rattle.menu_order.specs.Ids.{entry_id}
 use Rattle.menu_order.specs.declared.item.MenuItem.{MenuItem}
 
 -- what a step that is done went through
@@ -59,14 +61,14 @@ chosen_at : (default : Option (List ℕ)) (ids : List (List ℕ)) (place : ℕ) 
 chosen_at default ids place is =
     subst (λ (found : Option ℕ). MatchOption found (length ids ≡ 0) (λ place. IsDefaultEntry default ids place)) is (entry_at default ids)
 
-menu_is : (view : Files) (folders : Folders) (menu : List MenuItem) → loader_menu view folders ≡ Ok menu → boot_menu view folders ≡ menu
+menu_is : (view : Files) (folders : Folders) (menu : List MenuItem) → menu_at view folders ≡ Ok menu → boot_menu view folders ≡ menu
 menu_is view folders menu is = done_if (nat_lt 4096 (entry_count view folders)) (refusals.TooMany (entry_count view folders)) (boot_menu view folders) menu is
 
 pub tells : (view : Files) (word text : List ℕ) → show_result view word ≡ Ok text → ShowsDefaultEntry view word text
 tells view word text is =
-    let paths = done_by (loader_paths word) (λ (paths : LoaderPaths). conf_bytes view paths.conf >>= λ bytes. loader_menu view paths.folders >>= menu_shown bytes) text is in
-    let bytes = done_by (conf_bytes view paths.0.conf) (λ (bytes : List ℕ). loader_menu view paths.0.folders >>= menu_shown bytes) text paths.2 in
-    let menu = done_by (loader_menu view paths.0.folders) (menu_shown bytes.0) text bytes.2 in
+    let paths = done_by (loader_paths word) (λ (paths : LoaderPaths). conf_bytes view paths.conf >>= λ bytes. menu_at view paths.folders >>= menu_shown bytes) text is in
+    let bytes = done_by (conf_bytes view paths.0.conf) (λ (bytes : List ℕ). menu_at view paths.0.folders >>= menu_shown bytes) text paths.2 in
+    let menu = done_by (menu_at view paths.0.folders) (menu_shown bytes.0) text bytes.2 in
     let whole = menu_is view paths.0.folders menu.0 menu.1 in
     let item = item_of (conf_timeout bytes.0) (default_item (conf_default bytes.0) menu.0) text menu.2 in
     let place = place_of menu.0 (default_place (conf_default bytes.0) (map entry_id menu.0)) item.0 item.1 in
@@ -85,13 +87,13 @@ tells view word text is =
 
 -- what is told of a menu is told of the ESP
 pub shown_by : {X : Type 0} (shows : X → List ℕ) (result : Result X Unsaid) (view : Files) (word : List ℕ) (paths : LoaderPaths) (bytes : List ℕ) (menu : List MenuItem)
-    → loader_paths word ≡ Ok paths → conf_bytes view paths.conf ≡ Ok bytes → loader_menu view paths.folders ≡ Ok menu
+    → loader_paths word ≡ Ok paths → conf_bytes view paths.conf ≡ Ok bytes → menu_at view paths.folders ≡ Ok menu
     → Says shows result (menu_shown bytes menu) → Says shows result (show_result view word)
 shown_by shows result view word paths bytes menu paths_are bytes_are menu_is says =
     let whole : show_result view word ≡ menu_shown bytes menu =
-    done_next (loader_paths word) paths (λ (paths : LoaderPaths). conf_bytes view paths.conf >>= λ bytes. loader_menu view paths.folders >>= menu_shown bytes) paths_are
-    ∙ done_next (conf_bytes view paths.conf) bytes (λ (bytes : List ℕ). loader_menu view paths.folders >>= menu_shown bytes) bytes_are
-    ∙ done_next (loader_menu view paths.folders) menu (menu_shown bytes) menu_is in
+    done_next (loader_paths word) paths (λ (paths : LoaderPaths). conf_bytes view paths.conf >>= λ bytes. menu_at view paths.folders >>= menu_shown bytes) paths_are
+    ∙ done_next (conf_bytes view paths.conf) bytes (λ (bytes : List ℕ). menu_at view paths.folders >>= menu_shown bytes) bytes_are
+    ∙ done_next (menu_at view paths.folders) menu (menu_shown bytes) menu_is in
     subst (λ (meant : Result (List ℕ) Refusal). Says shows result meant) (sym whole) says
 
 -- ---- a change

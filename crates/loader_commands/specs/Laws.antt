@@ -5,12 +5,13 @@ use Rattle.boot_folder.specs.Entries.{boot_menu}
 use Rattle.boot_machine.specs.Disk.{Files}
 use Rattle.loader_commands.specs.Places.{conf_bytes, conf_path, loader_paths}
 use Rattle.loader_commands.specs.Setting.{conf_update}
-use Rattle.loader_commands.specs.Showing.{entry_id, show_result, show_text}
+use Rattle.loader_commands.specs.Showing.{show_result, show_text}
 use Rattle.loader_commands.specs.declared.places.LoaderPaths.{LoaderPaths}
 use Rattle.boot_texts.specs.ConfChoice.{IsDefaultEntry}
 use Rattle.boot_texts.specs.Conf.{conf_key_name, conf_of, conf_value, other_conf_key}
 use Rattle.boot_texts.specs.FileLines.{key_line, lacks_value, raw_lines}
 use Rattle.boot_texts.specs.declared.conf_change.ConfKey.{ConfKey}
+use Rattle.menu_order.specs.Ids.{entry_id}
 use Rattle.menu_order.specs.declared.item.MenuItem.{MenuItem}
 
 -- the text tells of the entry of the menu that the settings choose

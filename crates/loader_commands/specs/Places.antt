@@ -4,22 +4,16 @@ use Rattle.std.specs.FinMap.{get}
 use Rattle.boot_base.specs.Paths.{Path}
 use Rattle.boot_base.specs.declared.refusal.Refusal.{Refusal}
 use Rattle.boot_base.specs.declared.refusal.Refusal.TheVariants as refusals
-use Rattle.boot_folder.specs.Entries.{boot_menu, entry_count}
-use Rattle.boot_folder.specs.declared.fault.ScanFault.{ScanFault}
-use Rattle.boot_folder.specs.declared.fault.ScanFault.TheVariants as scans
-use Rattle.boot_folder.specs.declared.folders.Folders.{Folders}
 use Rattle.boot_machine.specs.Disk.{Files}
 use Rattle.command_plans.specs.Declining.{◌>>=◌, path_in, path_under, printed_path}
-use Rattle.command_plans.specs.declared.unsaid.Unsaid.{Unsaid}
-use Rattle.command_plans.specs.declared.unsaid.Unsaid.TheVariants as unsaid
+use Rattle.command_plans.specs.Folders.{folders_of}
 use Rattle.loader_commands.specs.declared.places.LoaderPaths.{LoaderPaths}
-use Rattle.menu_order.specs.declared.item.MenuItem.{MenuItem}
 
 -- the most bytes of a loader.conf that is read or written (profile)
 abbrev pub conf_limit : ℕ
 conf_limit = 65536
 
--- where loader.conf stands in an ESP
+-- where loader.conf stands below an ESP
 abbrev pub conf_below : List ℕ
 conf_below = codes "loader/loader.conf"
 
@@ -30,11 +24,7 @@ conf_path word = path_in word >>= λ esp. path_under esp conf_below
 -- the folders of entries and the loader.conf of an ESP by its word
 abbrev pub loader_paths : List ℕ → Result LoaderPaths Refusal
 loader_paths word =
-    path_in word >>= λ esp.
-    path_under esp (codes "loader/entries") >>= λ entries.
-    path_under esp (codes "EFI/Linux") >>= λ images.
-    path_under esp conf_below >>= λ conf.
-    Ok (record { folders = record { entries = entries; images = images }; conf = conf })
+    folders_of word >>= λ folders. conf_path word >>= λ conf. Ok (record { folders = folders; conf = conf })
 
 -- bytes of a loader.conf at a path, unless they are too many
 abbrev pub within_limit : Path → List ℕ → Result (List ℕ) Refusal
@@ -49,16 +39,3 @@ conf_or_empty path (Some bytes) = within_limit path bytes
 -- the bytes of the loader.conf at a path, or that they are too many
 abbrev pub conf_bytes : Files → Path → Result (List ℕ) Refusal
 conf_bytes view path = conf_or_empty path (get view path)
-
--- the menu of the two folders, or that they have more than 4,096 entry files
-abbrev pub loader_menu : Files → Folders → Result (List MenuItem) Refusal
-loader_menu view folders =
-    if nat_lt 4096 (entry_count view folders) then Err (refusals.TooMany (entry_count view folders))
-    else Ok (boot_menu view folders)
-
--- why there is no menu; folders that are at hand have paths
-abbrev pub menu_unsaid : ScanFault → Unsaid
-menu_unsaid scans.Memory = unsaid.Memory
-menu_unsaid scans.Disk = unsaid.Disk
-menu_unsaid scans.LongEsp = unsaid.Memory
-menu_unsaid (scans.TooMany count) = unsaid.Refused (refusals.TooMany count)

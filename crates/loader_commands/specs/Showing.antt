@@ -2,18 +2,15 @@
 use Rattle.std.specs.Prelude.{ℕ, List, ◌++◌, codes, map, slice_get, Option, Some, None, option_and_then, Result, Ok, Err}
 use Rattle.boot_base.specs.declared.refusal.Refusal.{Refusal}
 use Rattle.boot_base.specs.declared.refusal.Refusal.TheVariants as refusals
-use Rattle.menu_order.specs.Counter.{suffix_text}
+use Rattle.menu_order.specs.Ids.{entry_id}
 use Rattle.boot_machine.specs.Disk.{Files}
 use Rattle.command_plans.specs.Answers.{Answer, answer_of_read}
 use Rattle.command_plans.specs.Declining.{◌>>=◌, printed_path}
-use Rattle.loader_commands.specs.Places.{conf_bytes, loader_menu, loader_paths}
+use Rattle.command_plans.specs.Menus.{menu_at}
+use Rattle.loader_commands.specs.Places.{conf_bytes, loader_paths}
 use Rattle.boot_texts.specs.ConfChoice.{default_place}
 use Rattle.boot_texts.specs.Conf.{conf_default, conf_timeout}
 use Rattle.menu_order.specs.declared.item.MenuItem.{MenuItem}
-
--- the id of an entry: the name of its file without the counter (UAPI Boot Loader Specification)
-abbrev pub entry_id : MenuItem → List ℕ
-entry_id item = item.base ++ suffix_text item.suffix
 
 -- the entry of the menu that a default chooses; nothing where the menu is empty
 abbrev pub default_item : Option (List ℕ) → List MenuItem → Option MenuItem
@@ -45,7 +42,7 @@ abbrev pub show_result : Files → List ℕ → Result (List ℕ) Refusal
 show_result view word =
     loader_paths word >>= λ paths.
     conf_bytes view paths.conf >>= λ bytes.
-    loader_menu view paths.folders >>= menu_shown bytes
+    menu_at view paths.folders >>= menu_shown bytes
 
 -- what `loader show` answers
 abbrev pub show_answer : Files → List ℕ → Answer

@@ -1,5 +1,5 @@
 //! `loader show`.
-ghost use Rattle.std.specs.Prelude.{◌≡◌, IfOk, IsTrue, map, option_copied};
+ghost use Rattle.std.specs.Prelude.{◌≡◌, IfOk, IsTrue, option_copied};
 ghost use Rattle.boot_machine.specs.Counts.{Counts};
 ghost use Rattle.boot_machine.specs.Reading.{OnlyReads, TakesAtMost};
 ghost use Rattle.boot_machine.specs.Sent.{seen};
@@ -10,36 +10,16 @@ ghost use Rattle.command_plans.specs.declared.plan.Change.TheVariants.{Nothing};
 ghost use Rattle.command_plans.specs.Unsaying.{CountsUnsaid, Says};
 ghost use Rattle.loader_commands.specs.Places.{loader_paths};
 ghost use Rattle.loader_commands.specs.Taking.{show_limit};
-ghost use Rattle.loader_commands.specs.Showing.{entry_id, default_item, menu_shown, show_answer, show_result, show_text, timeout_or_none};
-ghost use Rattle.boot_texts.specs.Conf.{conf_of};
+ghost use Rattle.loader_commands.specs.Showing.{default_item, menu_shown, show_answer, show_result, show_text, timeout_or_none};
 
-use crate::places::{conf_bytes, loader_menu, loader_paths};
-use boot_base::{Bytes, BytesList, Refusal};
+use crate::places::{conf_bytes, loader_paths};
+use boot_base::{Bytes, Refusal};
+use boot_folder::chosen;
 use boot_machine::Machine;
-use boot_texts::{LoaderConf, default_place};
-use command_plans::{Plan, Stop, Unsaid, text_or_refusal};
+use boot_texts::LoaderConf;
+use command_plans::{Plan, Stop, Unsaid, menu_at, text_or_refusal};
 use menu_order::MenuItem;
 use std::alloc::{AllocError, Global};
-
-// The id of an entry.
-fn entry_id(alloc: Global, item: &MenuItem) -> Result<Bytes, AllocError>
-    ensures { IfOk result (λ id. id ≡ entry_id item.now) }
-{
-    let mut id = item.base.as_slice().to_vec(alloc)?;
-    id.extend_from_slice(item.suffix.as_str().as_bytes())?;
-    Ok(Bytes::from(id))
-}
-
-// The ids of a menu, in order.
-fn entry_ids(alloc: Global, menu: &[MenuItem]) -> Result<BytesList, AllocError>
-    ensures { IfOk result (λ ids. ids ≡ map entry_id menu.now) }
-{
-    let mut ids = BytesList::new(alloc);
-    for item in menu {
-        ids.push(entry_id(alloc, item)?)?;
-    }
-    Ok(ids)
-}
 
 // The entry of the menu that the settings choose.
 fn default_item<'a>(
@@ -49,8 +29,7 @@ fn default_item<'a>(
 ) -> Result<Option<&'a MenuItem>, AllocError>
     ensures { IfOk result (λ item. option_copied item ≡ default_item conf.now.default menu.now) }
 {
-    let ids = entry_ids(alloc, menu)?;
-    match default_place(ids.as_slice(), conf) {
+    match chosen(alloc, menu, conf)? {
         Some(place) => Ok(menu.get(place)),
         None => Ok(None),
     }
@@ -71,7 +50,7 @@ fn show_text(alloc: Global, item: &MenuItem, conf: &LoaderConf) -> Result<Vec<u8
     ensures { IfOk result (λ text. text.items ≡ show_text item.now conf.now.timeout) }
 {
     let mut text = b"chosen ".to_vec(alloc)?;
-    text.extend_from_slice(entry_id(alloc, item)?.as_slice())?;
+    text.extend_from_slice(item.id(alloc)?.as_slice())?;
     text.extend_from_slice(b"\nsource /")?;
     text.extend_from_slice(item.path.as_str().as_bytes())?;
     text.extend_from_slice(b"\ntimeout ")?;
@@ -104,7 +83,7 @@ fn show_result<M: Machine>(alloc: Global, esp: &str, machine: &mut M) -> Result<
 {
     let paths = loader_paths(alloc, esp)?;
     let bytes = conf_bytes(alloc, &paths.conf, machine)?;
-    let menu = loader_menu(alloc, &paths.folders, machine)?;
+    let menu = menu_at(alloc, &paths.folders, machine)?;
     menu_shown(alloc, &bytes, menu.as_slice())
 }
 

@@ -1,4 +1,4 @@
--- The names that have the suffix are kept.
+-- The names that have the suffix are kept, each once.
 use Rattle.std.proofs.Common.{◌≡◌, ℕ, List, true, sym, subst, rules}
 use Rattle.std.specs.Prelude.{All}
 use Rattle.std.proofs.lemmas.Fn.{filter_same}
@@ -7,10 +7,16 @@ use Rattle.menu_order.specs.Splits.{has_suffix}
 use Rattle.boot_machine.proofs.Reading.{reads_once}
 use Rattle.boot_folder.specs.Scanning.{AreEntryNames}
 use Rattle.boot_folder.proofs.Finding.{suffix_names}
+use Rattle.boot_folder.proofs.OnceNames.{still_all, still_names}
 use Rattle.boot_folder.proofs.names.names_with.Goals as goal
 
 pub returns-in_err-names-clause-reads : goal.returns-in_err-names-clause-reads
 returns-in_err-names-clause-reads g c told =
+    reads_once g.M.Machine.time g.M.Machine.state c.args.machine.now c.names.new.self
+    (λ m o left. g.met.M.Machine.only_now c.args.machine.now m o told left) (c.names.ensures.moments told) (c.names.ensures.row told).same
+
+pub returns-in_err-once-clause-reads : goal.returns-in_err-once-clause-reads
+returns-in_err-once-clause-reads g c told =
     reads_once g.M.Machine.time g.M.Machine.state c.args.machine.now c.names.new.self
     (λ m o left. g.met.M.Machine.only_now c.args.machine.now m o told left) (c.names.ensures.moments told) (c.names.ensures.row told).same
 
@@ -22,10 +28,14 @@ returns-clause-reads g c told =
 pub returns-clause-names : goal.returns-clause-names
 returns-clause-names g c told =
     let kept = filter_same _ (has_suffix c.args.suffix) _ (λ x b f' k. search rules) _ _ c.retain.ensures.filtered in
-    subst (AreEntryNames (g.M.Machine.state c.args.machine.now).files c.args.folder.now c.args.suffix) (sym kept)
-    (suffix_names (g.M.Machine.state c.args.machine.now).files c.args.folder.now c.args.suffix c.in_ok-names.names.items (c.in_ok-names.ensures.row told).names)
+    let once = c.in_ok-once.ensures in
+    still_names c.retain.new.self.items c.in_ok-once.once.items once.distinct once.among (g.M.Machine.state c.args.machine.now).files c.args.folder.now c.args.suffix once.all
+    (subst (AreEntryNames (g.M.Machine.state c.args.machine.now).files c.args.folder.now c.args.suffix) (sym kept)
+    (suffix_names (g.M.Machine.state c.args.machine.now).files c.args.folder.now c.args.suffix c.in_ok-names.names.items (c.in_ok-names.ensures.row told).names))
 
 pub returns-clause-suffix : goal.returns-clause-suffix
 returns-clause-suffix g c =
     let kept = filter_same _ (has_suffix c.args.suffix) _ (λ x b f' k. search rules) _ _ c.retain.ensures.filtered in
-    subst (All (λ (name : List ℕ). has_suffix c.args.suffix name ≡ true)) (sym kept) (filter_passes (has_suffix c.args.suffix) c.in_ok-names.names.items)
+    let once = c.in_ok-once.ensures in
+    still_all c.retain.new.self.items c.in_ok-once.once.items once.distinct once.among (λ (name : List ℕ). has_suffix c.args.suffix name ≡ true)
+    (subst (All (λ (name : List ℕ). has_suffix c.args.suffix name ≡ true)) (sym kept) (filter_passes (has_suffix c.args.suffix) c.in_ok-names.names.items))

@@ -1,6 +1,6 @@
 use Rattle.boot_machine.specs.Sent.{seen}
 use Rattle.boot_machine.proofs.Reading.{reads_none}
-use Rattle.entry_commands.specs.Folders.{folders_of}
+use Rattle.command_plans.specs.Folders.{folders_of}
 use Rattle.entry_commands.specs.Tidying.{tidy_answer}
 use Rattle.entry_commands.proofs.Declined.{plans_unless, refuses_at_once, tidied_unless}
 use Rattle.entry_commands.proofs.tidy.plan_tidy.Goals as goal

@@ -12,7 +12,7 @@ use Rattle.boot_folder.specs.declared.fault.ScanFault.TheVariants as scans
 use Rattle.boot_folder.specs.declared.folders.Folders.{Folders}
 use Rattle.boot_folder.proofs.EntryFiles.{view_count}
 use Rattle.command_plans.specs.Unsaying.{UnsaidFor}
-use Rattle.entry_commands.specs.Listing.{menu_at, scan_unsaid}
+use Rattle.command_plans.specs.Menus.{menu_at, scan_unsaid}
 
 not_many : (n : ℕ) → n ≤ 4096 → nat_lt 4096 n ≡ false
 not_many n few = grind (arith, nat_tests)

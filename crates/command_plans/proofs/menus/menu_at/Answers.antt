@@ -1,9 +1,9 @@
 use Rattle.std.proofs.Common.{sym, subst}
 use Rattle.command_plans.specs.Unsaying.{UnsaidFor}
-use Rattle.entry_commands.specs.Listing.{menu_at}
+use Rattle.command_plans.specs.Menus.{menu_at}
 use Rattle.boot_machine.specs.Sent.{seen}
-use Rattle.entry_commands.proofs.Scanned.{few_said, unsaid_menu}
-use Rattle.entry_commands.proofs.menus.menu_at.Goals as goal
+use Rattle.command_plans.proofs.Scanned.{few_said, unsaid_menu}
+use Rattle.command_plans.proofs.menus.menu_at.Goals as goal
 
 pub returns-in-Ok-clause-says : goal.returns-in-Ok-clause-says
 returns-in-Ok-clause-says g c told =

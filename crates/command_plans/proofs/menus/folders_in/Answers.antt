@@ -1,8 +1,8 @@
 use Rattle.std.proofs.Common.{◌∙◌}
-use Rattle.entry_commands.specs.Folders.{entries_below, images_below}
+use Rattle.boot_folder.specs.Entries.{entries_below, images_below}
 use Rattle.command_plans.specs.Declining.{path_under}
 use Rattle.command_plans.proofs.Declining.{declined_first, declined_next, done_next, means_declined}
-use Rattle.entry_commands.proofs.folders.folders_in.Goals as goal
+use Rattle.command_plans.proofs.menus.folders_in.Goals as goal
 
 pub returns-in_err-entries : goal.returns-in_err-entries
 returns-in_err-entries c =

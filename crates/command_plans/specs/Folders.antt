@@ -1,16 +1,9 @@
--- The two folders of boot entries in an EFI system partition (UAPI Boot Loader Specification).
-use Rattle.std.specs.Prelude.{ℕ, List, codes, Result, Ok}
+-- The two folders of boot entries in an EFI system partition, by a word (UAPI Boot Loader Specification).
+use Rattle.std.specs.Prelude.{ℕ, List, Result, Ok}
 use Rattle.boot_base.specs.declared.refusal.Refusal.{Refusal}
-use Rattle.command_plans.specs.Declining.{◌>>=◌, path_in, path_under}
+use Rattle.boot_folder.specs.Entries.{entries_below, images_below}
 use Rattle.boot_folder.specs.declared.folders.Folders.{Folders}
-
--- entries of type 1, and images of type 2
-abbrev pub entries_below : List ℕ
-entries_below = codes "loader/entries"
-
--- the folder of images in an ESP
-abbrev pub images_below : List ℕ
-images_below = codes "EFI/Linux"
+use Rattle.command_plans.specs.Declining.{◌>>=◌, path_in, path_under}
 
 -- the folders of an ESP by its word, or what the word is refused for
 abbrev pub folders_of : List ℕ → Result Folders Refusal

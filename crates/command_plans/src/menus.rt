@@ -1,4 +1,4 @@
-//! The menu of the folders of boot entries.
+//! The folders of boot entries that a word names, and their menu.
 ghost use Rattle.std.specs.Prelude.{◌≡◌, ◌≢◌, IfOk, IsTrue, Some};
 ghost use Rattle.boot_folder.specs.Entries.{IsEntry};
 ghost use Rattle.boot_folder.specs.Scanning.{scan_counts, scan_limit};
@@ -7,15 +7,28 @@ ghost use Rattle.boot_machine.specs.Counts.{Counts};
 ghost use Rattle.boot_machine.specs.Reading.{OnlyReads, TakesAtMost};
 ghost use Rattle.boot_machine.specs.Sent.{seen};
 ghost use Rattle.command_plans.specs.Unsaying.{CountsUnsaid, Says, unsaid_counts};
-ghost use Rattle.entry_commands.specs.Listing.{menu_at, scan_unsaid};
+ghost use Rattle.command_plans.specs.Declining.{Means};
+ghost use Rattle.command_plans.specs.Folders.{folders_of};
+ghost use Rattle.command_plans.specs.Menus.{menu_at, scan_unsaid};
 ghost use Rattle.menu_order.specs.Menu.{IsMenu};
 
+use crate::declined::{Declined, path_in, path_under};
+use crate::unsaid::Unsaid;
 use boot_base::Refusal;
 use boot_folder::{Folders, ScanFault, scan_folders};
 use boot_machine::Machine;
-use command_plans::Unsaid;
 use menu_order::MenuItem;
 use std::alloc::Global;
+
+/// The folders of the EFI system partition that a word names, or the first refusal.
+pub fn folders_in(alloc: Global, esp: &str) -> Result<Folders, Declined>
+    ensures { Means (λ folders. folders) result (folders_of esp.now) }
+{
+    let esp = path_in(alloc, esp)?;
+    let entries = path_under(alloc, &esp, Folders::ENTRIES)?;
+    let images = path_under(alloc, &esp, Folders::IMAGES)?;
+    Ok(Folders { entries, images })
+}
 
 // Why nothing is said of folders that have no menu.
 fn scan_unsaid(fault: ScanFault) -> Unsaid
@@ -30,8 +43,8 @@ fn scan_unsaid(fault: ScanFault) -> Unsaid
     }
 }
 
-/// The menu of two folders.
-pub(crate) fn menu_at<M: Machine>(
+/// The menu of two folders, unless they have more than 4,096 entry files. Only headers and texts are read.
+pub fn menu_at<M: Machine>(
     alloc: Global,
     folders: &Folders,
     machine: &mut M,

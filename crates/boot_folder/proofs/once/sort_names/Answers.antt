@@ -1,0 +1,13 @@
+-- The closure compares names.
+use Rattle.std.proofs.Common.{rules}
+use Rattle.std.proofs.lemmas.Result.{IfOk-weaker}
+use Rattle.std.specs.List.Sorted.{IsSorted}
+use Rattle.boot_machine.specs.Disk.{path_cmp}
+use Rattle.boot_folder.proofs.OnceNames.{sorted_names}
+use Rattle.boot_folder.proofs.once.sort_names.Goals as goal
+
+pub returns-clause-sorted : goal.returns-clause-sorted
+returns-clause-sorted c =
+    IfOk-weaker c.sort_by.result _ (λ _. IsSorted path_cmp c.sort_by.new.self.items)
+    (λ _ up. sorted_names c.sort_by.new.self.items up (λ f a r f' k. search rules))
+    c.sort_by.ensures.sorted
