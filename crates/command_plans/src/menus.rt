@@ -1,12 +1,11 @@
 //! The folders of boot entries that a word names, and their menu.
 ghost use Rattle.std.specs.Prelude.{◌≡◌, ◌≢◌, IfOk, IsTrue, Some};
 ghost use Rattle.boot_folder.specs.Entries.{IsEntry};
-ghost use Rattle.boot_folder.specs.Scanning.{scan_counts, scan_limit};
+ghost use Rattle.boot_folder.specs.Scanning.{scan_limit};
 ghost use Rattle.boot_folder.specs.declared.fault.ScanFault.TheVariants as scans;
-ghost use Rattle.boot_machine.specs.Counts.{Counts};
 ghost use Rattle.boot_machine.specs.Reading.{OnlyReads, TakesAtMost};
 ghost use Rattle.boot_machine.specs.Sent.{seen};
-ghost use Rattle.command_plans.specs.Unsaying.{CountsUnsaid, Says, unsaid_counts};
+ghost use Rattle.command_plans.specs.Unsaying.{CountsUnsaid, Says};
 ghost use Rattle.command_plans.specs.Declining.{Means};
 ghost use Rattle.command_plans.specs.Folders.{folders_of};
 ghost use Rattle.command_plans.specs.Menus.{menu_at, scan_unsaid};
