@@ -1,4 +1,5 @@
 mod Beginning
+mod ConfPlaces
 pub mod Later
 mod Numbers
 mod Reading

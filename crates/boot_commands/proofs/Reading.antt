@@ -7,13 +7,12 @@ use Rattle.boot_machine.specs.Reading.{OnlyReads}
 use Rattle.boot_machine.specs.Sent.{recovered_views, seen}
 use Rattle.command_plans.specs.Answers.{Answer}
 use Rattle.command_plans.specs.Deeds.{deed_of_answer}
-use Rattle.command_plans.specs.Performs.{Performs, Syncs, end_of}
+use Rattle.command_plans.specs.Performs.{Performs, end_of}
 use Rattle.command_plans.specs.Plans.{answer_of_plan}
 use Rattle.command_plans.specs.declared.outcome.Outcome.{Outcome}
 use Rattle.command_plans.specs.declared.outcome.Stop.{Stop}
 use Rattle.command_plans.specs.declared.plan.Plan.{Plan}
 use Rattle.command_plans.proofs.Performed.{after_reads}
-use Rattle.command_plans.proofs.Syncing.{syncs_after_reads}
 use Rattle.boot_commands.specs.Commands.{LeavesTidied, TidiesTo}
 use Rattle.tool_words.specs.declared.command.Command.{Command}
 
@@ -26,12 +25,6 @@ module _ {D : Type 0} (time : Timeline D) (state : D → State) (old mid new : D
   performs_after sees reads is firm performs =
       after_reads time state old (deed_of_answer answer) mid new result sees reads
       (subst (λ d. Performs time state end_of mid new d result) (same_deed reads is) (performs (subst IsFirm (sym reads.same) firm)))
-
-  pub syncs_after : OnlyReads time state old mid → answer_of_plan (seen (state old)) plan ≡ answer → IsFirm (state old)
-      → (IsFirm (state mid) → Syncs time state mid new (deed_of_answer (answer_of_plan (seen (state mid)) plan)) result) → Syncs time state old new (deed_of_answer answer) result
-  syncs_after reads is firm syncs =
-      syncs_after_reads time state old (deed_of_answer answer) mid new result reads
-      (subst (λ d. Syncs time state mid new d result) (same_deed reads is) (syncs (subst IsFirm (sym reads.same) firm)))
 
 pub tidies_after : (result : Result Outcome Stop) (c : Command) (old mid new : State) → mid ≡ old → TidiesTo result c mid new → TidiesTo result c old new
 tidies_after result c old mid new same tidies = subst (λ (s : State). TidiesTo result c s new) same tidies

@@ -29,6 +29,7 @@ use Rattle.boot_commands.specs.Plain.{plain_answer}
 use Rattle.boot_commands.specs.Demonstration.{demo_result}
 use Rattle.boot_commands.specs.Sparing.{Spares}
 use Rattle.image_build.proofs.Outputs.{build_output}
+use Rattle.boot_commands.proofs.ConfPlaces.{conf_apart}
 
 abbrev write_at : Path → Result (List ℕ) Refusal → Result (Path × List ℕ) Refusal
 write_at place text = text >>= λ text. Ok (place, text)
@@ -47,11 +48,11 @@ apart_next set (Err why) at path spares = tt
 apart_next set (Ok value) (Err why) path spares = tt
 apart_next set (Ok value) (Ok place) path spares = apart_at place path (set value place) (λ same. spares (ap Ok same))
 
--- a change of loader.conf writes at no path that it spares
+-- a change of loader.conf writes at no other path
 set_apart : (view : Files) (key : ConfKey) (value esp : List ℕ) (path : Path) → conf_path esp ≢ Ok path → IfOk (conf_update view key value esp) (λ change. change.0 ≢ path)
 set_apart view key value esp path spares = apart_next (changed_text view key) (value_in key value) (conf_path esp) path spares
 
-module _ (folders : Folders) (path : Path) (view : Files) (entry : HasGoodEntry folders path view) where
+module _ (word : List ℕ) (folders : Folders) (read : folders_of word ≡ Ok folders) (path : Path) (view : Files) (entry : HasGoodEntry folders path view) where
   kept_said : (text : Result (List ℕ) Refusal) → HasGoodEntry folders path (answer_of_read view text).after
   kept_said (Ok text) = entry
   kept_said (Err why) = entry
@@ -92,7 +93,7 @@ module _ (folders : Folders) (path : Path) (view : Files) (entry : HasGoodEntry 
   kept (command.Install file name tries esp) spares = kept_install folders path view entry file name tries esp
   kept (command.Bless verb word esp) spares = kept_bless folders path view entry verb word esp spares
   kept (command.LoaderShow esp) spares = kept_said (show_result view esp)
-  kept (command.LoaderDefault pattern esp) spares = kept_changed Default pattern (conf_update view Default pattern esp) (set_apart view Default pattern esp path spares)
-  kept (command.LoaderTimeout value esp) spares = kept_changed Timeout value (conf_update view Timeout value esp) (set_apart view Timeout value esp path spares)
+  kept (command.LoaderDefault pattern esp) spares = kept_changed Default pattern (conf_update view Default pattern esp) (set_apart view Default pattern esp path (conf_apart word esp folders path view read entry))
+  kept (command.LoaderTimeout value esp) spares = kept_changed Timeout value (conf_update view Timeout value esp) (set_apart view Timeout value esp path (conf_apart word esp folders path view read entry))
   kept command.Script spares = entry
   kept (command.Demo seed count) spares = kept_said (demo_result seed count)

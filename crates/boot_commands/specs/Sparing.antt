@@ -6,14 +6,11 @@ use Rattle.tool_words.specs.declared.command.Command.{Command}
 use Rattle.tool_words.specs.declared.command.Command.TheVariants as command
 use Rattle.entry_commands.specs.GoodEntries.{SparesGoodName}
 use Rattle.entry_commands.specs.Unlinking.{entry_path}
-use Rattle.loader_commands.specs.Places.{conf_path}
 
--- The command isn't told to build over the good entry at this path, to unlink it, to bless it as bad or as
--- indeterminate, or to write a loader.conf in its place. An installation over it leaves an entry there.
+-- The command isn't told to build over the good entry at this path, to unlink it, or to bless it as bad or as
+-- indeterminate. An installation over it leaves an entry there.
 abbrev pub Spares : Path → Command → Type 0
 Spares path (command.Build words) = path_in words.output ≢ Ok path
 Spares path (command.Unlink name esp) = entry_path name esp ≢ Ok path
 Spares path (command.Bless verb word esp) = SparesGoodName path verb word esp
-Spares path (command.LoaderDefault pattern esp) = conf_path esp ≢ Ok path
-Spares path (command.LoaderTimeout value esp) = conf_path esp ≢ Ok path
 Spares path c = Unit {0}

@@ -5,7 +5,7 @@ ghost use Rattle.boot_machine.specs.Images.{IsFirm};
 ghost use Rattle.boot_machine.specs.Sent.{seen};
 ghost use Rattle.boot_commands.specs.Commands.{LeavesTidied, TidiesTo};
 ghost use Rattle.command_plans.specs.Deeds.{deed_of_answer};
-ghost use Rattle.command_plans.specs.Performs.{CountsStop, LeavesNoTemp, LeavesRested, Performs, Syncs, end_of};
+ghost use Rattle.command_plans.specs.Performs.{CountsStop, LeavesNoTemp, LeavesRested, Performs, end_of};
 ghost use Rattle.command_plans.specs.Plans.{CanMake, Drops, IsMakeable, answer_of_plan};
 ghost use Rattle.tool_words.specs.declared.command.Command.{Command};
 
@@ -19,9 +19,6 @@ pub(crate) fn carry_out<M: Machine>(plan: Plan, machine: &mut M) -> Result<Outco
     requires there { IsTrue M.tells → CanMake (M.state machine.old) plan.change }
     ensures performs { IsTrue M.tells → IsFirm (M.state machine.old)
         → Performs M.time M.state end_of machine.old machine.new
-        (deed_of_answer (answer_of_plan (seen (M.state machine.old)) plan)) result }
-    ensures syncs { IsTrue M.tells → IsFirm (M.state machine.old)
-        → Syncs M.time M.state machine.old machine.new
         (deed_of_answer (answer_of_plan (seen (M.state machine.old)) plan)) result }
     ensures tidies { IsTrue M.tells → (c : Command)
         → ((files : Files) → Drops plan.change (M.state machine.old).files files → LeavesTidied c files)

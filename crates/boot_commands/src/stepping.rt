@@ -6,7 +6,7 @@ ghost use Rattle.boot_machine.specs.Sent.{seen};
 ghost use Rattle.boot_commands.specs.Commands.{LeavesTidied, TidiesTo, deed_of, step_reply};
 ghost use Rattle.boot_commands.specs.Plain.{is_script};
 ghost use Rattle.boot_machine.specs.Reading.{OnlyReads};
-ghost use Rattle.command_plans.specs.Performs.{CountsStop, LeavesNoTemp, LeavesRested, Performs, Syncs, end_of};
+ghost use Rattle.command_plans.specs.Performs.{CountsStop, LeavesNoTemp, LeavesRested, Performs, end_of};
 ghost use Rattle.command_plans.specs.Plans.{Drops, IsMakeable, Plans};
 
 use crate::carrying::carry_out;
@@ -50,10 +50,6 @@ pub fn step<M: Machine>(alloc: Global, command: &Command, machine: &mut M) -> Re
     requires rested { IsTrue M.tells → IsRested (M.state machine.old) }
     ensures performs { IsTrue M.tells → IsFirm (M.state machine.old)
         → Performs M.time M.state end_of machine.old machine.new
-        (deed_of (seen (M.state machine.old)) command.now) result }
-    // Once the names are synced, what a stop leaves began with the files as they were.
-    ensures syncs { IsTrue M.tells → IsFirm (M.state machine.old)
-        → Syncs M.time M.state machine.old machine.new
         (deed_of (seen (M.state machine.old)) command.now) result }
     ensures tidies { IsTrue M.tells
         → TidiesTo result command.now (M.state machine.old) (M.state machine.new) }

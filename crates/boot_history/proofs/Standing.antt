@@ -12,6 +12,7 @@ use Rattle.boot_machine.specs.Disk.{Files}
 use Rattle.boot_machine.specs.Sent.{latest_view}
 use Rattle.menu_order.specs.declared.item.MenuItem.{MenuItem}
 use Rattle.tool_words.specs.declared.fault.UsageReason.{UsageReason}
+use Rattle.entry_commands.specs.Folders.{folders_of}
 use Rattle.entry_commands.specs.GoodEntries.{HasGoodEntry}
 use Rattle.entry_commands.specs.Listing.{menu_result}
 use Rattle.boot_commands.proofs.Sparing.{kept}
@@ -24,11 +25,11 @@ use Rattle.boot_history.specs.Histories.{Run, asked_at, state_after}
 use Rattle.boot_history.specs.Keeping.{KeptBy, KeptFrom}
 use Rattle.boot_history.proofs.Keeping.{kept_later}
 
-module _ (folders : Folders) (path : Path) where
+module _ (esp : List ℕ) (folders : Folders) (read : folders_of esp ≡ Ok folders) (path : Path) where
   after_line : (view : Files) (line : Line) → LineSpares path line → HasGoodEntry folders path view
       → HasGoodEntry folders path (line_deed view line).after
-  after_line view (Plain command) spares entry = kept folders path view entry command spares
-  after_line view (Numbered number command) spares entry = kept folders path view entry command spares
+  after_line view (Plain command) spares entry = kept esp folders read path view entry command spares
+  after_line view (Numbered number command) spares entry = kept esp folders read path view entry command spares
   after_line view (Unread number) spares entry = entry
   after_line view TooLong spares entry = entry
 
@@ -54,9 +55,9 @@ module _ (folders : Folders) (path : Path) where
   )
 
 pub good_entry_law : GoodEntryLaw
-good_entry_law folders path first before later start history all spare =
+good_entry_law esp folders path first before later read start history all spare =
     kept_later (HasGoodEntry folders path) first before later start history all
-    (kept_from folders path (state_after first before) later spare)
+    (kept_from esp folders read path (state_after first before) later spare)
 
 -- ---- the list
 

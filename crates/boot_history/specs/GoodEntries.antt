@@ -38,13 +38,13 @@ abbrev pub SpareFrom : Path → List Files → List Run → Type 0
 SpareFrom path state [] = Unit {0}
 SpareFrom path state (run ∷ runs) = AsksSpare path (asked_at (latest_view state) run) × SpareFrom path run.left runs
 
--- Where a good entry stands at a path in each view at the start of some run of a history, and no command from that run
--- on is told to build over it, to unlink it, to bless it as bad or as indeterminate, or to write a loader.conf in its
--- place, one stands there in each later view.
+-- Where a good entry of an EFI system partition stands at a path in each view at the start of some run of a history,
+-- and no command from that run on is told to build over it, to unlink it, or to bless it as bad or as indeterminate,
+-- one stands there in each later view.
 abbrev pub GoodEntryLaw : Type 0
 GoodEntryLaw =
-    (folders : Folders) (path : Path) (first : List Files) (before later : List Run)
-    → IsStart first → IsHistory first (before ++ later)
+    (esp : List ℕ) (folders : Folders) (path : Path) (first : List Files) (before later : List Run)
+    → folders_of esp ≡ Ok folders → IsStart first → IsHistory first (before ++ later)
     → AllViews (HasGoodEntry folders path) (state_after first before) → SpareFrom path (state_after first before) later
     → AllAlong (HasGoodEntry folders path) (state_after first before) later
 

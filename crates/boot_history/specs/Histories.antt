@@ -1,15 +1,20 @@
 -- A history: what a machine went through, as a list of runs. A state is the list of the views that a stop may leave,
 -- the last that of the files. Each run takes the state that the one before it left to a state of its own, and ends or
 -- is stopped.
-use Rattle.std.specs.Prelude.{◌≡◌, ◌≢◌, ℕ, List, [], ◌∷◌, map, Result}
+use Rattle.std.specs.Prelude.{◌≡◌, ◌≢◌, ◌≤◌, ℕ, List, [], ◌∷◌, map, drop, Result, Ok, Err}
 use Rattle.tool_words.specs.Grammar.{Word}
+use Rattle.tool_words.specs.Meaning.{meaning}
 use Rattle.tool_words.specs.declared.fault.UsageReason.{UsageReason}
 use Rattle.boot_machine.specs.Disk.{Files, State, IsIn}
 use Rattle.boot_machine.specs.Images.{IsSettled}
-use Rattle.boot_machine.specs.Sent.{Sent, latest_view, recovered_views}
-use Rattle.command_plans.specs.Deeds.{End}
-use Rattle.boot_run.specs.AskedLines.{asked_lines}
-use Rattle.boot_run.specs.Step.{IsOneView, Leads, join_replies}
+use Rattle.boot_machine.specs.Sent.{Sent, Adds, latest_view, recovered_views}
+use Rattle.memory_machine.specs.Events.{after_stop}
+use Rattle.memory_machine.specs.Stops.{IsLeft}
+use Rattle.command_plans.specs.Deeds.{End, Finished}
+use Rattle.boot_run.specs.AskedLines.{asked_lines, asked_lines_of, taken_by}
+use Rattle.boot_run.specs.Endings.{AnswersRefusals, AnswersUsage, end_at, ended_of, status_of}
+use Rattle.boot_run.specs.Step.{IsOneView, Leads, join_replies, some_refused}
+use Rattle.boot_run.specs.declared.ended.Ended.{Ended}
 use Rattle.boot_run.specs.declared.line.Line.{Line}
 
 -- a run: its words and its standard input, what it printed, how it ended, and the views that it left
@@ -53,11 +58,56 @@ AllAlong P state (run ∷ runs) = AllViews P state × AllAlong P run.left runs
 abbrev pub StartLaw : Type 0
 StartLaw = (s : State) → IsSettled s → IsStart (recovered_views s)
 
--- Runs with these words, one after the other, are a history that leads from the one state to the other, and this is
--- all that they printed.
-pub record HasHistory (words : List (List Word)) (old new : List Files) (sent : Sent) : Type 0 where
+-- A run begins with this input and leaves that of it. It takes no more than its words ask for, and where it comes to
+-- its end so much.
+pub record TakesFrom (run : Run) (input rest : List ℕ) : Type 0 where
+  pub begins : run.input ≡ input
+  pub count : ℕ
+  pub most : count ≤ taken_by (meaning run.words)
+  pub leaves : rest ≡ drop count input
+  pub whole : run.end ≡ Finished → rest ≡ drop (taken_by (meaning run.words)) input
+
+-- each run begins with the input that the ones before it left
+abbrev pub TakeTurns : List ℕ → List Run → List ℕ → Type 0
+TakeTurns input [] left = left ≡ input
+TakeTurns input (run ∷ runs) left = (rest : List ℕ) × TakesFrom run input rest × TakeTurns rest runs left
+
+-- Of what is asked for, 1 comes exactly where some reply is a refusal, and 2 not at all; of words that are no command
+-- only 2, 4 and 5 come.
+abbrev pub FitsReplies : Files → Result (List Line) UsageReason → Ended → Type 0
+FitsReplies view (Ok lines) ended = AnswersRefusals (some_refused view lines) ended
+FitsReplies view (Err reason) ended = AnswersUsage ended
+
+-- a run that begins in this state ends as the status tells
+pub record EndsBy (state : List Files) (run : Run) (status : ℕ) : Type 0 where
+  pub one : status ≡ status_of (ended_of status)
+  pub end : run.end ≡ end_at (ended_of status)
+  pub replies : FitsReplies (latest_view state) (asked_at (latest_view state) run) (ended_of status)
+
+-- there is a status for each run, which tells its end
+abbrev pub EndBy : List Files → List Run → List ℕ → Type 0
+EndBy state [] [] = Unit {0}
+EndBy state [] (status ∷ statuses) = ⊥
+EndBy state (run ∷ runs) [] = ⊥
+EndBy state (run ∷ runs) (status ∷ statuses) = EndsBy state run status × EndBy run.left runs statuses
+
+-- Runs with these words, one after the other, are a history that leads from the one state of a machine to the other.
+-- They take its input in turn, end as these statuses tell, and this is all that they printed.
+pub record HasHistory (words : List (List Word)) (statuses : List ℕ) (old new : State) (sent : Sent) : Type 0 where
   pub runs : List Run
-  pub history : IsHistory old runs
-  pub left : state_after old runs ≡ new
+  pub history : IsHistory (recovered_views old) runs
+  pub left : state_after (recovered_views old) runs ≡ recovered_views new
+  pub fed : TakeTurns old.input runs new.input
+  pub told : EndBy (recovered_views old) runs statuses
   pub spoken : map (λ run. run.words) runs ≡ words
   pub said : join_replies (map (λ run. run.sent) runs) ≡ sent
+
+-- A run with these words led from the one state to its end with this status. Then a stop left the other state: of the
+-- candidate of that number, and with these bytes in each soft file.
+pub record StopsBehind (words : List Word) (number : ℕ) (fill : List ℕ) (old left : State) (status : ℕ) : Type 0 where
+  pub last : State
+  pub ran : Adds old.printed last.printed (λ sent. Leads (recovered_views old) (asked_lines_of words old)
+      (recovered_views last) sent (end_at (ended_of status)))
+  pub replies : FitsReplies (latest_view (recovered_views old)) (asked_lines_of words old) (ended_of status)
+  pub chosen : IsLeft last number fill left.files
+  pub is : left ≡ after_stop left.files last

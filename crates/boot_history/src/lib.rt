@@ -13,7 +13,7 @@ mod stop;
 mod tests;
 
 pub use each::run_each;
-pub use stop::run_and_stop;
+pub use stop::{StopLeft, run_and_stop};
 
 /// The law of histories. A history begins where boot sees one view whatever a stop leaves, as on a settled machine, and
 /// is a list of runs, each of which may be stopped. Each view at its end is due to a number of whole commands of each
@@ -30,10 +30,10 @@ pub fn kept_law()
     ensures { KeptLaw }
 {}
 
-/// A good entry stays: where a valid entry without a boot counter stands at a path in each view at the start of some
-/// run, and no command from that run on is told to build over it, to unlink it, to bless it as bad or as indeterminate,
-/// or to write a `loader.conf` in its place, one stands there in each later view. It is listed where the two folders
-/// hold at most 4,096 entry files.
+/// A good entry stays: where a valid entry of an EFI system partition, without a boot counter, stands at a path in each
+/// view at the start of some run, and no command from that run on is told to build over it, to unlink it, or to bless
+/// it as bad or as indeterminate, one stands there in each later view. It is listed where the two folders hold at most
+/// 4,096 entry files.
 pub fn good_entry_law()
     ensures stays { GoodEntryLaw }
     ensures listed { ListedLaw }

@@ -43,7 +43,9 @@ fn runs_print_one_behind_the_other(rt: HostRuntime) -> Result<(), Fail> {
         words_of(alloc, "bootctl lst")?,
     ]?;
     let mut machine = empty_machine(alloc)?;
-    run_each(alloc, calls.as_slice(), &mut machine);
+    let mut statuses = [5; 3];
+    run_each(alloc, calls.as_slice(), &mut statuses, &mut machine);
+    assert_eq!(rt; statuses, [0, 1, 2]);
     let wanted = "cleaned\nrefusal 13: no entries\nusage: unknown verb lst\n";
     check_printed(&rt, alloc, &machine, wanted)
 }
@@ -59,7 +61,7 @@ fn a_run_prints_nothing_that_is_stopped_at_once(rt: HostRuntime) -> Result<(), F
             fill: Vec::new(alloc),
         };
         let left = run_and_stop(alloc, &words, machine, calls, &choice)?;
-        check_printed(&rt, alloc, &left, wanted)?;
+        check_printed(&rt, alloc, &left.machine, wanted)?;
     }
     Ok(())
 }

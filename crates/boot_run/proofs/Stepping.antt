@@ -104,6 +104,7 @@ stays_step old line lines new end some stays = record {
   finished = λ is. absurd (not_finished old new end stays is);
   no_memory = λ is. refl;
   disk = λ is. refl;
+  not_all = λ is. omega arith;
   case = inl (record { leading = 0; unread = tt; enough = omega arith; front = prefix_nil _; kept = keeps_if_stays old new end stays });
 }
 
@@ -116,6 +117,7 @@ recovers_step old line lines new end some recovers = record {
   finished = λ is. absurd (subst (Recovers old new) is recovers);
   no_memory = λ is. refl;
   disk = λ is. refl;
+  not_all = λ is. omega arith;
   case = inr (record {
     views = λ v is. inl (all_are end recovers v is);
     equal = λ not_disk v w is_v is_w. all_are end recovers v is_v ∙ sym (all_are end recovers w is_w);
@@ -148,6 +150,7 @@ left_step old line lines new sent end some others not_done not_memory not_disk p
   finished = λ is. absurd (not_done is);
   no_memory = λ is. absurd (not_memory is);
   disk = λ is. absurd (not_disk is);
+  not_all = λ is. absurd (not_disk is);
   case = ⊎_elim late early (settles_or old line);
 }
   where
@@ -195,6 +198,7 @@ breaks_step old line lines new sent DiskFails some others (inr acts) = subst (λ
   finished = λ is. cc;
   no_memory = λ is. cc;
   disk = λ is. refl;
+  not_all = λ is. omega arith;
   case = inr (record {
     views = λ v is. ⊎_elim (λ was. inl was) (λ now. inr (omega arith, now)) (acts.1 v is);
     equal = λ not_disk. absurd (not_disk refl);
@@ -212,6 +216,7 @@ more_step old line lines new rest end step = record {
   finished = λ is. ap (λ (l : Sent). (line_deed (latest_view old) line).sent ++ l) (subst (λ v. rest ≡ join_replies (replies v lines)) last (step.finished is));
   no_memory = λ is. ap (λ (l : Sent). (line_deed (latest_view old) line).sent ++ l) (subst (λ v. rest ≡ join_replies (take step.acked (replies v lines))) last (step.no_memory is));
   disk = λ is. ap (λ (l : Sent). (line_deed (latest_view old) line).sent ++ l) (subst (λ v. rest ≡ join_replies (take step.acked (replies v lines))) last (step.disk is));
+  not_all = λ is. omega (arith, step.not_all is);
   case = ⊎_elim early late step.case;
 }
   where
@@ -251,28 +256,29 @@ more_step old line lines new rest end step = record {
         (settles_or old line)
 
 -- no line is left
-none_step : (old new : List Files) (end : End) → KeepsViews old new end → Step old [] new [] end
-none_step old new end kept = record {
+none_step : (old new : List Files) (end : End) → end ≢ DiskFails → KeepsViews old new end → Step old [] new [] end
+none_step old new end not_disk kept = record {
   acked = 0;
   is_acked = record { within = omega arith; whole = prefix_nil []; most = λ j le p. le };
   front = prefix_nil [];
   finished = λ is. refl;
   no_memory = λ is. refl;
   disk = λ is. refl;
+  not_all = λ is. absurd (not_disk is);
   case = inl (record { leading = 0; unread = tt; enough = omega arith; front = prefix_nil []; kept = kept });
 }
 
-ended : (old new : List Files) (part : Sent) (end : End) → EndsBefore [] old new part end → (part ≡ []) × KeepsViews old new end
-ended old new part Stopped ends = ends
-ended old new part Finished ends = ends
-ended old new part NoMemory ends = ends
-ended old new part DiskFails ends = ends
-ended old new part PipeFails ends = ends
+ended : (old new : List Files) (part : Sent) (end : End) → EndsBefore [] old new part end → (part ≡ []) × (end ≢ DiskFails) × KeepsViews old new end
+ended old new part Stopped ends = (ends.0, λ is. cc, ends.1)
+ended old new part Finished ends = (ends.0, λ is. cc, ends.1)
+ended old new part NoMemory ends = (ends.0, λ is. cc, ends.1)
+ended old new part DiskFails ends = absurd ends
+ended old new part PipeFails ends = (ends.0, λ is. cc, ends.1)
 
 -- a run over lines is a step of the reference
 pub step_of_run : (old : List Files) (lines : List Line) (new : List Files) (end : End) → NoneEmpty (latest_view old) lines → (whole : ℕ) → whole ≤ length lines → (part : Sent)
     → EndsBefore (drop whole lines) (states old (take whole lines)) new part end → Step old lines new (printed_by old (take whole lines) ++ part) end
-step_of_run old [] new end some zero le part ends = let is = ended old new part end ends in subst (λ (l : Sent). Step old [] new l end) (sym is.0) (none_step old new end is.1)
+step_of_run old [] new end some zero le part ends = let is = ended old new part end ends in subst (λ (l : Sent). Step old [] new l end) (sym is.0) (none_step old new end is.1 is.2)
 step_of_run old [] new end some (suc whole) le part ends = absurd (omega arith)
 step_of_run old (line ∷ lines) new end some zero le part ends = ⊎_elim (breaks_step old line lines new part end some.0 some.1)
     (λ done. subst (λ (l : Sent). Step old (line ∷ lines) new l end) (sym done.0) (recovers_step old line lines new end some.0 done.1)) ends

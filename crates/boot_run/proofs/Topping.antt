@@ -83,13 +83,13 @@ refused-is old (line ∷ lines) =
     (refused-is (left_by (line_deed (latest_view old) line) old) lines ∙ ap (λ v. some_refused v lines) (latest_left old line))
 
 -- nothing was done for want of memory, or because a pipe failed
-stays_runs : (old : List Files) (lines : List Line) (new : List Files) (end : End) → end ≢ Finished → Stays old new end → Runs old lines new [] end
-stays_runs old [] new Stopped not stays = record { whole = 0; within = omega arith; part = []; printed = refl; ends = (refl, stays) }
-stays_runs old [] new NoMemory not stays = record { whole = 0; within = omega arith; part = []; printed = refl; ends = (refl, stays) }
-stays_runs old [] new DiskFails not stays = record { whole = 0; within = omega arith; part = []; printed = refl; ends = (refl, stays) }
-stays_runs old [] new PipeFails not stays = record { whole = 0; within = omega arith; part = []; printed = refl; ends = (refl, stays) }
-stays_runs old [] new Finished not stays = absurd (not refl)
-stays_runs old (line ∷ lines) new end not stays = record { whole = 0; within = omega arith; part = []; printed = refl; ends = inl (inl (refl, stays)) }
+stays_runs : (old : List Files) (lines : List Line) (new : List Files) (end : End) → end ≢ Finished → end ≢ DiskFails → Stays old new end → Runs old lines new [] end
+stays_runs old [] new Stopped not not_disk stays = record { whole = 0; within = omega arith; part = []; printed = refl; ends = (refl, stays) }
+stays_runs old [] new NoMemory not not_disk stays = record { whole = 0; within = omega arith; part = []; printed = refl; ends = (refl, stays) }
+stays_runs old [] new DiskFails not not_disk stays = absurd (not_disk refl)
+stays_runs old [] new PipeFails not not_disk stays = record { whole = 0; within = omega arith; part = []; printed = refl; ends = (refl, stays) }
+stays_runs old [] new Finished not not_disk stays = absurd (not refl)
+stays_runs old (line ∷ lines) new end not not_disk stays = record { whole = 0; within = omega arith; part = []; printed = refl; ends = inl (inl (refl, stays)) }
 
 -- on a settled machine all views are one
 one_view_of_settled : (s : State) → IsSettled s → (v : Files) → IsIn v (recovered_views s) → v ≡ latest_view (recovered_views s)
@@ -164,8 +164,8 @@ module _ {D : Type 0} (time : Timeline D) (state : D → State) where
     settled = λ settled. settled;
     refusals = tt;
     finished = tt;
-    at_end = ([], sym (append-nil _), step _ _ _ [] NoMemory (stays_runs _ _ _ NoMemory (λ is. cc) refl));
-    at_each_moment = at_once time state _ old (λ m o left. let now = at_start m o left in ([], now.1 ∙ sym (append-nil _), stops _ _ _ [] (stays_runs _ _ _ Stopped (λ is. cc) (recovered_view m, refl, sees_each firm m now.0))));
+    at_end = ([], sym (append-nil _), step _ _ _ [] NoMemory (stays_runs _ _ _ NoMemory (λ is. cc) (λ is. cc) refl));
+    at_each_moment = at_once time state _ old (λ m o left. let now = at_start m o left in ([], now.1 ∙ sym (append-nil _), stops _ _ _ [] (stays_runs _ _ _ Stopped (λ is. cc) (λ is. cc) (recovered_view m, refl, sees_each firm m now.0))));
     from_sync = inl (at_once time state _ old (λ m o left. let now = at_start m o left in unsynced_yet (state old) lines m o now));
   }
   runs_nothing (Err reason) old at_start sees_each = usage_unsaid old (on_channel ErrChannel (usage_line reason)) at_start
@@ -173,7 +173,7 @@ module _ {D : Type 0} (time : Timeline D) (state : D → State) where
   -- the input is read, and then nothing more, or a run over lines
   read_moments : (old mid : D) (lines : List Line) → ((m : Files) → IsImage (state old) m → IsIn (recovered_view m) (recovered_views (state old))) → EachSince time old mid (λ m o. IsImage (state old) m × (o ≡ (state old).printed))
       → EachSince time old mid (λ image printed. Adds (state old).printed printed (λ sent. Runs (recovered_views (state old)) lines (recovered_view image ∷ []) sent Stopped))
-  read_moments old mid lines sees moments = weaken time state _ _ old mid (λ m o now. ([], now.1 ∙ sym (append-nil _), stays_runs _ lines _ Stopped (λ is. cc) (recovered_view m, refl, sees m now.0))) moments
+  read_moments old mid lines sees moments = weaken time state _ _ old mid (λ m o now. ([], now.1 ∙ sym (append-nil _), stays_runs _ lines _ Stopped (λ is. cc) (λ is. cc) (recovered_view m, refl, sees m now.0))) moments
 
   pub same_firm : (s now : State) → SameButInput s now → IsFirm s → IsFirm now
   same_firm s now same firm = subst IsFirm (sym same) (record { unseen = firm.unseen; intent = firm.intent; unnamed = firm.unnamed })
@@ -188,13 +188,18 @@ module _ {D : Type 0} (time : Timeline D) (state : D → State) where
   not_finished_at PipeStop is = cc
   not_finished_at MemoryStop is = cc
 
+  not_disk_of : (stop : Stop) → stop ≢ DiskStop → end_of stop ≢ DiskFails
+  not_disk_of DiskStop not is = absurd (not refl)
+  not_disk_of PipeStop not is = cc
+  not_disk_of MemoryStop not is = cc
+
   -- no script was read
-  pub no_script : (old mid : D) (lines : List Line) (stop : Stop) (result : Result Bool Stop) → IsErr result → IsErrAnd result (λ e. e ≡ stop) → ((m : Files) → IsImage (state old) m → IsIn (recovered_view m) (recovered_views (state old)))
+  pub no_script : (old mid : D) (lines : List Line) (stop : Stop) (result : Result Bool Stop) → stop ≢ DiskStop → IsErr result → IsErrAnd result (λ e. e ≡ stop) → ((m : Files) → IsImage (state old) m → IsIn (recovered_view m) (recovered_views (state old)))
       → IsFirm (state old) → SameButInput (state old) (state mid) → EachSince time old mid (λ m o. IsImage (state old) m × (o ≡ (state old).printed)) → RunsTo time state old mid lines result
-  no_script old mid lines stop result failed is sees firm same moments = record {
+  no_script old mid lines stop result not_disk failed is sees firm same moments = record {
     firm = same_firm _ _ same firm;
     ok = if_ok result _ failed;
-    err = if_err result stop _ is ([], ap (λ (s : State). s.printed) same ∙ sym (append-nil _), stays_runs _ lines _ (end_of stop) (not_finished_at stop) (stays_at stop _ _ (ap recovered_views same)));
+    err = if_err result stop _ is ([], ap (λ (s : State). s.printed) same ∙ sym (append-nil _), stays_runs _ lines _ (end_of stop) (not_finished_at stop) (not_disk_of stop not_disk) (stays_at stop _ _ (ap recovered_views same)));
     moments = read_moments old mid lines sees moments;
   }
 

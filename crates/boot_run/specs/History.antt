@@ -41,9 +41,10 @@ Recovers old new Finished = ⊥
 abbrev pub BreaksBehind : Deed → List Files → List Files → Sent → End → Type 0
 BreaksBehind deed old new part end = Breaks deed old new part end ⊎ ((part ≡ []) × Recovers old new end)
 
--- the run ends here, before these lines
+-- the run ends here, before these lines: a fault of the disk comes at a line
 abbrev pub EndsBefore : List Line → List Files → List Files → Sent → End → Type 0
 EndsBefore [] old new part Finished = (part ≡ []) × (new ≡ old)
+EndsBefore [] old new part DiskFails = ⊥
 EndsBefore [] old new part end = (part ≡ []) × Stays old new end
 EndsBefore (line ∷ lines) old new part end = BreaksBehind (line_deed (latest_view old) line) old new part end
 

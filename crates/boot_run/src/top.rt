@@ -132,7 +132,8 @@ fn run_to_end<M: Machine>(alloc: Global, words: &Vec<String>, machine: &mut M) -
 /// - 0: done, and all replies are printed.
 /// - 1: the same, and some reply is a refusal.
 /// - 2: the words are no command. The usage line is printed on Err, and nothing else is changed.
-/// - 3: a disk fault; 4: a fault of input or output; 5: want of memory. Each ends the run at that command.
+/// - 3: a disk fault, before all replies are printed; 4: a fault of input or output; 5: want of memory. With 3 and 5
+///   whole replies alone are printed, with 4 maybe a part of one.
 ///
 /// Before the first line that is a command, a rename that a stop has left half done is finished or undone.
 pub fn run<M: Machine>(alloc: Global, words: &Vec<String>, machine: &mut M) -> u8
@@ -155,7 +156,7 @@ pub fn run<M: Machine>(alloc: Global, words: &Vec<String>, machine: &mut M) -> u
         → (lines : List Line) → asked_lines_of (map string_bytes words.now.items) (M.state machine.old) ≡ Ok lines
         → LeavesFromSync M.time M.state machine.old machine.new lines }
     // Whatever the words, the run leads from the views at its start to those at its end, and a stop at any moment to
-    // one view. These are the steps of a history.
+    // one view. These are the steps of a history. At 3 not all lines are acknowledged.
     ensures leads { IsTrue M.tells → IsFirm (M.state machine.old)
         → Adds (M.state machine.old).printed (M.state machine.new).printed (λ sent. Leads
         (recovered_views (M.state machine.old))

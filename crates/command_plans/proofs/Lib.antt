@@ -10,6 +10,5 @@ pub mod Performed
 pub mod Registers
 pub mod Replies
 pub mod Sizes
-pub mod Syncing
 pub mod Unsaying
 pub mod Worded

@@ -1,10 +1,10 @@
 -- The clauses of every command.
-use Rattle.std.specs.Prelude.{◌≡◌, ◌⊎◌, ◌≤◌, ℕ, true, [], ◌∷◌, ◌++◌, Result, MatchResult, IfOk, IfErr, OnOk, OnErr}
-use Rattle.boot_machine.specs.Disk.{Files, IsRested, State, recovered_view}
+use Rattle.std.specs.Prelude.{◌≡◌, [], ◌∷◌, ◌++◌, Result, MatchResult, IfOk, IfErr}
+use Rattle.boot_machine.specs.Disk.{IsRested, State, recovered_view}
 use Rattle.boot_machine.specs.Images.{IsFirm}
 use Rattle.boot_machine.specs.Moments.{Timeline, EachSince}
 use Rattle.boot_machine.specs.Counts.{Counts, DiskFailed, PipeFailed}
-use Rattle.boot_machine.specs.Sent.{Sent, Adds, latest_view, recovered_views}
+use Rattle.boot_machine.specs.Sent.{Adds, recovered_views}
 use Rattle.boot_machine.specs.declared.machine.NamesFault.{NamesFault}
 use Rattle.boot_machine.specs.declared.machine.NamesFault.TheVariants as names
 use Rattle.install_steps.specs.Steps.{NoNewTemp}
@@ -51,21 +51,6 @@ pub record Performs {M E : Type 0} (time : Timeline M) (state : M → State)
   pub moments : EachSince time old new
       (λ image sent. Adds (state old).printed sent
       (λ part. Breaks deed (recovered_views (state old)) (recovered_view image ∷ []) part Stopped))
-
--- From some moment on, the images are those after a sync of the names as they were at the start.
-abbrev pub LateFrom : {M : Type 0} → Timeline M → (M → State) → M → M → Deed → Type 0
-LateFrom time state old new deed =
-    (t : ℕ) × (time.clock old ≤ t) × (t ≤ time.clock new)
-    × ((image : Files) (sent : Sent) → time.since new t image sent
-    → Adds (state old).printed sent (λ part. Breaks deed (latest_view (recovered_views (state old)) ∷ [])
-    (recovered_view image ∷ []) part Stopped))
-
--- a deed that settles is late from some moment on, unless it was given up with nothing changed
-pub record Syncs {M E : Type 0} (time : Timeline M) (state : M → State)
-    (old new : M) (deed : Deed) (result : Result Outcome E) : Type 0 where
-  pub ok : OnOk result (deed.settles ≡ true → LateFrom time state old new deed)
-  pub err : OnErr result ((recovered_views (state new) ≡ recovered_views (state old))
-      ⊎ LateFrom time state old new deed)
 
 -- the counts at each stop
 abbrev pub stop_counts : Stop → Counts → Counts → Type 0

@@ -16,7 +16,7 @@ ghost use Rattle.image_writer.specs.Taken.{writing_length};
 ghost use Rattle.install_steps.specs.Steps.{CountsStep, IsDone, Keeps, NoNewTemp, RestsUnless, StepsTo};
 ghost use Rattle.command_plans.specs.Answers.{channel_of};
 ghost use Rattle.command_plans.specs.Deeds.{deed_of_answer};
-ghost use Rattle.command_plans.specs.Performs.{CountsFault, LeavesNoTempBy, LeavesRestedBy, Performs, Syncs, end_by};
+ghost use Rattle.command_plans.specs.Performs.{CountsFault, LeavesNoTempBy, LeavesRestedBy, Performs, end_by};
 ghost use Rattle.command_plans.specs.Plans.{CanMake, Drops, DropsBy, IsMakeable, with_copy, effect, making_length, answer_of_plan, view_with_image};
 
 use crate::outcome::{MachineFault, Outcome};
@@ -200,9 +200,6 @@ pub fn perform<M: Machine>(plan: &Plan, machine: &mut M) -> Result<Outcome, Mach
     requires there { IsTrue M.tells → CanMake (M.state machine.old) plan.now.change }
     ensures performs { IsTrue M.tells → IsFirm (M.state machine.old)
         → Performs M.time M.state end_by machine.old machine.new
-        (deed_of_answer (answer_of_plan (seen (M.state machine.old)) plan.now)) result }
-    ensures syncs { IsTrue M.tells → IsFirm (M.state machine.old)
-        → Syncs M.time M.state machine.old machine.new
         (deed_of_answer (answer_of_plan (seen (M.state machine.old)) plan.now)) result }
     ensures drops { IsTrue M.tells → DropsBy result plan.now.change (M.state machine.old).files
         (M.state machine.new).files }

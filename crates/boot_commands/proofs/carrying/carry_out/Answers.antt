@@ -2,9 +2,7 @@ use Rattle.std.proofs.Common.{refl}
 use Rattle.boot_machine.specs.Sent.{seen}
 use Rattle.command_plans.specs.Deeds.{deed_of_answer}
 use Rattle.command_plans.specs.Plans.{answer_of_plan}
-use Rattle.command_plans.specs.declared.outcome.MachineFault.{MachineFault}
 use Rattle.command_plans.proofs.Performed.{done_by, stopped_by}
-use Rattle.command_plans.proofs.Syncing.{syncs_done, syncs_stopped}
 use Rattle.boot_commands.proofs.Tidies.{tidies_failed}
 use Rattle.boot_commands.proofs.carrying.carry_out.Goals as goal
 
@@ -18,17 +16,6 @@ pub returns-clause-performs : goal.returns-clause-performs
 returns-clause-performs g c told firm =
     let old = c.args.machine.now in
     done_by g.M.Machine.time g.M.Machine.state old c.perform-result.new.machine (deed_of_answer (answer_of_plan (seen (g.M.Machine.state old)) c.args.plan)) c.in_ok-result.field-0 (c.in_ok-result.ensures.performs told firm)
-
-pub returns-in_err-result-clause-syncs : goal.returns-in_err-result-clause-syncs
-returns-in_err-result-clause-syncs g c told firm =
-    let old = c.args.machine.now in
-    syncs_stopped g.M.Machine.time g.M.Machine.state old c.perform-result.new.machine (deed_of_answer (answer_of_plan (seen (g.M.Machine.state old)) c.args.plan)) c.in_err-result.field-0.0 c.from_residual.result
-    c.from_residual.ensures.0 (c.in_err-result.ensures.syncs told firm)
-
-pub returns-clause-syncs : goal.returns-clause-syncs
-returns-clause-syncs g c told firm =
-    let old = c.args.machine.now in
-    syncs_done {E = MachineFault} g.M.Machine.time g.M.Machine.state old c.perform-result.new.machine (deed_of_answer (answer_of_plan (seen (g.M.Machine.state old)) c.args.plan)) c.in_ok-result.field-0 (c.in_ok-result.ensures.syncs told firm)
 
 pub returns-in_err-result-clause-tidies : goal.returns-in_err-result-clause-tidies
 returns-in_err-result-clause-tidies g c told command so =

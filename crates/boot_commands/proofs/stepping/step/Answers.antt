@@ -5,7 +5,7 @@ use Rattle.boot_machine.proofs.Seeing.{sees}
 use Rattle.boot_commands.specs.Commands.{LeavesTidied, deed_of, step_reply}
 use Rattle.command_plans.specs.Plans.{CanMake, Drops}
 use Rattle.command_plans.proofs.Performed.{plan_failed}
-use Rattle.boot_commands.proofs.Reading.{performs_after, syncs_after, tidies_after}
+use Rattle.boot_commands.proofs.Reading.{performs_after, tidies_after}
 use Rattle.boot_commands.proofs.Tidies.{tidies_unplanned}
 use Rattle.boot_commands.proofs.stepping.step.Goals as goal
 
@@ -25,12 +25,6 @@ returns-clause-performs g c told firm =
     let old = c.args.machine.now in
     performs_after g.M.Machine.time g.M.Machine.state old c.plan_of.new.machine c.carry_out.new.machine c.in_ok-plan.plan (step_reply (seen (g.M.Machine.state old)) c.args.command.now) c.carry_out.result
     (λ m image. sees (g.M.Machine.state old) (g.met.M.Machine.sound old told) firm m image) (c.plan_of.ensures.reads told) (c.in_ok-plan.ensures.plans told).answer_is firm (c.carry_out.ensures.performs told)
-
-pub returns-clause-syncs : goal.returns-clause-syncs
-returns-clause-syncs g c told firm =
-    let old = c.args.machine.now in
-    syncs_after g.M.Machine.time g.M.Machine.state old c.plan_of.new.machine c.carry_out.new.machine c.in_ok-plan.plan (step_reply (seen (g.M.Machine.state old)) c.args.command.now) c.carry_out.result
-    (c.plan_of.ensures.reads told) (c.in_ok-plan.ensures.plans told).answer_is firm (c.carry_out.ensures.syncs told)
 
 pub returns-clause-tidies : goal.returns-clause-tidies
 returns-clause-tidies g c told =

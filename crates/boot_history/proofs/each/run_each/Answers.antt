@@ -1,27 +1,28 @@
-use Rattle.std.proofs.Common.{List, ◌++◌, map, string_bytes, sym, ap, ◌∙◌, subst, append_assoc}
-use Rattle.tool_words.specs.Grammar.{Word}
-use Rattle.boot_machine.specs.Sent.{Sent, recovered_views}
-use Rattle.boot_history.specs.Histories.{HasHistory, Run}
-use Rattle.boot_history.proofs.Pushing.{mapped_next, one_more}
+use Rattle.std.proofs.Common.{◌≡◌, ℕ, map, string_bytes, ◌∙◌, arith}
+use Rattle.std.proofs.Math.ListN.{length-set}
+use Rattle.boot_history.proofs.Pushing.{IsRunBy, mapped_next, one_longer, status_next}
 use Rattle.boot_history.proofs.each.run_each.Goals as goal
 
-pub loop-words-preserved : goal.loop-words-preserved
-loop-words-preserved g c told firm =
-    let before = c.loop-words.invariant told firm in
-    let has = before.1 in
-    let leads = c.run.ensures.leads told before.0 in
-    let first = g.M.Machine.state c.args.machine.now in
-    let new = recovered_views (g.M.Machine.state c.run.new.machine) in
-    let words = map string_bytes c.words-item.result.items in
-    let input = (g.M.Machine.state c.loop-words.machine).input in
-    let run : Run = record { words = words; input = input; sent = leads.0; end = _; left = new } in
-    let one_longer = mapped_next (λ words. map string_bytes words.items) c.args.calls.now c.loop-words.words-index
-    c.words-item.result c.loop-words-test.true c.words-item.is in (
-      c.run.ensures.firm told before.0,
-      (
-        has.0 ++ leads.0,
-        leads.1 ∙ ap (λ (l : Sent). l ++ leads.0) has.1 ∙ append_assoc first.printed has.0 leads.0,
-        subst (λ (l : List (List Word)). HasHistory l (recovered_views first) new (has.0 ++ leads.0)) (sym one_longer)
-            (one_more _ _ _ has.0 run has.2 leads.2),
+pub loop-index-preserved : goal.loop-index-preserved
+loop-index-preserved g c = (
+  length-set c.loop-index.statuses c.loop-index.index c.run.result ∙ c.loop-index.invariant.0,
+  λ told firm.
+      let before = c.loop-index.invariant.1 told firm in
+      let mid = g.M.Machine.state c.loop-index.machine in
+      let new = g.M.Machine.state c.run.new.machine in
+      let words = map string_bytes c.index-calls-index.result.items in
+      let by : IsRunBy words c.run.result mid new = record {
+        one = c.run.ensures.status;
+        leads = c.run.ensures.leads told before.0;
+        refused = c.run.ensures.refused told before.0;
+        fits = c.run.ensures.fits;
+        input = c.run.ensures.input told;
+      } in (
+        c.run.ensures.firm told before.0,
+        one_longer _ _ _ _ (g.M.Machine.state c.args.machine.now) mid new words c.run.result
+            (mapped_next (λ words. map string_bytes words.items) c.args.calls.now c.loop-index.index
+            c.index-calls-index.result c.loop-index-test.true c.index-calls-index.is)
+            (status_next c.loop-index.statuses c.loop-index.index c.run.result (omega arith))
+            before.1 by,
       ),
-    )
+)

@@ -1,13 +1,15 @@
+use Rattle.std.proofs.Common.{◌≡◌, length}
 use Rattle.std.specs.Prelude.{IsTrue, map, string_bytes, take}
 use Rattle.boot_machine.specs.Images.{IsFirm}
-use Rattle.boot_machine.specs.Sent.{Adds, recovered_views}
+use Rattle.boot_machine.specs.Sent.{Adds}
 use Rattle.boot_history.specs.Histories.{HasHistory}
 use Rattle.boot_history.proofs.each.run_each.Given as goal
 
-abbrev pub invariant-loop-words : goal.invariant-loop-words
-invariant-loop-words g l =
-    IsTrue g.M.Machine.tells → IsFirm (g.M.Machine.state l.fn.machine)
+abbrev pub invariant-loop-index : goal.invariant-loop-index
+invariant-loop-index g l =
+    (length l.statuses ≡ length l.calls)
+    × (IsTrue g.M.Machine.tells → IsFirm (g.M.Machine.state l.fn.machine)
     → IsFirm (g.M.Machine.state l.machine)
     × Adds (g.M.Machine.state l.fn.machine).printed (g.M.Machine.state l.machine).printed
-    (HasHistory (map (λ words. map string_bytes words.items) (take l.words-index l.calls))
-    (recovered_views (g.M.Machine.state l.fn.machine)) (recovered_views (g.M.Machine.state l.machine)))
+    (HasHistory (map (λ words. map string_bytes words.items) (take l.index l.calls)) (take l.index l.statuses)
+    (g.M.Machine.state l.fn.machine) (g.M.Machine.state l.machine)))

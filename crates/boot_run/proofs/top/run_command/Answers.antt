@@ -1,7 +1,8 @@
-use Rattle.std.proofs.Common.{◌≡◌, true, List, sym, ap, ◌∙◌, subst}
+use Rattle.std.proofs.Common.{◌≡◌, true, List, Err, sym, ap, ◌∙◌, subst}
 use Rattle.boot_machine.specs.Disk.{IsRested, State}
 use Rattle.boot_machine.proofs.Seeing.{sees}
 use Rattle.boot_commands.specs.Plain.{is_script}
+use Rattle.command_plans.specs.declared.outcome.Stop.{Stop}
 use Rattle.boot_run.specs.AskedLines.{lines_for}
 use Rattle.boot_run.specs.Endings.{AllTidied, ended_by}
 use Rattle.boot_run.specs.Lines.{has_command}
@@ -22,7 +23,7 @@ pub returns-in_err-lines-clause-runs : goal.returns-in_err-lines-clause-runs
 returns-in_err-lines-clause-runs g c told firm =
     let old = c.args.machine.now in
     no_script g.M.Machine.time g.M.Machine.state old c.read_script.new.machine (lines_for (g.M.Machine.state old).input c.args.command) c.in_err-lines.field-0.0
-    _ c.from_residual.ensures.0 c.from_residual.ensures.1
+    _ (λ is. c.in_err-lines.ensures.no_disk (ap (λ (stop : Stop). Err stop) is)) c.from_residual.ensures.0 c.from_residual.ensures.1
     (λ m image. sees (g.M.Machine.state old) (g.met.M.Machine.sound old told) firm m image) firm (c.read_script.ensures.same told) (c.read_script.ensures.moments told)
 
 pub returns-clause-runs : goal.returns-clause-runs

@@ -7,10 +7,8 @@ use Rattle.boot_machine.proofs.Seeing.{sees}
 use Rattle.install_steps.specs.Steps.{IsDone, NoNewTemp, Sees}
 use Rattle.command_plans.specs.Answers.{channel_of}
 use Rattle.command_plans.specs.Plans.{Drops, effect, making_length}
-use Rattle.command_plans.proofs.Exits.{on_err, not_ok}
 use Rattle.command_plans.proofs.Performed.{settle_failed, change_failed, replied}
 use Rattle.command_plans.proofs.Replies.{Replied, replied_drops, replied_input, replied_rests, replied_temps}
-use Rattle.command_plans.proofs.Syncing.{change_late, late_by, reply_late}
 use Rattle.command_plans.proofs.performing.perform.Goals as goal
 
 pub returns-in_err-settle-clause-performs : goal.returns-in_err-settle-clause-performs
@@ -33,15 +31,6 @@ returns-in_err-apply-clause-performs g c told firm =
     (c.settle.ensures.keeps told) (c.settle.ensures.files told) (c.settle.ensures.moments told)
     (c.apply.ensures.keeps told) (c.apply.ensures.step told (c.settle.ensures.firm told firm)).firm
     (subst (λ v. EachSince g.M.Machine.time c.settle.new.machine c.apply.new.machine (Sees (g.M.Machine.state c.settle.new.machine) (effect v c.args.plan.now.change))) same_view (c.apply.ensures.step told (c.settle.ensures.firm told firm)).moments)
-
-pub returns-in_err-apply-clause-syncs : goal.returns-in_err-apply-clause-syncs
-returns-in_err-apply-clause-syncs g c told firm =
-    let old = c.args.machine.now in
-    let s = g.M.Machine.state old in
-    let same_view = ap view (c.settle.ensures.files told) in
-    let late = change_late g.M.Machine.time g.M.Machine.state old c.args.plan.now.outcome (effect (seen s) c.args.plan.now.change) (channel_of c.args.plan.now.outcome) c.args.plan.now.text c.settle.new.machine c.apply.new.machine (c.settle.ensures.keeps told) (c.settle.ensures.files told) (c.settle.ensures.moments told).later
-    (subst (λ v. EachSince g.M.Machine.time c.settle.new.machine c.apply.new.machine (Sees (g.M.Machine.state c.settle.new.machine) (effect v c.args.plan.now.change))) same_view (c.apply.ensures.step told (c.settle.ensures.firm told firm)).moments) in
-    record { ok = not_ok c.from_residual-in_err-apply.result _ c.from_residual-in_err-apply.ensures.0; err = on_err c.from_residual-in_err-apply.result _ (inr late) }
 
 pub returns-in_err-apply-clause-taken : goal.returns-in_err-apply-clause-taken
 returns-in_err-apply-clause-taken g c told =
@@ -66,23 +55,6 @@ returns-in-Done-clause-performs g c told firm =
     (subst (λ v. EachSince g.M.Machine.time c.settle.new.machine c.apply.new.machine (Sees (g.M.Machine.state c.settle.new.machine) (effect v plan.change))) same_view (c.apply.ensures.step told firm_then).moments)
     (subst (λ bytes. EachSince g.M.Machine.time c.apply.new.machine c.reply.new.machine (PrintsPart done (on_channel to bytes))) c.as_slice.ensures (c.reply.ensures.moments told))
     (subst (λ bytes. Replied plan.outcome to bytes done (g.M.Machine.state c.reply.new.machine) c.reply.result) c.as_slice.ensures (c.reply.ensures.printed told))
-
-pub returns-in-Done-clause-syncs : goal.returns-in-Done-clause-syncs
-returns-in-Done-clause-syncs g c told firm =
-    let old = c.args.machine.now in
-    let s = g.M.Machine.state old in
-    let plan = c.args.plan.now in
-    let to = channel_of plan.outcome in
-    let same_view = ap view (c.settle.ensures.files told) in
-    let firm_then = c.settle.ensures.firm told firm in
-    let done = g.M.Machine.state c.apply.new.machine in
-    late_by g.M.Machine.time g.M.Machine.state old plan.outcome (effect (seen s) plan.change) to plan.text c.reply.result (reply_late g.M.Machine.time g.M.Machine.state old plan.outcome (effect (seen s) plan.change) to plan.text
-    c.settle.new.machine c.apply.new.machine c.reply.new.machine
-    (c.settle.ensures.keeps told) (c.settle.ensures.files told) (c.settle.ensures.moments told).later
-    (c.apply.ensures.keeps told)
-    (subst (λ v. IsDone done (effect v plan.change)) same_view (c.in_ok-apply.ensures.done told firm_then))
-    (subst (λ v. EachSince g.M.Machine.time c.settle.new.machine c.apply.new.machine (Sees (g.M.Machine.state c.settle.new.machine) (effect v plan.change))) same_view (c.apply.ensures.step told firm_then).moments)
-    (subst (λ bytes. EachSince g.M.Machine.time c.apply.new.machine c.reply.new.machine (PrintsPart done (on_channel to bytes))) c.as_slice.ensures (c.reply.ensures.moments told)))
 
 pub returns-in-Done-clause-drops : goal.returns-in-Done-clause-drops
 returns-in-Done-clause-drops g c told =
