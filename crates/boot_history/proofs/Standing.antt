@@ -12,7 +12,7 @@ use Rattle.boot_machine.specs.Disk.{Files}
 use Rattle.boot_machine.specs.Sent.{latest_view}
 use Rattle.menu_order.specs.declared.item.MenuItem.{MenuItem}
 use Rattle.tool_words.specs.declared.fault.UsageReason.{UsageReason}
-use Rattle.entry_commands.specs.Folders.{folders_of}
+use Rattle.command_plans.specs.Folders.{folders_of}
 use Rattle.entry_commands.specs.GoodEntries.{HasGoodEntry}
 use Rattle.entry_commands.specs.Listing.{menu_result}
 use Rattle.boot_commands.proofs.Sparing.{kept}

@@ -58,13 +58,17 @@ impl<R: Runtime<File = File> + AllocGlobal> System<R> {
         }
     }
 
-    // The length of a file, and None if none is there.
+    // The length of a file, and None if none is there. While another run moves a file it may have no name to be found by,
+    // so that is a fault then.
     pub(crate) fn size_of(&mut self, path: &str) -> io::Result<Option<u64>> {
         self.named.look_at(path)?;
         if path == INTENT {
             return self.size_of_intent();
         }
         let found = if_there(fs::metadata(&self.rt, path))?;
+        if found.is_none() {
+            require_no_other_move(&self.rt, self.intent.as_ref())?;
+        }
         self.looks.add(path, found.as_ref())?;
         Ok(
             found
@@ -108,6 +112,7 @@ impl<R: Runtime<File = File> + AllocGlobal> System<R> {
         self.named.look_at(path)?;
         let kept = copy_path(self.rt.alloc(), path)?;
         let Some(file) = open_file(&self.rt, path)? else {
+            require_no_other_move(&self.rt, self.intent.as_ref())?;
             self.looks.add(path, None)?;
             return Ok(None);
         };
