@@ -50,9 +50,9 @@ module _ (first last : List ℕ) (first_kept : is_kept first ≡ true) (last_kep
       let some : 0 < length (end.0 ++ first) = omega (arith, length-append end.0 first, is_kept-long first first_kept) in (
         end.0,
         ap (join_filtered 47 is_kept) (sym (append_assoc pieces (first ∷ []) (last ∷ [])))
-        ∙ join_filtered-kept 47 is_kept is_kept-long (pieces ++ first ∷ []) last last_kept
-        ∙ ap (λ (t : List ℕ). add_piece 47 t last) (join_filtered-kept 47 is_kept is_kept-long pieces first first_kept ∙ end.1)
-        ∙ behind_some (end.0 ++ first) last some,
+            ∙ join_filtered-kept 47 is_kept is_kept-long (pieces ++ first ∷ []) last last_kept
+            ∙ ap (λ (t : List ℕ). add_piece 47 t last) (join_filtered-kept 47 is_kept is_kept-long pieces first first_kept ∙ end.1)
+            ∙ behind_some (end.0 ++ first) last some,
       )
 
   -- the path of two components below a folder ends in them
