@@ -10,7 +10,7 @@ use std::alloc::{AllocError, Global};
 
 /// The place of the entry of a menu that boots by default (loader.conf(5), "default"): the first whose id the settings
 /// match, else the first of all. There is none exactly where the menu is empty.
-pub fn chosen(
+pub fn choose_entry(
     alloc: Global,
     items: &[MenuItem],
     conf: &LoaderConf,

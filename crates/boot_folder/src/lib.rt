@@ -16,7 +16,7 @@ mod once;
 mod scanning;
 mod uki;
 
-pub use choice::chosen;
+pub use choice::choose_entry;
 pub use fault::{ItemFault, Missing, ScanFault};
 pub use folders::Folders;
 pub use laws::entries_laws;

@@ -14,7 +14,7 @@ ghost use Rattle.loader_commands.specs.Showing.{default_item, menu_shown, show_a
 
 use crate::places::{conf_bytes, loader_paths};
 use boot_base::{Bytes, Refusal};
-use boot_folder::chosen;
+use boot_folder::choose_entry;
 use boot_machine::Machine;
 use boot_texts::LoaderConf;
 use command_plans::{Plan, Stop, Unsaid, menu_at, text_or_refusal};
@@ -29,7 +29,7 @@ fn default_item<'a>(
 ) -> Result<Option<&'a MenuItem>, AllocError>
     ensures { IfOk result (λ item. option_copied item ≡ default_item conf.now.default menu.now) }
 {
-    match chosen(alloc, menu, conf)? {
+    match choose_entry(alloc, menu, conf)? {
         Some(place) => Ok(menu.get(place)),
         None => Ok(None),
     }
