@@ -1,9 +1,9 @@
 //! Files that may have the same clusters on FAT.
 //!
-//! FAT makes a rename in steps. A power cut between two of them can leave two of these names over the same clusters: the
-//! old name, the new one, and a short alias, which is a name of 8 and 3 letters whose long name isn't on the disk. Who
-//! then removes, cuts or replaces the one file frees the clusters of the other. Only a check of the file system parts
-//! them. So a file is changed only if it has one name.
+//! FAT makes a rename in steps. A power cut between two of them can leave two of these names over the same clusters:
+//! the old name, the new one, and a short alias, which is a name of 8 and 3 letters whose long name isn't on the
+//! disk. Who then removes, cuts or replaces the one file frees the clusters of the other. Only a check of the file
+//! system parts them. So a file is changed only if it has one name.
 use crate::answers::if_there;
 use crate::intent::parted;
 use crate::kept::{copy_path, is_same};
@@ -42,8 +42,8 @@ pub(crate) fn file_at<R: Files>(rt: &R, path: &str) -> io::Result<Option<Metadat
     Ok(found.filter(|found| found.is_file()))
 }
 
-// Beside a file there must be no other name that it may have: that of its temporary file, or, of a temporary file, that of
-// its output; or a short alias.
+// Beside a file there must be no other name that it may have: that of its temporary file, or, of a temporary file,
+// that of its output; or a short alias.
 pub(crate) fn require_one_name<R: Runtime + AllocGlobal>(rt: &R, path: &str) -> io::Result<()> {
     let found = file_at(rt, path)?.filter(|found| found.len() > 0 && has_time_of_fat(found));
     let Some(found) = found else {

@@ -1,7 +1,7 @@
 //! What a power cut leaves of a rename on FAT, by the names of its intent, and how its bytes are saved.
 //!
-//! A check of the file system empties one of two names that stand over the same clusters. So bytes are never freed while
-//! two names may have them, and afterwards they are kept under the name that has them.
+//! A check of the file system empties one of two names that stand over the same clusters. So bytes are never freed
+//! while two names may have them, and afterwards they are kept under the name that has them.
 use crate::clusters::{
     Alias, aliases_beside, file_at, has_time_of_fat, may_share, may_share_fault,
 };

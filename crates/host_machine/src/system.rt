@@ -58,8 +58,8 @@ impl<R: Runtime<File = File> + AllocGlobal> System<R> {
         }
     }
 
-    // The length of a file, and None if none is there. While another run moves a file it may have no name to be found by,
-    // so that is a fault then.
+    // The length of a file, and None if none is there. While another run moves a file it may have no name to be found
+    // by, so that is a fault then.
     pub(crate) fn size_of(&mut self, path: &str) -> io::Result<Option<u64>> {
         self.named.look_at(path)?;
         if path == INTENT {
@@ -126,6 +126,7 @@ impl<R: Runtime<File = File> + AllocGlobal> System<R> {
         self.named.look_into(folder)?;
         let names = names_in(&self.rt, alloc, folder)?;
         require_no_other_move(&self.rt, self.intent.as_ref())?;
+        self.looks.add_names(folder, names.as_slice())?;
         Ok(names)
     }
 
@@ -140,6 +141,8 @@ impl<R: Runtime<File = File> + AllocGlobal> System<R> {
         require_one_name(&self.rt, output)?;
         require_one_name(&self.rt, path)?;
         require_no_other_move(&self.rt, self.intent.as_ref())?;
+        self.looks.require_same_names(&self.rt)?;
+        self.looks.forget(path);
         self.named.change(path)?;
         self.make_folders(path)?;
         let file = open_locked(&self.rt, path, OpenOptions::new().append(true).create(true))?;
@@ -213,6 +216,8 @@ impl<R: Runtime<File = File> + AllocGlobal> System<R> {
         require_replaceable(&self.rt, to)?;
         self.named.rename(from, to)?;
         self.make_folders(to)?;
+        self.looks.forget(from);
+        self.looks.forget(to);
         fs::rename(&self.rt, from, to)
     }
 
@@ -291,6 +296,7 @@ impl<R: Runtime<File = File> + AllocGlobal> System<R> {
         self.looked = None;
         let removed = copy_path(self.rt.alloc(), path)?;
         self.named.change(path)?;
+        self.looks.forget(path);
         fs::remove_file(&self.rt, path)?;
         self.removed = Some(removed);
         Ok(())

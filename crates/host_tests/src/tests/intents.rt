@@ -1,7 +1,7 @@
 // The intent of a move: which one is believed, who holds it, and what a power cut on FAT leaves of the names in it.
 use super::Act::{Append, Create, Rename, RenameTemp, SyncFile, Unlink, UnlinkTemp};
-use super::Change::{Link, MakeFolder, Write, WriteAt};
-use super::Step::{Beside, Does, Fails, Faults, Holds, Lacks, Puts, Runs, Size, Syncs};
+use super::Change::{Link, MakeFolder, RemoveFolder, Write, WriteAt};
+use super::Step::{Beside, Does, Fails, Faults, HasNames, Holds, Lacks, Puts, Runs, Size, Syncs};
 use super::runs::run_both;
 use super::{Step, run};
 use boot_base::INTENT;
@@ -257,6 +257,36 @@ static ONE_PUTS: [(u8, Step); 12] = [
 #[test]
 fn a_move_and_a_write_see_each_other(rt: HostRuntime) -> Result<(), Fail> {
     run_both(&rt, &ONE_PUTS)
+}
+
+// A folder that was listed must have the same names as a change begins, and a file that was there must be there
+// still. What this run changes itself doesn't count.
+static LISTED: [Step; 20] = [
+    Beside(MakeFolder("d")),
+    Beside(Write("d/a", b"a")),
+    HasNames("d"),
+    Size("d/a", Some(1)),
+    Syncs(true),
+    Beside(Write("d/b", b"b")),
+    Fails("e", Create),
+    Lacks("e.tmp"),
+    Syncs(true),
+    HasNames("d"),
+    Size("d/b", Some(1)),
+    Syncs(true),
+    Does("e", Create),
+    Does("d/b", Unlink),
+    Syncs(true),
+    Size("d/b", None),
+    Size("d/a", Some(1)),
+    Syncs(true),
+    Beside(RemoveFolder("d")),
+    Faults(1),
+];
+
+#[test]
+fn a_folder_that_another_run_changed_is_a_fault(rt: HostRuntime) -> Result<(), Fail> {
+    run(&rt, rt, &LISTED)
 }
 
 // What was read is what is replaced, also if nothing was there. One sync of names stands between the reading and the
