@@ -1,5 +1,5 @@
 -- No command's reply is empty.
-use Rattle.std.proofs.Common.{ℕ, ◌<◌, ◌&&◌, ◌∷◌, [], codes, Bool, true, false, cond, List, length, arith, Option, Some, None, Result, Ok, Err}
+use Rattle.std.proofs.Common.{ℕ, ◌<◌, ◌&&◌, ◌∷◌, [], codes, Bool, true, false, cond, List, length, map, arith, Option, Some, None, Result, Ok, Err}
 use Rattle.std.specs.FinMap.{get}
 use Rattle.boot_base.specs.Paths.{Path}
 use Rattle.boot_base.specs.declared.refusal.Refusal.{Refusal}
@@ -16,8 +16,12 @@ use Rattle.image_build.specs.Building.{BuiltImage, build_of, built_answer}
 use Rattle.command_plans.specs.Files.{bytes_at, each, image_at}
 use Rattle.image_commands.specs.Calculating.{calculate_result, part_words, under_name}
 use Rattle.stub_replay.specs.Ordered.{present_parts}
-use Rattle.image_commands.specs.Said.{has_loaded, identify_result, measure_result, inspect_result, inspection_at, kind_at, kind_of, values_at}
+use Rattle.image_commands.specs.Said.{has_loaded, identify_result, measure_result, inspect_result, inspection_at, kind_at, kind_of, section_facts, values_at}
 use Rattle.command_plans.specs.Choices.{banks_of, without_repeats, paths_of}
+use Rattle.image_commands.specs.Told.{told_sections, told_values}
+use Rattle.list_json.specs.Registers.{values_data}
+use Rattle.list_json.specs.Sections.{SectionFacts, sections_data}
+use Rattle.list_json.proofs.Some.{some_json}
 use Rattle.boot_commands.specs.Commands.{step_reply}
 use Rattle.boot_commands.specs.Plain.{plain_answer}
 use Rattle.boot_commands.specs.Demonstration.{demo_result, number_up_to}
@@ -55,6 +59,16 @@ unfolding without_repeats
 some_values value banks [] = some_lines value banks (paths_of []) (omega arith)
 some_values value banks (first ∷ more) = some_lines value banks (paths_of (first ∷ more)) (omega arith)
 
+-- sections are told in lines or in a line, and neither is empty
+some_sections : (json : Bool) (path : Path) (sections : List SectionFacts) → 0 < length (told_sections json path sections)
+some_sections false path sections = omega arith
+some_sections true path sections = some_json (sections_data sections)
+
+-- and so are values
+some_told : (json : Bool) (value : Bank → List (List ℕ) → List ℕ) (banks : List Bank) (texts : List (List ℕ)) → 0 < length (told_values json value banks (paths_of texts))
+some_told false value banks texts = some_values value banks texts
+some_told true value banks texts = some_json (values_data value banks (paths_of texts))
+
 some_kind : (bytes : List ℕ) (read : Result Headers FailedCheck) → 0 < length (kind_of bytes read)
 some_kind bytes (Ok headers) = by_sections (has_loaded bytes (codes ".linux") && has_loaded bytes (codes ".osrel"))
   where
@@ -86,15 +100,16 @@ unfolding step_reply plain_answer
 some_text view (command.Build words) = some_built view words.measure (build_of view words)
 some_text view (command.Calculate words) =
     some_said view (calculate_result view words)
-    (text_next (each (under_name path_in) (present_parts (part_words words))) _ (λ paths. text_next (each (under_name (bytes_at view)) paths) _ (λ parts. some_values _ (banks_of words.banks) words.phases)))
-some_text view (command.Inspect file) =
-    some_said view (inspect_result view file) (text_next (path_in file) (inspection_at view) (λ path. text_next (image_at view path) _ (λ image. omega arith)))
-some_text view (command.Image file banks phases) =
-    some_said view (measure_result view file banks phases)
-    (text_next (path_in file) (values_at view banks phases) (λ path. text_next (image_at view path) _ (λ image. some_values _ (banks_of banks) phases)))
+    (text_next (each (under_name path_in) (present_parts (part_words words))) _ (λ paths. text_next (each (under_name (bytes_at view)) paths) _ (λ parts. some_told words.json _ (banks_of words.banks) words.phases)))
+some_text view (command.Inspect file json) =
+    some_said view (inspect_result view file json)
+    (text_next (path_in file) (inspection_at view json) (λ path. text_next (image_at view path) _ (λ image. some_sections json path (map (section_facts image.0) image.1.sections))))
+some_text view (command.Image file banks phases json) =
+    some_said view (measure_result view file banks phases json)
+    (text_next (path_in file) (values_at view banks phases json) (λ path. text_next (image_at view path) _ (λ image. some_told json _ (banks_of banks) phases)))
 some_text view (command.Identify file) =
     some_said view (identify_result view file) (text_next (path_in file) (kind_at view) (λ path. text_next (bytes_at view path) _ (λ bytes. some_kind bytes (pe_of bytes))))
-some_text view (command.List esp) = some_list view esp
+some_text view (command.List esp json) = some_list view esp json
 some_text view (command.Tidy esp) = some_unless view (folders_of esp) (tidy_answer view) (λ folders. omega arith)
 some_text view (command.Boot esp) = some_boot view esp
 some_text view (command.Unlink name esp) = some_unless view (entry_path name esp) (unlink_answer view) (λ path. some_removal view path (get view path))

@@ -82,10 +82,10 @@ module _ (word : List ℕ) (folders : Folders) (read : folders_of word ≡ Ok fo
   kept (command.Build words) spares =
       kept_built words.measure (path_in words.output) (build_of view words) (build_output view words) spares
   kept (command.Calculate words) spares = kept_said (calculate_result view words)
-  kept (command.Inspect file) spares = kept_said (inspect_result view file)
-  kept (command.Image file banks phases) spares = kept_said (measure_result view file banks phases)
+  kept (command.Inspect file json) spares = kept_said (inspect_result view file json)
+  kept (command.Image file banks phases json) spares = kept_said (measure_result view file banks phases json)
   kept (command.Identify file) spares = kept_said (identify_result view file)
-  kept (command.List esp) spares = kept_said (list_result view esp)
+  kept (command.List esp json) spares = kept_said (list_result view esp json)
   kept (command.Tidy esp) spares = kept_unless (folders_of esp) (tidy_answer view) (λ folders is. entry)
   kept (command.Boot esp) spares = kept_boot folders path view entry esp
   kept (command.Unlink name esp) spares = kept_unless (entry_path name esp) (unlink_answer view) (λ at is.

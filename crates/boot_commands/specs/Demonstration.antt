@@ -1,5 +1,5 @@
 -- `demo SEED N`: N commands that are drawn by SEED, one after the other, and what comes of them (profile).
-use Rattle.std.specs.Prelude.{ℕ, zero, suc, ◌-◌, ◌==◌, ◌^◌, Bool, not, ◌&&◌, List, [], ◌∷◌, ◌++◌, codes, drop, length, nat_le, nat_lt, take, Option, Some, None, Result, Ok, Err, if◌then◌else◌}
+use Rattle.std.specs.Prelude.{ℕ, zero, suc, ◌-◌, ◌==◌, ◌^◌, Bool, false, not, ◌&&◌, List, [], ◌∷◌, ◌++◌, codes, drop, length, nat_le, nat_lt, take, Option, Some, None, Result, Ok, Err, if◌then◌else◌}
 use Rattle.std.specs.Char.{is_ascii_digit}
 use Rattle.std.specs.FinMap as maps
 use Rattle.std.specs.List.{list_all}
@@ -143,7 +143,7 @@ listed_on_out answer = if is_refusal answer.outcome then [] else answer.text
 
 -- the SHA-256 digest, in hex, of what a `bootctl list` of its ESP prints on Out
 abbrev pub list_digest : Files → List ℕ
-list_digest files = encode_lower (digest_of banks.Sha256 (listed_on_out (plain_reply files (command.List demo_esp))))
+list_digest files = encode_lower (digest_of banks.Sha256 (listed_on_out (plain_reply files (command.List demo_esp false))))
 
 -- the first line: what was asked for
 abbrev pub run_line : ℕ → ℕ → List ℕ

@@ -1,5 +1,5 @@
 //! `demo`: commands that are drawn by a seed, over a machine in memory, and what came of them.
-ghost use Rattle.std.specs.Prelude.{◌≡◌, ◌≤◌, string_bytes, IfOk, Some};
+ghost use Rattle.std.specs.Prelude.{◌≡◌, ◌≤◌, string_bytes, IfOk, Some, false};
 ghost use Rattle.std.specs.Char.{is_ascii_digit};
 ghost use Rattle.std.specs.List.{list_all};
 ghost use Rattle.boot_base.specs.Paths.{path_of};
@@ -113,10 +113,10 @@ fn listing(alloc: Global, machine: &mut MemMachine) -> Result<Reply, AllocError>
     requires ready { IsReady (mem_state machine.old) }
     ensures { IfOk result (λ reply.
         reply_answer reply (seen (mem_state machine.new))
-        ≡ plain_reply (seen (mem_state machine.old)) (ListCommand demo_esp)) }
+        ≡ plain_reply (seen (mem_state machine.old)) (ListCommand demo_esp false)) }
 {
     let esp = Text::of(alloc, ESP)?;
-    let command = Command::List { esp };
+    let command = Command::List { esp, json: false };
     let reply = reply_of(alloc, &command, machine);
     drop(command);
     reply

@@ -38,19 +38,27 @@ pub fn plan_plain<M: Machine>(
     match command {
         Command::Build(words) => plan_build(alloc, words, machine),
         Command::Calculate(words) => plan_calculate(alloc, words, machine),
-        Command::Inspect { file } => plan_inspect(alloc, file.as_str(), machine),
+        Command::Inspect { file, json } => plan_inspect(alloc, file.as_str(), *json, machine),
         Command::Image {
             file,
             banks,
             phases,
+            json,
         } => {
             let banks = banks.as_slice();
-            plan_image(alloc, file.as_str(), banks, phases.as_slice(), machine)
+            plan_image(
+                alloc,
+                file.as_str(),
+                banks,
+                phases.as_slice(),
+                *json,
+                machine,
+            )
         }
         Command::Identify { file } => plan_identify(alloc, file.as_str(), machine),
         Command::Unlink { name, esp } => plan_unlink(alloc, name.as_str(), esp.as_str(), machine),
         Command::Tidy { esp } => plan_tidy(alloc, esp.as_str(), machine),
-        Command::List { esp } => plan_list(alloc, esp.as_str(), machine),
+        Command::List { esp, json } => plan_list(alloc, esp.as_str(), *json, machine),
         Command::Boot { esp } => plan_boot(alloc, esp.as_str(), machine),
         Command::Install {
             file,

@@ -20,6 +20,6 @@ pub use choice::choose_entry;
 pub use fault::{ItemFault, Missing, ScanFault};
 pub use folders::Folders;
 pub use laws::entries_laws;
-pub use listing::list_text;
+pub use listing::{join_texts, list_text, status_text, title};
 pub use scanning::{scan, scan_folders};
 pub use uki::uki_item;

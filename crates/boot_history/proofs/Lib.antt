@@ -4,4 +4,3 @@ mod Keeping
 mod Pushing
 mod Standing
 mod Starting
-mod Stopping

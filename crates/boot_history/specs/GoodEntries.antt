@@ -51,7 +51,7 @@ GoodEntryLaw =
 -- the list of an ESP is the text of a menu, and the entry at this path is in it
 pub record IsListed (view : Files) (esp : List ℕ) (path : Path) : Type 0 where
   pub menu : List MenuItem
-  pub text : list_result view esp ≡ Ok (list_text menu)
+  pub text : list_result view esp false ≡ Ok (list_text menu)
   pub item : MenuItem
   pub at : item.path ≡ path
   pub among : Contains menu item

@@ -5,12 +5,12 @@ use Rattle.std.specs.Prelude.{◌≡◌, ◌≢◌, ◌≤◌, ℕ, List, [], �
 use Rattle.tool_words.specs.Grammar.{Word}
 use Rattle.tool_words.specs.Meaning.{meaning}
 use Rattle.tool_words.specs.declared.fault.UsageReason.{UsageReason}
-use Rattle.boot_machine.specs.Disk.{Files, State, IsIn}
-use Rattle.boot_machine.specs.Images.{IsSettled}
+use Rattle.boot_machine.specs.Disk.{Files, State, IsIn, recovered_view}
+use Rattle.boot_machine.specs.Images.{IsImage, IsSettled}
+use Rattle.boot_machine.specs.Moments.{EachSince, Timeline}
 use Rattle.boot_machine.specs.Sent.{Sent, Adds, latest_view, recovered_views}
-use Rattle.memory_machine.specs.Events.{after_stop}
-use Rattle.memory_machine.specs.Stops.{IsLeft}
-use Rattle.command_plans.specs.Deeds.{End, Finished}
+use Rattle.boot_machine.specs.declared.machine.Printed.{Printed}
+use Rattle.command_plans.specs.Deeds.{End, Finished, Stopped}
 use Rattle.boot_run.specs.AskedLines.{asked_lines, asked_lines_of, taken_by}
 use Rattle.boot_run.specs.Endings.{AnswersRefusals, AnswersUsage, end_at, ended_of, status_of}
 use Rattle.boot_run.specs.Step.{IsOneView, Leads, join_replies, some_refused}
@@ -102,12 +102,14 @@ pub record HasHistory (words : List (List Word)) (statuses : List ℕ) (old new 
   pub spoken : map (λ run. run.words) runs ≡ words
   pub said : join_replies (map (λ run. run.sent) runs) ≡ sent
 
--- A run with these words led from the one state to its end with this status. Then a stop left the other state: of the
--- candidate of that number, and with these bytes in each soft file.
-pub record StopsBehind (words : List Word) (number : ℕ) (fill : List ℕ) (old left : State) (status : ℕ) : Type 0 where
-  pub last : State
-  pub ran : Adds old.printed last.printed (λ sent. Leads (recovered_views old) (asked_lines_of words old)
-      (recovered_views last) sent (end_at (ended_of status)))
-  pub replies : FitsReplies (latest_view (recovered_views old)) (asked_lines_of words old) (ended_of status)
-  pub chosen : IsLeft last number fill left.files
-  pub is : left ≡ after_stop left.files last
+-- a run of these words led from this state to a stop that leaves these files, and by then this is printed
+abbrev pub StopsBy : List Word → State → Files → List Printed → Type 0
+StopsBy words old image printed =
+    Adds old.printed printed
+    (λ sent. Leads (recovered_views old) (asked_lines_of words old) (recovered_view image ∷ []) sent Stopped)
+
+-- A stop behind a run is the stop of that run at its last moment, and so a step of a history.
+abbrev pub StopLaw : {M : Type 0} → Timeline M → (M → State) → Type 0
+StopLaw {M} time state =
+    (words : List Word) (old new : M) → EachSince time old new (StopsBy words (state old))
+    → (image : Files) → IsImage (state new) image → StopsBy words (state old) image (state new).printed

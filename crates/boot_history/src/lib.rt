@@ -2,18 +2,18 @@
 //! restarts.
 #![tactic(auto)]
 
+ghost use Rattle.std.specs.Prelude.{IsTrue};
 ghost use Rattle.boot_history.specs.GoodEntries.{GoodEntryLaw, ListedLaw};
-ghost use Rattle.boot_history.specs.Histories.{StartLaw};
+ghost use Rattle.boot_history.specs.Histories.{StartLaw, StopLaw};
 ghost use Rattle.boot_history.specs.Keeping.{KeptLaw};
 ghost use Rattle.boot_history.specs.Numbers.{HistoryLaw};
 
 mod each;
-mod stop;
 #[cfg(test)]
 mod tests;
 
+use boot_machine::Machine;
 pub use each::run_each;
-pub use stop::{StopLeft, run_and_stop};
 
 /// The law of histories. A history begins where boot sees one view whatever a stop leaves, as on a settled machine, and
 /// is a list of runs, each of which may be stopped. Each view at its end is due to a number of whole commands of each
@@ -22,6 +22,13 @@ pub use stop::{StopLeft, run_and_stop};
 pub fn history_law()
     ensures starts { StartLaw }
     ensures numbers { HistoryLaw }
+{}
+
+/// A power cut behind a run is a stop of that run, on any machine that tells its files: if each moment since its start
+/// is one at which a stop of the run would be a step of a history, so is a stop at its end. `run` says that of each
+/// moment, and `MemMachine::crash` leaves what such a stop does.
+pub fn stop_law<M: Machine>()
+    ensures { IsTrue M.tells → StopLaw M.time M.state }
 {}
 
 /// What each run keeps stays: where each view at the start of some run meets a test, and each run from there on keeps

@@ -1,5 +1,7 @@
 // Runs in turn, and a run that is stopped.
-use crate::{run_and_stop, run_each};
+use crate::{run_each, stop_law};
+use boot_run::run;
+use machine_fuse::Fuse;
 use memory_machine::{CrashChoice, MemMachine};
 use std::alloc::{AllocError, Global};
 use std::process::Abort;
@@ -55,13 +57,15 @@ fn a_run_prints_nothing_that_is_stopped_at_once(rt: HostRuntime) -> Result<(), F
     let alloc = rt.alloc();
     let words = words_of(alloc, "tidy")?;
     for (calls, wanted) in [(0, ""), (1000, "cleaned\n")] {
-        let machine = empty_machine(alloc)?;
+        let mut fuse = Fuse::new(empty_machine(alloc)?, calls);
+        run(alloc, &words, &mut fuse);
         let choice = CrashChoice {
             candidate: 0,
             fill: Vec::new(alloc),
         };
-        let left = run_and_stop(alloc, &words, machine, calls, &choice)?;
-        check_printed(&rt, alloc, &left.machine, wanted)?;
+        let left = fuse.into_inner().crash(alloc, &choice)?;
+        stop_law::<MemMachine>();
+        check_printed(&rt, alloc, &left, wanted)?;
     }
     Ok(())
 }

@@ -1,5 +1,4 @@
 pub mod Files
-pub mod Names
 pub mod Declining
 pub mod Unsaying
 pub mod Choices

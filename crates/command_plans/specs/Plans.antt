@@ -94,9 +94,9 @@ making_length view (Put target bytes) = 0
 making_length view (Copy from target gone) = length (contents view from)
 making_length view (Move from to intent gone exists) = 0
 
--- what of the temporary files is gone after a change
+-- what of the temporary files is gone after a change: of no change none, and no other file
 abbrev pub Drops : Change → Files → Files → Type 0
-Drops Nothing old new = Unit {0}
+Drops Nothing old new = new ≡ old
 Drops (Remove path gone) old new = Unit {0}
 Drops (Leftovers temps) old new = Lacks temps.items old new
 Drops (Write image sources target) old new = Unit {0}

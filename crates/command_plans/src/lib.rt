@@ -6,8 +6,7 @@
 //! the reply is printed before the change can't be undone.
 //!
 //! What planners share when they read stands here too: paths of words, files with their sizes and headers, the folders
-//! of boot entries and their menu, choices of banks and phase paths, names as they are printed, and why there may be
-//! nothing to say.
+//! of boot entries and their menu, choices of banks and phase paths, and why there may be nothing to say.
 #![tactic(auto)]
 
 mod choices;
@@ -15,7 +14,6 @@ mod declined;
 mod files;
 mod lists;
 mod menus;
-mod names;
 mod outcome;
 mod performing;
 mod plan;
@@ -31,7 +29,6 @@ pub use files::{
 };
 pub use lists::push;
 pub use menus::{folders_in, menu_at};
-pub use names::shown_name;
 pub use outcome::{MachineFault, Outcome, Stop};
 pub use performing::perform;
 pub use plan::{Change, Plan, RefusalLine};

@@ -10,3 +10,4 @@ pub mod Replies
 mod Reported
 mod Siblings
 mod Steps
+mod Untold

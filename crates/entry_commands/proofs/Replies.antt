@@ -23,7 +23,10 @@ use Rattle.entry_commands.specs.Booting.{boot_answer, boot_entry, boot_result, b
 use Rattle.command_plans.specs.Folders.{folders_of}
 use Rattle.entry_commands.specs.Installing.{install_answer, install_result, installation_of, installed_image}
 use Rattle.command_plans.specs.Menus.{menu_at}
-use Rattle.entry_commands.specs.Listing.{list_result, menu_result}
+use Rattle.entry_commands.specs.Listing.{list_result, menu_result, unless_untold}
+use Rattle.list_json.specs.Menus.{is_untold, menu_data}
+use Rattle.list_json.proofs.Some.{some_json}
+use Rattle.std.specs.List.{find}
 use Rattle.entry_commands.specs.declared.bless.EntryPaths.{EntryPaths}
 use Rattle.menu_order.specs.declared.item.MenuItem.{MenuItem}
 use Rattle.tool_words.specs.declared.command.BlessWord.{BlessWord}
@@ -57,10 +60,15 @@ some_file : (item : MenuItem) → 0 < length (file_lines item)
 unfolding file_lines
 some_file item = omega arith
 
--- a menu with entries has lines
-some_menu : (menu : List MenuItem) → HasText (menu_result menu)
-some_menu [] = tt
-some_menu (item ∷ items) =
+some_told : (untold : Option MenuItem) (menu : List MenuItem) → HasText (unless_untold untold menu)
+some_told None menu = some_json (menu_data menu)
+some_told (Some entry) menu = tt
+
+-- a menu with entries has lines, or a line
+some_menu : (json : Bool) (menu : List MenuItem) → HasText (menu_result json menu)
+some_menu json [] = tt
+some_menu true (item ∷ items) = some_told (find is_untold (item ∷ items)) (item ∷ items)
+some_menu false (item ∷ items) =
     some_before (item_text item) (flat_map behind_newline items)
     (some_before (title_lines item ++ file_lines item) ((key_lines item ++ counter_lines item.counter) ++ boot_lines item)
     (some_behind (title_lines item) (file_lines item) (some_file item)))
@@ -127,9 +135,9 @@ some_marked view words.Indeterminate word esp = some_blessing view verbs.Indeter
 some_marked view words.Status word esp =
     some_said view (status_result view word esp) (text_next (reported_paths word esp) _ (λ paths. some_status paths (present_at view paths)))
 
-pub some_list : (view : Files) (esp : List ℕ) → 0 < length (answer_of_read view (list_result view esp)).text
-some_list view esp =
-    some_said view (list_result view esp) (text_next (folders_of esp) _ (λ folders. text_next (menu_at view folders) menu_result some_menu))
+pub some_list : (view : Files) (esp : List ℕ) (json : Bool) → 0 < length (answer_of_read view (list_result view esp json)).text
+some_list view esp json =
+    some_said view (list_result view esp json) (text_next (folders_of esp) _ (λ folders. text_next (menu_at view folders) (menu_result json) (some_menu json)))
 
 pub some_boot : (view : Files) (esp : List ℕ) → 0 < length (boot_answer view esp).text
 some_boot view esp =

@@ -18,7 +18,8 @@
 //! - `fail N`: the call of that number fails on the next machine.
 //!
 //! Rows without a file: `digest BANK:BYTES`, `pieces BANK:BYTES|..`, `extend BANK:BYTES|..`,
-//! `extend_digest BANK:BYTES`, `heading PATH`, `name TEXT`, `cmdline TEXT`, `initrds SIZE..`, `merge STUB|GIVEN`.
+//! `extend_digest BANK:BYTES`, `heading PATH`, `name TEXT`, `cmdline TEXT`, `initrds SIZE..`, `merge STUB|GIVEN`,
+//! `sections NAME:SIZE:BYTES..`: the JSON of sections with such names and sizes and the digests of these bytes.
 //!
 //! In bytes a backslash and a letter stand for one as in C, `\s` for a space, `TEXT*COUNT` for so many texts, and `+`
 //! stands between pieces. Lines that begin with `#` are comments. A line that isn't understood is told behind `? `.
@@ -29,6 +30,7 @@ mod case;
 mod fault;
 mod file;
 mod image;
+mod json;
 mod measure;
 mod parts;
 mod read;

@@ -20,6 +20,15 @@ pub(crate) fn if_there<T: Drop>(answer: io::Result<T>) -> io::Result<Option<T>> 
     }
 }
 
+// None where an entry of a folder has a name that isn't UTF-8.
+pub(crate) fn if_utf8<T: Drop>(entry: io::Result<T>) -> io::Result<Option<T>> {
+    match entry {
+        Ok(entry) => Ok(Some(entry)),
+        Err(error) if error.kind() == ErrorKind::InvalidFilename => Ok(None),
+        Err(error) => Err(error),
+    }
+}
+
 // One read that isn't interrupted.
 pub(crate) fn read_once<F: Read>(file: &mut F, into: &mut [u8]) -> io::Result<usize>
     ensures { IfOk result (λ n. n ≤ length into.new) }

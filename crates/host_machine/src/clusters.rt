@@ -4,13 +4,12 @@
 //! the old name, the new one, and a short alias, which is a name of 8 and 3 letters whose long name isn't on the
 //! disk. Who then removes, cuts or replaces the one file frees the clusters of the other. Only a check of the file
 //! system parts them. So a file is changed only if it has one name.
-use crate::answers::if_there;
+use crate::answers::{if_there, if_utf8};
 use crate::intent::parted;
 use crate::kept::{copy_path, is_same};
 use boot_base::TEMP_SUFFIX;
 use std::alloc::Global;
 use std::fs::{DirEntry, Metadata};
-use std::io::ErrorKind;
 use std::os::unix::fs::MetadataExt;
 use std::rt::{Files, Runtime};
 use std::{fs, io};
@@ -97,15 +96,10 @@ pub(crate) fn aliases_beside<R: Runtime + AllocGlobal>(
         return Ok(aliases);
     };
     for entry in entries {
-        match entry {
-            Ok(entry) => {
-                if let Some(alias) = alias_in(rt.alloc(), &entry)? {
-                    aliases.push(alias)?;
-                }
-            }
-            // a name that isn't UTF-8
-            Err(error) if error.kind() == ErrorKind::InvalidFilename => {}
-            Err(error) => return Err(error),
+        if let Some(entry) = if_utf8(entry)?
+            && let Some(alias) = alias_in(rt.alloc(), &entry)?
+        {
+            aliases.push(alias)?;
         }
     }
     Ok(aliases)

@@ -5,7 +5,7 @@
 use crate::clusters::{
     Alias, aliases_beside, file_at, has_time_of_fat, may_share, may_share_fault,
 };
-use crate::intent::Names;
+use boot_base::IntentNames;
 use std::fs::Metadata;
 use std::io;
 use std::os::unix::fs::MetadataExt;
@@ -21,7 +21,7 @@ pub(crate) enum Removal {
 }
 
 // How the old name goes. Names that may have the same clusters are a fault.
-pub(crate) fn removal_of_old<R: Files>(rt: &R, names: &Names) -> io::Result<Removal> {
+pub(crate) fn removal_of_old<R: Files>(rt: &R, names: &IntentNames) -> io::Result<Removal> {
     let Some(old) = file_at(rt, names.from.as_str())? else {
         return Ok(Removal::Unlink);
     };
@@ -43,7 +43,7 @@ pub(crate) struct Rescue<'a> {
 // in that name's place, it gives both, and the alias is to be renamed first.
 pub(crate) fn rescue_of<'a, R: Runtime + AllocGlobal>(
     rt: &R,
-    names: &'a Names,
+    names: &'a IntentNames,
 ) -> io::Result<Option<Rescue<'a>>> {
     let (from, to) = (names.from.as_str(), names.to.as_str());
     let mut aliases = aliases_beside(rt, to)?;

@@ -2,67 +2,30 @@
 //! until it is gone, and believed only if this program can have written it.
 use crate::answers::{if_there, read_once_at};
 use crate::kept::is_same;
-use boot_base::{BootPath, INTENT};
+use crate::named::Folders;
+use boot_base::{INTENT, INTENT_LIMIT, IntentNames};
 use menu_order::Counted;
 use std::alloc::Global;
 use std::fs::{File, TryLockError};
 use std::io::ErrorKind;
 use std::os::unix::fs::MetadataExt;
 use std::rt::Files;
-use std::{fs, io, str};
+use std::{fs, io};
 
-/// The most bytes of an intent: two paths of 1,024 bytes, each with a NUL.
-const INTENT_LIMIT: usize = 2050;
-
-/// The most folders above a file.
-const DEPTH_LIMIT: usize = 1024;
-
-/// The two paths of a rename.
-#[derive(Drop)]
-pub(crate) struct Names {
-    pub(crate) from: BootPath,
-    pub(crate) to: BootPath,
+// The paths that an intent's file names.
+fn read_from(alloc: Global, file: &File) -> io::Result<Option<IntentNames>> {
+    let mut bytes = [0; INTENT_LIMIT as usize + 1];
+    let count = read_once_at(file, 0, &mut bytes)?;
+    Ok(IntentNames::read(alloc, &bytes[..count])?)
 }
 
-impl Names {
-    // The paths that these bytes name: each with a NUL behind it, and nothing else.
-    fn read(alloc: Global, bytes: &[u8]) -> io::Result<Option<Names>> {
-        let Ok(text) = str::from_utf8(bytes) else {
-            return Ok(None);
-        };
-        let Some((from, rest)) = text.split_once('\0') else {
-            return Ok(None);
-        };
-        let Some(to) = rest.strip_suffix("\0") else {
-            return Ok(None);
-        };
-        if from == to {
-            return Ok(None);
-        }
-        let Some(from) = BootPath::from_bytes(alloc, from.as_bytes())? else {
-            return Ok(None);
-        };
-        let Some(to) = BootPath::from_bytes(alloc, to.as_bytes())? else {
-            return Ok(None);
-        };
-        Ok(Some(Names { from, to }))
-    }
-
-    // The paths that an intent's file names.
-    fn read_from(alloc: Global, file: &File) -> io::Result<Option<Names>> {
-        let mut bytes = [0; INTENT_LIMIT + 1];
-        let count = read_once_at(file, 0, &mut bytes)?;
-        Names::read(alloc, &bytes[..count])
-    }
-
-    // Whether the paths are names of one entry in one folder, which differ in the counter alone. No other rename has
-    // an intent.
-    fn are_of_one_entry(&self) -> bool {
-        let (folder, name) = parted(self.from.as_str());
-        let (other_folder, other_name) = parted(self.to.as_str());
-        let entry = entry_name(name);
-        folder == other_folder && entry.is_some() && entry == entry_name(other_name)
-    }
+// Whether the paths are names of one entry in one folder, which differ in the counter alone. No other rename has an
+// intent.
+fn are_of_one_entry(names: &IntentNames) -> bool {
+    let (folder, name) = parted(names.from.as_str());
+    let (other_folder, other_name) = parted(names.to.as_str());
+    let entry = entry_name(name);
+    folder == other_folder && entry.is_some() && entry == entry_name(other_name)
 }
 
 // The folder of a path, and the name in it.
@@ -90,7 +53,7 @@ fn entry_name(name: &str) -> Option<(&str, &str)> {
 pub(crate) struct HeldIntent {
     file: File,
     /// the paths in an intent that a stop has left; None in that of a move of this run, and in one without paths
-    left: Option<Names>,
+    left: Option<IntentNames>,
 }
 
 impl HeldIntent {
@@ -108,9 +71,9 @@ impl HeldIntent {
         let Some(file) = open_locked_intent(rt)? else {
             return Ok(None);
         };
-        let left = Names::read_from(alloc, &file)?;
+        let left = read_from(alloc, &file)?;
         if let Some(names) = &left {
-            require_own(rt, INTENT, names)?;
+            require_own(rt, alloc, INTENT, names)?;
         }
         Ok(Some(HeldIntent { file, left }))
     }
@@ -119,7 +82,7 @@ impl HeldIntent {
         Ok(self.file.metadata()?.len())
     }
 
-    pub(crate) fn left(&self) -> Option<&Names> {
+    pub(crate) fn left(&self) -> Option<&IntentNames> {
         self.left.as_ref()
     }
 }
@@ -175,20 +138,20 @@ pub(crate) fn require_intent<R: Files<File = File>>(
     let Some(file) = open_file(rt, temp)? else {
         return Err(io::Error::from(ErrorKind::NotFound));
     };
-    match Names::read_from(alloc, &file)? {
-        Some(names) => require_own(rt, temp, &names),
+    match read_from(alloc, &file)? {
+        Some(names) => require_own(rt, alloc, temp, &names),
         None => Err(io::Error::new(ErrorKind::InvalidData, "names no move")),
     }
 }
 
 // The intent at a path is this program's: a regular file with one link, for two names of one entry, in a folder that no
 // link leads to.
-fn require_own<R: Files>(rt: &R, path: &str, names: &Names) -> io::Result<()> {
+fn require_own<R: Files>(rt: &R, alloc: Global, path: &str, names: &IntentNames) -> io::Result<()> {
     let found = fs::symlink_metadata(rt, path)?;
     if found.is_file()
         && found.nlink() == 1
-        && names.are_of_one_entry()
-        && !is_below_a_link(rt, names.from.as_str())?
+        && are_of_one_entry(names)
+        && !is_below_a_link(rt, alloc, names.from.as_str())?
     {
         return Ok(());
     }
@@ -199,17 +162,14 @@ fn require_own<R: Files>(rt: &R, path: &str, names: &Names) -> io::Result<()> {
 }
 
 // Whether a folder on the way to a file is a link.
-fn is_below_a_link<R: Files>(rt: &R, path: &str) -> io::Result<bool> {
-    let mut below = path;
-    for _ in 0..DEPTH_LIMIT {
-        let Some((folder, _)) = below.rsplit_once('/') else {
-            break;
-        };
+fn is_below_a_link<R: Files>(rt: &R, alloc: Global, path: &str) -> io::Result<bool> {
+    let mut folders = Folders::new(alloc);
+    folders.add_above(path)?;
+    for folder in folders.below.as_slice() {
         let found = if_there(fs::symlink_metadata(rt, folder))?;
         if found.is_some_and(|found| found.is_symlink()) {
             return Ok(true);
         }
-        below = folder;
     }
     Ok(false)
 }

@@ -1,5 +1,5 @@
 //! The names of the files in a folder.
-use crate::answers::if_there;
+use crate::answers::{if_there, if_utf8};
 use boot_base::{FileName, PathFault};
 use std::alloc::Global;
 use std::fs::DirEntry;
@@ -19,15 +19,10 @@ pub(crate) fn names_in<R: Runtime + AllocGlobal>(
         return Ok(names);
     };
     for entry in entries {
-        match entry {
-            Ok(entry) => {
-                if is_file(rt, &entry)? {
-                    add_name(alloc, &mut names, entry.file_name())?;
-                }
-            }
-            // a name that isn't UTF-8
-            Err(error) if error.kind() == ErrorKind::InvalidFilename => {}
-            Err(error) => return Err(error),
+        if let Some(entry) = if_utf8(entry)?
+            && is_file(rt, &entry)?
+        {
+            add_name(alloc, &mut names, entry.file_name())?;
         }
     }
     Ok(names)

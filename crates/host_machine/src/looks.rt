@@ -2,7 +2,7 @@
 //! isn't taken for what it was.
 use crate::answers::if_there;
 use crate::listing::names_in;
-use boot_base::FileName;
+use boot_base::{FileName, ends_as_temp};
 use std::alloc::{AllocError, Global};
 use std::fs::Metadata;
 use std::io::ErrorKind;
@@ -150,11 +150,14 @@ fn look_at<'a>(looks: &'a Vec<Look>, path: &str) -> Option<&'a Look> {
     looks.iter().find(|look| look.path.as_str() == path)
 }
 
-// The sum of the names' hashes (FNV-1a), in whatever order they stand.
+// The sum of the names' hashes (FNV-1a), in whatever order they stand. Temporary files are left out: they come and go
+// with every run that writes.
 fn mark_of(names: &[FileName]) -> u64 {
     let mut mark = 0u64;
     for name in names {
-        mark = mark.wrapping_add(hash_of(name.as_str()));
+        if !ends_as_temp(name.as_str()) {
+            mark = mark.wrapping_add(hash_of(name.as_str()));
+        }
     }
     mark
 }

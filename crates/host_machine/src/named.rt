@@ -47,7 +47,7 @@ pub(crate) struct Folders {
 }
 
 impl Folders {
-    fn new(alloc: Global) -> Self {
+    pub(crate) fn new(alloc: Global) -> Self {
         Folders {
             has_root: false,
             below: Paths::new(alloc),
@@ -55,7 +55,7 @@ impl Folders {
     }
 
     // Adds each folder above a path, the nearest first.
-    fn add_above(&mut self, path: &str) -> Result<(), AllocError> {
+    pub(crate) fn add_above(&mut self, path: &str) -> Result<(), AllocError> {
         let mut below = path;
         for _ in 0..DEPTH_LIMIT {
             let Some((folder, _)) = below.rsplit_once('/') else {

@@ -7,14 +7,14 @@ ghost use Rattle.std.specs.Prelude.{◌≤◌, length, IfOk};
 use crate::answers::{if_there, read_once, read_once_at, write_whole};
 use crate::clusters::{folder_of, require_one_name, temp_of};
 use crate::half::{Removal, removal_of_old, rescue_of};
-use crate::intent::{HeldIntent, Names, open_file, require_intent, require_no_other_move};
+use crate::intent::{HeldIntent, open_file, require_intent, require_no_other_move};
 use crate::kept::{KeptFile, copy_path, open_locked, require_not_written, require_replaceable};
 use crate::listing::names_in;
 use crate::looks::Looks;
 use crate::named::Named;
 use crate::reports::Reports;
 use crate::syncs::{require_writable, sync_changed, sync_file, sync_folder, sync_seen};
-use boot_base::{FileName, INTENT, TEMP_SUFFIX};
+use boot_base::{FileName, INTENT, IntentNames, TEMP_SUFFIX};
 use std::alloc::Global;
 use std::fs::{File, OpenOptions};
 use std::io::ErrorKind;
@@ -253,7 +253,7 @@ impl<R: Runtime<File = File> + AllocGlobal> System<R> {
         }
     }
 
-    fn left_names(&self) -> Option<&Names> {
+    fn left_names(&self) -> Option<&IntentNames> {
         self.intent.as_ref().and_then(HeldIntent::left)
     }
 

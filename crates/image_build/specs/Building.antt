@@ -35,7 +35,7 @@ use Rattle.image_build.specs.declared.source.PartSources.{PartSources}
 use Rattle.image_build.specs.declared.source.BuildSources.{BuildSources}
 use Rattle.image_build.specs.declared.source.Source.TheVariants as sources
 use Rattle.command_plans.specs.Files.{bytes_at, each, headers_or, if_given}
-use Rattle.command_plans.specs.Names.{shown_byte}
+use Rattle.boot_base.specs.Names.{shown_byte}
 use Rattle.pcr_values.specs.ValueLines.{value_lines}
 use Rattle.pcr_values.specs.Banks.{all_banks}
 use Rattle.pcr_values.specs.Phases.{default_phase_paths}

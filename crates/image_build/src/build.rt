@@ -13,7 +13,7 @@ ghost use Rattle.command_plans.specs.Plans.{IsIdleIfRefused, IsMakeable, Plans, 
 ghost use Rattle.command_plans.specs.Refusing.{PlansDeclined};
 ghost use Rattle.command_plans.specs.Declining.{printed_path};
 ghost use Rattle.image_writer.specs.Sourced.{IsSourced, planned_image};
-ghost use Rattle.command_plans.specs.Names.{shown_byte};
+ghost use Rattle.boot_base.specs.Names.{shown_byte};
 ghost use Rattle.command_plans.specs.declared.declined.Declined.TheVariants as declines;
 ghost use Rattle.command_plans.specs.Unsaying.{CountsUnsaid, Says, UnsaidFor};
 ghost use Rattle.image_build.specs.Building.{AreNamed, BuiltImage, build_answer, build_named, build_of, builder_refusal, named_as, named_files, built_answer, built_line, built_text, image_of};
@@ -30,10 +30,10 @@ use crate::build_values::planned_values;
 use crate::build_words::build_sources;
 use crate::planned::PlannedBuild;
 use crate::source::BuildSources;
-use boot_base::{BootPath, Bytes, Refusal, Target, Text};
+use boot_base::{BootPath, Bytes, Refusal, Target, Text, shown_name};
 use boot_machine::Machine;
 use command_plans::{
-    Change, Outcome, Plan, Stop, Unsaid, plan_declined, plan_unsaid, printed_path, shown_name,
+    Change, Outcome, Plan, Stop, Unsaid, plan_declined, plan_unsaid, printed_path,
 };
 use pe_builder::PlanFault;
 use std::alloc::{AllocError, Global};

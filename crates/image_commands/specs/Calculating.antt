@@ -2,7 +2,7 @@
 use Rattle.std.specs.Prelude.{ℕ, List, [], ◌∷◌, codes, Option, Some, Result, Ok}
 use Rattle.boot_base.specs.declared.refusal.Refusal.{Refusal}
 use Rattle.boot_machine.specs.Disk.{Files}
-use Rattle.pcr_values.specs.ValueLines.{value_lines}
+use Rattle.image_commands.specs.Told.{told_values}
 use Rattle.stub_replay.specs.Measured.{predicted_pcr}
 use Rattle.stub_replay.specs.Ordered.{part_of, present_parts}
 use Rattle.tool_words.specs.declared.command.CalculateWords.{CalculateWords}
@@ -38,4 +38,4 @@ abbrev pub calculate_result : Files → CalculateWords → Result (List ℕ) Ref
 calculate_result view words =
     each (under_name path_in) (given_words words) >>= λ paths.
     each (under_name (bytes_at view)) paths >>= λ parts.
-    Ok (value_lines (predicted_pcr (part_of parts)) (banks_of words.banks) (paths_of words.phases))
+    Ok (told_values words.json (predicted_pcr (part_of parts)) (banks_of words.banks) (paths_of words.phases))

@@ -2,7 +2,7 @@
 use Rattle.std.specs.Prelude.{◌≡◌, ℕ, List, Ok, map}
 use Rattle.boot_base.specs.Paths.{Path}
 use Rattle.boot_machine.specs.Disk.{Files}
-use Rattle.pcr_values.specs.ValueLines.{value_lines}
+use Rattle.image_commands.specs.Told.{told_values}
 use Rattle.command_plans.specs.Files.{bytes_at, each}
 use Rattle.command_plans.specs.Declining.{path_in}
 use Rattle.command_plans.specs.Choices.{banks_of, paths_of}
@@ -22,4 +22,5 @@ ValuesOfCalculations = (view : Files) (words : CalculateWords)
     each (under_name path_in) (given_words words) ≡ Ok paths →
     each (under_name (bytes_at view)) paths ≡ Ok parts →
     Shows image (part_of parts) →
-    calculate_result view words ≡ Ok (value_lines (stub_pcr image) (banks_of words.banks) (paths_of words.phases))
+    calculate_result view words
+    ≡ Ok (told_values words.json (stub_pcr image) (banks_of words.banks) (paths_of words.phases))

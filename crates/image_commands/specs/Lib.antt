@@ -1,5 +1,6 @@
 pub mod Calculating
 pub mod Laws
 pub mod Parts
+pub mod Told
 pub mod Said
 pub mod Taking

@@ -21,12 +21,13 @@ ghost use Rattle.image_commands.specs.Calculating.{calculate_result, given_words
 ghost use Rattle.image_commands.specs.Parts.{HasItsSize, named_file, named_path, named_word};
 ghost use Rattle.image_commands.specs.Taking.{named_length};
 
+use crate::told::told_values;
 use boot_base::{BootPath, PIECE_SIZE, Text};
 use boot_machine::Machine;
 use command_plans::{
     Declined, Plan, Stop, Unsaid, banks_of, path_in, paths_of, push, readable_size, text_or_refusal,
 };
-use pcr_values::{Bank, Pcr, result_lines};
+use pcr_values::{Bank, Pcr};
 use std::alloc::{AllocError, Global};
 use std::slice;
 use stub_replay::{Content, Measurable, PredictFault, predict};
@@ -191,7 +192,7 @@ fn calculate_result<M: Machine>(
     let banks = banks_of(alloc, words.banks.as_slice())?;
     let phases = paths_of(alloc, words.phases.as_slice())?;
     let registers = registers(alloc, &files, &banks, machine)?;
-    Ok(result_lines(alloc, &registers, &phases)?)
+    Ok(told_values(alloc, &registers, &phases, words.json)?)
 }
 
 /// What the calculation is going to say: for each phase path the value of PCR 11, in each bank, that is

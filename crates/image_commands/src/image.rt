@@ -19,10 +19,11 @@ ghost use Rattle.command_plans.specs.Declining.{path_in};
 ghost use Rattle.command_plans.specs.Unsaying.{CountsUnsaid, Says};
 ghost use Rattle.command_plans.specs.Files.{bytes_at};
 
+use crate::told::told_values;
 use boot_base::{BootPath, PIECE_SIZE, Text};
 use boot_machine::Machine;
 use command_plans::{Plan, Stop, Unsaid, banks_of, image_head, path_in, paths_of, text_or_refusal};
-use pcr_values::{Bank, Pcr, result_lines};
+use pcr_values::{Bank, Pcr};
 use pe_reader::Pe;
 use std::alloc::Global;
 use stub_replay::{PredictFault, replay_all};
@@ -59,10 +60,11 @@ fn values<M: Machine>(
     path: &BootPath,
     banks: &[Text],
     phases: &[Text],
+    json: bool,
     machine: &mut M,
 ) -> Result<Vec<u8>, Unsaid>
     ensures says { IsTrue M.tells → Says (λ text. text.items) result
-        (values_at (seen (M.state machine.old)) banks.now phases.now path.now) }
+        (values_at (seen (M.state machine.old)) banks.now phases.now json path.now) }
     ensures reads { IsTrue M.tells → OnlyReads M.time M.state machine.old machine.new }
     ensures counts { CountsUnsaid result (M.counts machine.old) (M.counts machine.new) }
     ensures taken { IsTrue M.tells → TakesAtMost
@@ -73,7 +75,7 @@ fn values<M: Machine>(
     let banks = banks_of(alloc, banks)?;
     let paths = paths_of(alloc, phases)?;
     let registers = registers(alloc, path, &head, banks.as_slice(), machine)?;
-    Ok(result_lines(alloc, registers.as_slice(), paths.as_slice())?)
+    Ok(told_values(alloc, registers.as_slice(), paths.as_slice(), json)?)
 }
 
 // The lines of the image that a word names.
@@ -82,10 +84,11 @@ fn measure_result<M: Machine>(
     file: &str,
     banks: &[Text],
     phases: &[Text],
+    json: bool,
     machine: &mut M,
 ) -> Result<Vec<u8>, Unsaid>
     ensures says { IsTrue M.tells → Says (λ text. text.items) result
-        (measure_result (seen (M.state machine.old)) file.now banks.now phases.now) }
+        (measure_result (seen (M.state machine.old)) file.now banks.now phases.now json) }
     ensures reads { IsTrue M.tells → OnlyReads M.time M.state machine.old machine.new }
     ensures counts { CountsUnsaid result (M.counts machine.old) (M.counts machine.new) }
     ensures words { DeclinesWords (path_in file.now) result }
@@ -94,7 +97,7 @@ fn measure_result<M: Machine>(
         (M.taken machine.old) (M.taken machine.new) }
 {
     let path = path_in(alloc, file)?;
-    values(alloc, &path, banks, phases, machine)
+    values(alloc, &path, banks, phases, json, machine)
 }
 
 /// What is going to be said of an image: for each phase path the value of PCR 11, in each bank, after the
@@ -105,11 +108,12 @@ pub fn plan_image<M: Machine>(
     file: &str,
     banks: &[Text],
     phases: &[Text],
+    json: bool,
     machine: &mut M,
 ) -> Result<Plan, Stop>
     ensures plans { IfOk result (λ plan. IsTrue M.tells → Plans (M.state machine.old) plan
         (answer_of_read (seen (M.state machine.old))
-        (measure_result (seen (M.state machine.old)) file.now banks.now phases.now))) }
+        (measure_result (seen (M.state machine.old)) file.now banks.now phases.now json))) }
     ensures makeable { IfOk result (λ plan. IsMakeable plan.change) }
     ensures idle { IfOk result (λ plan. plan.change ≡ Nothing) }
     ensures reads { IsTrue M.tells → OnlyReads M.time M.state machine.old machine.new }
@@ -119,6 +123,6 @@ pub fn plan_image<M: Machine>(
         (69463 + measured_raw_length (named_content (seen (M.state machine.old)) file.now))
         (M.taken machine.old) (M.taken machine.new) }
 {
-    let text = measure_result(alloc, file, banks, phases, machine);
+    let text = measure_result(alloc, file, banks, phases, json, machine);
     text_or_refusal(alloc, text)
 }

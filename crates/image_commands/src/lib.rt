@@ -6,6 +6,7 @@ mod identify;
 mod image;
 mod inspect;
 mod laws;
+mod told;
 
 pub use calculate::plan_calculate;
 pub use identify::plan_identify;

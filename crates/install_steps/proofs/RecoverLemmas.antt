@@ -5,7 +5,7 @@ use Rattle.std.specs.Prelude.{option_and_then}
 use Rattle.std.specs.Option.{option_map}
 use Rattle.std.specs.FinMap as map
 use Rattle.boot_base.specs.Paths.{Path, intent, read_intent}
-use Rattle.boot_base.proofs.Intent.{read-long}
+use Rattle.boot_base.proofs.IntentForm.{read-long}
 use Rattle.boot_machine.specs.Disk.{Files, State, HasOneCandidate, has, intent_names, recovered_view}
 use Rattle.boot_machine.specs.Images.{IsImage, IsFirm, IsSettled}
 use Rattle.boot_machine.specs.Moments.{Timeline, EachSince}

@@ -6,7 +6,7 @@ use Rattle.std.specs.Str.{is_utf8}
 use Rattle.std.proofs.lemmas.Bool.{false_from_ne_true}
 use Rattle.std.proofs.lemmas.Slice.Eq.{bytes_eq-Decides}
 use Rattle.boot_base.specs.Paths.{Path, IsFree, intent, intent_bytes, is_normal, is_temp, may_stand, read_intent}
-use Rattle.boot_base.proofs.Intent.{read-intent_bytes}
+use Rattle.boot_base.proofs.IntentForm.{read-intent_bytes}
 use Rattle.boot_machine.specs.Disk.{Files, State, has}
 use Rattle.boot_machine.specs.Rows.{contents, move_in}
 use Rattle.boot_machine.specs.Maps.{get-insert_here, get-insert_apart, get-remove_apart}

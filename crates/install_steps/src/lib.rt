@@ -12,7 +12,6 @@
 
 mod appends;
 mod faults;
-mod intent;
 mod moves;
 mod recovery;
 mod steps;

@@ -1,6 +1,7 @@
 //! Finishing or undoing the rename that a stop has left half done.
 ghost use Rattle.std.specs.Prelude.{◌≡◌, ◌⊎◌, true, false, length, IsTrue, IfOk, OnOk, Some};
 ghost use Rattle.std.specs.Option.{option_map};
+ghost use Rattle.boot_base.specs.Intents.{names_of};
 ghost use Rattle.boot_base.specs.Paths.{intent as intent_path};
 ghost use Rattle.boot_machine.specs.Disk.{HasNoHalfRename, HasOneCandidate, IsRested, has, intent_names, recovered_view};
 ghost use Rattle.boot_machine.specs.Images.{IsFirm, IsSettled};
@@ -9,19 +10,14 @@ ghost use Rattle.boot_machine.specs.Reading.{OnlyReads, TakesAtMost};
 ghost use Rattle.boot_machine.specs.Rows.{contents};
 ghost use Rattle.boot_machine.specs.Counts.{CountsDisk};
 ghost use Rattle.boot_machine.specs.Taken.{TakesNone};
-ghost use Rattle.install_steps.specs.Names.{names_of};
 ghost use Rattle.install_steps.specs.Recovery.{RecoversTo, SameFrom, SeesSame};
 ghost use Rattle.install_steps.specs.Steps.{Keeps, StepsTo, NoNewTemp, PrintsNothing, CountsRecover};
 
 use crate::RecoverFault;
-use crate::intent::{Names, read_names};
 use crate::steps::{settle, unlink_synced};
-use boot_base::Target;
+use boot_base::{INTENT_LIMIT, IntentNames, Target};
 use boot_machine::{DiskFault, Machine, read_part};
 use std::alloc::{AllocError, Global};
-
-/// The most bytes of an intent: two paths, each with a NUL.
-const INTENT_LIMIT: u64 = 2050;
 
 // So many zeros.
 fn zeros(alloc: Global, count: usize) -> Result<Vec<u8>, AllocError>
@@ -36,7 +32,7 @@ fn left_names<M: Machine>(
     machine: &mut M,
     intent: &Target,
     size: u64,
-) -> Result<Option<Names>, RecoverFault>
+) -> Result<Option<IntentNames>, RecoverFault>
     requires at_intent { intent.now.path ≡ intent_path }
     requires there { IsTrue M.tells → has (M.state machine.old).files intent_path ≡ true }
     requires size { IsTrue M.tells → size ≡ length (contents (M.state machine.old).files intent_path) }
@@ -51,11 +47,11 @@ fn left_names<M: Machine>(
     }
     let mut bytes = zeros(alloc, size as usize)?;
     read_part(machine, &intent.path, 0, &mut bytes)?;
-    Ok(read_names(alloc, &bytes)?)
+    Ok(IntentNames::read(alloc, &bytes)?)
 }
 
 // Takes the first name away where both are there. Boot sees the same all the while.
-fn drop_left<M: Machine>(machine: &mut M, names: &Names) -> Result<(), DiskFault>
+fn drop_left<M: Machine>(machine: &mut M, names: &IntentNames) -> Result<(), DiskFault>
     requires named { IsTrue M.tells → intent_names (M.state machine.old).files ≡ Some (names_of names.now) }
     requires one { IsTrue M.tells → HasOneCandidate (M.state machine.old) }
     ensures step { IsTrue M.tells → IsFirm (M.state machine.old) → StepsTo M.time M.state

@@ -19,6 +19,7 @@ fn refusal_of_text(kind: &str, text: Text) -> Result<Refusal, RowFault> {
         "NoSource" => Ok(Refusal::NoSource { path: text }),
         "BadNumber" => Ok(Refusal::BadNumber { text }),
         "BadPattern" => Ok(Refusal::BadPattern { text }),
+        "NotText" => Ok(Refusal::NotText { path: text }),
         _ => Err(RowFault::Unclear),
     }
 }

@@ -143,15 +143,17 @@ calculate_words g = record {
   pcrpkey = g.last (codes "--pcrpkey");
   banks = g.all (codes "--bank");
   phases = g.all (codes "--phase");
+  json = is_some (g.last (codes "--json"));
 }
 
 -- the command with all its fields
 abbrev pub command_from : CommandName → GatheredItems → Command
 command_from name.Build g = command.Build (build_words g)
-command_from name.Inspect g = command.Inspect (g.operand 0)
+command_from name.Inspect g = command.Inspect (g.operand 0) (is_some (g.last (codes "--json")))
 command_from name.Calculate g = command.Calculate (calculate_words g)
-command_from name.Image g = command.Image (g.operand 0) (g.all (codes "--bank")) (g.all (codes "--phase"))
-command_from name.ListEntries g = command.List (esp g.last)
+command_from name.Image g =
+    command.Image (g.operand 0) (g.all (codes "--bank")) (g.all (codes "--phase")) (is_some (g.last (codes "--json")))
+command_from name.ListEntries g = command.List (esp g.last) (is_some (g.last (codes "--json")))
 command_from name.Unlink g = command.Unlink (g.operand 0) (esp g.last)
 command_from name.Identify g = command.Identify (g.operand 0)
 command_from name.Tidy g = command.Tidy (esp g.last)

@@ -12,12 +12,14 @@ pub enum Command {
     /// `ukify inspect`: the sections of an image.
     Inspect {
         file: Text,
+        json: bool,
     },
     /// `measure image`: the values that a finished image will show.
     Image {
         file: Text,
         banks: TextList,
         phases: TextList,
+        json: bool,
     },
     /// `bootctl kernel-identify`: what kind of kernel a file is.
     Identify {
@@ -26,6 +28,7 @@ pub enum Command {
     /// `bootctl list`: the menu of the boot entries.
     List {
         esp: Text,
+        json: bool,
     },
     /// `tidy`: removes what interrupted runs left.
     Tidy {
@@ -136,6 +139,8 @@ pub struct CalculateWords {
     pub banks: TextList,
     /// The phase paths, in order.
     pub phases: TextList,
+    /// Whether the values are told as JSON.
+    pub json: bool,
 }
 
 /// A text, or the path of the file that holds it.

@@ -271,6 +271,7 @@ fn calculation_of(
     files: FileParts,
     parts: PlainParts,
     lists: (TextList, TextList),
+    json: bool,
 ) -> CalculateWords
     ensures { result ≡ record {
       linux = linux;
@@ -285,6 +286,7 @@ fn calculation_of(
       pcrpkey = parts.pcrpkey;
       banks = lists.0;
       phases = lists.1;
+      json = json;
     } }
 {
     let FileParts {
@@ -314,6 +316,7 @@ fn calculation_of(
         pcrpkey,
         banks,
         phases,
+        json,
     }
 }
 
@@ -353,7 +356,8 @@ fn calculate(alloc: Global, items: &[Item<'_>]) -> Result<Command, AllocError>
     let lists = two_lists(alloc, items, "--bank", "--phase")?;
     let files = file_parts(alloc, items)?;
     let parts = plain_parts(alloc, items, "--dtb", "--ucode")?;
-    Ok(Command::Calculate(calculation_of(linux, files, parts, lists)))
+    let json = is_given(items, "--json");
+    Ok(Command::Calculate(calculation_of(linux, files, parts, lists, json)))
 }
 
 // `measure image`.
@@ -366,6 +370,7 @@ fn image(alloc: Global, items: &[Item<'_>]) -> Result<Command, AllocError>
         file,
         banks,
         phases,
+        json: is_given(items, "--json"),
     })
 }
 
@@ -450,11 +455,13 @@ pub(crate) fn fill(
         CommandName::Build => build(alloc, items),
         CommandName::Inspect => Ok(Command::Inspect {
             file: operand(alloc, items, 0)?,
+            json: is_given(items, "--json"),
         }),
         CommandName::Calculate => calculate(alloc, items),
         CommandName::Image => image(alloc, items),
         CommandName::ListEntries => Ok(Command::List {
             esp: esp(alloc, items)?,
+            json: is_given(items, "--json"),
         }),
         CommandName::Unlink => unlink(alloc, items),
         CommandName::Identify => Ok(Command::Identify {

@@ -56,11 +56,24 @@ calculate_options =
     ∷ option (codes "--pcrpkey") Once Any
     ∷ option (codes "--bank") Repeated Bank
     ∷ option (codes "--phase") Repeated Any
+    ∷ option (codes "--json") Flag Any
     ∷ []
 
 -- the options of `measure image`
 abbrev pub image_options : List OptionRule
-image_options = option (codes "--bank") Repeated Bank ∷ option (codes "--phase") Repeated Any ∷ []
+image_options =
+    option (codes "--bank") Repeated Bank
+    ∷ option (codes "--phase") Repeated Any
+    ∷ option (codes "--json") Flag Any
+    ∷ []
+
+-- the option of `ukify inspect`
+abbrev pub inspect_options : List OptionRule
+inspect_options = option (codes "--json") Flag Any ∷ []
+
+-- the options of `bootctl list`
+abbrev pub list_options : List OptionRule
+list_options = option (codes "--esp-path") Once Any ∷ option (codes "--json") Flag Any ∷ []
 
 -- the option of the commands on an ESP that have no other
 abbrev pub esp_options : List OptionRule
@@ -89,10 +102,10 @@ row_without_verb name operands options = record { name = name; verb = None; oper
 -- the table of the commands
 abbrev pub row : CommandName → Row
 row command.Build = row_with_verb (codes "ukify") (codes "build") 0 build_options
-row command.Inspect = row_with_verb (codes "ukify") (codes "inspect") 1 []
+row command.Inspect = row_with_verb (codes "ukify") (codes "inspect") 1 inspect_options
 row command.Calculate = row_with_verb (codes "measure") (codes "calculate") 0 calculate_options
 row command.Image = row_with_verb (codes "measure") (codes "image") 1 image_options
-row command.ListEntries = row_with_verb (codes "bootctl") (codes "list") 0 esp_options
+row command.ListEntries = row_with_verb (codes "bootctl") (codes "list") 0 list_options
 row command.Unlink = row_with_verb (codes "bootctl") (codes "unlink") 1 esp_options
 row command.Identify = row_with_verb (codes "bootctl") (codes "kernel-identify") 1 []
 row command.Tidy = row_without_verb (codes "tidy") 0 esp_options

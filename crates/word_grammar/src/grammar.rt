@@ -136,14 +136,20 @@ static CALCULATE: &[OptionRow] = &[
     option!("--pcrpkey", Once),
     option!("--bank", Repeated, Bank),
     option!("--phase", Repeated),
+    option!("--json", Flag),
 ];
+
+static INSPECT: &[OptionRow] = &[option!("--json", Flag)];
 
 static IMAGE: &[OptionRow] = &[
     option!("--bank", Repeated, Bank),
     option!("--phase", Repeated),
+    option!("--json", Flag),
 ];
 
 static ESP: &[OptionRow] = &[option!("--esp-path", Once)];
+
+static LIST: &[OptionRow] = &[option!("--esp-path", Once), option!("--json", Flag)];
 
 static INSTALL: &[OptionRow] = &[option!("--tries", Once), option!("--esp-path", Once)];
 
@@ -189,10 +195,10 @@ impl CommandName {
     {
         match self {
             CommandName::Build => row_with_verb("ukify", "build", 0, BUILD),
-            CommandName::Inspect => row_with_verb("ukify", "inspect", 1, NONE),
+            CommandName::Inspect => row_with_verb("ukify", "inspect", 1, INSPECT),
             CommandName::Calculate => row_with_verb("measure", "calculate", 0, CALCULATE),
             CommandName::Image => row_with_verb("measure", "image", 1, IMAGE),
-            CommandName::ListEntries => row_with_verb("bootctl", "list", 0, ESP),
+            CommandName::ListEntries => row_with_verb("bootctl", "list", 0, LIST),
             CommandName::Unlink => row_with_verb("bootctl", "unlink", 1, ESP),
             CommandName::Identify => row_with_verb("bootctl", "kernel-identify", 1, NONE),
             CommandName::Tidy => row_without_verb("tidy", 0, ESP),

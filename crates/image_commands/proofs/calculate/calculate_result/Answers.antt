@@ -17,24 +17,24 @@ pub returns-in_err-registers-clause-reads : goal.returns-in_err-registers-clause
 returns-in_err-registers-clause-reads g c told =
     reads_on g.M.Machine.time g.M.Machine.state c.args.machine.now c.part_files.new.machine c.registers.new.machine (c.part_files.ensures.reads told) (c.registers.ensures.reads told)
 
-pub result_lines-requires-clause-banks : goal.result_lines-requires-clause-banks
-result_lines-requires-clause-banks g c =
+pub told_values-requires-clause-banks : goal.told_values-requires-clause-banks
+told_values-requires-clause-banks g c =
     subst HasDistinctBanks (sym c.deref-3.ensures.value)
     (distinct_registers c.in_ok-registers.registers.items c.in_ok-banks.banks.items (c.in_ok-registers.ensures.banks ∙ c.deref-2.ensures.value) c.in_ok-banks.ensures.distinct)
 
-pub returns-in_err-result_lines-clause-reads : goal.returns-in_err-result_lines-clause-reads
-returns-in_err-result_lines-clause-reads g c told =
+pub returns-in_err-told_values-clause-reads : goal.returns-in_err-told_values-clause-reads
+returns-in_err-told_values-clause-reads g c told =
     reads_on g.M.Machine.time g.M.Machine.state c.args.machine.now c.part_files.new.machine c.registers.new.machine (c.part_files.ensures.reads told) (c.registers.ensures.reads told)
 
 pub returns-clause-says : goal.returns-clause-says
 returns-clause-says g c told =
     let s = g.M.Machine.state c.args.machine.now in
     calculation_is (seen s) c.args.words.now (map named_path c.in_ok-paths.paths.items) (map (named_file (contents (seen s))) c.in_ok-files.files.items)
-    c.in_ok-banks.banks.items c.deref-4.result.now c.in_ok-registers.registers.items c.deref-3.result.now c.in_ok-result_lines.field-0.items
+    c.in_ok-banks.banks.items c.deref-4.result.now c.in_ok-registers.registers.items c.deref-3.result.now c.in_ok-told_values.field-0.items
     c.in_ok-paths.ensures (c.in_ok-files.ensures.says told)
     (registers_of s (g.M.Machine.state c.part_files.new.machine) c.in_ok-files.files.items c.deref.result.now c.in_ok-banks.banks.items c.deref-2.result.now c.in_ok-registers.registers.items (c.part_files.ensures.reads told).same
     c.deref.ensures.value c.deref-2.ensures.value (c.in_ok-registers.ensures.says told) (c.in_ok-files.ensures.sizes told))
-    c.deref-3.ensures.value (search rules) (search rules) c.in_ok-result_lines.ensures.folds
+    c.deref-3.ensures.value (search rules) (search rules) c.in_ok-told_values.ensures
 
 pub returns-clause-reads : goal.returns-clause-reads
 returns-clause-reads g c told =
@@ -46,8 +46,8 @@ returns-in_err-registers-clause-taken g c told =
     taken_of s (g.M.Machine.state c.part_files.new.machine) c.args.words.now (map named_path c.in_ok-paths.paths.items) c.in_ok-files.files.items c.deref.result.now _ _ _ (c.part_files.ensures.reads told).same c.deref.ensures.value
     c.in_ok-paths.ensures (c.in_ok-files.ensures.says told) (c.in_ok-files.ensures.sizes told) (c.part_files.ensures.taken told) (c.registers.ensures.taken told)
 
-pub returns-in_err-result_lines-clause-taken : goal.returns-in_err-result_lines-clause-taken
-returns-in_err-result_lines-clause-taken g c told =
+pub returns-in_err-told_values-clause-taken : goal.returns-in_err-told_values-clause-taken
+returns-in_err-told_values-clause-taken g c told =
     let s = g.M.Machine.state c.args.machine.now in
     taken_of s (g.M.Machine.state c.part_files.new.machine) c.args.words.now (map named_path c.in_ok-paths.paths.items) c.in_ok-files.files.items c.deref.result.now _ _ _ (c.part_files.ensures.reads told).same c.deref.ensures.value
     c.in_ok-paths.ensures (c.in_ok-files.ensures.says told) (c.in_ok-files.ensures.sizes told) (c.part_files.ensures.taken told) (c.registers.ensures.taken told)

@@ -20,13 +20,13 @@ pub returns-in_err-registers-clause-reads : goal.returns-in_err-registers-clause
 returns-in_err-registers-clause-reads g c told =
     reads_on g.M.Machine.time g.M.Machine.state c.args.machine.now c.image_head.new.machine c.registers.new.machine (c.image_head.ensures.reads told) (c.registers.ensures.reads told)
 
-pub result_lines-requires-clause-banks : goal.result_lines-requires-clause-banks
-result_lines-requires-clause-banks g c =
+pub told_values-requires-clause-banks : goal.told_values-requires-clause-banks
+told_values-requires-clause-banks g c =
     subst HasDistinctBanks (sym c.as_slice-2.ensures.value)
     (distinct_registers c.in_ok-registers.registers.items c.in_ok-banks.banks.items (c.in_ok-registers.ensures.banks ∙ c.as_slice.ensures.value) c.in_ok-banks.ensures.distinct)
 
-pub returns-in_err-result_lines-clause-reads : goal.returns-in_err-result_lines-clause-reads
-returns-in_err-result_lines-clause-reads g c told =
+pub returns-in_err-told_values-clause-reads : goal.returns-in_err-told_values-clause-reads
+returns-in_err-told_values-clause-reads g c told =
     reads_on g.M.Machine.time g.M.Machine.state c.args.machine.now c.image_head.new.machine c.registers.new.machine (c.image_head.ensures.reads told) (c.registers.ensures.reads told)
 
 pub returns-clause-reads : goal.returns-clause-reads
@@ -35,18 +35,18 @@ returns-clause-reads g c told =
 
 pub returns-clause-says : goal.returns-clause-says
 returns-clause-says g c told =
-    values_are (seen (g.M.Machine.state c.args.machine.now)) c.args.path.now c.args.banks.now c.args.phases.now (contents (g.M.Machine.state c.args.machine.now).files c.args.path.now) _ (headers_of c.in_ok-head.head)
-    c.as_slice.result.now c.as_slice-3.result.now c.in_ok-registers.registers.items c.as_slice-2.result.now c.in_ok-result_lines.field-0.items
+    values_are c.args.json (seen (g.M.Machine.state c.args.machine.now)) c.args.path.now c.args.banks.now c.args.phases.now (contents (g.M.Machine.state c.args.machine.now).files c.args.path.now) _ (headers_of c.in_ok-head.head)
+    c.as_slice.result.now c.as_slice-3.result.now c.in_ok-registers.registers.items c.as_slice-2.result.now c.in_ok-told_values.field-0.items
     (c.in_ok-head.ensures.image told) (ap (λ (s : State). contents s.files c.args.path.now) (c.image_head.ensures.reads told).same) (c.in_ok-registers.ensures.says told) c.as_slice-2.ensures.value
-    (c.as_slice.ensures.value ∙ c.in_ok-banks.ensures.value) (c.as_slice-3.ensures.value ∙ c.in_ok-paths.ensures.value) c.in_ok-result_lines.ensures.folds
+    (c.as_slice.ensures.value ∙ c.in_ok-banks.ensures.value) (c.as_slice-3.ensures.value ∙ c.in_ok-paths.ensures.value) c.in_ok-told_values.ensures
 
 pub returns-in_err-registers-clause-taken : goal.returns-in_err-registers-clause-taken
 returns-in_err-registers-clause-taken g c told =
     image_taken (seen (g.M.Machine.state c.args.machine.now)) c.args.path.now (contents (g.M.Machine.state c.args.machine.now).files c.args.path.now) _ (headers_of c.in_ok-head.head) _ _ _
     (c.in_ok-head.ensures.image told) (ap (λ (s : State). contents s.files c.args.path.now) (c.image_head.ensures.reads told).same) (c.image_head.ensures.taken told) (c.registers.ensures.taken told)
 
-pub returns-in_err-result_lines-clause-taken : goal.returns-in_err-result_lines-clause-taken
-returns-in_err-result_lines-clause-taken g c told =
+pub returns-in_err-told_values-clause-taken : goal.returns-in_err-told_values-clause-taken
+returns-in_err-told_values-clause-taken g c told =
     image_taken (seen (g.M.Machine.state c.args.machine.now)) c.args.path.now (contents (g.M.Machine.state c.args.machine.now).files c.args.path.now) _ (headers_of c.in_ok-head.head) _ _ _
     (c.in_ok-head.ensures.image told) (ap (λ (s : State). contents s.files c.args.path.now) (c.image_head.ensures.reads told).same) (c.image_head.ensures.taken told) (c.registers.ensures.taken told)
 

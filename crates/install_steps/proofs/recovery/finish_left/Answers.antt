@@ -3,7 +3,7 @@ use Rattle.std.specs.Option.{option_map}
 use Rattle.boot_machine.specs.Disk.{State, intent_names, recovered_view}
 use Rattle.boot_machine.proofs.Recovering.{whole-unread}
 use Rattle.boot_machine.proofs.Going.{goes-read}
-use Rattle.install_steps.specs.Names.{names_of}
+use Rattle.boot_base.specs.Intents.{names_of}
 use Rattle.install_steps.proofs.RecoverLemmas.{size_there}
 use Rattle.install_steps.proofs.KeepLemmas.{keeps_on, keeps_same, takes_first, takes_later, takes_nothing, temps_on, temps_same}
 use Rattle.install_steps.proofs.StepLemmas.{begins_same, goes-reads, steps_same, steps_then}

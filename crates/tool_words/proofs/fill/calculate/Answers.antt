@@ -16,4 +16,5 @@ returns c = ap command.Calculate (c.calculation_of.ensures ∙ (λ i. record {
   pcrpkey = (c.in_ok-parts.ensures i).pcrpkey;
   banks = c.in_ok-lists.ensures.0 i;
   phases = c.in_ok-lists.ensures.1 i;
+  json = c.is_given-json.ensures i;
 }))
