@@ -70,7 +70,7 @@ module _ (first last : List ℕ) (first_kept : is_kept first ≡ true) (last_kep
 
 -- ---- no folder of entries is that of a loader.conf
 
-last_byte : (front other name last : List ℕ) (b c : ℕ) → b ≢ c → list_any is_slash name ≡ false → list_any is_slash last ≡ false → under (front ++ b ∷ []) name ≡ under (other ++ c ∷ []) last → ⊥
+pub last_byte : (front other name last : List ℕ) (b c : ℕ) → b ≢ c → list_any is_slash name ≡ false → list_any is_slash last ≡ false → under (front ++ b ∷ []) name ≡ under (other ++ c ∷ []) last → ⊥
 last_byte front other name last b c unlike one single is =
     let same = sym (file_name_under (front ++ b ∷ []) name one) ∙ ap file_name_of is ∙ file_name_under (other ++ c ∷ []) last single in
     let folders = append_cancel_right (front ++ b ∷ []) (other ++ c ∷ []) (47 ∷ last) (ap (λ (l : List ℕ). (front ++ b ∷ []) ++ 47 ∷ l) (sym same) ∙ is) in

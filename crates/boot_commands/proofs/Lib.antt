@@ -1,5 +1,7 @@
 mod Beginning
-mod ConfPlaces
+pub mod ConfPlaces
+pub mod Expanded
+pub mod ExpansionsSpare
 pub mod Later
 mod Numbers
 mod Reading

@@ -23,6 +23,8 @@ use Rattle.boot_commands.specs.Plain.{is_plain, plain_reply}
 pub plain_is : (view : Files) (c : Command) → is_plain c ≡ true → step_reply view c ≡ plain_reply view c
 unfolding step_reply
 plain_is view (command.Demo seed count) is = absurd (cc is)
+plain_is view (command.Type1Install words) is = absurd (cc is)
+plain_is view (command.Type1Cleanup esp) is = absurd (cc is)
 plain_is view c is = refl
 
 bytes_tagged : (to : Channel) (bytes : List ℕ) → map (λ (p : Printed). p.byte) (on_channel to bytes) ≡ bytes

@@ -1,6 +1,6 @@
 -- No command's reply is empty.
-use Rattle.std.proofs.Common.{ℕ, ◌<◌, ◌&&◌, ◌∷◌, [], codes, Bool, true, false, cond, List, length, map, arith, Option, Some, None, Result, Ok, Err}
-use Rattle.std.specs.FinMap.{get}
+use Rattle.std.proofs.Common.{ℕ, ◌<◌, ◌&&◌, ◌∷◌, ◌++◌, [], codes, Bool, true, false, cond, List, length, map, arith, Option, Some, None, Result, Ok, Err}
+use Rattle.std.specs.FinMap.{get, insert}
 use Rattle.boot_base.specs.Paths.{Path}
 use Rattle.boot_base.specs.declared.refusal.Refusal.{Refusal}
 use Rattle.boot_base.specs.declared.refusal.Refusal.TheVariants as refusals
@@ -8,7 +8,7 @@ use Rattle.boot_machine.specs.Disk.{Files}
 use Rattle.pcr_values.specs.ValueLines.{heading_of, value_lines}
 use Rattle.tool_words.specs.declared.command.Command.{Command}
 use Rattle.tool_words.specs.declared.command.Command.TheVariants as command
-use Rattle.command_plans.specs.Answers.{Answer, answer_or_refusal}
+use Rattle.command_plans.specs.Answers.{Answer, answer_or_refusal, done_answer}
 use Rattle.pcr_values.specs.declared.bank.Bank.{Bank}
 use Rattle.pe_reader.specs.declared.fault.FailedCheck.{FailedCheck}
 use Rattle.pe_reader.specs.Grammar.{Headers, pe_of}
@@ -23,14 +23,19 @@ use Rattle.list_json.specs.Registers.{values_data}
 use Rattle.list_json.specs.Sections.{SectionFacts, sections_data}
 use Rattle.list_json.proofs.Some.{some_json}
 use Rattle.boot_commands.specs.Commands.{step_reply}
-use Rattle.boot_commands.specs.Plain.{plain_answer}
+use Rattle.boot_commands.specs.Plain.{answer_or_none, plain_answer}
+use Rattle.type1_install.specs.Cleaning.{cleanup_expansion}
+use Rattle.boot_commands.specs.Expansions.{own_answer, refused_answer}
+use Rattle.type1_install.specs.Installing.{install_expansion}
+use Rattle.type1_install.specs.Placing.{payload_text}
 use Rattle.boot_commands.specs.Demonstration.{demo_result, number_up_to}
 use Rattle.command_plans.specs.Folders.{folders_of}
 use Rattle.entry_commands.proofs.Replies.{HasText, some_boot, some_install, some_line, some_list, some_marked, some_said, text_next}
 use Rattle.command_plans.specs.Declining.{◌>>=◌, path_in, printed_path}
 use Rattle.command_plans.specs.Refusing.{unless_refused}
 use Rattle.entry_commands.specs.Tidying.{tidy_answer}
-use Rattle.entry_commands.specs.Unlinking.{entry_path, removal, unlink_answer}
+use Rattle.command_plans.specs.Changes.{removal, unlink_answer}
+use Rattle.entry_commands.specs.Unlinking.{entry_path}
 use Rattle.command_plans.specs.Menus.{menu_at}
 use Rattle.loader_commands.specs.Places.{conf_bytes, loader_paths}
 use Rattle.loader_commands.specs.Setting.{changed_conf, conf_update}
@@ -94,6 +99,20 @@ some_changed view Default value (Ok change) = omega arith
 some_changed view Timeout value (Ok change) = omega arith
 some_changed view key value (Err why) = some_line why
 
+some_put : (view : Files) (target : Path) (bytes : Result (List ℕ) Refusal)
+    → 0 < length (answer_or_refusal view (bytes >>= λ bytes. Ok (done_answer (insert view target bytes) (payload_text target)))).text
+some_put view target (Ok bytes) = omega arith
+some_put view target (Err why) = some_line why
+
+some_refused : (view : Files) (commands : Result (List Command) Refusal) → 0 < length (answer_or_none view (refused_answer view commands)).text
+some_refused view (Err why) = some_line why
+some_refused view (Ok commands) = some_line (refusals.BadScript 0)
+
+some_own : (view : Files) (idle : List ℕ) → 0 < length idle → (commands : Result (List Command) Refusal) → 0 < length (answer_or_none view (own_answer view idle commands)).text
+some_own view idle some (Err why) = some_line why
+some_own view idle some (Ok []) = some
+some_own view idle some (Ok (first ∷ more)) = some_line (refusals.BadScript 0)
+
 -- no command's reply is empty: a case for each command
 pub some_text : (view : Files) (c : Command) → 0 < length (step_reply view c).text
 unfolding step_reply plain_answer
@@ -119,6 +138,11 @@ some_text view (command.LoaderShow esp) = some_said view (show_result view esp)
     (text_next (loader_paths esp) _ (λ paths. text_next (conf_bytes view paths.conf) _ (λ bytes. text_next (menu_at view paths.folders) (menu_shown bytes) (λ menu. some_shown (conf_timeout bytes) (default_item (conf_default bytes) menu)))))
 some_text view (command.LoaderDefault pattern esp) = some_changed view Default pattern (conf_update view Default pattern esp)
 some_text view (command.LoaderTimeout value esp) = some_changed view Timeout value (conf_update view Timeout value esp)
+some_text view (command.Type1Install words) = some_refused view (install_expansion view words)
+some_text view (command.Type1Cleanup esp) = some_own view (codes "nothing to clean\n") (omega arith) (cleanup_expansion view esp)
+some_text view (command.Put file target) = some_put view target (bytes_at view file)
+some_text view (command.Enter path text) = omega arith
+some_text view (command.Remove path) = some_removal view path (get view path)
 some_text view command.Script = some_line (refusals.BadScript 0)
 some_text view (command.Demo seed count) =
     some_said view (demo_result seed count)

@@ -1,11 +1,11 @@
 -- A good entry stays that a command spares.
-use Rattle.std.proofs.Common.{◌≡◌, ◌≢◌, ℕ, Bool, List, refl, ap, ◌∙◌, Result, Ok, Err}
+use Rattle.std.proofs.Common.{◌≡◌, ◌≢◌, ℕ, Bool, List, [], ◌∷◌, refl, ap, ◌∙◌, Result, Ok, Err}
 use Rattle.std.specs.Prelude.{IfOk}
 use Rattle.boot_base.specs.Paths.{Path}
 use Rattle.boot_base.specs.declared.refusal.Refusal.{Refusal}
 use Rattle.boot_folder.specs.declared.folders.Folders.{Folders}
 use Rattle.boot_machine.specs.Disk.{Files}
-use Rattle.command_plans.specs.Answers.{Answer, answer_of_read, answer_or_refusal}
+use Rattle.command_plans.specs.Answers.{Answer, answer_of_read, answer_or_refusal, done_answer}
 use Rattle.command_plans.specs.Refusing.{unless_refused}
 use Rattle.command_plans.specs.Declining.{◌>>=◌, path_in}
 use Rattle.tool_words.specs.declared.command.Command.{Command}
@@ -17,7 +17,8 @@ use Rattle.command_plans.specs.Folders.{folders_of}
 use Rattle.entry_commands.specs.GoodEntries.{HasGoodEntry}
 use Rattle.entry_commands.specs.Listing.{list_result}
 use Rattle.entry_commands.specs.Tidying.{tidy_answer}
-use Rattle.entry_commands.specs.Unlinking.{entry_path, unlink_answer}
+use Rattle.command_plans.specs.Changes.{unlink_answer}
+use Rattle.entry_commands.specs.Unlinking.{entry_path}
 use Rattle.entry_commands.proofs.GoodEntries.{kept_bless, kept_boot, kept_install, kept_unlink, put_apart}
 use Rattle.loader_commands.specs.Places.{conf_path}
 use Rattle.loader_commands.specs.Setting.{changed_conf, conf_update, changed_text, value_in}
@@ -25,7 +26,14 @@ use Rattle.loader_commands.specs.Showing.{show_result}
 use Rattle.boot_texts.specs.declared.conf_change.ConfKey.{ConfKey}
 use Rattle.boot_texts.specs.declared.conf_change.ConfKey.TheVariants.{Default, Timeout}
 use Rattle.boot_commands.specs.Commands.{step_reply}
-use Rattle.boot_commands.specs.Plain.{plain_answer}
+use Rattle.boot_commands.specs.Plain.{answer_or_none, plain_answer}
+use Rattle.std.specs.Prelude.{codes}
+use Rattle.std.specs.FinMap.{insert}
+use Rattle.command_plans.specs.Files.{bytes_at}
+use Rattle.type1_install.specs.Cleaning.{cleanup_expansion}
+use Rattle.boot_commands.specs.Expansions.{own_answer, refused_answer}
+use Rattle.type1_install.specs.Installing.{install_expansion}
+use Rattle.type1_install.specs.Placing.{payload_text}
 use Rattle.boot_commands.specs.Demonstration.{demo_result}
 use Rattle.boot_commands.specs.Sparing.{Spares}
 use Rattle.image_build.proofs.Outputs.{build_output}
@@ -76,6 +84,20 @@ module _ (word : List ℕ) (folders : Folders) (read : folders_of word ≡ Ok fo
   kept_changed key value (Ok change) apart = put_apart folders path view entry change.0 change.1 apart
   kept_changed key value (Err why) apart = entry
 
+  kept_put : (target : Path) (bytes : Result (List ℕ) Refusal) → target ≢ path
+      → HasGoodEntry folders path (answer_or_refusal view (bytes >>= λ bytes. Ok (done_answer (insert view target bytes) (payload_text target)))).after
+  kept_put target (Ok bytes) apart = put_apart folders path view entry target bytes apart
+  kept_put target (Err why) apart = entry
+
+  kept_refused : (commands : Result (List Command) Refusal) → HasGoodEntry folders path (answer_or_none view (refused_answer view commands)).after
+  kept_refused (Err why) = entry
+  kept_refused (Ok commands) = entry
+
+  kept_own : (idle : List ℕ) (commands : Result (List Command) Refusal) → HasGoodEntry folders path (answer_or_none view (own_answer view idle commands)).after
+  kept_own idle (Err why) = entry
+  kept_own idle (Ok []) = entry
+  kept_own idle (Ok (first ∷ more)) = entry
+
   -- a case for each command
   pub kept : (c : Command) → Spares path c → HasGoodEntry folders path (step_reply view c).after
   unfolding step_reply plain_answer
@@ -95,5 +117,10 @@ module _ (word : List ℕ) (folders : Folders) (read : folders_of word ≡ Ok fo
   kept (command.LoaderShow esp) spares = kept_said (show_result view esp)
   kept (command.LoaderDefault pattern esp) spares = kept_changed Default pattern (conf_update view Default pattern esp) (set_apart view Default pattern esp path (conf_apart word esp folders path view read entry))
   kept (command.LoaderTimeout value esp) spares = kept_changed Timeout value (conf_update view Timeout value esp) (set_apart view Timeout value esp path (conf_apart word esp folders path view read entry))
+  kept (command.Type1Install words) spares = kept_refused (install_expansion view words)
+  kept (command.Type1Cleanup esp) spares = kept_own (codes "nothing to clean\n") (cleanup_expansion view esp)
+  kept (command.Put file target) spares = kept_put target (bytes_at view file) spares
+  kept (command.Enter at text) spares = put_apart folders path view entry at text spares
+  kept (command.Remove at) spares = kept_unlink folders path view entry at spares
   kept command.Script spares = entry
   kept (command.Demo seed count) spares = kept_said (demo_result seed count)

@@ -1,6 +1,6 @@
 -- What each command that is a step of a run comes to on a view, and what it does to a machine. `script` is none: it is
 -- the lines of standard input.
-use Rattle.std.specs.Prelude.{◌≢◌, Option, Some, Result, MatchResult}
+use Rattle.std.specs.Prelude.{codes, ◌≢◌, Option, Some, Result, MatchResult}
 use Rattle.boot_machine.specs.Disk.{Files, State}
 use Rattle.tool_words.specs.declared.command.Command.{Command}
 use Rattle.tool_words.specs.declared.command.Command.TheVariants as command
@@ -11,10 +11,16 @@ use Rattle.command_plans.specs.declared.outcome.Stop.TheVariants as stops
 use Rattle.entry_commands.specs.Tidying.{IsTidied}
 use Rattle.boot_commands.specs.Demonstration.{demo_result}
 use Rattle.boot_commands.specs.Plain.{answer_or_none, plain_answer}
+use Rattle.type1_install.specs.Cleaning.{cleanup_expansion}
+use Rattle.boot_commands.specs.Expansions.{own_answer, refused_answer}
+use Rattle.type1_install.specs.Installing.{install_expansion}
 
--- what each command that is a step comes to, a demonstration too; none for `script`
+-- what each command that is a step comes to, a demonstration too; none for `script`, and none for a command that stands
+-- for others on this view
 abbrev pub answer_of : Files → Command → Option Answer
 answer_of view (command.Demo seed count) = Some (answer_of_read view (demo_result seed count))
+answer_of view (command.Type1Install words) = refused_answer view (install_expansion view words)
+answer_of view (command.Type1Cleanup esp) = own_answer view (codes "nothing to clean\n") (cleanup_expansion view esp)
 answer_of view c = plain_answer view c
 
 -- the reply of a step, and the view after it

@@ -1,6 +1,7 @@
--- What each command but `script` and `demo` comes to on a view: the first refusal that holds, in the order of its row,
+-- What each command comes to on a view that runs no other and stands for none: the first refusal that holds, in the order of its row,
 -- or what it does.
-use Rattle.std.specs.Prelude.{Bool, true, false, not, ◌||◌, Option, Some, None}
+use Rattle.std.specs.Prelude.{Bool, true, false, not, ◌||◌, bytes_eq, Option, Some, None}
+use Rattle.boot_base.specs.Paths.{intent}
 use Rattle.boot_base.specs.declared.refusal.Refusal.TheVariants as refusals
 use Rattle.boot_machine.specs.Disk.{Files}
 use Rattle.tool_words.specs.declared.command.Command.{Command}
@@ -13,12 +14,15 @@ use Rattle.image_commands.specs.Said.{identify_result, measure_result, inspect_r
 use Rattle.entry_commands.specs.Blessing.{bless_answer}
 use Rattle.entry_commands.specs.Booting.{boot_answer}
 use Rattle.entry_commands.specs.Installing.{install_answer}
-use Rattle.entry_commands.specs.Unlinking.{entry_path, unlink_answer}
+use Rattle.command_plans.specs.Changes.{unlink_answer}
+use Rattle.entry_commands.specs.Unlinking.{entry_path}
 use Rattle.command_plans.specs.Folders.{folders_of}
 use Rattle.entry_commands.specs.Listing.{list_result}
 use Rattle.entry_commands.specs.Tidying.{tidy_answer}
 use Rattle.loader_commands.specs.Setting.{set_answer}
 use Rattle.loader_commands.specs.Showing.{show_answer}
+use Rattle.boot_commands.specs.Expansions.{expands}
+use Rattle.type1_install.specs.Placing.{enter_answer, put_answer}
 use Rattle.boot_texts.specs.declared.conf_change.ConfKey.TheVariants.{Default, Timeout}
 
 -- it runs the lines of standard input
@@ -31,9 +35,9 @@ abbrev pub is_demo : Command → Bool
 is_demo (command.Demo seed count) = true
 is_demo c = false
 
--- it runs no other command
+-- it runs no other command, and stands for none
 abbrev pub is_plain : Command → Bool
-is_plain c = not (is_script c || is_demo c)
+is_plain c = not (is_script c || is_demo c || expands c)
 
 -- what a command comes to that runs no other
 unfoldable pub plain_answer : Files → Command → Option Answer
@@ -52,7 +56,25 @@ plain_answer view (command.Bless verb path esp) = Some (bless_answer view verb p
 plain_answer view (command.LoaderShow esp) = Some (show_answer view esp)
 plain_answer view (command.LoaderDefault pattern esp) = Some (set_answer view Default pattern esp)
 plain_answer view (command.LoaderTimeout value esp) = Some (set_answer view Timeout value esp)
+plain_answer view (command.Put file target) = Some (put_answer view file target)
+plain_answer view (command.Enter path text) = Some (enter_answer view path text)
+plain_answer view (command.Remove path) = Some (unlink_answer view path)
 plain_answer view c = None
+
+-- no words ask for it: other commands stand for it
+abbrev pub is_wordless : Command → Bool
+is_wordless (command.Put file target) = true
+is_wordless (command.Enter path text) = true
+is_wordless (command.Remove path) = true
+is_wordless c = false
+
+-- The command can be a step of a run: it isn't `script`, and the paths of one that no words name aren't that of the
+-- intent.
+abbrev pub is_step : Command → Bool
+is_step (command.Put file target) = not (bytes_eq target intent)
+is_step (command.Enter path text) = not (bytes_eq path intent)
+is_step (command.Remove path) = not (bytes_eq path intent)
+is_step c = not (is_script c)
 
 -- the answer; where a command has none of its own, that of a line that is no command. No step is made there
 abbrev pub answer_or_none : Files → Option Answer → Answer

@@ -13,4 +13,7 @@ abbrev pub Spares : Path → Command → Type 0
 Spares path (command.Build words) = path_in words.output ≢ Ok path
 Spares path (command.Unlink name esp) = entry_path name esp ≢ Ok path
 Spares path (command.Bless verb word esp) = SparesGoodName path verb word esp
+Spares path (command.Put file target) = target ≢ path
+Spares path (command.Enter at text) = at ≢ path
+Spares path (command.Remove at) = at ≢ path
 Spares path c = Unit {0}

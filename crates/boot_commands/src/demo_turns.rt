@@ -4,7 +4,7 @@ ghost use Rattle.boot_machine.specs.Sent.{seen};
 ghost use Rattle.memory_machine.specs.Memory.{mem_state};
 ghost use Rattle.boot_commands.specs.Demonstration.{after_command, demo_esp, demo_name, demo_turn, drawn_command, drawn_install, listed_on_out, next_command, path_told, run_drawn, third_number};
 ghost use Rattle.boot_commands.specs.DemoRuns.{IsReady, demo_state, reply_answer};
-ghost use Rattle.boot_commands.specs.Plain.{is_plain, plain_reply};
+ghost use Rattle.boot_commands.specs.Plain.{is_plain, is_step, plain_reply};
 ghost use Rattle.tool_words.specs.declared.command.Command.TheVariants.{Bless as BlessCommand, Unlink as UnlinkCommand};
 ghost use Rattle.boot_machine.specs.Disk.{Files};
 
@@ -98,6 +98,7 @@ fn drawn_command(
 ) -> Result<Command, AllocError>
     ensures command { IfOk result (λ command. command ≡ drawn_command kind image name entry.now) }
     ensures plain { IfOk result (λ command. is_plain command ≡ true) }
+    ensures step { IfOk result (λ command. is_step command ≡ true) }
 {
     match kind {
         0 | 1 | 2 => install(alloc, image, name),
@@ -129,6 +130,7 @@ pub fn reply_of(
     machine: &mut MemMachine,
 ) -> Result<Reply, AllocError>
     requires plain { is_plain command.now ≡ true }
+    requires step { is_step command.now ≡ true }
     requires ready { IsReady (mem_state machine.old) }
     ensures reply { IfOk result (λ reply.
         reply_answer reply (seen (mem_state machine.new)) ≡ plain_reply (seen (mem_state machine.old)) command.now) }
@@ -183,6 +185,7 @@ impl Demo {
             × (self.new.done ≡ self.old.done) × (self.new.refused ≡ self.old.refused)) }
         ensures command { IfOk result (λ command. command ≡ next_command self.old.draws.number self.old.entry) }
         ensures plain { IfOk result (λ command. is_plain command ≡ true) }
+        ensures step { IfOk result (λ command. is_step command ≡ true) }
     {
         let kind = self.draws.below(8);
         let image = self.draws.below(4);
@@ -200,6 +203,7 @@ impl Demo {
         requires done { self.old.done < 2 ^ 63 }
         requires refused { self.old.refused < 2 ^ 63 }
         requires plain { is_plain command.now ≡ true }
+        requires step { is_step command.now ≡ true }
         requires ready { IsReady (mem_state machine.old) }
         ensures run { OnOk result (demo_state self.new (seen (mem_state machine.new))
             ≡ run_drawn (demo_state self.old (seen (mem_state machine.old))) self.old.draws.number command.now) }

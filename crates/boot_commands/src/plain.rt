@@ -4,7 +4,7 @@ ghost use Rattle.boot_machine.specs.Disk.{Files, IsRested};
 ghost use Rattle.boot_machine.specs.Images.{IsFirm};
 ghost use Rattle.boot_machine.specs.Sent.{seen};
 ghost use Rattle.boot_commands.specs.Commands.{LeavesTidied, TidiesTo, deed_of, step_reply};
-ghost use Rattle.boot_commands.specs.Plain.{is_plain};
+ghost use Rattle.boot_commands.specs.Plain.{is_plain, is_step};
 ghost use Rattle.boot_machine.specs.Reading.{OnlyReads};
 ghost use Rattle.command_plans.specs.Performs.{CountsStop, LeavesNoTemp, LeavesRested, Performs, end_of};
 ghost use Rattle.command_plans.specs.Plans.{Drops, IsMakeable, Plans};
@@ -18,6 +18,7 @@ use image_commands::{plan_calculate, plan_identify, plan_image, plan_inspect};
 use loader_commands::{plan_default, plan_show, plan_timeout};
 use std::alloc::Global;
 use tool_words::Command;
+use type1_install::{plan_enter, plan_put, plan_remove};
 
 /// What a command that runs no other is going to do and to say, made by reads alone.
 #[tactic(auto, unfolding(crate::specs::Commands::step_reply, crate::specs::Plain::plain_answer))]
@@ -27,6 +28,7 @@ pub fn plan_plain<M: Machine>(
     machine: &mut M,
 ) -> Result<Plan, Stop>
     requires plain { is_plain command.now ≡ true }
+    requires step { is_step command.now ≡ true }
     ensures plans { IfOk result (λ plan. IsTrue M.tells
         → Plans (M.state machine.old) plan (step_reply (seen (M.state machine.old)) command.now)) }
     ensures makeable { IfOk result (λ plan. IsMakeable plan.change) }
@@ -79,7 +81,13 @@ pub fn plan_plain<M: Machine>(
         Command::LoaderTimeout { value, esp } => {
             plan_timeout(alloc, value.as_str(), esp.as_str(), machine)
         }
-        Command::Script | Command::Demo { .. } => unreachable!(),
+        Command::Put { file, target } => plan_put(alloc, file, target, machine),
+        Command::Enter { path, text } => Ok(plan_enter(alloc, path, text)?),
+        Command::Remove { path } => plan_remove(alloc, path, machine),
+        Command::Script
+        | Command::Demo { .. }
+        | Command::Type1Install(_)
+        | Command::Type1Cleanup { .. } => unreachable!(),
     }
 }
 
@@ -99,6 +107,7 @@ pub fn plain_step<M: Machine>(
     machine: &mut M,
 ) -> Result<Outcome, Stop>
     requires plain { is_plain command.now ≡ true }
+    requires step { is_step command.now ≡ true }
     requires rested { IsTrue M.tells → IsRested (M.state machine.old) }
     ensures performs { IsTrue M.tells → IsFirm (M.state machine.old)
         → Performs M.time M.state end_of machine.old machine.new

@@ -1,26 +1,28 @@
 //! One command that is a step of a run, from its reads to the end of its reply.
-ghost use Rattle.std.specs.Prelude.{◌≡◌, false, IfOk, IsTrue};
+ghost use Rattle.std.specs.Prelude.{◌≡◌, true, IfOk, IsTrue};
 ghost use Rattle.boot_machine.specs.Disk.{Files, IsRested};
 ghost use Rattle.boot_machine.specs.Images.{IsFirm};
 ghost use Rattle.boot_machine.specs.Sent.{seen};
 ghost use Rattle.boot_commands.specs.Commands.{LeavesTidied, TidiesTo, deed_of, step_reply};
-ghost use Rattle.boot_commands.specs.Plain.{is_script};
+ghost use Rattle.boot_commands.specs.Plain.{is_step};
 ghost use Rattle.boot_machine.specs.Reading.{OnlyReads};
 ghost use Rattle.command_plans.specs.Performs.{CountsStop, LeavesNoTemp, LeavesRested, Performs, end_of};
 ghost use Rattle.command_plans.specs.Plans.{Drops, IsMakeable, Plans};
 
 use crate::carrying::carry_out;
 use crate::demo::plan_demo;
+use crate::expanding::{plan_idle_or_refused, plan_refused};
 use crate::plain::plan_plain;
 use boot_machine::Machine;
 use command_plans::{Outcome, Plan, Stop};
 use std::alloc::Global;
 use tool_words::Command;
+use type1_install::{cleanup_expansion, install_expansion};
 
 // What a command is going to do and to say, made by reads alone.
 #[tactic(auto, unfolding(crate::specs::Commands::step_reply))]
 fn plan_of<M: Machine>(alloc: Global, command: &Command, machine: &mut M) -> Result<Plan, Stop>
-    requires step { is_script command.now ≡ false }
+    requires step { is_step command.now ≡ true }
     ensures plans { IfOk result (λ plan. IsTrue M.tells
         → Plans (M.state machine.old) plan (step_reply (seen (M.state machine.old)) command.now)) }
     ensures makeable { IfOk result (λ plan. IsMakeable plan.change) }
@@ -31,11 +33,19 @@ fn plan_of<M: Machine>(alloc: Global, command: &Command, machine: &mut M) -> Res
 {
     match command {
         Command::Demo { seed, count } => plan_demo(alloc, seed.as_str(), count.as_str()),
+        Command::Type1Install(words) => {
+            let commands = install_expansion(alloc, words, machine);
+            plan_refused(alloc, commands)
+        }
+        Command::Type1Cleanup { esp } => {
+            let commands = cleanup_expansion(alloc, esp.as_str(), machine);
+            plan_idle_or_refused(alloc, commands)
+        }
         _ => plan_plain(alloc, command, machine),
     }
 }
 
-/// One command, which isn't `script`: its reads, its change and its reply, which goes to Out, or to Err where it is a
+/// One command, which isn't `script`, nor one that no words name at the path of the intent: its reads, its change and its reply, which goes to Out, or to Err where it is a
 /// refusal.
 ///
 /// On a machine on which no file that boot sees waits for a sync, a stop at any moment shows the boot files
@@ -46,7 +56,7 @@ fn plan_of<M: Machine>(alloc: Global, command: &Command, machine: &mut M) -> Res
 /// `Disk` and `Pipe` only where the machine's own count of such faults rose; `Memory` only before anything
 /// is changed or printed.
 pub fn step<M: Machine>(alloc: Global, command: &Command, machine: &mut M) -> Result<Outcome, Stop>
-    requires step { is_script command.now ≡ false }
+    requires step { is_step command.now ≡ true }
     requires rested { IsTrue M.tells → IsRested (M.state machine.old) }
     ensures performs { IsTrue M.tells → IsFirm (M.state machine.old)
         → Performs M.time M.state end_of machine.old machine.new

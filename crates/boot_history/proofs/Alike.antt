@@ -1,12 +1,15 @@
 -- What a run prints and does before its first command is the same from each view.
-use Rattle.std.proofs.Common.{◌≡◌, ◌⊎◌, ⊎_elim, ℕ, zero, suc, ◌≤◌, ◌<◌, List, [], ◌∷◌, ◌++◌, length, take, refl, sym, ap, ◌∙◌, subst, arith, append_assoc, length-append, Result, Ok, Err}
+use Rattle.std.proofs.Common.{◌≡◌, ◌⊎◌, ⊎_elim, ℕ, zero, suc, ◌≤◌, ◌<◌, Bool, true, false, List, [], ◌∷◌, ◌++◌, length, take, refl, sym, ap, ◌∙◌, subst, arith, append_assoc, length-append, Result, Ok, Err}
 use Rattle.std.proofs.lemmas.List.{length-take}
-use Rattle.tool_words.specs.Grammar.{Word}
+use Rattle.word_grammar.specs.Grammar.{Word}
 use Rattle.tool_words.specs.Meaning.{meaning}
 use Rattle.tool_words.specs.declared.fault.UsageReason.{UsageReason}
 use Rattle.boot_machine.specs.Disk.{Files}
+use Rattle.tool_words.specs.declared.command.Command.{Command}
+use Rattle.boot_commands.specs.Expansions.{expansion}
+use Rattle.boot_commands.specs.Plain.{is_script}
 use Rattle.boot_machine.specs.Sent.{Sent, IsPrefix}
-use Rattle.boot_run.specs.AskedLines.{asked_lines, lines_to_run}
+use Rattle.boot_run.specs.AskedLines.{asked_lines, lines_for, lines_to_run, plain_lines}
 use Rattle.boot_run.specs.Lines.{line_deed}
 use Rattle.boot_run.specs.Step.{Acknowledges, AllUnread, NoneEmpty, join_replies, replies}
 use Rattle.boot_run.specs.declared.line.Line.{Line}
@@ -21,14 +24,27 @@ AreAlike (Ok lines) (Err reason) = ⊥
 AreAlike (Err reason) (Ok others) = ⊥
 AreAlike (Err reason) (Err other) = other ≡ reason
 
-alike_self : (asks : Result (List Line) UsageReason) → AreAlike asks asks
-alike_self (Ok lines) = λ j all. refl
-alike_self (Err reason) = refl
+-- lines that begin with a command have no leading one without
+plain_alike : (c : Command) (commands others : List Command) (j : ℕ) → AllUnread (take j (plain_lines c commands))
+    → take j (plain_lines c others) ≡ take j (plain_lines c commands)
+plain_alike c commands others zero all = refl
+plain_alike c [] others (suc j) all = cc
+plain_alike c (first ∷ more) others (suc j) all = cc
 
--- no command's lines depend on the view
+lines_alike : (input : List ℕ) (c : Command) (view other : Files) (script : Bool) → is_script c ≡ script
+    → AreAlike (Ok (lines_for input view c)) (Ok (lines_for input other c))
+lines_alike input c view other true is = rw is (λ j all. refl)
+lines_alike input c view other false is = rw is (plain_alike c (expansion view c) (expansion other c))
+
+meant_alike : (input : List ℕ) (meant : Result Command UsageReason) (view other : Files)
+    → AreAlike (lines_to_run input view meant) (lines_to_run input other meant)
+meant_alike input (Ok c) view other = lines_alike input c view other (is_script c) refl
+meant_alike input (Err reason) view other = refl
+
+-- the leading lines without a command don't depend on the view
 pub asked_alike : (words : List Word) (input : List ℕ) (view other : Files)
     → AreAlike (asked_lines words input view) (asked_lines words input other)
-asked_alike words input view other = alike_self (lines_to_run input (meaning words))
+asked_alike words input view other = meant_alike input (meaning words) view other
 
 -- ---- replies
 

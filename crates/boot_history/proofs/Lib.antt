@@ -1,6 +1,9 @@
 mod Alike
 mod Counting
 mod Keeping
+mod PayloadMoves
+mod Payloads
+mod PayloadsStay
 mod Pushing
 mod Standing
 mod Starting

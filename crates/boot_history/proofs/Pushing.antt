@@ -3,7 +3,7 @@ use Rattle.std.proofs.Common.{◌≡◌, ℕ, suc, ◌+◌, ◌<◌, List, [], �
 use Rattle.std.proofs.Math.ListN.{set}
 use Rattle.std.proofs.Math.Seq.{take-suc, take-suc-set}
 use Rattle.std.proofs.lemmas.List.{append-nil, map-append}
-use Rattle.tool_words.specs.Grammar.{Word}
+use Rattle.word_grammar.specs.Grammar.{Word}
 use Rattle.tool_words.specs.Meaning.{meaning}
 use Rattle.tool_words.specs.declared.command.Command.{Command}
 use Rattle.tool_words.specs.declared.fault.UsageReason.{UsageReason}
@@ -62,11 +62,11 @@ pub record IsRunBy (words : List Word) (status : ℕ) (old new : State) : Type 0
   pub input : TakesInput (meaning words) (ended_of status) old.input new.input
 
 fits_asked : (input : List ℕ) (meant : Result Command UsageReason) (view now : Files) (ended : Ended) → now ≡ view
-    → ((lines : List Line) → lines_to_run input meant ≡ Ok lines → AnswersRefusals (some_refused now lines) ended)
-    → FitsWords meant ended → FitsReplies view (lines_to_run input meant) ended
+    → ((lines : List Line) → lines_to_run input view meant ≡ Ok lines → AnswersRefusals (some_refused now lines) ended)
+    → FitsWords meant ended → FitsReplies view (lines_to_run input view meant) ended
 fits_asked input (Ok command) view now ended same refused fits =
-    subst (λ v. AnswersRefusals (some_refused v (lines_for input command)) ended) same
-    (refused (lines_for input command) refl)
+    subst (λ v. AnswersRefusals (some_refused v (lines_for input view command)) ended) same
+    (refused (lines_for input view command) refl)
 fits_asked input (Err reason) view now ended same refused fits = fits
 
 pub fits_replies : (words : List Word) (status : ℕ) (old : State)

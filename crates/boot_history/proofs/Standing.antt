@@ -1,7 +1,8 @@
 -- A good entry stays that no command is told to take away, and is listed.
-use Rattle.std.proofs.Common.{◌≡◌, ℕ, zero, suc, List, [], ◌∷◌, take, refl, Result, Ok, Err}
-use Rattle.std.specs.Prelude.{Contains}
+use Rattle.std.proofs.Common.{◌≡◌, ℕ, false, zero, suc, List, [], ◌∷◌, map, take, refl, Result, Ok, Err}
+use Rattle.std.specs.Prelude.{All, Contains}
 use Rattle.std.proofs.lemmas.Bool.{le-ltb}
+use Rattle.std.proofs.lemmas.List.Elements.{All-head, All-tail}
 use Rattle.boot_base.specs.Paths.{Path}
 use Rattle.boot_folder.specs.Entries.{boot_menu, entry_count}
 use Rattle.boot_folder.specs.Listing.{list_text}
@@ -11,46 +12,80 @@ use Rattle.boot_folder.proofs.Members.{none_in}
 use Rattle.boot_machine.specs.Disk.{Files}
 use Rattle.boot_machine.specs.Sent.{latest_view}
 use Rattle.menu_order.specs.declared.item.MenuItem.{MenuItem}
+use Rattle.tool_words.specs.Meaning.{meaning}
+use Rattle.tool_words.specs.declared.command.Command.{Command}
+use Rattle.tool_words.specs.declared.command.Command.TheVariants as command
 use Rattle.tool_words.specs.declared.fault.UsageReason.{UsageReason}
 use Rattle.command_plans.specs.Folders.{folders_of}
 use Rattle.entry_commands.specs.GoodEntries.{HasGoodEntry}
 use Rattle.entry_commands.specs.Listing.{menu_result}
+use Rattle.boot_commands.specs.Expansions.{expansion}
+use Rattle.boot_commands.specs.Sparing.{Spares}
+use Rattle.boot_commands.proofs.ExpansionsSpare.{Keeping, cleanup_keeps, install_keeps}
 use Rattle.boot_commands.proofs.Sparing.{kept}
+use Rattle.boot_run.specs.AskedLines.{lines_for, lines_to_run, plain_lines}
 use Rattle.boot_run.specs.Lines.{line_deed}
 use Rattle.boot_run.specs.Step.{view_after}
 use Rattle.boot_run.specs.declared.line.Line.{Line}
 use Rattle.boot_run.specs.declared.line.Line.TheVariants.{Plain, Numbered, Unread, TooLong}
-use Rattle.boot_history.specs.GoodEntries.{AllSpare, AsksSpare, GoodEntryLaw, LineSpares, ListedLaw, SpareFrom}
-use Rattle.boot_history.specs.Histories.{Run, asked_at, state_after}
+use Rattle.boot_history.specs.Asking.{AllCommands, EachMeans}
+use Rattle.boot_history.specs.GoodEntries.{GoodEntryLaw, ListedLaw, SpareFrom, keeps_entries}
+use Rattle.boot_history.specs.Histories.{Run, state_after}
 use Rattle.boot_history.specs.Keeping.{KeptBy, KeptFrom}
 use Rattle.boot_history.proofs.Keeping.{kept_later}
 
 module _ (esp : List ℕ) (folders : Folders) (read : folders_of esp ≡ Ok folders) (path : Path) where
-  after_line : (view : Files) (line : Line) → LineSpares path line → HasGoodEntry folders path view
-      → HasGoodEntry folders path (line_deed view line).after
-  after_line view (Plain command) spares entry = kept esp folders read path view entry command spares
-  after_line view (Numbered number command) spares entry = kept esp folders read path view entry command spares
-  after_line view (Unread number) spares entry = entry
-  after_line view TooLong spares entry = entry
-
-  after_lines : (view : Files) (lines : List Line) → AllSpare path lines → HasGoodEntry folders path view → (n : ℕ)
+  after_lines : (view : Files) (lines : List Line) → AllCommands (Spares path) lines → HasGoodEntry folders path view
+      → (n : ℕ)
       → HasGoodEntry folders path (view_after view (take n lines))
   after_lines view lines spare entry zero = entry
   after_lines view [] spare entry (suc n) = entry
-  after_lines view (line ∷ lines) spare entry (suc n) =
-      after_lines (line_deed view line).after lines spare.1 (after_line view line spare.0 entry) n
+  after_lines view (Plain command ∷ lines) spare entry (suc n) =
+      after_lines (line_deed view (Plain command)).after lines spare.1
+      (kept esp folders read path view entry command spare.0) n
+  after_lines view (Numbered number command ∷ lines) spare entry (suc n) =
+      after_lines (line_deed view (Numbered number command)).after lines spare.1
+      (kept esp folders read path view entry command spare.0) n
+  after_lines view (Unread number ∷ lines) spare entry (suc n) = after_lines view lines spare entry n
+  after_lines view (TooLong ∷ lines) spare entry (suc n) = after_lines view lines spare entry n
 
-  after_asked : (view : Files) (asks : Result (List Line) UsageReason) → AsksSpare path asks
+  -- what a command stands for, where each of these keeps the entry, or the command itself
+  after_each : (view : Files) (commands : List Command) → All (Keeping esp folders read path) commands
       → HasGoodEntry folders path view
-      → KeptBy (HasGoodEntry folders path) view asks
-  after_asked view (Ok lines) spare entry = after_lines view lines spare entry
-  after_asked view (Err reason) spare entry = tt
+      → (n : ℕ)
+      → HasGoodEntry folders path (view_after view (take n (map Plain commands)))
+  after_each view commands keep entry zero = entry
+  after_each view [] keep entry (suc n) = entry
+  after_each view (first ∷ more) keep entry (suc n) =
+      after_each (line_deed view (Plain first)).after more (All-tail (Keeping esp folders read path) first more keep)
+      (All-head (Keeping esp folders read path) first more keep view entry) n
+
+  after_plain : (view : Files) (c : Command) (commands : List Command) → Spares path c
+      → All (Keeping esp folders read path) commands
+      → HasGoodEntry folders path view
+      → (n : ℕ)
+      → HasGoodEntry folders path (view_after view (take n (plain_lines c commands)))
+  after_plain view c [] own keep entry n = after_lines view (Plain c ∷ []) (own, tt) entry n
+  after_plain view c (first ∷ more) own keep entry n = after_each view (first ∷ more) keep entry n
+
+  after_meant : (view : Files) (input : List ℕ) (meant : Result Command UsageReason)
+      → EachMeans keeps_entries (Spares path) view input meant
+      → HasGoodEntry folders path view
+      → KeptBy (HasGoodEntry folders path) view (lines_to_run input view meant)
+  after_meant view input (Err reason) spare entry = tt
+  after_meant view input (Ok (command.Type1Install words)) spare entry =
+      after_plain view (command.Type1Install words) (expansion view (command.Type1Install words)) tt
+      (install_keeps esp folders read path view words) entry
+  after_meant view input (Ok (command.Type1Cleanup word)) spare entry =
+      after_plain view (command.Type1Cleanup word) (expansion view (command.Type1Cleanup word)) tt
+      (cleanup_keeps esp folders read path view word) entry
+  after_meant view input (Ok c) spare entry = after_lines view (lines_for input view c) (spare refl) entry
 
   kept_from : (state : List Files) (runs : List Run) → SpareFrom path state runs
       → KeptFrom (HasGoodEntry folders path) state runs
   kept_from state [] spare = tt
   kept_from state (run ∷ runs) spare = (
-    λ entry. after_asked (latest_view state) (asked_at (latest_view state) run) spare.0 entry,
+    λ entry. after_meant (latest_view state) run.input (meaning run.words) spare.0 entry,
     kept_from run.left runs spare.1,
   )
 
@@ -61,7 +96,7 @@ good_entry_law esp folders path first before later read start history all spare 
 
 -- ---- the list
 
-some_said : (menu : List MenuItem) (item : MenuItem) → Contains menu item → menu_result menu ≡ Ok (list_text menu)
+some_said : (menu : List MenuItem) (item : MenuItem) → Contains menu item → menu_result false menu ≡ Ok (list_text menu)
 some_said [] item among = absurd (none_in item among)
 some_said (first ∷ later) item among = refl
 

@@ -1,42 +1,29 @@
 -- A good entry stays that no command is told to take away.
-use Rattle.std.specs.Prelude.{◌≡◌, ℕ, ◌≤◌, List, [], ◌∷◌, ◌++◌, Contains, Result, Ok, Err}
+use Rattle.std.specs.Prelude.{◌≡◌, ℕ, ◌≤◌, Bool, true, false, List, ◌++◌, Contains, Ok}
 use Rattle.boot_base.specs.Paths.{Path}
 use Rattle.boot_folder.specs.Entries.{entry_count}
 use Rattle.boot_folder.specs.Listing.{list_text}
 use Rattle.boot_folder.specs.declared.folders.Folders.{Folders}
 use Rattle.boot_machine.specs.Disk.{Files}
-use Rattle.boot_machine.specs.Sent.{latest_view}
 use Rattle.menu_order.specs.declared.item.MenuItem.{MenuItem}
-use Rattle.tool_words.specs.declared.fault.UsageReason.{UsageReason}
+use Rattle.tool_words.specs.declared.command.Command.{Command}
+use Rattle.tool_words.specs.declared.command.Command.TheVariants as command
 use Rattle.command_plans.specs.Folders.{folders_of}
 use Rattle.entry_commands.specs.GoodEntries.{HasGoodEntry}
 use Rattle.entry_commands.specs.Listing.{list_result}
 use Rattle.boot_commands.specs.Sparing.{Spares}
-use Rattle.boot_run.specs.declared.line.Line.{Line}
-use Rattle.boot_run.specs.declared.line.Line.TheVariants.{Plain, Numbered, Unread, TooLong}
-use Rattle.boot_history.specs.Histories.{Run, IsHistory, IsStart, AllAlong, AllViews, asked_at, state_after}
+use Rattle.boot_history.specs.Asking.{EachAsks}
+use Rattle.boot_history.specs.Histories.{Run, IsHistory, IsStart, AllAlong, AllViews, state_after}
 
--- a line spares the good entry at this path where its command does
-abbrev pub LineSpares : Path → Line → Type 0
-LineSpares path (Plain command) = Spares path command
-LineSpares path (Numbered number command) = Spares path command
-LineSpares path (Unread number) = Unit {0}
-LineSpares path TooLong = Unit {0}
+-- every good entry stays, whatever these commands stand for
+abbrev pub keeps_entries : Command → Bool
+keeps_entries (command.Type1Install words) = true
+keeps_entries (command.Type1Cleanup esp) = true
+keeps_entries c = false
 
--- all these lines spare the good entry at this path
-abbrev pub AllSpare : Path → List Line → Type 0
-AllSpare path [] = Unit {0}
-AllSpare path (line ∷ lines) = LineSpares path line × AllSpare path lines
-
--- so does all that the words of a run ask for
-abbrev pub AsksSpare : Path → Result (List Line) UsageReason → Type 0
-AsksSpare path (Ok lines) = AllSpare path lines
-AsksSpare path (Err reason) = Unit {0}
-
--- and each run from this state on, by what its words ask for at its start
+-- each run from this state on spares the good entry at this path, by what its words ask for at its start
 abbrev pub SpareFrom : Path → List Files → List Run → Type 0
-SpareFrom path state [] = Unit {0}
-SpareFrom path state (run ∷ runs) = AsksSpare path (asked_at (latest_view state) run) × SpareFrom path run.left runs
+SpareFrom path state runs = EachAsks keeps_entries (Spares path) state runs
 
 -- Where a good entry of an EFI system partition stands at a path in each view at the start of some run of a history,
 -- and no command from that run on is told to build over it, to unlink it, or to bless it as bad or as indeterminate,

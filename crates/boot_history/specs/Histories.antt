@@ -2,7 +2,7 @@
 -- the last that of the files. Each run takes the state that the one before it left to a state of its own, and ends or
 -- is stopped.
 use Rattle.std.specs.Prelude.{◌≡◌, ◌≢◌, ◌≤◌, ℕ, List, [], ◌∷◌, map, drop, Result, Ok, Err}
-use Rattle.tool_words.specs.Grammar.{Word}
+use Rattle.word_grammar.specs.Grammar.{Word}
 use Rattle.tool_words.specs.Meaning.{meaning}
 use Rattle.tool_words.specs.declared.fault.UsageReason.{UsageReason}
 use Rattle.boot_machine.specs.Disk.{Files, State, IsIn, recovered_view}

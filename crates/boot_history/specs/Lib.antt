@@ -1,4 +1,6 @@
+pub mod Asking
 pub mod GoodEntries
 pub mod Histories
 pub mod Keeping
 pub mod Numbers
+pub mod Payloads

@@ -7,6 +7,7 @@ ghost use Rattle.boot_history.specs.GoodEntries.{GoodEntryLaw, ListedLaw};
 ghost use Rattle.boot_history.specs.Histories.{StartLaw, StopLaw};
 ghost use Rattle.boot_history.specs.Keeping.{KeptLaw};
 ghost use Rattle.boot_history.specs.Numbers.{HistoryLaw};
+ghost use Rattle.boot_history.specs.Payloads.{CleanupKeepsLaw, InstallKeepsLaw, PayloadLaw};
 
 mod each;
 #[cfg(test)]
@@ -44,4 +45,14 @@ pub fn kept_law()
 pub fn good_entry_law()
     ensures stays { GoodEntryLaw }
     ensures listed { ListedLaw }
+{}
+
+/// The payloads of entries stay: where each payload that an entry of an EFI system partition names is there, with its
+/// digest for its name, in each view at the start of some run, and no build from that run on has its output directly in
+/// the partition's folder of payloads or in that of its entries of type 1, it is so in each later view. An installation
+/// and a cleanup keep it after each number of their commands.
+pub fn payload_law()
+    ensures stays { PayloadLaw }
+    ensures installs { InstallKeepsLaw }
+    ensures cleanups { CleanupKeepsLaw }
 {}

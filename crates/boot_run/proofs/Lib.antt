@@ -1,11 +1,14 @@
 mod Acked
 mod Acknowledging
+mod Expanding
+mod Expansions
 mod Recovering
 pub mod Replying
 mod Running
-mod ScriptLines
+pub mod ScriptLines
 mod Staying
 pub mod Stepping
 mod Synced
 mod Taken
 mod Topping
+pub mod Worded

@@ -3,20 +3,23 @@ use Rattle.std.proofs.Common.{◌≡◌, inl, inr, ℕ, suc, ◌+◌, Bool, true
 use Rattle.std.proofs.lemmas.Bool.{cases_Bool}
 use Rattle.std.proofs.lemmas.Str.{IsUtf8-from_is_utf8}
 use Rattle.std.specs.Str.{chars, is_utf8, IsUtf8}
-use Rattle.std.specs.Prelude.{All, not, nat_lt, ◌&&◌, ◌||◌, if◌then◌else◌}
+use Rattle.std.specs.Prelude.{All, IfOk, not, nat_lt, ◌&&◌, ◌||◌, if◌then◌else◌}
 use Rattle.std.specs.List.{slice_split}
 use Rattle.std.proofs.lemmas.List.Elements.{All-cons, All-nil}
+use Rattle.boot_machine.specs.Disk.{Files}
+use Rattle.boot_commands.specs.Expansions.{expands, expansion}
 use Rattle.tool_words.specs.Line.{is_open, line_words}
 use Rattle.tool_words.specs.Meaning.{meaning}
 use Rattle.tool_words.specs.declared.command.Command.{Command}
 use Rattle.tool_words.specs.declared.fault.LineFault.{LineFault}
 use Rattle.tool_words.specs.declared.fault.LineFault.TheVariants.{OpenQuote}
 use Rattle.tool_words.specs.declared.fault.UsageReason.{UsageReason}
-use Rattle.boot_commands.specs.Plain.{is_demo, is_plain, is_script}
-use Rattle.boot_run.specs.AskedLines.{command_in, in_script, is_passed_over, is_script_newline, line_at, lines_for, lines_from, lines_in}
+use Rattle.boot_commands.specs.Plain.{is_demo, is_plain, is_script, is_wordless}
+use Rattle.boot_run.specs.AskedLines.{command_in, in_script, is_passed_over, is_script_newline, line_at, lines_for, lines_from, lines_in, plain_lines}
 use Rattle.boot_run.specs.Lines.{IsStep, script_limit}
 use Rattle.boot_run.specs.declared.line.Line.{Line}
-use Rattle.boot_run.specs.declared.line.Line.TheVariants.{Plain, TooLong}
+use Rattle.boot_run.specs.declared.line.Line.TheVariants.{TooLong}
+use Rattle.boot_run.proofs.Worded.{step_of, worded}
 
 abbrev ok_line : (T : Type 0) → T → Result T LineFault
 ok_line T value = Ok value
@@ -52,11 +55,11 @@ pub command_of_words : (piece : List ℕ) → is_utf8 piece ≡ true → is_open
 command_of_words piece utf8 closed = rw (utf8, closed) refl
 
 -- a command of its own
-pub lines_plain : (input : List ℕ) (c : Command) → is_script c ≡ false → lines_for input c ≡ Plain c ∷ []
-lines_plain input c isnt = rw isnt refl
+pub lines_alone : (input : List ℕ) (view : Files) (c : Command) → is_script c ≡ false → lines_for input view c ≡ plain_lines c (expansion view c)
+lines_alone input view c isnt = rw isnt refl
 
-pub lines_script : (input : List ℕ) (c : Command) → is_script c ≡ true → lines_for input c ≡ lines_in (take 1048577 input)
-lines_script input c is = rw is refl
+pub lines_script : (input : List ℕ) (view : Files) (c : Command) → is_script c ≡ true → lines_for input view c ≡ lines_in (take 1048577 input)
+lines_script input view c is = rw is refl
 
 -- the lines so far, with one piece more
 pub with_piece : (pieces : List (List ℕ)) (piece : List ℕ) (number : ℕ) (lines : List Line) (line : Line) → number ≡ length pieces + 1 → is_passed_over piece ≡ false → line ≡ line_at number (command_in piece)
@@ -77,23 +80,23 @@ not_open line result value is so = elim (cases_Bool (is_open line)) [ inl opened
     ok_or_err : {T : Type 0} (value : T) → ok_line T value ≡ Err OpenQuote → ⊥
     ok_or_err value is = cc
 
-neither : (a b : Bool) → not (a || b) ≡ true → a ≡ false
-neither true b is = cc
-neither false b is = refl
+neither : (a b c : Bool) → not (a || b || c) ≡ true → a ≡ false
+neither true b c is = cc
+neither false b c is = refl
 
-step_if : (number : ℕ) (plain : Bool) (c : Command) → is_plain c ≡ plain → IsStep (line_at number (cond plain (Some c) None))
-step_if number true c is = neither (is_script c) (is_demo c) is
-step_if number false c is = tt
+step_if : (number : ℕ) (plain : Bool) (c : Command) → is_wordless c ≡ false → is_plain c ≡ plain → IsStep (line_at number (cond plain (Some c) None))
+step_if number true c given is = step_of c (neither (is_script c) (is_demo c) (expands c) is) given
+step_if number false c given is = tt
 
-step_meant : (number : ℕ) (meant : Result Command UsageReason) → IsStep (line_at number (in_script meant))
-step_meant number (Err reason) = tt
-step_meant number (Ok c) = step_if number (is_plain c) c refl
+step_meant : (number : ℕ) (meant : Result Command UsageReason) → IfOk meant (λ c. is_wordless c ≡ false) → IsStep (line_at number (in_script meant))
+step_meant number (Err reason) all = tt
+step_meant number (Ok c) all = step_if number (is_plain c) c all refl
 
 step_in : (number : ℕ) (piece : List ℕ) → IsStep (line_at number (command_in piece))
 step_in number piece = by_text (is_utf8 piece && not (is_open (chars piece)))
   where
     by_text : (text : Bool) → IsStep (line_at number (cond text (in_script (meaning (line_words (chars piece)))) None))
-    by_text true = step_meant number (meaning (line_words (chars piece)))
+    by_text true = step_meant number (meaning (line_words (chars piece))) (worded (line_words (chars piece)))
     by_text false = tt
 
 steps_behind : (number : ℕ) (passed : Bool) (piece : List ℕ) (lines : List Line) → All IsStep lines

@@ -20,7 +20,7 @@ use Rattle.boot_run.proofs.Staying.{image_stays}
 use Rattle.boot_run.proofs.Running.{SoFar, runs_break, printed_by-is, said_more, states-append}
 
 -- what is said depends on the last view alone
-said_latest : (a b : List Files) (lines : List Line) → latest_view a ≡ latest_view b → printed_by a lines ≡ printed_by b lines
+pub said_latest : (a b : List Files) (lines : List Line) → latest_view a ≡ latest_view b → printed_by a lines ≡ printed_by b lines
 said_latest a b lines same = printed_by-is a lines ∙ ap (λ v. end_to_end (replies v lines)) same ∙ sym (printed_by-is b lines)
 
 -- unread lines leave a state

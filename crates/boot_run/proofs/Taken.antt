@@ -1,6 +1,7 @@
 -- How much of the input a run takes, and what its ends say.
 use Rattle.std.proofs.Common.{◌≡◌, ◌≢◌, ◌≤◌, ℕ, Bool, true, false, List, [], drop, refl, sym, ap, ◌∙◌, subst, arith, Result, Ok, Err}
 use Rattle.std.specs.Prelude.{OnOk}
+use Rattle.boot_machine.specs.Disk.{Files}
 use Rattle.tool_words.specs.declared.command.Command.{Command}
 use Rattle.tool_words.specs.declared.fault.UsageReason.{UsageReason}
 use Rattle.command_plans.specs.declared.outcome.Stop.{Stop}
@@ -30,6 +31,10 @@ at_end_by (Err MemoryStop) P p = tt
 pub on_ok_by : {T E : Type 0} (result : Result T E) (P Q : Type 0) → (P → Q) → OnOk result P → OnOk result Q
 on_ok_by (Ok value) P Q so p = so p
 on_ok_by (Err fault) P Q so p = tt
+
+pub on_ok_any : {T E : Type 0} (result : Result T E) (P : Type 0) → P → OnOk result P
+on_ok_any (Ok value) P p = p
+on_ok_any (Err fault) P p = tt
 
 pub unless_disk : (ended : Ended) (P : Type 0) → (ended ≢ Disk → P) → UnlessDisk ended P
 unless_disk Done P p = p (λ is. cc)
@@ -95,10 +100,10 @@ lines_or : Result (List Line) UsageReason → List Line
 lines_or (Ok lines) = lines
 lines_or (Err reason) = []
 
-pub lines_are : (input : List ℕ) (meant : Result Command UsageReason) (c : Command) (lines : List Line) → meant ≡ Ok c → lines_to_run input meant ≡ Ok lines → lines_for input c ≡ lines
+pub lines_are : (input : List ℕ) (view : Files) (meant : Result Command UsageReason) (c : Command) (lines : List Line) → meant ≡ Ok c → lines_to_run input view meant ≡ Ok lines → lines_for input view c ≡ lines
 unfolding lines_or
-lines_are input meant c lines is asks = ap lines_or (sym (ap (lines_to_run input) is) ∙ asks)
+lines_are input view meant c lines is asks = ap lines_or (sym (ap (lines_to_run input view) is) ∙ asks)
 
 -- words that are no command ask for none
-pub no_lines : (input : List ℕ) (meant : Result Command UsageReason) (reason : UsageReason) (lines : List Line) → meant ≡ Err reason → lines_to_run input meant ≡ Ok lines → ⊥
-no_lines input meant reason lines is asks = cc (sym (ap (lines_to_run input) is) ∙ asks)
+pub no_lines : (input : List ℕ) (view : Files) (meant : Result Command UsageReason) (reason : UsageReason) (lines : List Line) → meant ≡ Err reason → lines_to_run input view meant ≡ Ok lines → ⊥
+no_lines input view meant reason lines is asks = cc (sym (ap (lines_to_run input view) is) ∙ asks)

@@ -76,7 +76,7 @@ states-is : (old : List Files) (lines : List Line) → latest_view (states old l
 states-is old [] = refl
 states-is old (line ∷ lines) = states-is (left_by (line_deed (latest_view old) line) old) lines ∙ ap (λ v. view_after v lines) (latest_left old line)
 
-refused-is : (old : List Files) (lines : List Line) → any_refused old lines ≡ some_refused (latest_view old) lines
+pub refused-is : (old : List Files) (lines : List Line) → any_refused old lines ≡ some_refused (latest_view old) lines
 refused-is old [] = refl
 refused-is old (line ∷ lines) =
     ap (λ (b : Bool). is_refusal (line_deed (latest_view old) line).outcome || b)

@@ -1,21 +1,22 @@
 -- What the words and standard input ask for: the lines of the run, or why the words are no command.
-use Rattle.std.specs.Prelude.{ℕ, suc, ◌+◌, ◌==◌, Bool, true, false, not, ◌&&◌, List, [], ◌∷◌, ◌++◌, codes, length, take, nat_lt, Option, Some, None, Result, Ok, Err, if◌then◌else◌}
+use Rattle.std.specs.Prelude.{ℕ, suc, ◌+◌, ◌==◌, Bool, true, not, ◌&&◌, List, [], ◌∷◌, ◌++◌, codes, length, map, take, nat_lt, Option, Some, None, Result, Ok, Err, if◌then◌else◌}
 use Rattle.std.specs.List.{slice_split}
 use Rattle.std.specs.Str.{chars, is_utf8}
 use Rattle.boot_machine.specs.Disk.{Files, State}
 use Rattle.boot_machine.specs.Sent.{latest_view, recovered_views}
-use Rattle.tool_words.specs.Grammar.{Word}
+use Rattle.word_grammar.specs.Grammar.{Word}
 use Rattle.tool_words.specs.Line.{is_open, line_words}
 use Rattle.tool_words.specs.Meaning.{meaning}
 use Rattle.tool_words.specs.Reasons.{usage_reason_text}
 use Rattle.tool_words.specs.declared.command.Command.{Command}
 use Rattle.tool_words.specs.declared.fault.UsageReason.{UsageReason}
+use Rattle.boot_commands.specs.Expansions.{expansion}
 use Rattle.boot_commands.specs.Plain.{is_plain, is_script}
 use Rattle.boot_run.specs.Lines.{script_limit}
 use Rattle.boot_run.specs.declared.line.Line.{Line}
 use Rattle.boot_run.specs.declared.line.Line.TheVariants.{Plain, Numbered, Unread, TooLong}
 
--- a command that may stand in a script: neither `script` nor `demo`
+-- a command that may stand in a script: it runs no other and stands for no other
 abbrev pub in_script : Result Command UsageReason → Option Command
 in_script (Err reason) = None
 in_script (Ok c) = if is_plain c then Some c else None
@@ -53,19 +54,28 @@ script_lines bytes = lines_from 1 (slice_split is_script_newline bytes)
 abbrev pub lines_in : List ℕ → List Line
 lines_in input = if nat_lt script_limit (length input) then TooLong ∷ [] else script_lines input
 
--- the lines that a command stands for
-abbrev pub lines_for : List ℕ → Command → List Line
-lines_for input c = if is_script c then lines_in (take (script_limit + 1) input) else Plain c ∷ []
+-- a command on its own, or the commands that it stands for
+abbrev pub plain_lines : Command → List Command → List Line
+plain_lines c [] = Plain c ∷ []
+plain_lines c (first ∷ more) = Plain first ∷ map Plain more
 
--- the lines that a run's words stand for, or why they are no command
-abbrev pub lines_to_run : List ℕ → Result Command UsageReason → Result (List Line) UsageReason
-lines_to_run input (Err reason) = Err reason
-lines_to_run input (Ok c) = Ok (lines_for input c)
+-- the lines that a command stands for: those of a script, or on this view those of its expansion, or its own
+abbrev pub lines_for : List ℕ → Files → Command → List Line
+lines_for input view c =
+    if is_script c then lines_in (take (script_limit + 1) input) else plain_lines c (expansion view c)
 
--- What a run is to do: the lines of its words, asked at what boot sees at its start. No command's lines depend on that
--- yet.
+-- the lines that a run's words stand for on this view, or why they are no command
+abbrev pub lines_to_run : List ℕ → Files → Result Command UsageReason → Result (List Line) UsageReason
+lines_to_run input view (Err reason) = Err reason
+lines_to_run input view (Ok c) = Ok (lines_for input view c)
+
+-- What a run is to do: the lines of its words, asked at what boot sees at its start.
 abbrev pub asked_lines : List Word → List ℕ → Files → Result (List Line) UsageReason
-asked_lines words input view = lines_to_run input (meaning words)
+asked_lines words input view = lines_to_run input view (meaning words)
+
+-- the lines of a command on a machine in this state
+abbrev pub lines_at : State → Command → List Line
+lines_at s c = lines_for s.input (latest_view (recovered_views s)) c
 
 -- the same of a machine in this state
 abbrev pub asked_lines_of : List Word → State → Result (List Line) UsageReason

@@ -8,7 +8,7 @@ use Rattle.boot_machine.specs.Rows.{on_channel}
 use Rattle.boot_machine.specs.declared.machine.Channel.TheVariants.{Out, Err}
 use Rattle.command_plans.specs.Answers.{is_refusal}
 use Rattle.boot_commands.specs.Commands.{LeavesTidied, deed_of}
-use Rattle.boot_commands.specs.Plain.{is_script}
+use Rattle.boot_commands.specs.Plain.{is_step}
 use Rattle.command_plans.specs.Deeds.{Deed}
 use Rattle.command_plans.specs.declared.outcome.Outcome.{Outcome}
 use Rattle.command_plans.specs.declared.outcome.Outcome.TheVariants.{Done, Refused}
@@ -61,8 +61,8 @@ line_deed view TooLong = unread_deed 3 too_long_text view
 
 -- Its command is a step of a run: `script` is none.
 abbrev pub IsStep : Line → Type 0
-IsStep (Plain command) = is_script command ≡ false
-IsStep (Numbered number command) = is_script command ≡ false
+IsStep (Plain command) = is_step command ≡ true
+IsStep (Numbered number command) = is_step command ≡ true
 IsStep line = Unit {0}
 
 -- a line without a command

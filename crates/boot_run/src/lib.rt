@@ -2,6 +2,7 @@
 #![tactic(auto)]
 
 mod ended;
+mod expansion;
 mod input;
 mod line;
 mod lines;

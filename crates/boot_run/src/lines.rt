@@ -10,7 +10,7 @@ ghost use Rattle.boot_machine.specs.Sent.{PrintsPart, recovered_now, seen};
 ghost use Rattle.boot_machine.specs.declared.machine.Channel.TheVariants.{Err, Out};
 ghost use Rattle.command_plans.specs.Answers.{is_refusal};
 ghost use Rattle.boot_commands.specs.Commands.{LeavesTidied, deed_of};
-ghost use Rattle.boot_commands.specs.Plain.{is_script};
+ghost use Rattle.boot_commands.specs.Plain.{is_step};
 ghost use Rattle.command_plans.specs.Performs.{CountsStop, LeavesNoTemp, LeavesRested, Performs, end_of};
 ghost use Rattle.boot_run.specs.Endings.{AllTidied, ended_by};
 ghost use Rattle.boot_run.specs.Lines.{IsStep, Prints, TidiedBy, with_acknowledgement, acknowledgement, acknowledgement_in, has_command, is_unread, line_deed, no_command_text, too_long_text, unread_deed};
@@ -93,7 +93,7 @@ fn run_numbered<M: Machine>(
     command: &Command,
     machine: &mut M,
 ) -> Result<Outcome, Stop>
-    requires step { is_script command.now ≡ false }
+    requires step { is_step command.now ≡ true }
     requires rested { IsTrue M.tells → IsRested (M.state machine.old) }
     ensures performs { IsTrue M.tells → IsFirm (M.state machine.old)
         → Performs M.time M.state end_of machine.old machine.new

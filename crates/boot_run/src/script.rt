@@ -8,6 +8,7 @@ ghost use Rattle.boot_run.specs.AskedLines.{command_in, in_script, is_passed_ove
 
 use crate::input::SCRIPT_LIMIT;
 use crate::line::Line;
+use boot_commands::expands;
 use std::alloc::{AllocError, Global};
 use std::str;
 use tool_words::{Command, LineFault, WordsFault, split_line};
@@ -19,14 +20,14 @@ pub fn is_script(command: &Command) -> bool
     matches!(command, Command::Script)
 }
 
-// Whether a command runs no other, as a line of a script has to.
+// Whether a command runs no other and stands for no other, as a line of a script has to.
 fn is_plain(command: &Command) -> bool
     ensures { result ≡ is_plain command.now }
 {
-    !matches!(command, Command::Script | Command::Demo { .. })
+    !matches!(command, Command::Script | Command::Demo { .. }) && !expands(command)
 }
 
-// The command of a line's words. `script` and `demo` are none.
+// The command of a line's words. What runs or stands for others is none.
 fn command_of(alloc: Global, words: &Vec<String>) -> Result<Option<Command>, AllocError>
     ensures { IfOk result (λ found. found ≡ in_script (meaning (texts words.now.items))) }
 {

@@ -1,5 +1,5 @@
 //! The top call.
-ghost use Rattle.std.specs.Prelude.{◌≡◌, ◌≤◌, ◌++◌, true, ℕ, List, [], ◌∷◌, All, IfOk, IsErrOf, IsTrue, OnOk, Ok, Err, drop, take, ◌+◌, map, string_bytes};
+ghost use Rattle.std.specs.Prelude.{◌≡◌, ◌≤◌, ◌++◌, true, false, ℕ, List, [], ◌∷◌, All, IfOk, IsErrOf, IsTrue, OnOk, Ok, Err, drop, take, ◌+◌, map, string_bytes};
 ghost use Rattle.boot_machine.specs.Disk.{IsRested, State, recovered_view};
 ghost use Rattle.boot_machine.specs.Images.{IsImage, IsFirm, IsSettled};
 ghost use Rattle.boot_machine.specs.Moments.{EachSince};
@@ -11,20 +11,23 @@ ghost use Rattle.command_plans.specs.Deeds.{Stopped};
 ghost use Rattle.command_plans.specs.Performs.{CountsStop, LeavesNoTemp};
 ghost use Rattle.tool_words.specs.Meaning.{meaning};
 ghost use Rattle.tool_words.specs.declared.fault.UsageReason.{UsageReason};
-ghost use Rattle.boot_run.specs.AskedLines.{asked_lines_of, lines_for, lines_in, usage_line};
+ghost use Rattle.boot_run.specs.AskedLines.{asked_lines_of, lines_at, lines_in, usage_line};
 ghost use Rattle.boot_run.specs.Endings.{AllTidied, AnswersRefusals, AnswersUsage, AtEnd, FitsWords, HasCause, TakesInput, UnlessDisk, end_at, ended_by, ended_of, status_of};
 ghost use Rattle.boot_run.specs.Lines.{IsStep, has_command, script_limit};
 ghost use Rattle.boot_run.specs.RunBy.{AllPrinted, CleanBehind, LeavesFromSync, RunsBy, RunsUsage};
 ghost use Rattle.boot_run.specs.RunsTo.{IsSyncedBy, RunsTo};
+ghost use Rattle.boot_commands.specs.Plain.{is_script, is_wordless};
 ghost use Rattle.boot_run.specs.Step.{Leads, Leaves, SeesBegun, some_refused};
 ghost use Rattle.boot_run.specs.declared.line.Line.{Line};
 
 use crate::ended::Ended;
+use crate::expansion::{find_commands, plain_lines};
 use crate::input::read_all;
 use crate::line::Line;
 use crate::lines::run_lines;
 use crate::script::{is_script, lines_in};
 use boot_base::Text;
+use boot_commands::expands;
 use boot_machine::{Channel, Machine, print_all};
 use command_plans::Stop;
 use std::alloc::{AllocError, Global};
@@ -49,28 +52,66 @@ fn read_script<M: Machine>(alloc: Global, machine: &mut M) -> Result<Vec<Line>, 
     Ok(lines_in(alloc, input.as_slice())?)
 }
 
-// What a command comes to: its own line, or those of the script.
-fn run_command<M: Machine>(alloc: Global, command: Command, machine: &mut M) -> Result<bool, Stop>
+// What a command comes to that takes no script: the lines that it stands for, or its own.
+fn run_alone<M: Machine>(alloc: Global, command: Command, machine: &mut M) -> Result<bool, Stop>
+    requires alone { is_script command ≡ false }
+    requires worded { is_wordless command ≡ false }
     ensures runs { IsTrue M.tells → IsFirm (M.state machine.old)
         → RunsTo M.time M.state machine.old machine.new
-        (lines_for (M.state machine.old).input command) result }
+        (lines_at (M.state machine.old) command) result }
     ensures synced { IsTrue M.tells → IsFirm (M.state machine.old)
         → IsSyncedBy M.time M.state machine.old machine.new
-        (lines_for (M.state machine.old).input command) }
+        (lines_at (M.state machine.old) command) }
     ensures tidies { OnOk result (IsTrue M.tells
-        → AllTidied (lines_for (M.state machine.old).input command) (M.state machine.new)) }
-    ensures rests { OnOk result (IsTrue M.tells → has_command (lines_for (M.state machine.old).input command) ≡ true
+        → AllTidied (lines_at (M.state machine.old) command) (M.state machine.new)) }
+    ensures rests { OnOk result (IsTrue M.tells → has_command (lines_at (M.state machine.old) command) ≡ true
         → IsRested (M.state machine.new)) }
     ensures behind { IsTrue M.tells → IsFirm (M.state machine.old)
         → CleanBehind (M.state machine.old) (M.state machine.new)
-        (lines_for (M.state machine.old).input command) (ended_by result) }
+        (lines_at (M.state machine.old) command) (ended_by result) }
+    ensures input { IsTrue M.tells
+        → TakesInput (Ok command) (ended_by result) (M.state machine.old).input (M.state machine.new).input }
+    ensures temps { IsTrue M.tells → LeavesNoTemp result (M.state machine.old) (M.state machine.new) }
+    ensures counts { CountsStop result (M.counts machine.old) (M.counts machine.new) }
+{
+    if !expands(&command) {
+        return run_lines(alloc, &[Line::Plain(command)], machine);
+    }
+    match find_commands(alloc, &command, machine) {
+        Ok(commands) => {
+            let lines = plain_lines(alloc, command, commands)?;
+            run_lines(alloc, lines.as_slice(), machine)
+        }
+        Err(stop) => {
+            drop(command);
+            Err(stop)
+        }
+    }
+}
+
+// What a command comes to: its own line, those that it stands for, or those of the script.
+fn run_command<M: Machine>(alloc: Global, command: Command, machine: &mut M) -> Result<bool, Stop>
+    requires worded { is_wordless command ≡ false }
+    ensures runs { IsTrue M.tells → IsFirm (M.state machine.old)
+        → RunsTo M.time M.state machine.old machine.new
+        (lines_at (M.state machine.old) command) result }
+    ensures synced { IsTrue M.tells → IsFirm (M.state machine.old)
+        → IsSyncedBy M.time M.state machine.old machine.new
+        (lines_at (M.state machine.old) command) }
+    ensures tidies { OnOk result (IsTrue M.tells
+        → AllTidied (lines_at (M.state machine.old) command) (M.state machine.new)) }
+    ensures rests { OnOk result (IsTrue M.tells → has_command (lines_at (M.state machine.old) command) ≡ true
+        → IsRested (M.state machine.new)) }
+    ensures behind { IsTrue M.tells → IsFirm (M.state machine.old)
+        → CleanBehind (M.state machine.old) (M.state machine.new)
+        (lines_at (M.state machine.old) command) (ended_by result) }
     ensures input { IsTrue M.tells
         → TakesInput (Ok command) (ended_by result) (M.state machine.old).input (M.state machine.new).input }
     ensures temps { IsTrue M.tells → LeavesNoTemp result (M.state machine.old) (M.state machine.new) }
     ensures counts { CountsStop result (M.counts machine.old) (M.counts machine.new) }
 {
     if !is_script(&command) {
-        return run_lines(alloc, &[Line::Plain(command)], machine);
+        return run_alone(alloc, command, machine);
     }
     drop(command);
     let lines = read_script(alloc, machine)?;

@@ -8,8 +8,13 @@ use boot_base::{BootPath, ends_as_temp};
 use memory_machine::MemMachine;
 use std::alloc::{AllocError, Global};
 
-/// The folders of boot entries, and that of the boot loader's settings.
-pub(crate) const FOLDERS: [&str; 3] = ["efi/loader/entries", "efi/EFI/Linux", "efi/loader"];
+/// The folders of boot entries, that of the boot loader's settings, and that of payloads.
+pub(crate) const FOLDERS: [&str; 4] = [
+    "efi/loader/entries",
+    "efi/EFI/Linux",
+    "efi/loader",
+    "efi/boot_tools",
+];
 
 // The texts of files, and how many files there are with those that have none.
 #[derive(Drop)]

@@ -2,7 +2,7 @@
 use crate::fault::StoryFault;
 use crate::known::Known;
 use crate::left::left_text;
-use crate::replies::{acknowledged_lines, answer, reply_text, status_of};
+use crate::replies::{acknowledged_lines, answer, count_lines, reply_text, status_of};
 use crate::story::Story;
 use machine_fuse::Fuse;
 use memory_machine::{CrashChoice, FailMode, MemMachine};
@@ -100,14 +100,27 @@ fn is_stopped(status: u8) -> bool {
     status == 3 || status == 4
 }
 
+// How the replies of a run are told apart.
+#[derive(Clone, Copy)]
+enum Replies {
+    // A script acknowledges each of its lines.
+    Script,
+    // A command that stands for others prints a line for each of them.
+    Lines,
+    // There is one reply, of so many bytes.
+    One(usize),
+}
+
+// Whether these words name a command that stands for others.
+fn stands_for_others(words: &str) -> bool {
+    words.starts_with("type1 ")
+}
+
 // The run that is looked at.
 #[derive(Drop)]
 struct Trial {
     words: Vec<String>,
-    // Whether it is one of a script.
-    is_script: bool,
-    // How many bytes it prints.
-    length: usize,
+    replies: Replies,
     // What runs after each trouble, if anything does.
     next: Option<Vec<String>>,
     // The standard input of what runs then.
@@ -123,24 +136,30 @@ impl Trial {
         next: Option<Vec<String>>,
     ) -> Result<Trial, StoryFault> {
         let is_script = words == "script";
+        let is_many = stands_for_others(words);
         let words = split_line(alloc, words)?;
         let (machine, _) = stopped_after(alloc, story, &words, u64::MAX)?;
+        let replies = match (is_script, is_many) {
+            (true, _) => Replies::Script,
+            (false, true) => Replies::Lines,
+            (false, false) => Replies::One(machine.printed_bytes().len()),
+        };
         Ok(Trial {
             words,
-            is_script,
-            length: machine.printed_bytes().len(),
+            replies,
             next,
             input: story.input.as_slice().to_vec(alloc)?,
         })
     }
 
-    // How many lines of a script are acknowledged, or whether a command is.
+    // How many replies are whole: those to lines of a script, to what a command stands for, or to the command.
     fn count_acknowledged(&self, alloc: Global, machine: &MemMachine) -> Result<usize, AllocError> {
         let printed = machine.printed_bytes();
-        if self.is_script {
-            return acknowledged_lines(alloc, printed);
+        match self.replies {
+            Replies::Script => acknowledged_lines(alloc, printed),
+            Replies::Lines => Ok(count_lines(printed)),
+            Replies::One(length) => Ok(usize::from(printed.len() >= length)),
         }
-        Ok(usize::from(printed.len() >= self.length))
     }
 }
 

@@ -80,6 +80,17 @@ pub(crate) fn acknowledged_lines(alloc: Global, printed: &[Printed]) -> Result<u
     Ok(count)
 }
 
+/// How many whole lines were printed.
+pub(crate) fn count_lines(printed: &[Printed]) -> usize {
+    let mut count = 0usize;
+    for one in printed {
+        if one.byte == b'\n' {
+            count = count.saturating_add(1);
+        }
+    }
+    count
+}
+
 /// Adds a line to a text.
 pub(crate) fn push_line(text: &mut String, line: &str) -> Result<(), AllocError> {
     text.push_str(line)?;

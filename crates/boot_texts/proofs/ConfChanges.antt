@@ -141,7 +141,7 @@ last_of x (y ∷ ys) all =
     let found = last_of y ys (and_parts (is_ascii_graphic x) (list_all is_ascii_graphic (y ∷ ys)) all).1 in
     (x ∷ found.0, found.1, ap (λ (rest : List ℕ). x ∷ rest) found.2, found.3)
 
-trimmed_same : (first : ℕ) (xs : List ℕ) (last : ℕ) → is_blank first ≡ false → is_blank last ≡ false → trim_blanks (first ∷ (xs ++ last ∷ [])) ≡ first ∷ (xs ++ last ∷ [])
+pub trimmed_same : (first : ℕ) (xs : List ℕ) (last : ℕ) → is_blank first ≡ false → is_blank last ≡ false → trim_blanks (first ∷ (xs ++ last ∷ [])) ≡ first ∷ (xs ++ last ∷ [])
 trimmed_same first xs last begins ends =
     let line = first ∷ (xs ++ last ∷ []) in
     let front : without_front_blanks line ≡ line = rw begins refl in

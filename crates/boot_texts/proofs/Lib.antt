@@ -12,3 +12,5 @@ pub mod FileLines
 pub mod ConfChanges
 pub mod PatternDecisions
 pub mod ConfChoices
+pub mod EntryText
+mod EntryLines

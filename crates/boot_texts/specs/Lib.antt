@@ -11,5 +11,6 @@ pub mod PatternItems
 pub mod PatternSteps
 pub mod PatternDecisions
 pub mod FileLines
+pub mod EntryText
 pub mod Conf
 pub mod ConfChoice

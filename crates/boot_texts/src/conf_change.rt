@@ -80,8 +80,8 @@ fn changed_lines(
     Ok(made)
 }
 
-// Appends the line that gives the key the value, and a newline.
-fn add_line(made: &mut Vec<u8>, key: &str, value: &[u8]) -> Result<(), AllocError>
+/// Appends the line that gives the key the value, and a newline.
+pub(crate) fn add_line(made: &mut Vec<u8>, key: &str, value: &[u8]) -> Result<(), AllocError>
     ensures { OnOk result (made.new.items ≡ made.old.items ++ with_newline (key_line key.now value.now)) }
 {
     made.extend_from_slice(key.as_bytes())?;

@@ -20,6 +20,7 @@ mod os_release;
 mod os_value;
 mod pattern;
 mod pattern_item;
+mod payload_entry;
 mod text_lines;
 
 pub use conf::{LoaderConf, is_default_pattern, is_timeout};
@@ -31,4 +32,5 @@ pub use entry_values::entry_lines_are_read_in_one_way;
 pub use os_line::os_lines_are_read_in_one_way;
 pub use os_release::OsRelease;
 pub use pattern::{is_pattern, items_match_as_the_manual_says, matches};
+pub use payload_entry::{entry_text, is_field, is_payload_name};
 pub use text_lines::{TextLines, first_piece, is_counted, trim_blanks};

@@ -12,3 +12,7 @@ pub mod Replies
 pub mod Sizes
 pub mod Unsaying
 pub mod Worded
+pub mod ReadPaths
+pub mod Steps
+pub mod InstallNames
+pub mod Once

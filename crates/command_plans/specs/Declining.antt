@@ -1,8 +1,10 @@
 -- What a command's words are refused for, before the boot files are looked at.
-use Rattle.std.specs.Prelude.{◌≡◌, ℕ, List, ◌∷◌, Option, Some, None, Result, Ok, Err, MatchResult}
+use Rattle.std.specs.Prelude.{◌≡◌, ℕ, List, ◌∷◌, Option, Some, None, Result, Ok, Err, MatchResult, if◌then◌else◌}
 use Rattle.boot_base.specs.Paths.{Path, path_of, path_below, under}
 use Rattle.boot_base.specs.declared.refusal.Refusal.{Refusal}
 use Rattle.boot_base.specs.declared.refusal.Refusal.TheVariants as refusals
+use Rattle.menu_order.specs.InstallNames.{is_install_name}
+use Rattle.menu_order.specs.declared.counted.Suffix.{Suffix}
 use Rattle.command_plans.specs.declared.declined.Declined.{Declined}
 use Rattle.command_plans.specs.declared.declined.Declined.TheVariants as declines
 
@@ -37,3 +39,7 @@ DeclinedFor (declines.Refused why) meant = meant ≡ Err why
 -- what was made, seen by view, is what is meant, or the refusal is
 abbrev pub Means : {X Y : Type 0} → (X → Y) → Result X Declined → Result Y Refusal → Type 0
 Means view result meant = MatchResult result (λ x. meant ≡ Ok (view x)) (λ declined. DeclinedFor declined meant)
+
+-- the name, or the refusal of one that no entry of this suffix may be installed under
+abbrev pub install_name : Suffix → List ℕ → Result (List ℕ) Refusal
+install_name suffix name = if is_install_name suffix name then Ok name else Err (refusals.BadName name)

@@ -3,6 +3,7 @@ pub mod Declining
 pub mod Unsaying
 pub mod Choices
 pub mod Answers
+pub mod Changes
 pub mod Deeds
 pub mod Performs
 pub mod Plans

@@ -1,8 +1,9 @@
 //! Words that are refused, and what refusals say of paths.
 ghost use Rattle.std.specs.Prelude.{◌≡◌, IfOk};
-ghost use Rattle.command_plans.specs.Declining.{Means, path_in, path_under, printed_path};
+ghost use Rattle.command_plans.specs.Declining.{Means, install_name, path_in, path_under, printed_path};
 
 use boot_base::{BootPath, PathFault, Refusal, Text};
+use menu_order::{Suffix, is_install_name};
 use std::alloc::{AllocError, Global};
 
 /// Why a command's words are declined before the boot files are looked at.
@@ -73,4 +74,15 @@ pub fn not_there(alloc: Global, path: &BootPath) -> Result<Refusal, AllocError>
 {
     let path = printed_path(alloc, path)?;
     Ok(Refusal::NotFound { path })
+}
+
+/// The refusal of a name that no entry of this suffix may be installed under.
+pub fn check_name(alloc: Global, name: &str, suffix: Suffix) -> Result<(), Declined>
+    ensures { Means (λ _. name.now) result (install_name suffix name.now) }
+{
+    if is_install_name(alloc, name, suffix)? {
+        return Ok(());
+    }
+    let text = Text::of(alloc, name)?;
+    Err(Declined::Refused(Refusal::BadName { text }))
 }

@@ -5,10 +5,12 @@
 //! fails and wherever it is stopped, the boot files are as before the command or as after it, and no byte of
 //! the reply is printed before the change can't be undone.
 //!
-//! What planners share when they read stands here too: paths of words, files with their sizes and headers, the folders
-//! of boot entries and their menu, choices of banks and phase paths, and why there may be nothing to say.
+//! What planners share stands here too: paths and names of words, files with their sizes and headers, the folders of boot
+//! entries and their menu, copies and removals of files, choices of banks and phase paths, and why there may be nothing
+//! to say.
 #![tactic(auto)]
 
+mod changes;
 mod choices;
 mod declined;
 mod files;
@@ -22,8 +24,9 @@ mod refusing;
 mod saying;
 mod unsaid;
 
+pub use changes::{gone_line, installed_text, plan_copy, plan_removal, printed_line};
 pub use choices::{banks_of, paths_of};
-pub use declined::{Declined, not_there, path_in, path_under, printed_path};
+pub use declined::{Declined, check_name, not_there, path_in, path_under, printed_path};
 pub use files::{
     file_bytes, file_part, head_of_size, image_head, not_pe, readable_size, sized_head,
 };

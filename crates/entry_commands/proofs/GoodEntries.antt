@@ -34,10 +34,10 @@ use Rattle.command_plans.specs.Folders.{folders_of}
 use Rattle.entry_commands.specs.GoodEntries.{HasGoodEntry, SparesGoodName}
 use Rattle.entry_commands.specs.Installing.{install_answer, install_result, installation_of, installed_image}
 use Rattle.command_plans.specs.Menus.{menu_at}
-use Rattle.entry_commands.specs.Unlinking.{removal, unlink_answer}
+use Rattle.command_plans.specs.Changes.{removal, unlink_answer}
 use Rattle.entry_commands.specs.declared.bless.EntryPaths.{EntryPaths}
 use Rattle.entry_commands.proofs.Choices.{can_bless}
-use Rattle.entry_commands.proofs.Steps.{after_answered, after_said, clash, done_by, err_ok, none_some, ok_is}
+use Rattle.command_plans.proofs.Steps.{after_answered, after_said, clash, done_by, err_ok, none_some, ok_is}
 use Rattle.entry_commands.proofs.InstalledEntry.{image_is, target_of_type}
 use Rattle.entry_commands.proofs.Reported.{AreReported, bad_is_counted, reported, reported_counted}
 
@@ -103,7 +103,7 @@ module _ (folders : Folders) (path : Path) (view : Files) (e : HasGoodEntry fold
       (ap (bytes_eq path) (sym whole) ∙ bytes_self path)
 
   -- bytes of its type that are an entry may take its place
-  replaced : (suffix : Suffix) (bytes : List ℕ) (item : MenuItem) → e.entry.suffix ≡ suffix
+  pub replaced : (suffix : Suffix) (bytes : List ℕ) (item : MenuItem) → e.entry.suffix ≡ suffix
       → entry_of suffix path bytes ≡ Some item
       → HasGoodEntry folders path (map.insert view path bytes)
   replaced suffix bytes item of_type valid =

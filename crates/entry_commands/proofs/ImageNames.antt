@@ -2,8 +2,8 @@
 use Rattle.std.proofs.Common.{◌≡◌, inl, inr, ℕ, ◌≤◌, Bool, true, false, List, [], ◌∷◌, ◌++◌, Option, Some, None, Result, Ok, Err, length, refl, sym, ap, ◌∙◌, arith, lit<, length-append, append_assoc}
 use Rattle.std.specs.Prelude.{IfSome, codes, ◌==◌, if◌then◌else◌}
 use Rattle.std.specs.Fmt.{decimal}
-use Rattle.std.specs.List.{list_all, list_any}
-use Rattle.std.proofs.lemmas.Bool.{and_parts, cases_Bool, cond-false, cond-true, eqb-true}
+use Rattle.std.specs.List.{list_any}
+use Rattle.std.proofs.lemmas.Bool.{cases_Bool, cond-false, cond-true}
 use Rattle.boot_base.specs.Paths.{Path, components, file_name_of, is_kept, is_path, is_slash, normal_of, path_below, path_of, under}
 use Rattle.boot_base.proofs.Joined.{add_piece, is_kept-long, join_filtered, join_filtered-kept}
 use Rattle.boot_base.proofs.Normal.{path-some}
@@ -14,8 +14,9 @@ use Rattle.menu_order.specs.Counter.{suffix_text}
 use Rattle.menu_order.specs.Splits.{has_suffix}
 use Rattle.menu_order.proofs.Splitting.{suffix_there}
 use Rattle.command_plans.specs.Declining.{◌>>=◌, path_in, path_or, path_under}
-use Rattle.entry_commands.specs.Installing.{IsImageName, image_name, image_path, install_name, is_entry_name_byte, is_install_name, is_name_text}
-use Rattle.entry_commands.proofs.Siblings.{decimal_lacks, file_name_under, file_name_whole, kept_from_long, none-append, one_more}
+use Rattle.entry_commands.specs.Installing.{IsImageName, image_name, image_path}
+use Rattle.boot_base.proofs.Beside.{file_name_under, file_name_whole, kept_from_long, none-append, one_more}
+use Rattle.entry_commands.proofs.Siblings.{decimal_lacks}
 
 -- ---- the name
 
@@ -54,7 +55,7 @@ module _ (name : List ℕ) (kept : is_kept name ≡ true) (none : list_any is_sl
   ]
 
   -- a name that counts is the last component of what its path reads as
-  read_last : (folder : List ℕ) → file_name_of (normal_of (under folder name)) ≡ name
+  pub read_last : (folder : List ℕ) → file_name_of (normal_of (under folder name)) ≡ name
   read_last folder =
       ap (λ (ps : List (List ℕ)). file_name_of (join_filtered 47 is_kept ps)) (one_more folder name none)
       ∙ ap file_name_of (join_filtered-kept 47 is_kept is_kept-long (components folder) name kept)
@@ -99,30 +100,3 @@ pub target_suffix : (word file : List ℕ) (target : Path) → IsImageName file 
 target_suffix word file target image is =
     let esp = next_of (path_in word) (λ esp. path_under esp (codes "EFI/Linux/" ++ file)) target is in
     ap (has_suffix Efi) (last_in_images esp.0 file target image.kept image.no_slash (found _ _ target esp.1)) ∙ image.suffix
-
--- no byte of a name is a slash
-name_byte : (byte : ℕ) → is_entry_name_byte byte ≡ true → is_slash byte ≡ false
-name_byte byte is = elim (cases_Bool (is_slash byte)) [
-  | inl slash ↦ absurd (not_name byte (eqb-true byte 47 slash) is)
-  | inr other ↦ other
-]
-  where
-    not_name : (byte : ℕ) → byte ≡ 47 → is_entry_name_byte byte ≡ true → ⊥
-    not_name byte at is = cc (sym (ap is_entry_name_byte at) ∙ is)
-
-pub name_slash : (name : List ℕ) → list_all is_entry_name_byte name ≡ true → list_any is_slash name ≡ false
-name_slash [] all = refl
-name_slash (byte ∷ name) all =
-    let parts = and_parts (is_entry_name_byte byte) (list_all is_entry_name_byte name) all in
-    rw (name_byte byte parts.0) (name_slash name parts.1)
-
-all_of : (name : List ℕ) (fits : Bool) (taken : List ℕ) → (if fits then Ok name else Err (refusals.BadName name)) ≡ Ok taken → fits ≡ true
-all_of name true taken is = refl
-all_of name false taken is = cc
-
--- a name that is taken has no slash
-pub taken_slash : (name taken : List ℕ) → install_name name ≡ Ok taken → list_any is_slash name ≡ false
-taken_slash name taken is =
-    let fits = and_parts (is_name_text name) _ (all_of name (is_install_name name) taken is) in
-    let text = and_parts _ _ fits.0 in
-    name_slash name (and_parts _ (list_all is_entry_name_byte name) text.0).1

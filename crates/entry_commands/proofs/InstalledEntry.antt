@@ -19,12 +19,13 @@ use Rattle.boot_folder.specs.Entries.{entry_of}
 use Rattle.boot_folder.specs.Records.{Unfit, NotPe, NotUki, uki_of}
 use Rattle.boot_machine.specs.Disk.{Files}
 use Rattle.command_plans.specs.Files.{bytes_at, if_given, readable_bytes}
-use Rattle.command_plans.specs.Declining.{path_in, printed_path}
+use Rattle.command_plans.specs.Declining.{install_name, path_in, printed_path}
 use Rattle.menu_order.specs.declared.item.MenuItem.{MenuItem}
-use Rattle.entry_commands.specs.Installing.{entry_or, image_name, image_name_in, image_path, install_name, installation_of, installed_image, is_install_name, tries_in, tries_or}
+use Rattle.entry_commands.specs.Installing.{entry_or, image_name, image_name_in, image_path, installation_of, installed_image, tries_in, tries_or}
 use Rattle.entry_commands.specs.declared.install.Installation.{Installation}
-use Rattle.entry_commands.proofs.ImageNames.{image_file, taken_slash, target_suffix}
-use Rattle.entry_commands.proofs.Steps.{done_by, err_ok, none_some, ok_is}
+use Rattle.command_plans.proofs.InstallNames.{taken_is, taken_slash}
+use Rattle.entry_commands.proofs.ImageNames.{image_file, target_suffix}
+use Rattle.command_plans.proofs.Steps.{done_by, err_ok, none_some, ok_is}
 
 -- ---- a number of tries
 
@@ -73,11 +74,6 @@ given_limit (Some word) tries is =
 
 -- ---- what is installed
 
-taken_is : (name taken : List ℕ) (fits : Bool) → (if fits then Ok name else Err (refusals.BadName name)) ≡ Ok taken
-    → name ≡ taken
-taken_is name taken true is = ok_is name taken is
-taken_is name taken false is = absurd (err_ok (refusals.BadName name) taken is)
-
 -- an image is installed under the suffix of images
 pub target_of_type : (file name esp : List ℕ) (tries : Option (List ℕ)) (words : Installation)
     → installation_of file name tries esp ≡ Ok words
@@ -86,12 +82,12 @@ target_of_type file name esp tries words is =
     let named = done_by (image_name_in name tries) _ words is in
     let from = done_by (path_in file) _ words named.2 in
     let target = done_by (image_path esp named.0) _ words from.2 in
-    let taken = done_by (install_name name) _ named.0 named.1 in
+    let taken = done_by (install_name Efi name) _ named.0 named.1 in
     let given = done_by (if_given tries_in tries) _ named.0 taken.2 in
-    let whole = taken_is name taken.0 (is_install_name name) taken.1 in
+    let whole = taken_is Efi name taken.0 taken.1 in
     let file_is : named.0 ≡ image_name name given.0 =
     sym (ok_is (image_name taken.0 given.0) named.0 given.2) ∙ ap (λ (n : List ℕ). image_name n given.0) (sym whole) in
-    let no_slash = taken_slash name taken.0 taken.1 in
+    let no_slash = taken_slash Efi name taken.0 taken.1 in
     let image = image_file name named.0 given.0 no_slash (given_limit tries given.0 given.1) file_is in
     ap (λ (w : Installation). has_suffix Efi (file_name_of w.target)) (sym (ok_is _ words target.2))
     ∙ target_suffix esp named.0 target.0 image target.1

@@ -3,11 +3,11 @@ mod Declined
 mod Firsts
 mod Freeing
 pub mod GoodEntries
-mod ImageNames
-mod InstalledEntry
+pub mod ImageNames
+pub mod InstalledEntry
 mod Leftovers
+pub mod Renamed
 pub mod Replies
-mod Reported
-mod Siblings
-mod Steps
+pub mod Reported
+pub mod Siblings
 mod Untold

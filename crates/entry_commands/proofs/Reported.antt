@@ -1,37 +1,16 @@
 -- The names of an entry that a blessing reports.
-use Rattle.std.proofs.Common.{◌≡◌, ℕ, Bool, true, false, not, List, Option, Some, None, Ok, refl, sym, ap, ◌∙◌, subst}
-use Rattle.std.specs.Prelude.{◌==◌, bytes_eq, if◌then◌else◌}
+use Rattle.std.proofs.Common.{◌≡◌, ℕ, true, List, Option, Some, None, Ok, refl, sym, ap, ◌∙◌, subst}
 use Rattle.std.specs.List.{list_any}
-use Rattle.std.proofs.lemmas.Bool.{and_parts, not-true, or_parts}
-use Rattle.boot_base.specs.Paths.{Path, beside, components, file_name_of, intent, is_form, is_kept, is_normal, is_path, is_path_text, is_refused, normal_of, path_below, path_of, under}
+use Rattle.boot_base.specs.Paths.{Path, beside, components, file_name_of, is_kept, is_normal, path_below, path_of, under}
 use Rattle.boot_base.specs.declared.refusal.Refusal.TheVariants as refusals
-use Rattle.boot_base.proofs.Normal.{normal_from, path-some}
 use Rattle.menu_order.specs.Renames.{bad_name_of}
 use Rattle.menu_order.specs.Splits.{split_of}
-use Rattle.command_plans.specs.Declining.{path_in, path_or, path_under, printed_path}
+use Rattle.command_plans.specs.Declining.{path_in, path_under, printed_path}
 use Rattle.entry_commands.specs.Blessing.{bad_name_in, entry_paths, good_name_in, name_or, reported_paths}
 use Rattle.entry_commands.specs.declared.bless.EntryPaths.{EntryPaths}
 use Rattle.entry_commands.proofs.Siblings.{bad_counted}
-use Rattle.entry_commands.proofs.Steps.{done_by, err_ok, none_some, ok_is}
-
--- ---- paths that are read
-
-read_of : (text : List ℕ) (read : Option Path) (path : Path) → path_or text read ≡ Ok path → read ≡ Some path
-read_of text None path is = cc
-read_of text (Some found) path is = cc
-
-read_if : (counts : Bool) (read : Option Path) (path : Path) → (if counts then read else None) ≡ Some path
-    → read ≡ Some path
-read_if true read path is = is
-read_if false read path is = cc
-
-read_normal : (text : List ℕ) (path : Path) → path_of text ≡ Some path → is_normal path ≡ true
-read_normal text path is =
-    let read = path-some (is_path text) (normal_of text) path is in
-    let both = and_parts _ (is_path_text (normal_of text)) read.0 in
-    let clean = or_parts (list_any (λ b. b == 0) text) (list_any is_refused (components text)) (not-true _ both.0) in
-    let form = and_parts (is_form (normal_of text)) (not (bytes_eq (normal_of text) intent)) both.1 in
-    subst (λ (p : Path). is_normal p ≡ true) read.1 (normal_from text clean.0 clean.1 form.0)
+use Rattle.command_plans.proofs.Steps.{done_by, err_ok, none_some, ok_is}
+use Rattle.command_plans.proofs.ReadPaths.{read_if, read_normal, read_of}
 
 under_normal : (folder : Path) (below : List ℕ) (path : Path) → path_under folder below ≡ Ok path
     → is_normal path ≡ true

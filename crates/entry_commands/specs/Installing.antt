@@ -1,43 +1,25 @@
 -- `install`: a unified kernel image comes to stand among the boot entries (profile).
-use Rattle.std.specs.Prelude.{ℕ, ◌≡◌, ◌==◌, Bool, true, false, not, ◌&&◌, ◌||◌, List, ◌++◌, codes, length, nat_eq, nat_le, is_none, Option, Some, None, Result, Ok, Err, MatchResult, if◌then◌else◌}
-use Rattle.std.specs.Char.{is_ascii_alphanumeric}
+use Rattle.std.specs.Prelude.{ℕ, ◌≡◌, ◌==◌, true, false, not, List, ◌++◌, codes, Option, Some, None, Result, Ok, Err, MatchResult, if◌then◌else◌}
 use Rattle.std.specs.FinMap.{insert}
-use Rattle.std.specs.List.{list_all, list_any, starts_with}
+use Rattle.std.specs.List.{list_any}
 use Rattle.boot_base.specs.Paths.{Path, is_kept, is_slash}
 use Rattle.boot_base.specs.declared.refusal.Refusal.{Refusal}
 use Rattle.boot_base.specs.declared.refusal.Refusal.TheVariants as refusals
 use Rattle.menu_order.specs.Counter.{suffix_text, written_name}
-use Rattle.menu_order.specs.Splits.{has_suffix, number_in, split_of}
+use Rattle.menu_order.specs.Splits.{has_suffix, number_in}
 use Rattle.menu_order.specs.declared.counted.Suffix.TheVariants.{Efi}
 use Rattle.boot_folder.specs.Missing.{missing_text}
 use Rattle.boot_folder.specs.Records.{Unfit, NotPe, NotUki, uki_of}
 use Rattle.boot_machine.specs.Disk.{Files}
 use Rattle.command_plans.specs.Answers.{Answer, answer_or_refusal, done_answer}
 use Rattle.command_plans.specs.Files.{bytes_at, if_given}
-use Rattle.command_plans.specs.Declining.{◌>>=◌, path_in, path_under, printed_path}
+use Rattle.command_plans.specs.Changes.{installed_text}
+use Rattle.command_plans.specs.Declining.{◌>>=◌, install_name, path_in, path_under}
 use Rattle.command_plans.specs.Unsaying.{UnsaidFor}
 use Rattle.command_plans.specs.declared.unsaid.Unsaid.{Unsaid}
 use Rattle.entry_commands.specs.declared.install.Installation.{Installation}
 use Rattle.menu_order.specs.declared.item.MenuItem.{MenuItem}
 use Rattle.pe_reader.specs.Reasons.{pe_reason_text}
-
--- a byte of a name: a letter or digit of ASCII, or one of . _ ~ ^ + -
-abbrev pub is_entry_name_byte : ℕ → Bool
-is_entry_name_byte byte = is_ascii_alphanumeric byte || list_any (λ other. other == byte) (codes "._~^+-")
-
--- 1 to 128 such bytes, and no dot first
-abbrev pub is_name_text : List ℕ → Bool
-is_name_text name =
-    not (length name == 0) && nat_le (length name) 128 && list_all is_entry_name_byte name
-    && not (starts_with nat_eq name (codes "."))
-
--- a name that an image may be installed under: with its suffix it has no boot counter
-abbrev pub is_install_name : List ℕ → Bool
-is_install_name name = is_name_text name && is_none (split_of (name ++ suffix_text Efi))
-
--- the name, or the refusal of one that no image may be installed under
-abbrev pub install_name : List ℕ → Result (List ℕ) Refusal
-install_name name = if is_install_name name then Ok name else Err (refusals.BadName name)
 
 -- the tries that a word gives: one to nine digits, and not 0
 abbrev pub tries_or : List ℕ → Option ℕ → Result ℕ Refusal
@@ -61,7 +43,7 @@ pub record IsImageName (file : List ℕ) : Type 0 where
 
 -- the name of the image's file by the words of a command, or the first refusal
 abbrev pub image_name_in : List ℕ → Option (List ℕ) → Result (List ℕ) Refusal
-image_name_in name tries = install_name name >>= λ name. if_given tries_in tries >>= λ tries. Ok (image_name name tries)
+image_name_in name tries = install_name Efi name >>= λ name. if_given tries_in tries >>= λ tries. Ok (image_name name tries)
 
 -- where an image of that file name stands in an ESP
 abbrev pub image_path : List ℕ → List ℕ → Result Path Refusal
@@ -90,10 +72,6 @@ ShowsEntry result entry =
 abbrev pub installed_image : Files → Installation → Result (List ℕ) Refusal
 installed_image view words =
     bytes_at view words.from >>= λ bytes. entry_or (uki_of words.target bytes) >>= λ item. Ok bytes
-
--- what is told of the path of an image that was installed
-abbrev pub installed_text : Path → List ℕ
-installed_text target = codes "installed " ++ (printed_path target ++ codes "\n")
 
 -- the bytes stand at their path
 abbrev pub installed_entry : Files → Installation → List ℕ → Answer

@@ -1,17 +1,12 @@
--- Boot files that get another name, or stand at another path too.
+-- Boot files that get another name.
 use Rattle.std.specs.Prelude.{◌≡◌}
 use Rattle.boot_base.specs.Paths.{Path, intent as intent_path}
 use Rattle.command_plans.specs.Plans.{TellsGone, TellsThere}
 use Rattle.command_plans.specs.declared.plan.Change.{Change}
-use Rattle.command_plans.specs.declared.plan.Change.TheVariants.{Copy, Move}
+use Rattle.command_plans.specs.declared.plan.Change.TheVariants.{Move}
 
 -- the change is the move of the file at one path to another, under the intent, with the refusals of these paths
 abbrev pub IsMove : Path → Path → Change → Type 0
 IsMove one other (Move from to intent gone exists) =
     (from ≡ one) × (to ≡ other) × (intent.path ≡ intent_path) × TellsGone one gone × TellsThere other exists
 IsMove one other _ = ⊥
-
--- the change is the copy of the file at one path to another, with the refusal of the first
-abbrev pub IsCopy : Path → Path → Change → Type 0
-IsCopy one other (Copy from target gone) = (from ≡ one) × (target.path ≡ other) × TellsGone one gone
-IsCopy one other _ = ⊥

@@ -1,13 +1,11 @@
 -- `bootctl unlink`: an entry's own file goes.
-use Rattle.std.specs.Prelude.{ℕ, Bool, ◌&&◌, ◌||◌, List, ◌++◌, codes, nat_eq, Option, Some, None, Result, Err, if◌then◌else◌}
+use Rattle.std.specs.Prelude.{ℕ, Bool, ◌&&◌, ◌||◌, List, ◌++◌, codes, nat_eq, Result, Err, if◌then◌else◌}
 use Rattle.std.specs.List.{ends_with}
-use Rattle.std.specs.FinMap.{get, remove}
 use Rattle.boot_base.specs.Paths.{Path, is_file_name}
 use Rattle.boot_base.specs.declared.refusal.Refusal.{Refusal}
 use Rattle.boot_base.specs.declared.refusal.Refusal.TheVariants as refusals
-use Rattle.boot_machine.specs.Disk.{Files}
-use Rattle.command_plans.specs.Answers.{Answer, refusal, done_answer}
-use Rattle.command_plans.specs.Declining.{◌>>=◌, path_in, path_under, printed_path}
+use Rattle.command_plans.specs.Answers.{refusal}
+use Rattle.command_plans.specs.Declining.{◌>>=◌, path_in, path_under}
 
 -- an entry of type 1 (UAPI Boot Loader Specification)
 abbrev pub is_type1_name : List ℕ → Bool
@@ -28,16 +26,3 @@ entry_under esp name = if is_entry_name name then path_under esp (entry_below na
 -- the path of the entry of that name, or what the words are refused for
 abbrev pub entry_path : List ℕ → List ℕ → Result Path Refusal
 entry_path name word = path_in word >>= λ esp. entry_under esp name
-
--- what is told of the path that was removed
-abbrev pub unlinked_text : Path → List ℕ
-unlinked_text path = codes "unlinked " ++ (printed_path path ++ codes "\n")
-
--- the file at the path goes, if one is there
-abbrev pub removal : Files → Path → Option (List ℕ) → Answer
-removal view path None = refusal view (refusals.NotFound (printed_path path))
-removal view path (Some bytes) = done_answer (remove view path) (unlinked_text path)
-
--- what `bootctl unlink` answers for the path of an entry
-abbrev pub unlink_answer : Files → Path → Answer
-unlink_answer view path = removal view path (get view path)

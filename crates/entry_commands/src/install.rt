@@ -1,6 +1,5 @@
 //! `install`.
 ghost use Rattle.std.specs.Prelude.{◌≡◌, ◌≤◌, ◌<◌, length, true, IfOk, IfSome, IsTrue, OnOk, Result, string_bytes};
-ghost use Rattle.std.specs.List.{list_all};
 ghost use Rattle.std.specs.Option.{option_map};
 ghost use Rattle.boot_base.specs.Paths.{IsFree, file_name_of};
 ghost use Rattle.menu_order.specs.Splits.{has_suffix};
@@ -19,23 +18,18 @@ ghost use Rattle.command_plans.specs.Refusing.{DeclinesWords, RefusesWords};
 ghost use Rattle.command_plans.specs.Files.{if_given};
 ghost use Rattle.command_plans.specs.Declining.{Means};
 ghost use Rattle.command_plans.specs.Unsaying.{CountsUnsaid, Says, UnsaidFor, unsaid_counts};
-ghost use Rattle.entry_commands.specs.Installing.{IsImageName, ShowsEntry, entry_or, image_name, image_name_in, image_path, install_answer, install_result, install_name, installation_of, installed_entry, installed_image, installed_text, is_entry_name_byte, is_install_name, is_name_text, tries_in};
-ghost use Rattle.entry_commands.specs.Moving.{IsCopy};
+ghost use Rattle.entry_commands.specs.Installing.{IsImageName, ShowsEntry, entry_or, image_name, image_name_in, image_path, install_answer, install_result, installation_of, installed_entry, installed_image, tries_in};
 ghost use Rattle.menu_order.specs.declared.item.MenuItem.{MenuItem};
 
-use crate::moves::gone_line;
-use boot_base::{BootPath, Bytes, PeText, Refusal, Target, Text};
+use boot_base::{BootPath, PeText, Refusal, Text};
 use boot_folder::{ItemFault, Missing, uki_item};
 use boot_machine::Machine;
 use command_plans::{
-    Change, Declined, Outcome, Plan, Stop, Unsaid, answer_or_refusal, not_pe, path_in, path_under,
-    readable_size,
+    Declined, Plan, Stop, Unsaid, answer_or_refusal, check_name, installed_text, not_pe, path_in,
+    path_under, plan_copy, readable_size,
 };
 use menu_order::{Counted, Suffix, read_count};
 use std::alloc::{AllocError, Global};
-
-/// The most bytes of a name.
-const NAME_LIMIT: usize = 128;
 
 /// What the words of an installation name.
 #[derive(Drop)]
@@ -44,42 +38,6 @@ struct Installation {
     from: BootPath,
     /// Where its bytes come to stand.
     target: BootPath,
-}
-
-fn has_name_bytes(name: &str) -> bool
-    ensures { result ≡ list_all is_entry_name_byte name.now }
-{
-    name.bytes().all(|byte| byte.is_ascii_alphanumeric() || b"._~^+-".contains(&byte))
-}
-
-fn is_name_text(name: &str) -> bool
-    ensures { result ≡ is_name_text name.now }
-{
-    !name.is_empty()
-        && name.len() <= NAME_LIMIT
-        && has_name_bytes(name)
-        && !name.as_bytes().starts_with(b".")
-}
-
-fn is_install_name(alloc: Global, name: &str) -> Result<bool, AllocError>
-    ensures { IfOk result (λ is. is ≡ is_install_name name.now) }
-{
-    if !is_name_text(name) {
-        return Ok(false);
-    }
-    let file = format!(in alloc; "{name}.efi")?;
-    Ok(Counted::split(file.as_str()).is_none())
-}
-
-// The refusal of a name that no image may be installed under.
-fn check_name(alloc: Global, name: &str) -> Result<(), Declined>
-    ensures { Means (λ _. name.now) result (install_name name.now) }
-{
-    if is_install_name(alloc, name)? {
-        return Ok(());
-    }
-    let text = Text::of(alloc, name)?;
-    Err(Declined::Refused(Refusal::BadName { text }))
 }
 
 fn tries_in(alloc: Global, word: &str) -> Result<u32, Declined>
@@ -122,7 +80,7 @@ fn image_name_in(alloc: Global, name: &str, tries: Option<&Text>) -> Result<Stri
     ensures means { Means string_bytes result (image_name_in name.now (option_map (λ text. text.now) tries.entry)) }
     ensures name { IfOk result (λ file. IsImageName (string_bytes file)) }
 {
-    check_name(alloc, name)?;
+    check_name(alloc, name, Suffix::Efi)?;
     let tries = given_tries(alloc, tries)?;
     Ok(image_name(alloc, name, tries)?)
 }
@@ -222,25 +180,8 @@ fn check_image<M: Machine>(
     check_entry(alloc, words, machine)
 }
 
-// What is told of an image that comes to stand at a path.
-fn installed_text(alloc: Global, target: &BootPath) -> Result<Bytes, AllocError>
-    ensures { IfOk result (λ text. text ≡ installed_text target.now) }
-{
-    let text = format!(in alloc; "installed {target}\n")?;
-    Ok(Bytes::from(text.into_bytes()))
-}
-
-// The copy of the file at a path to another.
-fn copy_of(alloc: Global, from: BootPath, target: BootPath) -> Result<Change, AllocError>
-    ensures { IfOk result (IsCopy from target) }
-{
-    let gone = gone_line(alloc, &from)?;
-    let target = Target::of(alloc, target)?;
-    Ok(Change::Copy { from, target, gone })
-}
-
 // The plan of an installation.
-fn plan_copy(alloc: Global, words: Installation) -> Result<Plan, AllocError>
+fn plan_words(alloc: Global, words: Installation) -> Result<Plan, AllocError>
     requires { IsFree words.target }
     ensures plans { IfOk result (λ plan. (s : State) → CanCopy s words.from
         → Plans s plan (installed_entry (seen s) words (contents (seen s) words.from))) }
@@ -249,12 +190,7 @@ fn plan_copy(alloc: Global, words: Installation) -> Result<Plan, AllocError>
 {
     let Installation { from, target } = words;
     let text = installed_text(alloc, &target)?;
-    let change = copy_of(alloc, from, target)?;
-    Ok(Plan {
-        change,
-        outcome: Outcome::Done,
-        text,
-    })
+    plan_copy(alloc, from, target, text)
 }
 
 fn install<M: Machine>(
@@ -278,7 +214,7 @@ fn install<M: Machine>(
 {
     let words = installation_of(alloc, file, name, tries, esp)?;
     check_image(alloc, &words, machine)?;
-    Ok(plan_copy(alloc, words)?)
+    Ok(plan_words(alloc, words)?)
 }
 
 /// What the installation of an image is going to do: the file's bytes come to stand among the images, under the name

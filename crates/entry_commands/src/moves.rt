@@ -7,13 +7,13 @@ ghost use Rattle.boot_machine.specs.Rows.{move_in};
 ghost use Rattle.boot_machine.specs.Sent.{seen};
 ghost use Rattle.boot_machine.specs.Counts.{CountsDisk};
 ghost use Rattle.command_plans.specs.Answers.{done_answer};
-ghost use Rattle.command_plans.specs.Plans.{IsIdleIfRefused, IsLineOf, IsMakeable, Plans, TellsGone};
+ghost use Rattle.command_plans.specs.Plans.{IsIdleIfRefused, IsMakeable, Plans};
 ghost use Rattle.command_plans.specs.Declining.{printed_path};
 ghost use Rattle.entry_commands.specs.Moving.{IsMove};
 
 use boot_base::{BootPath, Bytes, Refusal, Target};
 use boot_machine::{DiskFault, Machine};
-use command_plans::{Change, Outcome, Plan, RefusalLine, not_there, printed_path, seen_size};
+use command_plans::{Change, Outcome, Plan, gone_line, printed_line, printed_path, seen_size};
 use std::alloc::{AllocError, Global};
 
 /// Whether a boot file stands at a path.
@@ -33,22 +33,6 @@ pub(crate) fn already_there(alloc: Global, path: &BootPath) -> Result<Refusal, A
 {
     let path = printed_path(alloc, path)?;
     Ok(Refusal::TargetExists { path })
-}
-
-// What is printed of a refusal.
-fn printed_line(alloc: Global, why: Refusal) -> Result<RefusalLine, AllocError>
-    ensures { IfOk result (IsLineOf why) }
-{
-    let refusal = RefusalLine::of(alloc, &why);
-    drop(why);
-    refusal
-}
-
-/// What is printed where the file at a path is gone that was to be taken away, copied or moved.
-pub(crate) fn gone_line(alloc: Global, path: &BootPath) -> Result<RefusalLine, AllocError>
-    ensures { IfOk result (TellsGone path.now) }
-{
-    printed_line(alloc, not_there(alloc, path)?)
 }
 
 // The move, with what is printed where a machine has changed its mind about the two files.

@@ -14,6 +14,7 @@ mod kept;
 mod listing;
 mod looks;
 mod named;
+mod payloads;
 mod reports;
 mod streams;
 mod syncs;

@@ -117,26 +117,44 @@ impl Looks {
     // A file that was looked at must still be the same before another one takes its place, and none may stand where
     // none was.
     pub(crate) fn require_same<R: Files>(&self, rt: &R, path: &str) -> io::Result<()> {
-        let Some(look) = look_at(&self.since_sync, path).or(look_at(&self.before_sync, path)) else {
-            return Ok(());
-        };
-        let found = if_there(fs::metadata(rt, path))?;
-        if found.as_ref().map(Identity::of) == look.found {
-            return Ok(());
+        match look_at(&self.since_sync, path).or(look_at(&self.before_sync, path)) {
+            Some(look) => require_found(rt, look),
+            None => Ok(()),
         }
-        Err(changed_fault())
     }
 
     // The folders that were listed before the sync must still have the same names before a change begins.
     pub(crate) fn require_same_names<R: Runtime + AllocGlobal>(&self, rt: &R) -> io::Result<()> {
-        for listing in self.listings_before_sync.as_slice() {
-            let names = names_in(rt, rt.alloc(), listing.folder.as_str())?;
-            if mark_of(names.as_slice()) != listing.mark {
-                return Err(changed_fault());
-            }
-        }
-        Ok(())
+        require_listed(rt, self.listings_before_sync.as_slice())
     }
+
+    // All files and folders that were looked at since the last sync must still be the same.
+    pub(crate) fn require_all_same<R: Runtime + AllocGlobal>(&self, rt: &R) -> io::Result<()> {
+        for look in self.since_sync.as_slice() {
+            require_found(rt, look)?;
+        }
+        require_listed(rt, self.listings_since_sync.as_slice())
+    }
+}
+
+// What was found at a path stands there still.
+fn require_found<R: Files>(rt: &R, look: &Look) -> io::Result<()> {
+    let found = if_there(fs::metadata(rt, look.path.as_str()))?;
+    if found.as_ref().map(Identity::of) == look.found {
+        return Ok(());
+    }
+    Err(changed_fault())
+}
+
+// Folders that were listed have the same names still.
+fn require_listed<R: Runtime + AllocGlobal>(rt: &R, listings: &[Listing]) -> io::Result<()> {
+    for listing in listings {
+        let names = names_in(rt, rt.alloc(), listing.folder.as_str())?;
+        if mark_of(names.as_slice()) != listing.mark {
+            return Err(changed_fault());
+        }
+    }
+    Ok(())
 }
 
 fn changed_fault() -> io::Error {

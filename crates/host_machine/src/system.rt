@@ -12,6 +12,7 @@ use crate::kept::{KeptFile, copy_path, open_locked, require_not_written, require
 use crate::listing::names_in;
 use crate::looks::Looks;
 use crate::named::Named;
+use crate::payloads::{is_payload_folder, lock_folder};
 use crate::reports::Reports;
 use crate::syncs::{require_writable, sync_changed, sync_file, sync_folder, sync_seen};
 use boot_base::{FileName, INTENT, IntentNames, TEMP_SUFFIX};
@@ -29,6 +30,8 @@ pub(crate) struct System<R: Runtime<File = File> + AllocGlobal> {
     looks: Looks,
     /// the intent of this run's move, or the one that a stop has left, with its lock
     intent: Option<HeldIntent>,
+    /// the folder of payloads that this run has listed or changed, with its lock
+    payloads: Option<KeptFile>,
     /// the file that was removed last, until the names are synced
     removed: Option<String>,
     /// the temporary file that is written, with its lock
@@ -50,6 +53,7 @@ impl<R: Runtime<File = File> + AllocGlobal> System<R> {
             named,
             looks,
             intent: None,
+            payloads: None,
             removed: None,
             written: None,
             moved: None,
@@ -124,10 +128,23 @@ impl<R: Runtime<File = File> + AllocGlobal> System<R> {
     // file its names may come and go, so that is a fault.
     pub(crate) fn names_in(&mut self, alloc: Global, folder: &str) -> io::Result<Vec<FileName>> {
         self.named.look_into(folder)?;
+        self.hold_payloads(folder)?;
         let names = names_in(&self.rt, alloc, folder)?;
         require_no_other_move(&self.rt, self.intent.as_ref())?;
         self.looks.add_names(folder, names.as_slice())?;
         Ok(names)
+    }
+
+    // This run holds a folder of payloads to its end.
+    fn hold_payloads(&mut self, folder: &str) -> io::Result<()> {
+        let is_held = self
+            .payloads
+            .as_ref()
+            .is_some_and(|held| held.is_at(folder));
+        if is_payload_folder(folder) && !is_held {
+            self.payloads = lock_folder(&self.rt, folder)?;
+        }
+        Ok(())
     }
 
     // An empty temporary file, in folders that are made if they are missing. Nothing is changed if the path that it is
@@ -145,6 +162,7 @@ impl<R: Runtime<File = File> + AllocGlobal> System<R> {
         self.looks.forget(path);
         self.named.change(path)?;
         self.make_folders(path)?;
+        self.hold_payloads(folder_of(path))?;
         let file = open_locked(&self.rt, path, OpenOptions::new().append(true).create(true))?;
         if file.metadata()?.len() > 0 {
             file.set_len(0)?;
@@ -318,6 +336,7 @@ impl<R: Runtime<File = File> + AllocGlobal> System<R> {
     pub(crate) fn sync_names<E: Print + Drop>(&mut self, reports: &Reports<E>) -> io::Result<()> {
         self.looked = None;
         reports.report("sync", ".", self.require_no_loss())?;
+        reports.report("sync", ".", self.require_same_entries())?;
         let answer = sync_changed(&self.rt, &self.named, self.moved.as_ref(), reports);
         self.has_lost = answer.is_err();
         answer?;
@@ -336,6 +355,15 @@ impl<R: Runtime<File = File> + AllocGlobal> System<R> {
             && moved.is_at(INTENT)
         {
             self.intent = Some(HeldIntent::new(moved.file));
+        }
+    }
+
+    // Who holds a folder of payloads goes on only if all that it has read is as it was: no other run has changed which of
+    // them the entries name.
+    fn require_same_entries(&self) -> io::Result<()> {
+        match &self.payloads {
+            Some(_) => self.looks.require_all_same(&self.rt),
+            None => Ok(()),
         }
     }
 

@@ -86,24 +86,7 @@ behind (first ∷ words) c rest verbs is = behind_found _ first words c rest ver
 -- only one command is a build
 filled_build : (c : CommandName) (g : GatheredItems) (build : BuildWords) → command_from c g ≡ command.Build build → (c ≡ name.Build) × (build_words g ≡ build)
 filled_build name.Build g build is = (refl, cc is)
-filled_build name.Inspect g build is = cc
-filled_build name.Calculate g build is = cc
-filled_build name.Image g build is = cc
-filled_build name.ListEntries g build is = cc
-filled_build name.Unlink g build is = cc
-filled_build name.Identify g build is = cc
-filled_build name.Tidy g build is = cc
-filled_build name.Install g build is = cc
-filled_build name.Boot g build is = cc
-filled_build name.BlessGood g build is = cc
-filled_build name.BlessBad g build is = cc
-filled_build name.BlessIndeterminate g build is = cc
-filled_build name.BlessStatus g build is = cc
-filled_build name.LoaderShow g build is = cc
-filled_build name.LoaderDefault g build is = cc
-filled_build name.LoaderTimeout g build is = cc
-filled_build name.Script g build is = cc
-filled_build name.Demo g build is = cc
+filled_build c g build is = cc
 
 -- what is inline_or_file once
 once_of : (f : Word → Given) (value : Option Word) → given_list (option_map f value) ≡ given_of f value

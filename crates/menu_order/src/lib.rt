@@ -7,6 +7,7 @@
 
 mod bless;
 mod counted;
+mod install_name;
 mod item;
 mod key;
 mod lexeme;
@@ -16,6 +17,7 @@ mod version_key;
 
 pub use bless::{BlessChoice, BlessVerb, Present, bless_choice};
 pub use counted::{Counted, MAX_COUNT, Suffix, counter_laws, read_count};
+pub use install_name::is_install_name;
 pub use item::{Counter, MenuItem};
 pub use key::MenuKey;
 pub use menu::{menu_laws, sort_menu};

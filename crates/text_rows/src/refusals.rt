@@ -19,6 +19,8 @@ fn refusal_of_text(kind: &str, text: Text) -> Result<Refusal, RowFault> {
         "NoSource" => Ok(Refusal::NoSource { path: text }),
         "BadNumber" => Ok(Refusal::BadNumber { text }),
         "BadPattern" => Ok(Refusal::BadPattern { text }),
+        "BadField" => Ok(Refusal::BadField { text }),
+        "PayloadSource" => Ok(Refusal::PayloadSource { path: text }),
         "NotText" => Ok(Refusal::NotText { path: text }),
         _ => Err(RowFault::Unclear),
     }
@@ -70,6 +72,7 @@ fn refusal_of_number(kind: &str, row: &Row<'_>) -> Result<Refusal, RowFault> {
     match kind {
         "AddressSpace" => Ok(Refusal::AddressSpace { end: number + 1 }),
         "BadScript" => Ok(Refusal::BadScript { line: number }),
+        "TooManyFiles" => Ok(Refusal::TooManyFiles { count: number }),
         _ => Ok(Refusal::TooMany { count: number }),
     }
 }
@@ -81,7 +84,7 @@ fn refusal_of(alloc: Global, row: &Row<'_>) -> Result<Refusal, RowFault> {
         "NoEntries" => Ok(Refusal::NoEntries),
         "TooLarge" | "NotPe" => refusal_of_both(alloc, kind, row),
         "NoHeaderSpace" | "SbatDoesNotFit" => refusal_of_sizes(kind, row),
-        "AddressSpace" | "BadScript" | "TooMany" => refusal_of_number(kind, row),
+        "AddressSpace" | "BadScript" | "TooMany" | "TooManyFiles" => refusal_of_number(kind, row),
         _ => refusal_of_text(kind, Text::of(alloc, row.text(1)?)?),
     }
 }

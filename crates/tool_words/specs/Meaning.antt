@@ -9,6 +9,8 @@ use Rattle.tool_words.specs.declared.command.Command.{Command}
 use Rattle.tool_words.specs.declared.command.Command.TheVariants as command
 use Rattle.tool_words.specs.declared.command.BuildWords.{BuildWords}
 use Rattle.tool_words.specs.declared.command.CalculateWords.{CalculateWords}
+use Rattle.tool_words.specs.declared.command.Type1Words.{Type1Words}
+use Rattle.tool_words.specs.declared.command.EntryTexts.{EntryTexts}
 use Rattle.tool_words.specs.declared.command.Given.{Given}
 use Rattle.tool_words.specs.declared.command.Given.TheVariants.{Inline, File}
 use Rattle.tool_words.specs.declared.command.BlessWord.TheVariants as bless
@@ -146,6 +148,26 @@ calculate_words g = record {
   json = is_some (g.last (codes "--json"));
 }
 
+-- the texts of an entry that names payloads, by the options
+abbrev pub entry_texts : (Word → Option Word) → EntryTexts
+entry_texts last = record {
+  title = last (codes "--title");
+  version = last (codes "--version");
+  machine_id = last (codes "--machine-id");
+  sort_key = last (codes "--sort-key");
+  options = last (codes "--options");
+}
+
+-- the words of an installation with payloads, by its operand and options
+abbrev pub type1_words : GatheredItems → Type1Words
+type1_words g = record {
+  name = g.operand 0;
+  linux = required_value (g.last (codes "--linux"));
+  initrds = g.all (codes "--initrd");
+  texts = entry_texts g.last;
+  esp = esp g.last;
+}
+
 -- the command with all its fields
 abbrev pub command_from : CommandName → GatheredItems → Command
 command_from name.Build g = command.Build (build_words g)
@@ -166,6 +188,8 @@ command_from name.BlessStatus g = command.Bless bless.Status (g.operand 0) (esp 
 command_from name.LoaderShow g = command.LoaderShow (esp g.last)
 command_from name.LoaderDefault g = command.LoaderDefault (g.operand 0) (esp g.last)
 command_from name.LoaderTimeout g = command.LoaderTimeout (g.operand 0) (esp g.last)
+command_from name.Type1Install g = command.Type1Install (type1_words g)
+command_from name.Type1Cleanup g = command.Type1Cleanup (esp g.last)
 command_from name.Script g = command.Script
 command_from name.Demo g = command.Demo (g.operand 0) (g.operand 1)
 

@@ -1,6 +1,6 @@
 //! What the words of a run come to.
 
-use boot_base::{Text, TextList};
+use boot_base::{BootPath, Bytes, Text, TextList};
 
 /// A command of the program with all that its words say. Texts are as given.
 #[derive(Debug, Drop)]
@@ -69,6 +69,26 @@ pub enum Command {
     LoaderTimeout {
         value: Text,
         esp: Text,
+    },
+    /// `type1 install`: an entry of type 1 with its payloads.
+    Type1Install(Type1Words),
+    /// `type1 cleanup`: removes the payloads that no entry names.
+    Type1Cleanup {
+        esp: Text,
+    },
+    /// A file's bytes come to stand at another path too. No words say so.
+    Put {
+        file: BootPath,
+        target: BootPath,
+    },
+    /// An entry's text comes to stand at a path. No words say so.
+    Enter {
+        path: BootPath,
+        text: Bytes,
+    },
+    /// A file goes. No words say so.
+    Remove {
+        path: BootPath,
     },
     /// `script`: the commands that stand on the input, a line each.
     Script,
@@ -141,6 +161,36 @@ pub struct CalculateWords {
     pub phases: TextList,
     /// Whether the values are told as JSON.
     pub json: bool,
+}
+
+/// The words of `type1 install`.
+#[derive(Debug, Drop)]
+pub struct Type1Words {
+    /// The entry's name.
+    pub name: Text,
+    /// The path of the kernel.
+    pub linux: Text,
+    /// The paths of the initrds, in order.
+    pub initrds: TextList,
+    /// What the entry says besides.
+    pub texts: EntryTexts,
+    /// The folder of the boot files.
+    pub esp: Text,
+}
+
+/// The texts of an entry that names payloads, each as it is given.
+#[derive(Debug, Drop)]
+pub struct EntryTexts {
+    /// The title that is shown.
+    pub title: Option<Text>,
+    /// The version.
+    pub version: Option<Text>,
+    /// The machine identifier.
+    pub machine_id: Option<Text>,
+    /// What entries are ordered by.
+    pub sort_key: Option<Text>,
+    /// The command line.
+    pub options: Option<Text>,
 }
 
 /// A text, or the path of the file that holds it.

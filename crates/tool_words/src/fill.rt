@@ -2,12 +2,14 @@
 ghost use Rattle.std.specs.Prelude.{◌≡◌, [], List, IfOk, is_some, unwrap_or, option_map, codes, slice_index_or};
 ghost use Rattle.std.specs.Option.{option_copied};
 ghost use Rattle.tool_words.specs.Items.{all_values, last_option_value, operands};
-ghost use Rattle.tool_words.specs.Meaning.{inline_or_file, required_value, gather_items, command_from, esp as esp_meant};
+ghost use Rattle.tool_words.specs.Meaning.{inline_or_file, required_value, gather_items, command_from, entry_texts as entry_texts_meant, esp as esp_meant};
 ghost use Rattle.tool_words.specs.Shown.{items_shown};
-ghost use Rattle.word_grammar.specs.declared.grammar.CommandName.TheVariants.{Build, Calculate, Image, Install, Unlink, LoaderDefault, LoaderTimeout, Demo};
+ghost use Rattle.word_grammar.specs.declared.grammar.CommandName.TheVariants.{Build, Calculate, Image, Install, Unlink, LoaderDefault, LoaderTimeout, Type1Install, Demo};
 ghost use Rattle.word_grammar.specs.Grammar.{Word};
 
-use crate::command::{BlessWord, BuildWords, CalculateWords, Command, Given};
+use crate::command::{
+    BlessWord, BuildWords, CalculateWords, Command, EntryTexts, Given, Type1Words,
+};
 use crate::items::Item;
 use crate::values::{all_values, last_value, operand_at};
 use boot_base::{Text, TextList};
@@ -386,6 +388,35 @@ fn install(alloc: Global, items: &[Item<'_>]) -> Result<Command, AllocError>
     })
 }
 
+// The texts of an entry that names payloads.
+fn entry_texts(alloc: Global, items: &[Item<'_>]) -> Result<EntryTexts, AllocError>
+    ensures { IfOk result
+        (λ made. made ≡ entry_texts_meant (λ option. last_option_value option (items_shown items.now))) }
+{
+    Ok(EntryTexts {
+        title: optional_value(alloc, items, "--title")?,
+        version: optional_value(alloc, items, "--version")?,
+        machine_id: optional_value(alloc, items, "--machine-id")?,
+        sort_key: optional_value(alloc, items, "--sort-key")?,
+        options: optional_value(alloc, items, "--options")?,
+    })
+}
+
+// `type1 install`.
+fn type1_install(alloc: Global, items: &[Item<'_>]) -> Result<Command, AllocError>
+    ensures { IfOk result
+        (λ made. made ≡ command_from Type1Install (gather_items Type1Install (items_shown items.now))) }
+{
+    let (name, esp) = operand_and_esp(alloc, items)?;
+    Ok(Command::Type1Install(Type1Words {
+        name,
+        linux: required_value(alloc, items, "--linux")?,
+        initrds: all_values(alloc, items, "--initrd")?,
+        texts: entry_texts(alloc, items)?,
+        esp,
+    }))
+}
+
 // `demo`.
 fn demo(alloc: Global, items: &[Item<'_>]) -> Result<Command, AllocError>
     ensures { IfOk result (λ made. made ≡ command_from Demo (gather_items Demo (items_shown items.now))) }
@@ -483,6 +514,10 @@ pub(crate) fn fill(
         }),
         CommandName::LoaderDefault => loader_default(alloc, items),
         CommandName::LoaderTimeout => loader_timeout(alloc, items),
+        CommandName::Type1Install => type1_install(alloc, items),
+        CommandName::Type1Cleanup => Ok(Command::Type1Cleanup {
+            esp: esp(alloc, items)?,
+        }),
         CommandName::Script => Ok(Command::Script),
         CommandName::Demo => demo(alloc, items),
     }

@@ -83,6 +83,19 @@ esp_options = option (codes "--esp-path") Once Any ∷ []
 abbrev pub install_options : List OptionRule
 install_options = option (codes "--tries") Once Any ∷ option (codes "--esp-path") Once Any ∷ []
 
+-- the options of `type1 install`
+abbrev pub type1_install_options : List OptionRule
+type1_install_options =
+    option (codes "--linux") Required Any
+    ∷ option (codes "--initrd") Repeated Any
+    ∷ option (codes "--title") Once Any
+    ∷ option (codes "--version") Once Any
+    ∷ option (codes "--machine-id") Once Any
+    ∷ option (codes "--sort-key") Once Any
+    ∷ option (codes "--options") Once Any
+    ∷ option (codes "--esp-path") Once Any
+    ∷ []
+
 -- a command: its first word, its verb where it has one, how many operands it takes, and its options
 pub record Row : Type 0 where
   pub name : Word
@@ -118,6 +131,8 @@ row command.BlessStatus = row_with_verb (codes "bless") (codes "status") 1 esp_o
 row command.LoaderShow = row_with_verb (codes "loader") (codes "show") 0 esp_options
 row command.LoaderDefault = row_with_verb (codes "loader") (codes "set-default") 1 esp_options
 row command.LoaderTimeout = row_with_verb (codes "loader") (codes "set-timeout") 1 esp_options
+row command.Type1Install = row_with_verb (codes "type1") (codes "install") 1 type1_install_options
+row command.Type1Cleanup = row_with_verb (codes "type1") (codes "cleanup") 0 esp_options
 row command.Script = row_without_verb (codes "script") 0 []
 row command.Demo = row_without_verb (codes "demo") 2 []
 
@@ -141,6 +156,8 @@ commands =
     ∷ command.LoaderShow
     ∷ command.LoaderDefault
     ∷ command.LoaderTimeout
+    ∷ command.Type1Install
+    ∷ command.Type1Cleanup
     ∷ command.Script
     ∷ command.Demo
     ∷ []

@@ -40,6 +40,10 @@ pub enum CommandName {
     LoaderDefault,
     /// `loader set-timeout`.
     LoaderTimeout,
+    /// `type1 install`.
+    Type1Install,
+    /// `type1 cleanup`.
+    Type1Cleanup,
     /// `script`.
     Script,
     /// `demo`.
@@ -153,6 +157,17 @@ static LIST: &[OptionRow] = &[option!("--esp-path", Once), option!("--json", Fla
 
 static INSTALL: &[OptionRow] = &[option!("--tries", Once), option!("--esp-path", Once)];
 
+static TYPE1_INSTALL: &[OptionRow] = &[
+    option!("--linux", Required),
+    option!("--initrd", Repeated),
+    option!("--title", Once),
+    option!("--version", Once),
+    option!("--machine-id", Once),
+    option!("--sort-key", Once),
+    option!("--options", Once),
+    option!("--esp-path", Once),
+];
+
 static NONE: &[OptionRow] = &[];
 
 // A command that has verbs.
@@ -211,6 +226,8 @@ impl CommandName {
             CommandName::LoaderShow => row_with_verb("loader", "show", 0, ESP),
             CommandName::LoaderDefault => row_with_verb("loader", "set-default", 1, ESP),
             CommandName::LoaderTimeout => row_with_verb("loader", "set-timeout", 1, ESP),
+            CommandName::Type1Install => row_with_verb("type1", "install", 1, TYPE1_INSTALL),
+            CommandName::Type1Cleanup => row_with_verb("type1", "cleanup", 0, ESP),
             CommandName::Script => row_without_verb("script", 0, NONE),
             CommandName::Demo => row_without_verb("demo", 2, NONE),
         }
@@ -235,6 +252,8 @@ static COMMANDS: &[CommandName] = &[
     CommandName::LoaderShow,
     CommandName::LoaderDefault,
     CommandName::LoaderTimeout,
+    CommandName::Type1Install,
+    CommandName::Type1Cleanup,
     CommandName::Script,
     CommandName::Demo,
 ];

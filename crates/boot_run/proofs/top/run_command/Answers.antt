@@ -1,28 +1,26 @@
 use Rattle.std.proofs.Common.{◌≡◌, true, List, Err, sym, ap, ◌∙◌, subst}
 use Rattle.boot_machine.specs.Disk.{IsRested, State}
+use Rattle.boot_machine.specs.Sent.{latest_view, recovered_views}
 use Rattle.boot_machine.proofs.Seeing.{sees}
 use Rattle.boot_commands.specs.Plain.{is_script}
 use Rattle.command_plans.specs.declared.outcome.Stop.{Stop}
-use Rattle.boot_run.specs.AskedLines.{lines_for}
+use Rattle.boot_run.specs.AskedLines.{lines_at}
 use Rattle.boot_run.specs.Endings.{AllTidied, ended_by}
 use Rattle.boot_run.specs.Lines.{has_command}
 use Rattle.boot_run.specs.RunsTo.{RunsTo, IsSyncedBy}
 use Rattle.boot_run.specs.declared.line.Line.{Line}
 use Rattle.boot_run.specs.RunBy.{CleanBehind}
 use Rattle.boot_run.proofs.Acked.{clean_none, clean_read}
-use Rattle.boot_run.proofs.ScriptLines.{lines_plain, lines_script}
+use Rattle.boot_run.proofs.ScriptLines.{lines_script}
 use Rattle.boot_run.proofs.Staying.{leaves_more, temps_stay}
-use Rattle.boot_run.proofs.Taken.{at_any, on_ok_by, takes_none, takes_script}
+use Rattle.boot_run.proofs.Taken.{at_any, on_ok_by, takes_script}
 use Rattle.boot_run.proofs.Topping.{script_synced, script_unsynced, no_script, script_runs, same_firm}
 use Rattle.boot_run.proofs.top.run_command.Goals as goal
-
-pub returns-then-not-is_script-clause-input : goal.returns-then-not-is_script-clause-input
-returns-then-not-is_script-clause-input g c told = takes_none c.args.command _ _ _ (sym c.if-not-is_script.ensures) (c.run_lines.ensures.input told)
 
 pub returns-in_err-lines-clause-runs : goal.returns-in_err-lines-clause-runs
 returns-in_err-lines-clause-runs g c told firm =
     let old = c.args.machine.now in
-    no_script g.M.Machine.time g.M.Machine.state old c.read_script.new.machine (lines_for (g.M.Machine.state old).input c.args.command) c.in_err-lines.field-0.0
+    no_script g.M.Machine.time g.M.Machine.state old c.read_script.new.machine (lines_at (g.M.Machine.state old) c.args.command) c.in_err-lines.field-0.0
     _ (λ is. c.in_err-lines.ensures.no_disk (ap (λ (stop : Stop). Err stop) is)) c.from_residual.ensures.0 c.from_residual.ensures.1
     (λ m image. sees (g.M.Machine.state old) (g.met.M.Machine.sound old told) firm m image) firm (c.read_script.ensures.same told) (c.read_script.ensures.moments told)
 
@@ -32,11 +30,11 @@ returns-clause-runs g c told firm =
     let s = g.M.Machine.state old in
     let is : is_script c.args.command ≡ true = sym c.is_script.ensures ∙ c.if-not-is_script.false in
     let lines = c.as_slice.ensures.value ∙ c.in_ok-lines.ensures.lines told in
-    let runs = c.run_lines-2.ensures.runs told (same_firm g.M.Machine.time g.M.Machine.state s (g.M.Machine.state c.read_script.new.machine) (c.read_script.ensures.same told) firm) in
-    subst (λ (l : List Line). RunsTo g.M.Machine.time g.M.Machine.state old c.run_lines-2.new.machine l c.run_lines-2.result) (sym (lines_script s.input c.args.command is))
-    (script_runs g.M.Machine.time g.M.Machine.state old c.read_script.new.machine c.run_lines-2.new.machine _ c.run_lines-2.result
+    let runs = c.run_lines.ensures.runs told (same_firm g.M.Machine.time g.M.Machine.state s (g.M.Machine.state c.read_script.new.machine) (c.read_script.ensures.same told) firm) in
+    subst (λ (l : List Line). RunsTo g.M.Machine.time g.M.Machine.state old c.run_lines.new.machine l c.run_lines.result) (sym (lines_script s.input (latest_view (recovered_views s)) c.args.command is))
+    (script_runs g.M.Machine.time g.M.Machine.state old c.read_script.new.machine c.run_lines.new.machine _ c.run_lines.result
     (λ m image. sees (g.M.Machine.state old) (g.met.M.Machine.sound old told) firm m image) (c.read_script.ensures.same told) (c.read_script.ensures.moments told)
-    (subst (λ (l : List Line). RunsTo g.M.Machine.time g.M.Machine.state c.read_script.new.machine c.run_lines-2.new.machine l c.run_lines-2.result) lines runs))
+    (subst (λ (l : List Line). RunsTo g.M.Machine.time g.M.Machine.state c.read_script.new.machine c.run_lines.new.machine l c.run_lines.result) lines runs))
 
 pub returns-clause-synced : goal.returns-clause-synced
 returns-clause-synced g c told firm =
@@ -44,62 +42,56 @@ returns-clause-synced g c told firm =
     let s = g.M.Machine.state old in
     let is : is_script c.args.command ≡ true = sym c.is_script.ensures ∙ c.if-not-is_script.false in
     let lines = c.as_slice.ensures.value ∙ c.in_ok-lines.ensures.lines told in
-    let synced = c.run_lines-2.ensures.synced told (same_firm g.M.Machine.time g.M.Machine.state s (g.M.Machine.state c.read_script.new.machine) (c.read_script.ensures.same told) firm) in
-    subst (λ (l : List Line). IsSyncedBy g.M.Machine.time g.M.Machine.state old c.run_lines-2.new.machine l) (sym (lines_script s.input c.args.command is))
-    (script_synced g.M.Machine.time g.M.Machine.state old c.read_script.new.machine c.run_lines-2.new.machine _ (c.read_script.ensures.same told) (c.read_script.ensures.moments told)
-    (subst (λ (l : List Line). IsSyncedBy g.M.Machine.time g.M.Machine.state c.read_script.new.machine c.run_lines-2.new.machine l) lines synced))
+    let synced = c.run_lines.ensures.synced told (same_firm g.M.Machine.time g.M.Machine.state s (g.M.Machine.state c.read_script.new.machine) (c.read_script.ensures.same told) firm) in
+    subst (λ (l : List Line). IsSyncedBy g.M.Machine.time g.M.Machine.state old c.run_lines.new.machine l) (sym (lines_script s.input (latest_view (recovered_views s)) c.args.command is))
+    (script_synced g.M.Machine.time g.M.Machine.state old c.read_script.new.machine c.run_lines.new.machine _ (c.read_script.ensures.same told) (c.read_script.ensures.moments told)
+    (subst (λ (l : List Line). IsSyncedBy g.M.Machine.time g.M.Machine.state c.read_script.new.machine c.run_lines.new.machine l) lines synced))
 
 pub returns-clause-tidies : goal.returns-clause-tidies
 returns-clause-tidies g c =
     let is : is_script c.args.command ≡ true = sym c.is_script.ensures ∙ c.if-not-is_script.false in
-    on_ok_by c.run_lines-2.result _ _
-    (λ tidies told. subst (λ (l : List Line). AllTidied l (g.M.Machine.state c.run_lines-2.new.machine))
-    (c.as_slice.ensures.value ∙ c.in_ok-lines.ensures.lines told ∙ sym (lines_script (g.M.Machine.state c.args.machine.now).input c.args.command is)) (tidies told))
-    c.run_lines-2.ensures.tidies
+    on_ok_by c.run_lines.result _ _
+    (λ tidies told. subst (λ (l : List Line). AllTidied l (g.M.Machine.state c.run_lines.new.machine))
+    (c.as_slice.ensures.value ∙ c.in_ok-lines.ensures.lines told ∙ sym (lines_script (g.M.Machine.state c.args.machine.now).input (latest_view (recovered_views (g.M.Machine.state c.args.machine.now))) c.args.command is)) (tidies told))
+    c.run_lines.ensures.tidies
 
 pub returns-clause-input : goal.returns-clause-input
 returns-clause-input g c told =
     let is : is_script c.args.command ≡ true = sym c.is_script.ensures ∙ c.if-not-is_script.false in
     let taken = c.read_script.ensures.taken told in
-    let same = c.run_lines-2.ensures.input told in
+    let same = c.run_lines.ensures.input told in
     takes_script c.args.command _ _ _ is (taken.0, taken.1, same ∙ taken.2) (at_any _ _ (same ∙ c.in_ok-lines.ensures.rest told))
 
 pub returns-clause-temps : goal.returns-clause-temps
 returns-clause-temps g c told =
     let old = g.M.Machine.state c.args.machine.now in
     let mid = g.M.Machine.state c.read_script.new.machine in
-    leaves_more c.run_lines-2.result old mid (g.M.Machine.state c.run_lines-2.new.machine) (temps_stay old mid (ap (λ (s : State). s.files) (c.read_script.ensures.same told))) (c.run_lines-2.ensures.temps told)
+    leaves_more c.run_lines.result old mid (g.M.Machine.state c.run_lines.new.machine) (temps_stay old mid (ap (λ (s : State). s.files) (c.read_script.ensures.same told))) (c.run_lines.ensures.temps told)
 
 pub returns-in_err-lines-clause-synced : goal.returns-in_err-lines-clause-synced
 returns-in_err-lines-clause-synced g c told firm =
     script_unsynced g.M.Machine.time g.M.Machine.state c.args.machine.now c.read_script.new.machine
-    (lines_for (g.M.Machine.state c.args.machine.now).input c.args.command) (c.read_script.ensures.moments told)
+    (lines_at (g.M.Machine.state c.args.machine.now) c.args.command) (c.read_script.ensures.moments told)
 
 pub returns-clause-rests : goal.returns-clause-rests
 returns-clause-rests g c =
     let is : is_script c.args.command ≡ true = sym c.is_script.ensures ∙ c.if-not-is_script.false in
-    on_ok_by c.run_lines-2.result _ _
-    (λ rests told. subst (λ (l : List Line). has_command l ≡ true → IsRested (g.M.Machine.state c.run_lines-2.new.machine))
-    (c.as_slice.ensures.value ∙ c.in_ok-lines.ensures.lines told ∙ sym (lines_script (g.M.Machine.state c.args.machine.now).input c.args.command is)) (rests told))
-    c.run_lines-2.ensures.rests
+    on_ok_by c.run_lines.result _ _
+    (λ rests told. subst (λ (l : List Line). has_command l ≡ true → IsRested (g.M.Machine.state c.run_lines.new.machine))
+    (c.as_slice.ensures.value ∙ c.in_ok-lines.ensures.lines told ∙ sym (lines_script (g.M.Machine.state c.args.machine.now).input (latest_view (recovered_views (g.M.Machine.state c.args.machine.now))) c.args.command is)) (rests told))
+    c.run_lines.ensures.rests
 
 pub returns-in_err-lines-clause-behind : goal.returns-in_err-lines-clause-behind
 returns-in_err-lines-clause-behind g c told firm =
-    clean_none (g.M.Machine.state c.args.machine.now) (g.M.Machine.state c.read_script.new.machine) (lines_for (g.M.Machine.state c.args.machine.now).input c.args.command) (ended_by c.from_residual.result)
+    clean_none (g.M.Machine.state c.args.machine.now) (g.M.Machine.state c.read_script.new.machine) (lines_at (g.M.Machine.state c.args.machine.now) c.args.command) (ended_by c.from_residual.result)
     (ap (λ (s : State). s.printed) (c.read_script.ensures.same told))
 
 pub returns-clause-behind : goal.returns-clause-behind
 returns-clause-behind g c told firm =
     let s = g.M.Machine.state c.args.machine.now in
-    let now = g.M.Machine.state c.run_lines-2.new.machine in
+    let now = g.M.Machine.state c.run_lines.new.machine in
     let is : is_script c.args.command ≡ true = sym c.is_script.ensures ∙ c.if-not-is_script.false in
-    let lines = c.as_slice.ensures.value ∙ c.in_ok-lines.ensures.lines told ∙ sym (lines_script s.input c.args.command is) in
-    let behind = c.run_lines-2.ensures.behind told (same_firm g.M.Machine.time g.M.Machine.state s (g.M.Machine.state c.read_script.new.machine) (c.read_script.ensures.same told) firm) in
-    clean_read s (g.M.Machine.state c.read_script.new.machine) now (lines_for s.input c.args.command) (ended_by c.run_lines-2.result) (c.read_script.ensures.same told)
-    (subst (λ (l : List Line). CleanBehind (g.M.Machine.state c.read_script.new.machine) now l (ended_by c.run_lines-2.result)) lines behind)
-
-pub returns-then-not-is_script-clause-synced : goal.returns-then-not-is_script-clause-synced
-returns-then-not-is_script-clause-synced g c told firm =
-    let old = c.args.machine.now in
-    subst (λ (l : List Line). IsSyncedBy g.M.Machine.time g.M.Machine.state old c.run_lines.new.machine l)
-    (sym (lines_plain (g.M.Machine.state old).input c.args.command (sym c.if-not-is_script.ensures))) (c.run_lines.ensures.synced told firm)
+    let lines = c.as_slice.ensures.value ∙ c.in_ok-lines.ensures.lines told ∙ sym (lines_script s.input (latest_view (recovered_views s)) c.args.command is) in
+    let behind = c.run_lines.ensures.behind told (same_firm g.M.Machine.time g.M.Machine.state s (g.M.Machine.state c.read_script.new.machine) (c.read_script.ensures.same told) firm) in
+    clean_read s (g.M.Machine.state c.read_script.new.machine) now (lines_at s c.args.command) (ended_by c.run_lines.result) (c.read_script.ensures.same told)
+    (subst (λ (l : List Line). CleanBehind (g.M.Machine.state c.read_script.new.machine) now l (ended_by c.run_lines.result)) lines behind)

@@ -1,8 +1,9 @@
 use Rattle.std.proofs.Common.{◌≡◌, true, List, Err, map, string_bytes, refl, sym, ap, subst}
 use Rattle.tool_words.specs.Answers.{FaultIs}
 use Rattle.tool_words.specs.Meaning.{meaning}
+use Rattle.boot_machine.specs.Sent.{latest_view, recovered_views}
 use Rattle.boot_machine.proofs.Seeing.{sees}
-use Rattle.boot_run.specs.AskedLines.{lines_for, lines_to_run}
+use Rattle.boot_run.specs.AskedLines.{lines_at, lines_to_run}
 use Rattle.boot_run.specs.RunBy.{CleanBehind, RunsBy, RunsLines}
 use Rattle.boot_machine.specs.Disk.{IsRested, State}
 use Rattle.boot_run.specs.Endings.{AllTidied, AtEnd, ended_by}
@@ -12,13 +13,19 @@ use Rattle.boot_run.specs.declared.line.Line.{Line}
 use Rattle.boot_run.proofs.Acked.{clean_none}
 use Rattle.boot_run.proofs.Taken.{no_lines, at_end_by, fits_memory, lines_are, on_ok_by, takes_usage}
 use Rattle.boot_run.proofs.Topping.{runs_lines, runs_nothing}
+use Rattle.boot_run.proofs.Worded.{worded, worded_meant}
 use Rattle.boot_run.proofs.top.run_to_end.Goals as goal
+
+pub run_command-requires : goal.run_command-requires
+run_command-requires g c =
+    let words = map string_bytes c.args.words.now.items in
+    record { worded = worded_meant (meaning words) c.in-Ok.command c.in-Ok.ensures (worded words) }
 
 pub returns-in-Ok-clause-runs : goal.returns-in-Ok-clause-runs
 returns-in-Ok-clause-runs g c told =
     let old = c.args.machine.now in
-    subst (λ meant. RunsBy g.M.Machine.time g.M.Machine.state (lines_to_run (g.M.Machine.state old).input meant) old c.run_command.new.machine c.of_lines.result) (sym c.in-Ok.ensures)
-    (λ firm. subst (RunsLines g.M.Machine.time g.M.Machine.state old c.run_command.new.machine (lines_for (g.M.Machine.state old).input c.in-Ok.command)) (sym c.of_lines.ensures)
+    subst (λ meant. RunsBy g.M.Machine.time g.M.Machine.state (lines_to_run (g.M.Machine.state old).input (latest_view (recovered_views (g.M.Machine.state old))) meant) old c.run_command.new.machine c.of_lines.result) (sym c.in-Ok.ensures)
+    (λ firm. subst (RunsLines g.M.Machine.time g.M.Machine.state old c.run_command.new.machine (lines_at (g.M.Machine.state old) c.in-Ok.command)) (sym c.of_lines.ensures)
     (runs_lines g.M.Machine.time g.M.Machine.state old c.run_command.new.machine _ c.run_command.result (g.met.M.Machine.sound c.run_command.new.machine told) (c.run_command.ensures.synced told firm) (c.run_command.ensures.runs told firm)))
 
 pub returns-in-Err-Memory-clause-runs : goal.returns-in-Err-Memory-clause-runs
@@ -29,7 +36,7 @@ returns-in-Err-Memory-clause-runs g c told =
 
 pub returns-in-Ok-clause-tidies : goal.returns-in-Ok-clause-tidies
 returns-in-Ok-clause-tidies g c told lines asks =
-    let are = lines_are (g.M.Machine.state c.args.machine.now).input _ c.in-Ok.command lines c.in-Ok.ensures asks in
+    let are = lines_are (g.M.Machine.state c.args.machine.now).input (latest_view (recovered_views (g.M.Machine.state c.args.machine.now))) _ c.in-Ok.command lines c.in-Ok.ensures asks in
     let now = g.M.Machine.state c.run_command.new.machine in
     subst (λ ended. AtEnd ended (AllTidied lines now)) (sym c.of_lines.ensures)
     (subst (λ (l : List Line). AtEnd (ended_by c.run_command.result) (AllTidied l now)) are
@@ -46,7 +53,7 @@ returns-in-Err-Usage-clause-input g c told =
 
 pub returns-in-Ok-clause-rests : goal.returns-in-Ok-clause-rests
 returns-in-Ok-clause-rests g c told lines asks =
-    let are = lines_are (g.M.Machine.state c.args.machine.now).input _ c.in-Ok.command lines c.in-Ok.ensures asks in
+    let are = lines_are (g.M.Machine.state c.args.machine.now).input (latest_view (recovered_views (g.M.Machine.state c.args.machine.now))) _ c.in-Ok.command lines c.in-Ok.ensures asks in
     let now = g.M.Machine.state c.run_command.new.machine in
     subst (λ ended. AtEnd ended (has_command lines ≡ true → IsRested now)) (sym c.of_lines.ensures)
     (subst (λ (l : List Line). AtEnd (ended_by c.run_command.result) (has_command l ≡ true → IsRested now)) are
@@ -56,7 +63,7 @@ pub returns-in-Ok-clause-behind : goal.returns-in-Ok-clause-behind
 returns-in-Ok-clause-behind g c told firm lines asks =
     let old = g.M.Machine.state c.args.machine.now in
     let now = g.M.Machine.state c.run_command.new.machine in
-    let are = lines_are old.input _ c.in-Ok.command lines c.in-Ok.ensures asks in
+    let are = lines_are old.input (latest_view (recovered_views old)) _ c.in-Ok.command lines c.in-Ok.ensures asks in
     subst (CleanBehind old now lines) (sym c.of_lines.ensures)
     (subst (λ (l : List Line). CleanBehind old now l (ended_by c.run_command.result)) are (c.run_command.ensures.behind told firm))
 
@@ -67,4 +74,4 @@ pub returns-in-Err-Usage-clause-behind : goal.returns-in-Err-Usage-clause-behind
 returns-in-Err-Usage-clause-behind g c told firm lines asks =
     let words = map string_bytes c.args.words.now.items in
     let is : meaning words ≡ Err c.in-Err-Usage.reason = subst (λ fault. FaultIs fault (meaning words)) c.in-Err-Usage.field-0-is c.in-Err-Usage.ensures in
-    absurd (no_lines (g.M.Machine.state c.args.machine.now).input (meaning words) c.in-Err-Usage.reason lines is asks)
+    absurd (no_lines (g.M.Machine.state c.args.machine.now).input (latest_view (recovered_views (g.M.Machine.state c.args.machine.now))) (meaning words) c.in-Err-Usage.reason lines is asks)

@@ -1,4 +1,4 @@
-use Rattle.entry_commands.proofs.Leftovers.{once_distinct, once_among, once_all}
+use Rattle.command_plans.proofs.Once.{once_distinct, once_among, once_all}
 use Rattle.entry_commands.proofs.tidy.each_once.Goals as goal
 
 pub returns-clause-distinct : goal.returns-clause-distinct

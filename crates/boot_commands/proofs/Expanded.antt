@@ -1,0 +1,80 @@
+-- The commands that a command stands for are such as no words ask for.
+use Rattle.std.proofs.Common.{◌≡◌, ℕ, true, false, List, [], ◌∷◌, ◌++◌, map, refl, Result, Ok, Err}
+use Rattle.std.specs.Prelude.{All}
+use Rattle.std.proofs.lemmas.List.Elements.{All-cons, All-nil}
+use Rattle.boot_base.specs.Paths.{Path}
+use Rattle.boot_base.specs.declared.refusal.Refusal.{Refusal}
+use Rattle.boot_machine.specs.Disk.{Files}
+use Rattle.command_plans.specs.Declining.{◌>>=◌, path_in, path_under}
+use Rattle.command_plans.specs.Files.{bytes_at, each}
+use Rattle.command_plans.specs.Folders.{folders_of}
+use Rattle.command_plans.specs.Menus.{menu_at}
+use Rattle.tool_words.specs.declared.command.Command.{Command}
+use Rattle.tool_words.specs.declared.command.Command.TheVariants as command
+use Rattle.tool_words.specs.declared.command.Type1Words.{Type1Words}
+use Rattle.type1_install.specs.Installing.{Type1Plan, enter_of, install_commands, install_expansion, install_plan, payload_probe, planned_install, put_of}
+use Rattle.type1_install.specs.Cleaning.{cleanup_expansion}
+use Rattle.boot_commands.specs.Expansions.{ok_commands}
+use Rattle.type1_install.specs.Cleaning.{unnamed_payloads}
+use Rattle.boot_commands.specs.Expansions.{expands, expansion}
+use Rattle.boot_commands.specs.Plain.{is_wordless}
+
+-- a command that is none of those that stand for others
+pub stands_alone : (c : Command) → ((words : Type1Words) → c ≡ command.Type1Install words → ⊥)
+    → ((esp : List ℕ) → c ≡ command.Type1Cleanup esp → ⊥) → expands c ≡ false
+stands_alone (command.Type1Install words) install cleanup = absurd (install words refl)
+stands_alone (command.Type1Cleanup esp) install cleanup = absurd (cleanup esp refl)
+stands_alone c install cleanup = refl
+
+-- a command that stands for no other
+pub no_expansion : (view : Files) (c : Command) → expands c ≡ false → expansion view c ≡ []
+unfolding expansion
+no_expansion view (command.Type1Install words) is = cc
+no_expansion view (command.Type1Cleanup esp) is = cc
+no_expansion view c is = refl
+
+abbrev IsWordless : Command → Type 0
+IsWordless c = is_wordless c ≡ true
+
+-- what is so of the commands where one is refused, and for each that may be planned
+pub ok_bind : (P : List Command → Type 0) → P [] → {A : Type 0} (r : Result A Refusal) (f : A → Result (List Command) Refusal)
+    → ((x : A) → P (ok_commands (f x))) → P (ok_commands (r >>= f))
+ok_bind P none (Err why) f each = none
+ok_bind P none (Ok x) f each = each x
+
+puts_wordless : (view : Files) (plan : Type1Plan) (paths : List Path)
+    → All IsWordless (map (put_of view plan.esp) paths ++ enter_of view plan ∷ [])
+puts_wordless view plan [] = All-cons IsWordless (enter_of view plan) [] refl (All-nil IsWordless)
+puts_wordless view plan (path ∷ paths) =
+    All-cons IsWordless (put_of view plan.esp path) (map (put_of view plan.esp) paths ++ enter_of view plan ∷ []) refl
+    (puts_wordless view plan paths)
+
+removals_wordless : (paths : List Path) → All IsWordless (map command.Remove paths)
+removals_wordless [] = All-nil IsWordless
+removals_wordless (path ∷ paths) =
+    All-cons IsWordless (command.Remove path) (map command.Remove paths) refl (removals_wordless paths)
+
+install_wordless : (view : Files) (words : Type1Words) → All IsWordless (ok_commands (install_expansion view words))
+unfolding install_expansion
+install_wordless view words =
+    let none : All IsWordless [] = All-nil IsWordless in
+    ok_bind (All IsWordless) none (install_plan words) (planned_install view) (λ plan.
+    ok_bind (All IsWordless) none (each (bytes_at view) (plan.linux ∷ plan.initrds)) (λ _. Ok (install_commands view plan)) (λ _.
+    puts_wordless view plan (plan.linux ∷ plan.initrds)))
+
+cleanup_wordless : (view : Files) (word : List ℕ) → All IsWordless (ok_commands (cleanup_expansion view word))
+unfolding cleanup_expansion
+cleanup_wordless view word =
+    let none : All IsWordless [] = All-nil IsWordless in
+    ok_bind (All IsWordless) none (folders_of word) _ (λ folders.
+    ok_bind (All IsWordless) none (path_in word) _ (λ esp.
+    ok_bind (All IsWordless) none (path_under esp payload_probe) _ (λ _.
+    ok_bind (All IsWordless) none (menu_at view folders) _ (λ menu.
+    removals_wordless (unnamed_payloads view esp menu)))))
+
+-- no words ask for what a command stands for
+pub all_wordless : (view : Files) (c : Command) → All (λ x. is_wordless x ≡ true) (expansion view c)
+unfolding expansion
+all_wordless view (command.Type1Install words) = install_wordless view words
+all_wordless view (command.Type1Cleanup esp) = cleanup_wordless view esp
+all_wordless view c = All-nil IsWordless

@@ -1,0 +1,12 @@
+use Rattle.std.proofs.Common.{ap}
+use Rattle.tool_words.specs.declared.command.Command.TheVariants as command
+use Rattle.tool_words.proofs.fill.type1_install.Goals as goal
+
+pub returns : goal.returns
+returns c = ap command.Type1Install (λ i. record {
+  name = c.in_ok-name.ensures.0 i;
+  linux = c.in_ok-required_value.ensures i;
+  initrds = c.in_ok-all_values.ensures i;
+  texts = c.in_ok-entry_texts.ensures i;
+  esp = c.in_ok-name.ensures.1 i;
+})

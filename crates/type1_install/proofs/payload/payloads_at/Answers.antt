@@ -1,0 +1,57 @@
+use Rattle.std.proofs.Common.{◌≡◌, ◌∙◌, ◌++◌, ◌∷◌, [], Ok, ap, arith, length, length-append, refl, rules, subst, sym}
+use Rattle.std.specs.Prelude.{All}
+use Rattle.std.proofs.lemmas.List.Elements.{All-nil, All-push}
+use Rattle.boot_machine.specs.Disk.{State}
+use Rattle.boot_machine.specs.Sent.{seen}
+use Rattle.boot_machine.proofs.Reading.{reads_none, reads_on}
+use Rattle.command_plans.specs.Unsaying.{UnsaidFor}
+use Rattle.command_plans.proofs.Each.{each_none, each_taken}
+use Rattle.command_plans.proofs.Unsaying.{says_unsaid}
+use Rattle.type1_install.specs.Shown.{HasPayloadName, payload_at}
+use Rattle.type1_install.proofs.Payloads.{taken_unsaid}
+use Rattle.type1_install.proofs.payload.payloads_at.Goals as goal
+
+pub loop-file-init : goal.loop-file-init
+loop-file-init g c = record {
+  room = refl;
+  found = λ told. each_none _ ∙ ap Ok (sym c.new-payloads.ensures.items);
+  names = subst (All HasPayloadName) (sym c.new-payloads.ensures.items) (All-nil HasPayloadName);
+  count = ap length c.new-payloads.ensures.items;
+  reads = λ told. reads_none g.M.Machine.time g.M.Machine.state c.args.machine.now (λ m o left. g.met.M.Machine.only_now c.args.machine.now m o told left);
+  counts = refl;
+}
+
+pub returns-in_err-payload-clause-says : goal.returns-in_err-payload-clause-says
+returns-in_err-payload-clause-says g c told =
+    let before = c.loop-file.invariant in
+    let first = g.M.Machine.state c.args.machine.now in
+    says_unsaid c.from_residual.result c.in_err-payload.field-0.0 _ _ c.from_residual.ensures.0 c.from_residual.ensures.1
+    (taken_unsaid (payload_at (seen first)) c.args.files.now c.loop-file.file-index c.loop-file.payloads.items c.file-item.result c.file-item.result c.in_err-payload.field-0.0 c.loop-file-test.true (before.found told) c.file-item.is
+    (subst (λ (s : State). UnsaidFor c.in_err-payload.field-0.0 (payload_at (seen s) c.file-item.result)) (before.reads told).same (c.in_err-payload.ensures.says told)))
+
+pub returns-in_err-payload-clause-reads : goal.returns-in_err-payload-clause-reads
+returns-in_err-payload-clause-reads g c told =
+    reads_on g.M.Machine.time g.M.Machine.state _ _ _ (c.loop-file.invariant.reads told) (c.payload_at.ensures.reads told)
+
+pub returns-in_err-push-clause-reads : goal.returns-in_err-push-clause-reads
+returns-in_err-push-clause-reads g c told =
+    reads_on g.M.Machine.time g.M.Machine.state _ _ _ (c.loop-file.invariant.reads told) (c.payload_at.ensures.reads told)
+
+pub loop-file-preserved : goal.loop-file-preserved
+loop-file-preserved g c =
+    let before = c.loop-file.invariant in
+    let first = g.M.Machine.state c.args.machine.now in
+    record {
+      room = c.payload_at.ensures.room ∙ before.room;
+      found = λ told.
+          each_taken (payload_at (seen first)) c.args.files.now c.loop-file.file-index c.loop-file.payloads.items c.push.new.items.items c.file-item.result c.file-item.result c.in_ok-payload.payload c.loop-file-test.true (before.found told) c.file-item.is
+          (subst (λ (s : State). payload_at (seen s) c.file-item.result ≡ Ok c.in_ok-payload.payload) (before.reads told).same (c.in_ok-payload.ensures.says told))
+          c.in_ok-push.ensures;
+      names = subst (All HasPayloadName) (sym c.in_ok-push.ensures) (All-push HasPayloadName c.loop-file.payloads.items c.in_ok-payload.payload before.names c.in_ok-payload.ensures.name);
+      count = omega (arith, before.count, ap length c.in_ok-push.ensures, length-append c.loop-file.payloads.items (c.in_ok-payload.payload ∷ []));
+      reads = λ told. reads_on g.M.Machine.time g.M.Machine.state _ _ _ (before.reads told) (c.payload_at.ensures.reads told);
+      counts = search rules;
+    }
+
+pub returns-clause-count : goal.returns-clause-count
+returns-clause-count g c = omega (arith, c.loop-file.invariant.count)

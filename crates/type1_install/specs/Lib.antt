@@ -1,0 +1,6 @@
+pub mod Payloads
+pub mod Placing
+pub mod Installing
+pub mod Shown
+pub mod Cleaning
+pub mod Unnamed

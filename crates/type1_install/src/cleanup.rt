@@ -1,0 +1,96 @@
+//! The commands that `type1 cleanup` stands for.
+ghost use Rattle.std.specs.Prelude.{◌≡◌, ◌≤◌, ◌+◌, All, IfErr, IfOk, IsTrue, length, map};
+ghost use Rattle.boot_base.specs.Paths.{IsFree};
+ghost use Rattle.boot_machine.specs.Reading.{OnlyReads};
+ghost use Rattle.boot_machine.specs.Rows.{IsNamesOf};
+ghost use Rattle.boot_machine.specs.Sent.{seen};
+ghost use Rattle.tool_words.specs.declared.command.Command.TheVariants.{Remove};
+ghost use Rattle.command_plans.specs.Unsaying.{CountsUnsaid, Says};
+ghost use Rattle.type1_install.specs.Cleaning.{cleanup_expansion, unnamed_payloads};
+ghost use Rattle.type1_install.specs.Payloads.{payload_folder};
+ghost use Rattle.type1_install.specs.Shown.{HasFreePath};
+ghost use Rattle.type1_install.specs.Unnamed.{IsNoRefusal};
+
+use crate::naming::unnamed;
+use crate::place::payload_folder;
+use boot_base::{BootPath, FileName};
+use boot_machine::{Machine, NamesFault};
+use command_plans::{Unsaid, folders_in, menu_at, path_in, push};
+use menu_order::MenuItem;
+use std::alloc::{AllocError, Global};
+use tool_words::Command;
+
+// The names of the files directly in a folder.
+fn names_in<M: Machine>(
+    alloc: Global,
+    folder: &BootPath,
+    machine: &mut M,
+) -> Result<Vec<FileName>, Unsaid>
+    ensures names { IfOk result (λ names. IsTrue M.tells
+        → IsNamesOf (M.state machine.old).files folder.now names.items) }
+    ensures faults { IfErr result IsNoRefusal }
+    ensures reads { IsTrue M.tells → OnlyReads M.time M.state machine.old machine.new }
+    ensures counts { CountsUnsaid result (M.counts machine.old) (M.counts machine.new) }
+{
+    match machine.names(alloc, folder) {
+        Ok(names) => Ok(names),
+        Err(NamesFault::Memory) => Err(Unsaid::Memory),
+        Err(NamesFault::Disk) => Err(Unsaid::Disk),
+    }
+}
+
+// The payloads of an ESP that none of the entries names, in the order of their paths.
+fn unnamed_payloads<M: Machine>(
+    alloc: Global,
+    esp: &BootPath,
+    folder: &BootPath,
+    items: &[MenuItem],
+    machine: &mut M,
+) -> Result<Vec<BootPath>, Unsaid>
+    requires folder { folder.now ≡ payload_folder esp.now }
+    requires room { length folder.now + 65 ≤ 1024 }
+    ensures paths { IfOk result (λ paths. IsTrue M.tells
+        → unnamed_payloads (seen (M.state machine.old)) esp.now items.now ≡ paths.items) }
+    ensures faults { IfErr result IsNoRefusal }
+    ensures free { IfOk result (λ paths. All IsFree paths.items) }
+    ensures reads { IsTrue M.tells → OnlyReads M.time M.state machine.old machine.new }
+    ensures counts { CountsUnsaid result (M.counts machine.old) (M.counts machine.new) }
+{
+    let names = names_in(alloc, folder, machine)?;
+    Ok(unnamed(alloc, esp, folder, items, &names)?)
+}
+
+// The commands that remove these files.
+fn removals(alloc: Global, paths: &[BootPath]) -> Result<Vec<Command>, AllocError>
+    requires { All IsFree paths.now }
+    ensures commands { IfOk result (λ commands. commands.items ≡ map Remove paths.now) }
+    ensures free { IfOk result (λ commands. All HasFreePath commands.items) }
+{
+    let mut commands = Vec::new(alloc);
+    for path in paths {
+        let path = path.copy(alloc)?;
+        push(&mut commands, Command::Remove { path })?;
+    }
+    Ok(commands)
+}
+
+/// The commands that a cleanup stands for, or what it is refused for. Of the entries their headers and texts are read.
+#[tactic(auto, unfolding(crate::specs::Cleaning::cleanup_expansion))]
+pub fn cleanup_expansion<M: Machine>(
+    alloc: Global,
+    esp: &str,
+    machine: &mut M,
+) -> Result<Vec<Command>, Unsaid>
+    ensures says { IsTrue M.tells → Says (λ commands. commands.items) result
+        (cleanup_expansion (seen (M.state machine.old)) esp.now) }
+    ensures free { IfOk result (λ commands. All HasFreePath commands.items) }
+    ensures reads { IsTrue M.tells → OnlyReads M.time M.state machine.old machine.new }
+    ensures counts { CountsUnsaid result (M.counts machine.old) (M.counts machine.new) }
+{
+    let folders = folders_in(alloc, esp)?;
+    let esp = path_in(alloc, esp)?;
+    let folder = payload_folder(alloc, &esp)?;
+    let menu = menu_at(alloc, &folders, machine)?;
+    let paths = unnamed_payloads(alloc, &esp, &folder, &menu, machine)?;
+    Ok(removals(alloc, &paths)?)
+}

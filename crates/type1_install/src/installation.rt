@@ -1,0 +1,186 @@
+//! The commands that `type1 install` stands for.
+ghost use Rattle.std.specs.Prelude.{◌≡◌, ◌≤◌, ◌+◌, ◌++◌, ◌∷◌, [], All, IfOk, IsTrue, OnOk, length, map};
+ghost use Rattle.std.specs.Option.{option_to_list};
+ghost use Rattle.boot_base.specs.Paths.{IsFree};
+ghost use Rattle.boot_machine.specs.Reading.{OnlyReads};
+ghost use Rattle.boot_machine.specs.Sent.{seen};
+ghost use Rattle.boot_texts.specs.EntryText.{entry_text};
+ghost use Rattle.tool_words.specs.declared.command.Command.TheVariants.{Enter};
+ghost use Rattle.command_plans.specs.Unsaying.{CountsUnsaid, Says};
+ghost use Rattle.type1_install.specs.Installing.{install_expansion};
+ghost use Rattle.type1_install.specs.Shown.{AreFields, HasFreePath, HasPayloadName, fields_with, put_in, value_of_payload};
+
+use crate::install_words::{Place, install_plan};
+use crate::payload::{Payload, payload_at, payloads_at};
+use crate::place::payload_path;
+use boot_base::{BootPath, Bytes, BytesList, PIECE_SIZE, Text};
+use boot_machine::Machine;
+use boot_texts::{Type1, entry_text};
+use command_plans::{Unsaid, push};
+use std::alloc::{AllocError, Global};
+use tool_words::{Command, EntryTexts, Type1Words};
+
+fn put_in(alloc: Global, folder: &BootPath, payload: &Payload) -> Result<Command, AllocError>
+    requires room { length folder.now + 65 ≤ 1024 }
+    requires name { HasPayloadName payload.now }
+    ensures command { IfOk result (λ command. command ≡ put_in folder.now payload.now) }
+    ensures free { IfOk result HasFreePath }
+{
+    let target = payload_path(alloc, folder, payload.name.as_str())?;
+    let file = payload.file.copy(alloc)?;
+    Ok(Command::Put { file, target })
+}
+
+// Puts the commands behind the others that put these payloads into the folder.
+fn add_puts(
+    alloc: Global,
+    folder: &BootPath,
+    payloads: &[Payload],
+    commands: &mut Vec<Command>,
+) -> Result<(), AllocError>
+    requires room { length folder.now + 65 ≤ 1024 }
+    requires names { All HasPayloadName payloads.now }
+    ensures commands { OnOk result (commands.new.items ≡ commands.old.items ++ map (put_in folder.now) payloads.now) }
+    ensures free { OnOk result (All HasFreePath commands.old.items → All HasFreePath commands.new.items) }
+{
+    for payload in payloads {
+        let command = put_in(alloc, folder, payload)?;
+        push(commands, command)?;
+    }
+    Ok(())
+}
+
+fn value_of_payload(alloc: Global, payload: &Payload) -> Result<Bytes, AllocError>
+    ensures { IfOk result (λ value. value ≡ value_of_payload payload.now) }
+{
+    let name = payload.name.as_str();
+    let value = format!(in alloc; "/boot_tools/{name}")?;
+    Ok(Bytes::from(value.into_bytes()))
+}
+
+fn values_of(alloc: Global, payloads: &[Payload]) -> Result<BytesList, AllocError>
+    ensures { IfOk result (λ values. values ≡ map value_of_payload payloads.now) }
+{
+    let mut values = BytesList::new(alloc);
+    for payload in payloads {
+        values.push(value_of_payload(alloc, payload)?)?;
+    }
+    Ok(values)
+}
+
+fn bytes_of(alloc: Global, text: &Option<Text>) -> Result<Option<Bytes>, AllocError>
+    ensures { IfOk result (λ bytes. bytes ≡ text.now) }
+{
+    match text {
+        Some(text) => Ok(Some(Bytes::of(alloc, text.as_str().as_bytes())?)),
+        None => Ok(None),
+    }
+}
+
+fn list_of(alloc: Global, text: &Option<Text>) -> Result<BytesList, AllocError>
+    ensures { IfOk result (λ list. list ≡ option_to_list text.now) }
+{
+    let mut list = BytesList::new(alloc);
+    if let Some(text) = text {
+        list.push(Bytes::of(alloc, text.as_str().as_bytes())?)?;
+    }
+    Ok(list)
+}
+
+// What the entry of these texts and payloads says.
+fn fields_with(
+    alloc: Global,
+    texts: &EntryTexts,
+    linux: &Payload,
+    initrds: &[Payload],
+) -> Result<Type1, AllocError>
+    ensures { IfOk result (λ fields. fields ≡ fields_with texts.now linux.now initrds.now) }
+{
+    Ok(Type1 {
+        title: bytes_of(alloc, &texts.title)?,
+        version: bytes_of(alloc, &texts.version)?,
+        machine_id: bytes_of(alloc, &texts.machine_id)?,
+        sort_key: bytes_of(alloc, &texts.sort_key)?,
+        linux: Some(value_of_payload(alloc, linux)?),
+        efi: None,
+        initrds: values_of(alloc, initrds)?,
+        options: list_of(alloc, &texts.options)?,
+        devicetree: None,
+        overlay: None,
+        architecture: None,
+    })
+}
+
+// The command that enters the entry of these texts and payloads.
+fn enter_in(
+    alloc: Global,
+    entry: &BootPath,
+    texts: &EntryTexts,
+    linux: &Payload,
+    initrds: &[Payload],
+) -> Result<Command, AllocError>
+    requires free { IsFree entry.now }
+    requires texts { AreFields texts.now }
+    requires linux { HasPayloadName linux.now }
+    requires initrds { All HasPayloadName initrds.now }
+    requires few { length initrds.now ≤ 64 }
+    ensures command { IfOk result (λ command. command
+        ≡ Enter entry.now (entry_text (fields_with texts.now linux.now initrds.now))) }
+    ensures free { IfOk result HasFreePath }
+{
+    let fields = fields_with(alloc, texts, linux, initrds)?;
+    let text = entry_text(alloc, &fields)?;
+    let path = entry.copy(alloc)?;
+    Ok(Command::Enter {
+        path,
+        text: Bytes::from(text),
+    })
+}
+
+// The payloads are put and then the entry is entered.
+fn install_commands(
+    alloc: Global,
+    place: &Place,
+    texts: &EntryTexts,
+    linux: &Payload,
+    initrds: &[Payload],
+) -> Result<Vec<Command>, AllocError>
+    requires room { length place.now.folder + 65 ≤ 1024 }
+    requires free { IsFree place.now.entry }
+    requires texts { AreFields texts.now }
+    requires linux { HasPayloadName linux.now }
+    requires initrds { All HasPayloadName initrds.now }
+    requires few { length initrds.now ≤ 64 }
+    ensures commands { IfOk result (λ commands. commands.items
+        ≡ put_in place.now.folder linux.now ∷ (map (put_in place.now.folder) initrds.now
+        ++ Enter place.now.entry (entry_text (fields_with texts.now linux.now initrds.now)) ∷ [])) }
+    ensures free { IfOk result (λ commands. All HasFreePath commands.items) }
+{
+    let mut commands = Vec::new(alloc);
+    let put = put_in(alloc, &place.folder, linux)?;
+    push(&mut commands, put)?;
+    add_puts(alloc, &place.folder, initrds, &mut commands)?;
+    let enter = enter_in(alloc, &place.entry, texts, linux, initrds)?;
+    push(&mut commands, enter)?;
+    Ok(commands)
+}
+
+/// The commands that an installation stands for, or what it is refused for. Each file is read once, in pieces.
+#[tactic(auto, unfolding(crate::specs::Installing::install_expansion))]
+pub fn install_expansion<M: Machine>(
+    alloc: Global,
+    words: &Type1Words,
+    machine: &mut M,
+) -> Result<Vec<Command>, Unsaid>
+    ensures says { IsTrue M.tells → Says (λ commands. commands.items) result
+        (install_expansion (seen (M.state machine.old)) words.now) }
+    ensures free { IfOk result (λ commands. All HasFreePath commands.items) }
+    ensures reads { IsTrue M.tells → OnlyReads M.time M.state machine.old machine.new }
+    ensures counts { CountsUnsaid result (M.counts machine.old) (M.counts machine.new) }
+{
+    let plan = install_plan(alloc, words)?;
+    let mut buffer = [0; PIECE_SIZE];
+    let linux = payload_at(alloc, &plan.files.linux, machine, &mut buffer)?;
+    let initrds = payloads_at(alloc, &plan.files.initrds, machine, &mut buffer)?;
+    Ok(install_commands(alloc, &plan.place, &words.texts, &linux, &initrds)?)
+}

@@ -1,0 +1,118 @@
+//! The payloads that files are, found by reads in pieces.
+ghost use Rattle.std.specs.Prelude.{◌≡◌, ◌<◌, ◌≤◌, true, length, All, IfOk, IsTrue};
+ghost use Rattle.hex.specs.Hex.{encode_lower};
+ghost use Rattle.boot_base.specs.Limits.{file_limit};
+ghost use Rattle.boot_machine.specs.Counts.{CountsDisk};
+ghost use Rattle.boot_machine.specs.Reading.{OnlyReads};
+ghost use Rattle.boot_machine.specs.Rows.{contents};
+ghost use Rattle.boot_machine.specs.Sent.{seen};
+ghost use Rattle.boot_texts.specs.EntryText.{is_payload_name};
+ghost use Rattle.pcr_values.specs.Banks.{digest_of};
+ghost use Rattle.pcr_values.specs.Values.{bank_of, bytes_of_digest};
+ghost use Rattle.pcr_values.specs.declared.bank.Bank.TheVariants.{Sha256};
+ghost use Rattle.command_plans.specs.Files.{each};
+ghost use Rattle.command_plans.specs.Unsaying.{CountsUnsaid, Says};
+ghost use Rattle.type1_install.specs.Shown.{HasPayloadName, payload_at};
+
+use boot_base::{BootPath, Text};
+use boot_machine::{DiskFault, Machine};
+use command_plans::{Unsaid, push, readable_size};
+use pcr_values::{Bank, Digest};
+use pe_reader::LoadedRange;
+use std::alloc::{AllocError, Global};
+use stub_replay::range_digest;
+
+/// A file with the name of its payload.
+#[derive(Drop)]
+pub(crate) struct Payload {
+    pub(crate) file: BootPath,
+    pub(crate) name: Text,
+}
+
+// The SHA-256 digest of the file of `size` bytes at a path.
+fn file_digest<M: Machine>(
+    path: &BootPath,
+    size: u64,
+    machine: &mut M,
+    buffer: &mut [u8],
+) -> Result<Digest, DiskFault>
+    requires limit { size ≤ file_limit }
+    requires room { 0 < length buffer.old }
+    ensures room { length buffer.new ≡ length buffer.old }
+    ensures bank { IfOk result (λ digest. bank_of digest ≡ Sha256) }
+    ensures value { IfOk result (λ digest. IsTrue M.tells
+        → length (contents (M.state machine.old).files path.now) ≡ size
+        → bytes_of_digest digest ≡ digest_of Sha256 (contents (M.state machine.old).files path.now)) }
+    ensures reads { IsTrue M.tells → OnlyReads M.time M.state machine.old machine.new }
+    ensures counts { CountsDisk result (M.counts machine.old) (M.counts machine.new) }
+{
+    let range = LoadedRange {
+        place: 0,
+        length: size,
+        zeros: 0,
+    };
+    range_digest(Bank::Sha256, machine, path, range, buffer)
+}
+
+// The digest in digits.
+fn name_of(alloc: Global, digest: &Digest) -> Result<Text, AllocError>
+    requires { bank_of digest.now ≡ Sha256 }
+    ensures digits { IfOk result (λ name. name ≡ encode_lower (bytes_of_digest digest.now)) }
+    ensures name { IfOk result (λ name. is_payload_name name ≡ true) }
+{
+    digits(alloc, digest.bytes())
+}
+
+fn digits(alloc: Global, bytes: &[u8]) -> Result<Text, AllocError>
+    requires { length bytes.now ≡ 32 }
+    ensures digits { IfOk result (λ name. name ≡ encode_lower bytes.now) }
+    ensures name { IfOk result (λ name. is_payload_name name ≡ true) }
+{
+    Ok(Text::from(hex::encode(alloc, bytes)?))
+}
+
+/// The payload that the file at a path is, or the refusal of the file.
+pub(crate) fn payload_at<M: Machine>(
+    alloc: Global,
+    file: &BootPath,
+    machine: &mut M,
+    buffer: &mut [u8],
+) -> Result<Payload, Unsaid>
+    requires room { 0 < length buffer.old }
+    ensures room { length buffer.new ≡ length buffer.old }
+    ensures says { IsTrue M.tells
+        → Says (λ payload. payload) result (payload_at (seen (M.state machine.old)) file.now) }
+    ensures name { IfOk result HasPayloadName }
+    ensures reads { IsTrue M.tells → OnlyReads M.time M.state machine.old machine.new }
+    ensures counts { CountsUnsaid result (M.counts machine.old) (M.counts machine.new) }
+{
+    let size = readable_size(alloc, file, machine)?;
+    let digest = file_digest(file, size, machine, buffer)?;
+    let name = name_of(alloc, &digest)?;
+    let file = file.copy(alloc)?;
+    Ok(Payload { file, name })
+}
+
+/// The payloads that the files at these paths are, or the refusal of the first that is none.
+pub(crate) fn payloads_at<M: Machine>(
+    alloc: Global,
+    files: &[BootPath],
+    machine: &mut M,
+    buffer: &mut [u8],
+) -> Result<Vec<Payload>, Unsaid>
+    requires room { 0 < length buffer.old }
+    ensures room { length buffer.new ≡ length buffer.old }
+    ensures says { IsTrue M.tells → Says (λ payloads. payloads.items) result
+        (each (payload_at (seen (M.state machine.old))) files.now) }
+    ensures names { IfOk result (λ payloads. All HasPayloadName payloads.items) }
+    ensures count { IfOk result (λ payloads. length payloads.items ≡ length files.now) }
+    ensures reads { IsTrue M.tells → OnlyReads M.time M.state machine.old machine.new }
+    ensures counts { CountsUnsaid result (M.counts machine.old) (M.counts machine.new) }
+{
+    let mut payloads = Vec::new(alloc);
+    for file in files {
+        let payload = payload_at(alloc, file, machine, buffer)?;
+        push(&mut payloads, payload)?;
+    }
+    Ok(payloads)
+}

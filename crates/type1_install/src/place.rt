@@ -1,0 +1,59 @@
+//! Where payloads stand.
+ghost use Rattle.std.specs.Prelude.{◌≡◌, ◌≤◌, ◌+◌, ◌++◌, true, codes, length, replicate, string_bytes, IfOk};
+ghost use Rattle.boot_base.specs.Paths.{IsFree, under};
+ghost use Rattle.boot_texts.specs.EntryText.{is_payload_name};
+ghost use Rattle.command_plans.specs.Declining.{Means, path_under};
+ghost use Rattle.type1_install.specs.Installing.{payload_probe};
+ghost use Rattle.type1_install.specs.Payloads.{payload_folder};
+
+use boot_base::{BootPath, PathFault};
+use command_plans::{Declined, path_under};
+use std::alloc::{AllocError, Global};
+
+/// The longest path of a payload, below its ESP.
+const PAYLOAD_PROBE: &str =
+    "boot_tools/0000000000000000000000000000000000000000000000000000000000000000";
+
+/// The folder of an ESP's payloads, or the refusal of the longest path in it.
+pub(crate) fn payload_folder(alloc: Global, esp: &BootPath) -> Result<BootPath, Declined>
+    ensures means { Means (λ folder. under folder (replicate 64 48)) result (path_under esp.now payload_probe) }
+    ensures folder { IfOk result (λ folder. folder ≡ payload_folder esp.now) }
+    ensures room { IfOk result (λ folder. length folder + 65 ≤ 1024) }
+{
+    esp.know_normal();
+    let probe = path_under(alloc, esp, PAYLOAD_PROBE)?;
+    drop(probe);
+    Ok(folder_below(alloc, esp)?)
+}
+
+// The folder of an ESP's payloads, in which each of them has a path.
+fn folder_below(alloc: Global, esp: &BootPath) -> Result<BootPath, AllocError>
+    requires { length (payload_folder esp.now) + 65 ≤ 1024 }
+    ensures { IfOk result (λ folder. folder ≡ payload_folder esp.now) }
+{
+    esp.know_normal();
+    match BootPath::under(alloc, esp, "boot_tools") {
+        Ok(folder) => Ok(folder),
+        Err(PathFault::Memory) => Err(AllocError),
+        Err(PathFault::BadPath) => unreachable!(),
+    }
+}
+
+/// The path of the payload of that name.
+pub(crate) fn payload_path(
+    alloc: Global,
+    folder: &BootPath,
+    name: &str,
+) -> Result<BootPath, AllocError>
+    requires room { length folder.now + 65 ≤ 1024 }
+    requires name { is_payload_name name.now ≡ true }
+    ensures path { IfOk result (λ path. path ≡ under folder.now name.now) }
+    ensures free { IfOk result (λ path. IsFree path) }
+{
+    folder.know_normal();
+    match BootPath::under(alloc, folder, name) {
+        Ok(path) => Ok(path),
+        Err(PathFault::Memory) => Err(AllocError),
+        Err(PathFault::BadPath) => unreachable!(),
+    }
+}

@@ -1,0 +1,119 @@
+//! The commands that an installation and a cleanup are made of.
+ghost use Rattle.std.specs.Prelude.{◌≡◌, length, IfOk, IsTrue};
+ghost use Rattle.std.specs.FinMap.{insert};
+ghost use Rattle.boot_base.specs.Paths.{IsFree};
+ghost use Rattle.boot_machine.specs.Disk.{State};
+ghost use Rattle.boot_machine.specs.Reading.{OnlyReads, TakesAtMost};
+ghost use Rattle.boot_machine.specs.Rows.{contents};
+ghost use Rattle.boot_machine.specs.Sent.{seen};
+ghost use Rattle.command_plans.specs.Answers.{done_answer};
+ghost use Rattle.command_plans.specs.Changes.{unlink_answer};
+ghost use Rattle.command_plans.specs.Performs.{CountsStop};
+ghost use Rattle.command_plans.specs.Plans.{CanCopy, IsIdleIfRefused, IsMakeable, Plans, PlansAs};
+ghost use Rattle.command_plans.specs.Unsaying.{CountsUnsaid};
+ghost use Rattle.type1_install.specs.Placing.{enter_answer, payload_text, put_answer, put_result};
+
+use boot_base::{BootPath, Bytes, Target};
+use boot_machine::Machine;
+use command_plans::{
+    Change, Outcome, Plan, Stop, Unsaid, answer_or_refusal, installed_text, plan_copy,
+    plan_removal, readable_size,
+};
+use std::alloc::{AllocError, Global};
+
+// What is told of a payload.
+fn payload_text(alloc: Global, target: &BootPath) -> Result<Bytes, AllocError>
+    ensures { IfOk result (λ text. text ≡ payload_text target.now) }
+{
+    let text = format!(in alloc; "placed {target}\n")?;
+    Ok(Bytes::from(text.into_bytes()))
+}
+
+// The plan of a payload's copy.
+fn put_plan(alloc: Global, file: &BootPath, target: &BootPath) -> Result<Plan, AllocError>
+    requires free { IsFree target.now }
+    ensures plans { IfOk result (λ plan. (s : State) → CanCopy s file.now → Plans s plan
+        (done_answer (insert (seen s) target.now (contents (seen s) file.now)) (payload_text target.now))) }
+    ensures makeable { IfOk result (λ plan. IsMakeable plan.change) }
+    ensures idle { IfOk result IsIdleIfRefused }
+{
+    let text = payload_text(alloc, target)?;
+    let file = file.copy(alloc)?;
+    let target = target.copy(alloc)?;
+    plan_copy(alloc, file, target, text)
+}
+
+fn put<M: Machine>(
+    alloc: Global,
+    file: &BootPath,
+    target: &BootPath,
+    machine: &mut M,
+) -> Result<Plan, Unsaid>
+    requires free { IsFree target.now }
+    ensures plans { IsTrue M.tells → PlansAs (M.state machine.old) result
+        (put_result (seen (M.state machine.old)) file.now target.now) }
+    ensures makeable { IfOk result (λ plan. IsMakeable plan.change) }
+    ensures idle { IfOk result IsIdleIfRefused }
+    ensures reads { IsTrue M.tells → OnlyReads M.time M.state machine.old machine.new }
+    ensures counts { CountsUnsaid result (M.counts machine.old) (M.counts machine.new) }
+    ensures taken { IsTrue M.tells → TakesAtMost 0 (M.taken machine.old) (M.taken machine.new) }
+{
+    readable_size(alloc, file, machine)?;
+    Ok(put_plan(alloc, file, target)?)
+}
+
+/// What the copy of a file to the place of its payload is going to do. None of its bytes are read yet.
+pub fn plan_put<M: Machine>(
+    alloc: Global,
+    file: &BootPath,
+    target: &BootPath,
+    machine: &mut M,
+) -> Result<Plan, Stop>
+    requires free { IsFree target.now }
+    ensures plans { IfOk result (λ plan. IsTrue M.tells → Plans (M.state machine.old) plan
+        (put_answer (seen (M.state machine.old)) file.now target.now)) }
+    ensures makeable { IfOk result (λ plan. IsMakeable plan.change) }
+    ensures idle { IfOk result IsIdleIfRefused }
+    ensures reads { IsTrue M.tells → OnlyReads M.time M.state machine.old machine.new }
+    ensures counts { CountsStop result (M.counts machine.old) (M.counts machine.new) }
+    ensures taken { IsTrue M.tells → TakesAtMost 0 (M.taken machine.old) (M.taken machine.new) }
+{
+    let plan = put(alloc, file, target, machine);
+    answer_or_refusal(alloc, plan)
+}
+
+/// What the entering of an entry's text is going to do.
+pub fn plan_enter(alloc: Global, path: &BootPath, text: &Bytes) -> Result<Plan, AllocError>
+    requires free { IsFree path.now }
+    ensures plans { IfOk result (λ plan. (s : State) → Plans s plan (enter_answer (seen s) path.now text.now)) }
+    ensures makeable { IfOk result (λ plan. IsMakeable plan.change) }
+    ensures idle { IfOk result IsIdleIfRefused }
+{
+    let told = installed_text(alloc, path)?;
+    let bytes = Bytes::of(alloc, text.as_slice())?;
+    let target = Target::of(alloc, path.copy(alloc)?)?;
+    Ok(Plan {
+        change: Change::Put { target, bytes },
+        outcome: Outcome::Done,
+        text: told,
+    })
+}
+
+/// What the removal of a payload is going to do.
+pub fn plan_remove<M: Machine>(
+    alloc: Global,
+    path: &BootPath,
+    machine: &mut M,
+) -> Result<Plan, Stop>
+    requires free { IsFree path.now }
+    ensures plans { IfOk result (λ plan. IsTrue M.tells → Plans (M.state machine.old) plan
+        (unlink_answer (seen (M.state machine.old)) path.now)) }
+    ensures makeable { IfOk result (λ plan. IsMakeable plan.change) }
+    ensures idle { IfOk result IsIdleIfRefused }
+    ensures reads { IsTrue M.tells → OnlyReads M.time M.state machine.old machine.new }
+    ensures counts { CountsStop result (M.counts machine.old) (M.counts machine.new) }
+    ensures taken { IsTrue M.tells → TakesAtMost 0 (M.taken machine.old) (M.taken machine.new) }
+{
+    let path = path.copy(alloc)?;
+    plan_removal(alloc, path, machine)
+}
