@@ -228,7 +228,7 @@ module _ (files : Files) (folders : Folders) where
     λ e. chosen (entry_in files folders) (paths_of files) item.path item (path_there files item.path (ap is_some e.there)) (listed_at item e),
   )
 
-  own : HaveOwnPaths (entries_of files folders)
+  pub own : HaveOwnPaths (entries_of files folders)
   unfolding entries_of
   own = distinct_keys bytes_eq (entry_in files folders) (λ (item : MenuItem). item.path) (λ path item is. (in_parts path item is).0) (paths_of files) (distinct_paths files)
 
@@ -260,7 +260,7 @@ module _ (files : Files) (folders : Folders) where
 
 -- ---- the temporary files don't bear on it
 
-same_get : (files other : Files) (folders : Folders) (item : MenuItem) (e : IsEntry files folders item) → map.get other item.path ≡ map.get files item.path → IsEntry other folders item
+pub same_get : (files other : Files) (folders : Folders) (item : MenuItem) (e : IsEntry files folders item) → map.get other item.path ≡ map.get files item.path → IsEntry other folders item
 same_get files other folders item e same_file = record {
   suffix = e.suffix;
   name = e.name;
@@ -302,17 +302,17 @@ unfolding IsDistinct
 IsDistinct-none = tt
 
 module _ (folders : Folders) (suffix : Suffix) where
-  abbrev standing_paths : Files → List Path
+  abbrev pub standing_paths : Files → List Path
   standing_paths files = filter (stands_in folders suffix) (paths_of files)
 
-  count_is : (files : Files) → type_count files folders suffix ≡ length (standing_paths files)
+  pub count_is : (files : Files) → type_count files folders suffix ≡ length (standing_paths files)
   unfolding type_count
   count_is files = sym (length-filter (stands_in folders suffix) (paths_of files))
 
-  distinct_standing : (files : Files) → IsDistinct bytes_eq (standing_paths files)
+  pub distinct_standing : (files : Files) → IsDistinct bytes_eq (standing_paths files)
   distinct_standing files = distinct_passing bytes_eq (stands_in folders suffix) (paths_of files) (distinct_paths files)
 
-  member_standing : (files : Files) (path : Path) → list_any (bytes_eq path) (standing_paths files) ≡ (has files path && stands_in folders suffix path)
+  pub member_standing : (files : Files) (path : Path) → list_any (bytes_eq path) (standing_paths files) ≡ (has files path && stands_in folders suffix path)
   member_standing files path =
       is_member-filter nat_list_eq_equiv (stands_in folders suffix) path (λ other is. ap (stands_in folders suffix) (bytes_are path other is)) (paths_of files)
       ∙ ap (λ (b : Bool). b && stands_in folders suffix path) (member_is files path)

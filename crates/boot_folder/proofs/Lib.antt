@@ -8,4 +8,5 @@ pub mod EntryFiles
 pub mod OncePaths
 pub mod OnceNames
 pub mod Finding
+pub mod Removing
 pub mod Scans

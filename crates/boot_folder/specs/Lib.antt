@@ -5,5 +5,6 @@ pub mod Entries
 pub mod Laws
 pub mod Listing
 pub mod Ranges
+pub mod Removals
 pub mod Items
 pub mod Scanning
