@@ -96,6 +96,14 @@ type1_install_options =
     ∷ option (codes "--esp-path") Once Any
     ∷ []
 
+-- the options of `keep`
+abbrev pub keep_options : List OptionRule
+keep_options =
+    option (codes "--per-key") Flag Any
+    ∷ option (codes "--dry-run") Flag Any
+    ∷ option (codes "--esp-path") Once Any
+    ∷ []
+
 -- a command: its first word, its verb where it has one, how many operands it takes, and its options
 pub record Row : Type 0 where
   pub name : Word
@@ -133,6 +141,7 @@ row command.LoaderDefault = row_with_verb (codes "loader") (codes "set-default")
 row command.LoaderTimeout = row_with_verb (codes "loader") (codes "set-timeout") 1 esp_options
 row command.Type1Install = row_with_verb (codes "type1") (codes "install") 1 type1_install_options
 row command.Type1Cleanup = row_with_verb (codes "type1") (codes "cleanup") 0 esp_options
+row command.Keep = row_without_verb (codes "keep") 1 keep_options
 row command.Script = row_without_verb (codes "script") 0 []
 row command.Demo = row_without_verb (codes "demo") 2 []
 
@@ -158,6 +167,7 @@ commands =
     ∷ command.LoaderTimeout
     ∷ command.Type1Install
     ∷ command.Type1Cleanup
+    ∷ command.Keep
     ∷ command.Script
     ∷ command.Demo
     ∷ []

@@ -1,5 +1,5 @@
 -- The tables are a grammar: what is found by words is what has them.
-use Rattle.std.specs.Prelude.{◌≡◌, map, Option, None, Some, is_some, find, MatchOption, IfSome}
+use Rattle.std.specs.Prelude.{◌≡◌, map, Option, None, Some, is_some, find, IfSome}
 use Rattle.word_grammar.specs.declared.grammar.CommandName.{CommandName}
 use Rattle.word_grammar.specs.Grammar.{Word, row, commands, is_name_of, is_verbed, is_text_of}
 

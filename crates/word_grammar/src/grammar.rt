@@ -44,6 +44,8 @@ pub enum CommandName {
     Type1Install,
     /// `type1 cleanup`.
     Type1Cleanup,
+    /// `keep`.
+    Keep,
     /// `script`.
     Script,
     /// `demo`.
@@ -168,6 +170,12 @@ static TYPE1_INSTALL: &[OptionRow] = &[
     option!("--esp-path", Once),
 ];
 
+static KEEP: &[OptionRow] = &[
+    option!("--per-key", Flag),
+    option!("--dry-run", Flag),
+    option!("--esp-path", Once),
+];
+
 static NONE: &[OptionRow] = &[];
 
 // A command that has verbs.
@@ -228,6 +236,7 @@ impl CommandName {
             CommandName::LoaderTimeout => row_with_verb("loader", "set-timeout", 1, ESP),
             CommandName::Type1Install => row_with_verb("type1", "install", 1, TYPE1_INSTALL),
             CommandName::Type1Cleanup => row_with_verb("type1", "cleanup", 0, ESP),
+            CommandName::Keep => row_without_verb("keep", 1, KEEP),
             CommandName::Script => row_without_verb("script", 0, NONE),
             CommandName::Demo => row_without_verb("demo", 2, NONE),
         }
@@ -254,6 +263,7 @@ static COMMANDS: &[CommandName] = &[
     CommandName::LoaderTimeout,
     CommandName::Type1Install,
     CommandName::Type1Cleanup,
+    CommandName::Keep,
     CommandName::Script,
     CommandName::Demo,
 ];

@@ -1,4 +1,4 @@
-use Rattle.std.proofs.Common.{◌≡◌, find, map, option_map, ap, sym, ◌∙◌, rules, tests}
+use Rattle.std.proofs.Common.{find, option_map, ap, sym, ◌∙◌, rules, tests}
 use Rattle.std.proofs.lemmas.Iterator.{YieldsList-from_slice}
 use Rattle.std.proofs.lemmas.Iterator.Adapters.{option_map_id}
 use Rattle.std.proofs.lemmas.Iterator.Consumers.{YieldsList-from_copied}
