@@ -11,6 +11,7 @@ use Rattle.tool_words.specs.declared.command.BuildWords.{BuildWords}
 use Rattle.tool_words.specs.declared.command.CalculateWords.{CalculateWords}
 use Rattle.tool_words.specs.declared.command.Type1Words.{Type1Words}
 use Rattle.tool_words.specs.declared.command.EntryTexts.{EntryTexts}
+use Rattle.tool_words.specs.declared.command.KeepWords.{KeepWords}
 use Rattle.tool_words.specs.declared.command.Given.{Given}
 use Rattle.tool_words.specs.declared.command.Given.TheVariants.{Inline, File}
 use Rattle.tool_words.specs.declared.command.BlessWord.TheVariants as bless
@@ -168,6 +169,15 @@ type1_words g = record {
   esp = esp g.last;
 }
 
+-- the words of a removal of all but the first entries, by its operand and options
+abbrev pub keep_words : GatheredItems → KeepWords
+keep_words g = record {
+  number = g.operand 0;
+  per_key = is_some (g.last (codes "--per-key"));
+  dry_run = is_some (g.last (codes "--dry-run"));
+  esp = esp g.last;
+}
+
 -- the command with all its fields
 abbrev pub command_from : CommandName → GatheredItems → Command
 command_from name.Build g = command.Build (build_words g)
@@ -190,6 +200,7 @@ command_from name.LoaderDefault g = command.LoaderDefault (g.operand 0) (esp g.l
 command_from name.LoaderTimeout g = command.LoaderTimeout (g.operand 0) (esp g.last)
 command_from name.Type1Install g = command.Type1Install (type1_words g)
 command_from name.Type1Cleanup g = command.Type1Cleanup (esp g.last)
+command_from name.Keep g = command.Keep (keep_words g)
 command_from name.Script g = command.Script
 command_from name.Demo g = command.Demo (g.operand 0) (g.operand 1)
 

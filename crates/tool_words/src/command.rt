@@ -76,6 +76,8 @@ pub enum Command {
     Type1Cleanup {
         esp: Text,
     },
+    /// `keep`: removes all but the first entries of the menu.
+    Keep(KeepWords),
     /// A file's bytes come to stand at another path too. No words say so.
     Put {
         file: BootPath,
@@ -191,6 +193,19 @@ pub struct EntryTexts {
     pub sort_key: Option<Text>,
     /// The command line.
     pub options: Option<Text>,
+}
+
+/// The words of `keep`.
+#[derive(Debug, Drop)]
+pub struct KeepWords {
+    /// How many entries are kept.
+    pub number: Text,
+    /// Whether so many of each sort-key are kept.
+    pub per_key: bool,
+    /// Whether it is only told what would go.
+    pub dry_run: bool,
+    /// The folder of the boot files.
+    pub esp: Text,
 }
 
 /// A text, or the path of the file that holds it.

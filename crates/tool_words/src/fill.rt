@@ -4,11 +4,11 @@ ghost use Rattle.std.specs.Option.{option_copied};
 ghost use Rattle.tool_words.specs.Items.{all_values, last_option_value, operands};
 ghost use Rattle.tool_words.specs.Meaning.{inline_or_file, required_value, gather_items, command_from, entry_texts as entry_texts_meant, esp as esp_meant};
 ghost use Rattle.tool_words.specs.Shown.{items_shown};
-ghost use Rattle.word_grammar.specs.declared.grammar.CommandName.TheVariants.{Build, Calculate, Image, Install, Unlink, LoaderDefault, LoaderTimeout, Type1Install, Demo};
+ghost use Rattle.word_grammar.specs.declared.grammar.CommandName.TheVariants.{Build, Calculate, Image, Install, Unlink, LoaderDefault, LoaderTimeout, Type1Install, Keep, Demo};
 ghost use Rattle.word_grammar.specs.Grammar.{Word};
 
 use crate::command::{
-    BlessWord, BuildWords, CalculateWords, Command, EntryTexts, Given, Type1Words,
+    BlessWord, BuildWords, CalculateWords, Command, EntryTexts, Given, KeepWords, Type1Words,
 };
 use crate::items::Item;
 use crate::values::{all_values, last_value, operand_at};
@@ -474,6 +474,19 @@ fn loader_timeout(alloc: Global, items: &[Item<'_>]) -> Result<Command, AllocErr
     Ok(Command::LoaderTimeout { value, esp })
 }
 
+// `keep`.
+fn keep(alloc: Global, items: &[Item<'_>]) -> Result<Command, AllocError>
+    ensures { IfOk result (λ made. made ≡ command_from Keep (gather_items Keep (items_shown items.now))) }
+{
+    let (number, esp) = operand_and_esp(alloc, items)?;
+    Ok(Command::Keep(KeepWords {
+        number,
+        per_key: is_given(items, "--per-key"),
+        dry_run: is_given(items, "--dry-run"),
+        esp,
+    }))
+}
+
 /// The command that these items give. Its operands have been counted, and its required options looked for.
 pub(crate) fn fill(
     alloc: Global,
@@ -518,6 +531,7 @@ pub(crate) fn fill(
         CommandName::Type1Cleanup => Ok(Command::Type1Cleanup {
             esp: esp(alloc, items)?,
         }),
+        CommandName::Keep => keep(alloc, items),
         CommandName::Script => Ok(Command::Script),
         CommandName::Demo => demo(alloc, items),
     }

@@ -12,7 +12,9 @@ mod reason;
 mod scan;
 mod values;
 
-pub use command::{BlessWord, BuildWords, CalculateWords, Command, EntryTexts, Given, Type1Words};
+pub use command::{
+    BlessWord, BuildWords, CalculateWords, Command, EntryTexts, Given, KeepWords, Type1Words,
+};
 pub use fault::{LineFault, UsageReason, WordsFault};
 pub use fill::inline_or_file;
 pub use line::split_line;
