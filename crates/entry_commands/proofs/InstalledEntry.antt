@@ -21,7 +21,8 @@ use Rattle.boot_machine.specs.Disk.{Files}
 use Rattle.command_plans.specs.Files.{bytes_at, if_given, readable_bytes}
 use Rattle.command_plans.specs.Declining.{install_name, path_in, printed_path}
 use Rattle.menu_order.specs.declared.item.MenuItem.{MenuItem}
-use Rattle.entry_commands.specs.Installing.{entry_or, image_name, image_name_in, image_path, installation_of, installed_image, tries_in, tries_or}
+use Rattle.entry_commands.specs.Installing.{entry_or, image_name, image_name_in, image_path, installation_of, installed_image}
+use Rattle.entry_commands.specs.Counts.{count_in, count_or}
 use Rattle.entry_commands.specs.declared.install.Installation.{Installation}
 use Rattle.command_plans.proofs.InstallNames.{taken_is, taken_slash}
 use Rattle.entry_commands.proofs.ImageNames.{image_file, target_suffix}
@@ -55,7 +56,7 @@ read_limit true value n limit is = subst (λ m. m ≤ 999999999) (one is) (limit
     one is = cc
 read_limit false value n limit is = absurd (none_some n is)
 
-tries_read : (word : List ℕ) (read : Option ℕ) (tries : ℕ) → tries_or word read ≡ Ok tries → read ≡ Some tries
+tries_read : (word : List ℕ) (read : Option ℕ) (tries : ℕ) → count_or word read ≡ Ok tries → read ≡ Some tries
 tries_read word None tries is = absurd (err_ok (refusals.BadNumber word) tries is)
 tries_read word (Some n) tries is = ap (λ (m : ℕ). Some m) (by (n == 0) is)
   where
@@ -63,11 +64,11 @@ tries_read word (Some n) tries is = ap (λ (m : ℕ). Some m) (by (n == 0) is)
     by true is = absurd (err_ok (refusals.BadNumber word) tries is)
     by false is = ok_is n tries is
 
-given_limit : (given : Option (List ℕ)) (tries : Option ℕ) → if_given tries_in given ≡ Ok tries
+given_limit : (given : Option (List ℕ)) (tries : Option ℕ) → if_given count_in given ≡ Ok tries
     → IfSome tries (λ n. n ≤ 999999999)
 given_limit None tries is = subst (λ (o : Option ℕ). IfSome o (λ n. n ≤ 999999999)) (ok_is None tries is) tt
 given_limit (Some word) tries is =
-    let step = done_by (tries_in word) (λ n. Ok (Some n)) tries is in
+    let step = done_by (count_in word) (λ n. Ok (Some n)) tries is in
     let read = tries_read word (number_in word) step.0 step.1 in
     subst (λ (o : Option ℕ). IfSome o (λ n. n ≤ 999999999)) (ok_is (Some step.0) tries step.2)
     (read_limit (is_number word) (digits_value 10 word) step.0 (value_limit word) read)
@@ -83,7 +84,7 @@ target_of_type file name esp tries words is =
     let from = done_by (path_in file) _ words named.2 in
     let target = done_by (image_path esp named.0) _ words from.2 in
     let taken = done_by (install_name Efi name) _ named.0 named.1 in
-    let given = done_by (if_given tries_in tries) _ named.0 taken.2 in
+    let given = done_by (if_given count_in tries) _ named.0 taken.2 in
     let whole = taken_is Efi name taken.0 taken.1 in
     let file_is : named.0 ≡ image_name name given.0 =
     sym (ok_is (image_name taken.0 given.0) named.0 given.2) ∙ ap (λ (n : List ℕ). image_name n given.0) (sym whole) in

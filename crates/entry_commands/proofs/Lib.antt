@@ -5,6 +5,7 @@ mod Freeing
 pub mod GoodEntries
 pub mod ImageNames
 pub mod InstalledEntry
+pub mod Kept
 mod Leftovers
 pub mod Renamed
 pub mod Replies

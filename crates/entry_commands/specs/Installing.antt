@@ -1,13 +1,14 @@
 -- `install`: a unified kernel image comes to stand among the boot entries (profile).
-use Rattle.std.specs.Prelude.{ℕ, ◌≡◌, ◌==◌, true, false, not, List, ◌++◌, codes, Option, Some, None, Result, Ok, Err, MatchResult, if◌then◌else◌}
+use Rattle.std.specs.Prelude.{ℕ, ◌≡◌, true, false, not, List, ◌++◌, codes, Option, Some, None, Result, Ok, Err, MatchResult, if◌then◌else◌}
 use Rattle.std.specs.FinMap.{insert}
 use Rattle.std.specs.List.{list_any}
 use Rattle.boot_base.specs.Paths.{Path, is_kept, is_slash}
 use Rattle.boot_base.specs.declared.refusal.Refusal.{Refusal}
 use Rattle.boot_base.specs.declared.refusal.Refusal.TheVariants as refusals
 use Rattle.menu_order.specs.Counter.{suffix_text, written_name}
-use Rattle.menu_order.specs.Splits.{has_suffix, number_in}
+use Rattle.menu_order.specs.Splits.{has_suffix}
 use Rattle.menu_order.specs.declared.counted.Suffix.TheVariants.{Efi}
+use Rattle.entry_commands.specs.Counts.{count_in}
 use Rattle.boot_folder.specs.Missing.{missing_text}
 use Rattle.boot_folder.specs.Records.{Unfit, NotPe, NotUki, uki_of}
 use Rattle.boot_machine.specs.Disk.{Files}
@@ -20,15 +21,6 @@ use Rattle.command_plans.specs.declared.unsaid.Unsaid.{Unsaid}
 use Rattle.entry_commands.specs.declared.install.Installation.{Installation}
 use Rattle.menu_order.specs.declared.item.MenuItem.{MenuItem}
 use Rattle.pe_reader.specs.Reasons.{pe_reason_text}
-
--- the tries that a word gives: one to nine digits, and not 0
-abbrev pub tries_or : List ℕ → Option ℕ → Result ℕ Refusal
-tries_or word None = Err (refusals.BadNumber word)
-tries_or word (Some tries) = if tries == 0 then Err (refusals.BadNumber word) else Ok tries
-
--- the tries that a word writes, or its refusal
-abbrev pub tries_in : List ℕ → Result ℕ Refusal
-tries_in word = tries_or word (number_in word)
 
 -- the name of the image's file, with its tries as a boot counter where some are given
 abbrev pub image_name : List ℕ → Option ℕ → List ℕ
@@ -43,7 +35,7 @@ pub record IsImageName (file : List ℕ) : Type 0 where
 
 -- the name of the image's file by the words of a command, or the first refusal
 abbrev pub image_name_in : List ℕ → Option (List ℕ) → Result (List ℕ) Refusal
-image_name_in name tries = install_name Efi name >>= λ name. if_given tries_in tries >>= λ tries. Ok (image_name name tries)
+image_name_in name tries = install_name Efi name >>= λ name. if_given count_in tries >>= λ tries. Ok (image_name name tries)
 
 -- where an image of that file name stands in an ESP
 abbrev pub image_path : List ℕ → List ℕ → Result Path Refusal

@@ -1,7 +1,9 @@
 pub mod Blessing
 pub mod Booting
+pub mod Counts
 pub mod GoodEntries
 pub mod Installing
+pub mod Keeping
 pub mod Listing
 pub mod Moving
 pub mod Tidying

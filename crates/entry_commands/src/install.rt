@@ -18,9 +18,11 @@ ghost use Rattle.command_plans.specs.Refusing.{DeclinesWords, RefusesWords};
 ghost use Rattle.command_plans.specs.Files.{if_given};
 ghost use Rattle.command_plans.specs.Declining.{Means};
 ghost use Rattle.command_plans.specs.Unsaying.{CountsUnsaid, Says, UnsaidFor, unsaid_counts};
-ghost use Rattle.entry_commands.specs.Installing.{IsImageName, ShowsEntry, entry_or, image_name, image_name_in, image_path, install_answer, install_result, installation_of, installed_entry, installed_image, tries_in};
+ghost use Rattle.entry_commands.specs.Counts.{count_in};
+ghost use Rattle.entry_commands.specs.Installing.{IsImageName, ShowsEntry, entry_or, image_name, image_name_in, image_path, install_answer, install_result, installation_of, installed_entry, installed_image};
 ghost use Rattle.menu_order.specs.declared.item.MenuItem.{MenuItem};
 
+use crate::counts::count_in;
 use boot_base::{BootPath, PeText, Refusal, Text};
 use boot_folder::{ItemFault, Missing, uki_item};
 use boot_machine::Machine;
@@ -28,7 +30,7 @@ use command_plans::{
     Declined, Plan, Stop, Unsaid, answer_or_refusal, check_name, installed_text, not_pe, path_in,
     path_under, plan_copy, readable_size,
 };
-use menu_order::{Counted, Suffix, read_count};
+use menu_order::{Counted, Suffix};
 use std::alloc::{AllocError, Global};
 
 /// What the words of an installation name.
@@ -40,26 +42,13 @@ struct Installation {
     target: BootPath,
 }
 
-fn tries_in(alloc: Global, word: &str) -> Result<u32, Declined>
-    ensures means { Means (λ tries. tries) result (tries_in word.now) }
-    ensures limit { IfOk result (λ tries. tries ≤ 999999999) }
-{
-    match read_count(word) {
-        Some(tries) if tries > 0 => Ok(tries),
-        _ => {
-            let text = Text::of(alloc, word)?;
-            Err(Declined::Refused(Refusal::BadNumber { text }))
-        }
-    }
-}
-
 // The tries that an option gives, if it is there.
 fn given_tries(alloc: Global, word: Option<&Text>) -> Result<Option<u32>, Declined>
-    ensures means { Means (λ tries. tries) result (if_given tries_in (option_map (λ text. text.now) word.entry)) }
+    ensures means { Means (λ tries. tries) result (if_given count_in (option_map (λ text. text.now) word.entry)) }
     ensures limit { IfOk result (λ tries. IfSome tries (λ n. n ≤ 999999999)) }
 {
     match word {
-        Some(word) => Ok(Some(tries_in(alloc, word.as_str())?)),
+        Some(word) => Ok(Some(count_in(alloc, word.as_str())?)),
         None => Ok(None),
     }
 }

@@ -1,0 +1,23 @@
+//! Counts that words give.
+ghost use Rattle.std.specs.Prelude.{◌≤◌, IfOk};
+ghost use Rattle.command_plans.specs.Declining.{Means};
+ghost use Rattle.entry_commands.specs.Counts.{count_in};
+
+use boot_base::{Refusal, Text};
+use command_plans::Declined;
+use menu_order::read_count;
+use std::alloc::Global;
+
+/// The count that a word writes, or the refusal of the word.
+pub(crate) fn count_in(alloc: Global, word: &str) -> Result<u32, Declined>
+    ensures means { Means (λ count. count) result (count_in word.now) }
+    ensures limit { IfOk result (λ count. count ≤ 999999999) }
+{
+    match read_count(word) {
+        Some(count) if count > 0 => Ok(count),
+        _ => {
+            let text = Text::of(alloc, word)?;
+            Err(Declined::Refused(Refusal::BadNumber { text }))
+        }
+    }
+}

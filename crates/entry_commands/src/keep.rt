@@ -1,0 +1,98 @@
+//! `keep`.
+ghost use Rattle.std.specs.Prelude.{◌≡◌, ◌++◌, All, IfOk, IsTrue, OnOk};
+ghost use Rattle.boot_base.specs.Paths.{IsFree};
+ghost use Rattle.boot_machine.specs.Counts.{Counts};
+ghost use Rattle.boot_machine.specs.Reading.{OnlyReads, TakesAtMost};
+ghost use Rattle.boot_machine.specs.Sent.{seen};
+ghost use Rattle.command_plans.specs.Declining.{Means, path_in};
+ghost use Rattle.command_plans.specs.Files.{each};
+ghost use Rattle.command_plans.specs.Folders.{folders_of};
+ghost use Rattle.command_plans.specs.Menus.{menu_limit};
+ghost use Rattle.command_plans.specs.Unsaying.{CountsUnsaid, Says};
+ghost use Rattle.entry_commands.specs.Keeping.{keep_result, menu_paths, would_line, would_text};
+
+use crate::counts::count_in;
+use boot_base::{BootPath, Refusal};
+use boot_machine::Machine;
+use command_plans::{Declined, Unsaid, folders_in, menu_at, path_in, push};
+use keep_newest::{DoomedFault, doomed_paths};
+use menu_order::MenuItem;
+use std::alloc::{AllocError, Global};
+use tool_words::KeepWords;
+
+// Where the entries of a menu stand that go.
+fn menu_paths(
+    alloc: Global,
+    menu: &[MenuItem],
+    n: u32,
+    per_key: bool,
+) -> Result<Vec<BootPath>, Unsaid>
+    ensures says { Says (λ paths. paths.items) result (menu_paths n per_key menu.now) }
+    ensures counts { (counts : Counts) → CountsUnsaid result counts counts }
+{
+    if menu.is_empty() {
+        return Err(Unsaid::Refused(Refusal::NoEntries));
+    }
+    match doomed_paths(alloc, menu, n, per_key) {
+        Ok(paths) => Ok(paths),
+        Err(DoomedFault::Memory) => Err(Unsaid::Memory),
+    }
+}
+
+// The same paths, read anew, since a machine that doesn't tell its files may give any.
+fn read_paths(alloc: Global, paths: &[BootPath]) -> Result<Vec<BootPath>, Declined>
+    ensures means { Means (λ paths. paths.items) result (each path_in paths.now) }
+    ensures free { IfOk result (λ paths. All IsFree paths.items) }
+{
+    let mut read = Vec::new(alloc);
+    for path in paths {
+        let path = path_in(alloc, path.as_str())?;
+        push(&mut read, path)?;
+    }
+    Ok(read)
+}
+
+/// Where the entries stand that go if the newest are kept, in the order in which they go, or what the words are refused
+/// for. Only headers and texts are read.
+pub fn keep_paths<M: Machine>(
+    alloc: Global,
+    words: &KeepWords,
+    machine: &mut M,
+) -> Result<Vec<BootPath>, Unsaid>
+    ensures says { IsTrue M.tells
+        → Says (λ paths. paths.items) result (keep_result (seen (M.state machine.old)) words.now) }
+    ensures free { IfOk result (λ paths. All IsFree paths.items) }
+    ensures reads { IsTrue M.tells → OnlyReads M.time M.state machine.old machine.new }
+    ensures counts { CountsUnsaid result (M.counts machine.old) (M.counts machine.new) }
+    ensures taken { IsTrue M.tells
+        → TakesAtMost (menu_limit (M.state machine.old).files (folders_of words.now.esp)) (M.taken machine.old)
+        (M.taken machine.new) }
+{
+    let n = count_in(alloc, words.number.as_str())?;
+    let folders = folders_in(alloc, words.esp.as_str())?;
+    let menu = menu_at(alloc, &folders, machine)?;
+    let paths = menu_paths(alloc, menu.as_slice(), n, words.per_key)?;
+    Ok(read_paths(alloc, paths.as_slice())?)
+}
+
+// Puts what is told of a file that would go behind a text.
+fn append_line(alloc: Global, path: &BootPath, text: &mut Vec<u8>) -> Result<(), AllocError>
+    ensures { OnOk result (text.new.items ≡ text.old.items ++ would_line path.now) }
+{
+    let line = format!(in alloc; "would unlink {path}\n")?;
+    Ok(text.extend_from_slice(line.as_str().as_bytes())?)
+}
+
+/// What is told if no file goes: the files that would.
+pub fn would_text(alloc: Global, paths: &[BootPath]) -> Result<Vec<u8>, AllocError>
+    ensures { IfOk result (λ text. text.items ≡ would_text paths.now) }
+{
+    if paths.is_empty() {
+        return Vec::from_slice(alloc, b"nothing to remove\n");
+    }
+    let mut text = Vec::new(alloc);
+    for path in paths {
+        append_line(alloc, path, &mut text)?;
+    }
+    Ok(text)
+}
