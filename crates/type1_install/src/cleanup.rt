@@ -60,8 +60,8 @@ fn unnamed_payloads<M: Machine>(
     Ok(unnamed(alloc, esp, folder, items, &names)?)
 }
 
-// The commands that remove these files.
-fn removals(alloc: Global, paths: &[BootPath]) -> Result<Vec<Command>, AllocError>
+/// The commands that remove these files.
+pub fn removals(alloc: Global, paths: &[BootPath]) -> Result<Vec<Command>, AllocError>
     requires { All IsFree paths.now }
     ensures commands { IfOk result (λ commands. commands.items ≡ map Remove paths.now) }
     ensures free { IfOk result (λ commands. All HasFreePath commands.items) }

@@ -13,6 +13,6 @@ mod payload;
 mod place;
 mod placing;
 
-pub use cleanup::cleanup_expansion;
+pub use cleanup::{cleanup_expansion, removals};
 pub use installation::install_expansion;
 pub use placing::{plan_enter, plan_put, plan_remove};
