@@ -1,5 +1,5 @@
 -- The commands that a command stands for are such as no words ask for.
-use Rattle.std.proofs.Common.{◌≡◌, ℕ, true, false, List, [], ◌∷◌, ◌++◌, map, refl, Result, Ok, Err}
+use Rattle.std.proofs.Common.{◌≡◌, ℕ, Bool, true, false, List, [], ◌∷◌, ◌++◌, map, refl, Result, Ok, Err}
 use Rattle.std.specs.Prelude.{All}
 use Rattle.std.proofs.lemmas.List.Elements.{All-cons, All-nil}
 use Rattle.boot_base.specs.Paths.{Path}
@@ -11,7 +11,9 @@ use Rattle.command_plans.specs.Folders.{folders_of}
 use Rattle.command_plans.specs.Menus.{menu_at}
 use Rattle.tool_words.specs.declared.command.Command.{Command}
 use Rattle.tool_words.specs.declared.command.Command.TheVariants as command
+use Rattle.tool_words.specs.declared.command.KeepWords.{KeepWords}
 use Rattle.tool_words.specs.declared.command.Type1Words.{Type1Words}
+use Rattle.entry_commands.specs.Keeping.{keep_expansion, keep_result, removals_unless}
 use Rattle.type1_install.specs.Installing.{Type1Plan, enter_of, install_commands, install_expansion, install_plan, payload_probe, planned_install, put_of}
 use Rattle.type1_install.specs.Cleaning.{cleanup_expansion}
 use Rattle.boot_commands.specs.Expansions.{ok_commands}
@@ -21,16 +23,19 @@ use Rattle.boot_commands.specs.Plain.{is_wordless}
 
 -- a command that is none of those that stand for others
 pub stands_alone : (c : Command) → ((words : Type1Words) → c ≡ command.Type1Install words → ⊥)
-    → ((esp : List ℕ) → c ≡ command.Type1Cleanup esp → ⊥) → expands c ≡ false
-stands_alone (command.Type1Install words) install cleanup = absurd (install words refl)
-stands_alone (command.Type1Cleanup esp) install cleanup = absurd (cleanup esp refl)
-stands_alone c install cleanup = refl
+    → ((esp : List ℕ) → c ≡ command.Type1Cleanup esp → ⊥) → ((words : KeepWords) → c ≡ command.Keep words → ⊥)
+    → expands c ≡ false
+stands_alone (command.Type1Install words) install cleanup keep = absurd (install words refl)
+stands_alone (command.Type1Cleanup esp) install cleanup keep = absurd (cleanup esp refl)
+stands_alone (command.Keep words) install cleanup keep = absurd (keep words refl)
+stands_alone c install cleanup keep = refl
 
 -- a command that stands for no other
 pub no_expansion : (view : Files) (c : Command) → expands c ≡ false → expansion view c ≡ []
 unfolding expansion
 no_expansion view (command.Type1Install words) is = cc
 no_expansion view (command.Type1Cleanup esp) is = cc
+no_expansion view (command.Keep words) is = cc
 no_expansion view c is = refl
 
 abbrev IsWordless : Command → Type 0
@@ -72,9 +77,18 @@ cleanup_wordless view word =
     ok_bind (All IsWordless) none (menu_at view folders) _ (λ menu.
     removals_wordless (unnamed_payloads view esp menu)))))
 
+unless_wordless : (dry_run : Bool) (paths : List Path) → All IsWordless (removals_unless dry_run paths)
+unless_wordless true paths = All-nil IsWordless
+unless_wordless false paths = removals_wordless paths
+
+keep_wordless : (view : Files) (words : KeepWords) → All IsWordless (ok_commands (keep_expansion view words))
+keep_wordless view words =
+    ok_bind (All IsWordless) (All-nil IsWordless) (keep_result view words) _ (unless_wordless words.dry_run)
+
 -- no words ask for what a command stands for
 pub all_wordless : (view : Files) (c : Command) → All (λ x. is_wordless x ≡ true) (expansion view c)
 unfolding expansion
 all_wordless view (command.Type1Install words) = install_wordless view words
 all_wordless view (command.Type1Cleanup esp) = cleanup_wordless view esp
+all_wordless view (command.Keep words) = keep_wordless view words
 all_wordless view c = All-nil IsWordless

@@ -25,6 +25,7 @@ unfolding step_reply
 plain_is view (command.Demo seed count) is = absurd (cc is)
 plain_is view (command.Type1Install words) is = absurd (cc is)
 plain_is view (command.Type1Cleanup esp) is = absurd (cc is)
+plain_is view (command.Keep words) is = absurd (cc is)
 plain_is view c is = refl
 
 bytes_tagged : (to : Channel) (bytes : List ℕ) → map (λ (p : Printed). p.byte) (on_channel to bytes) ≡ bytes

@@ -33,6 +33,7 @@ use Rattle.command_plans.specs.Folders.{folders_of}
 use Rattle.entry_commands.proofs.Replies.{HasText, some_boot, some_install, some_line, some_list, some_marked, some_said, text_next}
 use Rattle.command_plans.specs.Declining.{◌>>=◌, path_in, printed_path}
 use Rattle.command_plans.specs.Refusing.{unless_refused}
+use Rattle.entry_commands.specs.Keeping.{keep_answer, keep_result}
 use Rattle.entry_commands.specs.Tidying.{tidy_answer}
 use Rattle.command_plans.specs.Changes.{removal, unlink_answer}
 use Rattle.entry_commands.specs.Unlinking.{entry_path}
@@ -113,6 +114,12 @@ some_own view idle some (Err why) = some_line why
 some_own view idle some (Ok []) = some
 some_own view idle some (Ok (first ∷ more)) = some_line (refusals.BadScript 0)
 
+some_keep : (view : Files) (dry_run : Bool) (found : Result (List Path) Refusal) → 0 < length (answer_or_none view (keep_answer view dry_run found)).text
+some_keep view dry_run (Err why) = some_line why
+some_keep view dry_run (Ok []) = omega arith
+some_keep view true (Ok (path ∷ paths)) = omega arith
+some_keep view false (Ok (path ∷ paths)) = some_line (refusals.BadScript 0)
+
 -- no command's reply is empty: a case for each command
 pub some_text : (view : Files) (c : Command) → 0 < length (step_reply view c).text
 unfolding step_reply plain_answer
@@ -140,6 +147,7 @@ some_text view (command.LoaderDefault pattern esp) = some_changed view Default p
 some_text view (command.LoaderTimeout value esp) = some_changed view Timeout value (conf_update view Timeout value esp)
 some_text view (command.Type1Install words) = some_refused view (install_expansion view words)
 some_text view (command.Type1Cleanup esp) = some_own view (codes "nothing to clean\n") (omega arith) (cleanup_expansion view esp)
+some_text view (command.Keep words) = some_keep view words.dry_run (keep_result view words)
 some_text view (command.Put file target) = some_put view target (bytes_at view file)
 some_text view (command.Enter path text) = omega arith
 some_text view (command.Remove path) = some_removal view path (get view path)

@@ -1,5 +1,5 @@
 -- A good entry stays that a command spares.
-use Rattle.std.proofs.Common.{◌≡◌, ◌≢◌, ℕ, Bool, List, [], ◌∷◌, refl, ap, ◌∙◌, Result, Ok, Err}
+use Rattle.std.proofs.Common.{◌≡◌, ◌≢◌, ℕ, Bool, true, false, List, [], ◌∷◌, refl, ap, ◌∙◌, Result, Ok, Err}
 use Rattle.std.specs.Prelude.{IfOk}
 use Rattle.boot_base.specs.Paths.{Path}
 use Rattle.boot_base.specs.declared.refusal.Refusal.{Refusal}
@@ -15,6 +15,7 @@ use Rattle.image_commands.specs.Calculating.{calculate_result}
 use Rattle.image_commands.specs.Said.{identify_result, measure_result, inspect_result}
 use Rattle.command_plans.specs.Folders.{folders_of}
 use Rattle.entry_commands.specs.GoodEntries.{HasGoodEntry}
+use Rattle.entry_commands.specs.Keeping.{keep_answer, keep_result}
 use Rattle.entry_commands.specs.Listing.{list_result}
 use Rattle.entry_commands.specs.Tidying.{tidy_answer}
 use Rattle.command_plans.specs.Changes.{unlink_answer}
@@ -98,6 +99,12 @@ module _ (word : List ℕ) (folders : Folders) (read : folders_of word ≡ Ok fo
   kept_own idle (Ok []) = entry
   kept_own idle (Ok (first ∷ more)) = entry
 
+  kept_keep : (dry_run : Bool) (found : Result (List Path) Refusal) → HasGoodEntry folders path (answer_or_none view (keep_answer view dry_run found)).after
+  kept_keep dry_run (Err why) = entry
+  kept_keep dry_run (Ok []) = entry
+  kept_keep true (Ok (other ∷ paths)) = entry
+  kept_keep false (Ok (other ∷ paths)) = entry
+
   -- a case for each command
   pub kept : (c : Command) → Spares path c → HasGoodEntry folders path (step_reply view c).after
   unfolding step_reply plain_answer
@@ -119,6 +126,7 @@ module _ (word : List ℕ) (folders : Folders) (read : folders_of word ≡ Ok fo
   kept (command.LoaderTimeout value esp) spares = kept_changed Timeout value (conf_update view Timeout value esp) (set_apart view Timeout value esp path (conf_apart word esp folders path view read entry))
   kept (command.Type1Install words) spares = kept_refused (install_expansion view words)
   kept (command.Type1Cleanup esp) spares = kept_own (codes "nothing to clean\n") (cleanup_expansion view esp)
+  kept (command.Keep words) spares = kept_keep words.dry_run (keep_result view words)
   kept (command.Put file target) spares = kept_put target (bytes_at view file) spares
   kept (command.Enter at text) spares = put_apart folders path view entry at text spares
   kept (command.Remove at) spares = kept_unlink folders path view entry at spares

@@ -8,6 +8,7 @@ use Rattle.command_plans.specs.Answers.{Answer, answer_of_read}
 use Rattle.command_plans.specs.Deeds.{Deed, deed_of_answer}
 use Rattle.command_plans.specs.declared.outcome.Stop.{Stop}
 use Rattle.command_plans.specs.declared.outcome.Stop.TheVariants as stops
+use Rattle.entry_commands.specs.Keeping.{keep_answer, keep_result}
 use Rattle.entry_commands.specs.Tidying.{IsTidied}
 use Rattle.boot_commands.specs.Demonstration.{demo_result}
 use Rattle.boot_commands.specs.Plain.{answer_or_none, plain_answer}
@@ -21,6 +22,7 @@ abbrev pub answer_of : Files → Command → Option Answer
 answer_of view (command.Demo seed count) = Some (answer_of_read view (demo_result seed count))
 answer_of view (command.Type1Install words) = refused_answer view (install_expansion view words)
 answer_of view (command.Type1Cleanup esp) = own_answer view (codes "nothing to clean\n") (cleanup_expansion view esp)
+answer_of view (command.Keep words) = keep_answer view words.dry_run (keep_result view words)
 answer_of view c = plain_answer view c
 
 -- the reply of a step, and the view after it

@@ -5,6 +5,7 @@ use Rattle.boot_machine.specs.Disk.{Files}
 use Rattle.tool_words.specs.declared.command.Command.{Command}
 use Rattle.tool_words.specs.declared.command.Command.TheVariants as command
 use Rattle.command_plans.specs.Answers.{Answer, done_answer, refusal}
+use Rattle.entry_commands.specs.Keeping.{keep_expansion}
 use Rattle.type1_install.specs.Cleaning.{cleanup_expansion}
 use Rattle.type1_install.specs.Installing.{install_expansion}
 
@@ -17,6 +18,7 @@ ok_commands (Err why) = []
 abbrev pub expands : Command → Bool
 expands (command.Type1Install words) = true
 expands (command.Type1Cleanup esp) = true
+expands (command.Keep words) = true
 expands c = false
 
 -- the commands that a command stands for on a view. There are none if it stands for itself: if it never stands for
@@ -24,6 +26,7 @@ expands c = false
 unfoldable pub expansion : Files → Command → List Command
 expansion view (command.Type1Install words) = ok_commands (install_expansion view words)
 expansion view (command.Type1Cleanup esp) = ok_commands (cleanup_expansion view esp)
+expansion view (command.Keep words) = ok_commands (keep_expansion view words)
 expansion view c = []
 
 -- what a command says that stands for itself: its refusal

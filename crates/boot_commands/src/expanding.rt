@@ -15,9 +15,11 @@ ghost use Rattle.tool_words.specs.declared.command.Command.{Command};
 ghost use Rattle.boot_commands.specs.Expansions.{expands, expansion, ok_commands, own_answer, refused_answer};
 ghost use Rattle.type1_install.specs.Shown.{HasFreePath};
 
+use crate::keeping::found_removals;
 use boot_base::{Bytes, Refusal};
 use boot_machine::Machine;
 use command_plans::{Change, Outcome, Plan, Stop, Unsaid, plan_unsaid};
+use entry_commands::keep_paths;
 use std::alloc::Global;
 use tool_words::Command;
 use type1_install::{cleanup_expansion, install_expansion};
@@ -28,7 +30,7 @@ pub fn expands(command: &Command) -> bool
 {
     matches!(
         command,
-        Command::Type1Install(_) | Command::Type1Cleanup { .. }
+        Command::Type1Install(_) | Command::Type1Cleanup { .. } | Command::Keep(_)
     )
 }
 
@@ -52,6 +54,11 @@ pub fn expand<M: Machine>(
         }
         Command::Type1Cleanup { esp } => {
             let commands = cleanup_expansion(alloc, esp.as_str(), machine);
+            commands_or_none(alloc, commands)
+        }
+        Command::Keep(words) => {
+            let paths = keep_paths(alloc, words, machine);
+            let commands = found_removals(alloc, words.dry_run, paths);
             commands_or_none(alloc, commands)
         }
         _ => Ok(Vec::new(alloc)),
@@ -80,14 +87,13 @@ fn commands_or_none(
     }
 }
 
-// The plan of a command that would stand for others: no line of a run is such a one.
-fn plan_unreadable(alloc: Global, commands: Vec<Command>) -> Result<Plan, Stop>
+/// The plan of a command that would stand for others: no line of a run is such a one.
+pub(crate) fn plan_unreadable(alloc: Global) -> Result<Plan, Stop>
     ensures plans { IfOk result (λ plan. (s : State) → Plans s plan (refusal (seen s) (Refusal.BadScript 0))) }
     ensures makeable { IfOk result (λ plan. IsMakeable plan.change) }
     ensures idle { IfOk result (λ plan. plan.change ≡ Nothing) }
     ensures counts { (counts : Counts) → CountsStop result counts counts }
 {
-    drop(commands);
     plan_unsaid(alloc, Unsaid::Refused(Refusal::BadScript { line: 0 }))
 }
 
@@ -104,7 +110,10 @@ pub(crate) fn plan_refused(
     ensures counts { (old new : Counts) → CountsUnsaid commands old new → CountsStop result old new }
 {
     match commands {
-        Ok(commands) => plan_unreadable(alloc, commands),
+        Ok(commands) => {
+            drop(commands);
+            plan_unreadable(alloc)
+        }
         Err(unsaid) => plan_unsaid(alloc, unsaid),
     }
 }
@@ -141,7 +150,10 @@ pub(crate) fn plan_idle_or_refused(
             drop(commands);
             plan_idle(alloc)
         }
-        Ok(commands) => plan_unreadable(alloc, commands),
+        Ok(commands) => {
+            drop(commands);
+            plan_unreadable(alloc)
+        }
         Err(unsaid) => plan_unsaid(alloc, unsaid),
     }
 }

@@ -8,6 +8,7 @@ mod demo_images;
 mod demo_turns;
 mod draws;
 mod expanding;
+mod keeping;
 mod plain;
 mod stepping;
 

@@ -87,7 +87,8 @@ pub fn plan_plain<M: Machine>(
         Command::Script
         | Command::Demo { .. }
         | Command::Type1Install(_)
-        | Command::Type1Cleanup { .. } => unreachable!(),
+        | Command::Type1Cleanup { .. }
+        | Command::Keep(_) => unreachable!(),
     }
 }
 

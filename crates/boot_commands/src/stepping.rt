@@ -12,9 +12,11 @@ ghost use Rattle.command_plans.specs.Plans.{Drops, IsMakeable, Plans};
 use crate::carrying::carry_out;
 use crate::demo::plan_demo;
 use crate::expanding::{plan_idle_or_refused, plan_refused};
+use crate::keeping::plan_keep;
 use crate::plain::plan_plain;
 use boot_machine::Machine;
 use command_plans::{Outcome, Plan, Stop};
+use entry_commands::keep_paths;
 use std::alloc::Global;
 use tool_words::Command;
 use type1_install::{cleanup_expansion, install_expansion};
@@ -40,6 +42,10 @@ fn plan_of<M: Machine>(alloc: Global, command: &Command, machine: &mut M) -> Res
         Command::Type1Cleanup { esp } => {
             let commands = cleanup_expansion(alloc, esp.as_str(), machine);
             plan_idle_or_refused(alloc, commands)
+        }
+        Command::Keep(words) => {
+            let paths = keep_paths(alloc, words, machine);
+            plan_keep(alloc, words.dry_run, paths)
         }
         _ => plan_plain(alloc, command, machine),
     }

@@ -11,7 +11,7 @@ use Rattle.boot_commands.proofs.expanding.expand.Goals as goal
 pub returns-in_default : goal.returns-in_default
 returns-in_default g c =
     let command = c.args.command.now in
-    let alone = stands_alone command c.in_default.not-Type1Install c.in_default.not-Type1Cleanup in
+    let alone = stands_alone command c.in_default.not-Type1Install c.in_default.not-Type1Cleanup c.in_default.not-Keep in
     let steps = λ (commands : List Command). All (λ one. is_step one ≡ true) commands in
     record {
       commands = λ told. c.new.ensures.items ∙ sym (no_expansion (seen (g.M.Machine.state c.args.machine.now)) command alone);
