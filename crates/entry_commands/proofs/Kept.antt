@@ -36,22 +36,23 @@ each_read (item ∷ items) are =
     ∙ ap (λ (q : Result (List Path) Refusal). q >>= λ r. Ok (item.path ∷ r)) (each_read items (λ other is. are other (Contains-later item other items is)))
 
 -- of a menu that has an entry
-doomed_are : (n : ℕ) (per_key : Bool) (menu : List MenuItem) (paths : List Path) → menu_paths n per_key menu ≡ Ok paths → doomed_paths n per_key menu ≡ paths
+pub doomed_are : (n : ℕ) (per_key : Bool) (menu : List MenuItem) (paths : List Path) → menu_paths n per_key menu ≡ Ok paths → doomed_paths n per_key menu ≡ paths
 doomed_are n per_key [] paths is = cc
 doomed_are n per_key (first ∷ later) paths is = cc
 
-module _ (files : Files) (folders : Folders) (menu : List MenuItem) (is_menu : IsMenu (IsEntry files folders) menu) (n : ℕ) (per_key : Bool) where
-  doomed_in : (item : MenuItem) → Contains (doomed_records n per_key menu) item → Contains menu item
-  doomed_in item is =
-      let kept : List MenuItem = kept_records n per_key menu in
-      let doomed : List MenuItem = doomed_records n per_key menu in
-      Contains-permutation (kept ++ doomed) menu item (IsPermutation-sym menu (kept ++ doomed) (parts_menu n per_key menu))
-      (Contains-append_right kept doomed item is)
+-- what goes is in the menu
+pub doomed_in : (n : ℕ) (per_key : Bool) (menu : List MenuItem) (item : MenuItem) → Contains (doomed_records n per_key menu) item → Contains menu item
+doomed_in n per_key menu item is =
+    let kept : List MenuItem = kept_records n per_key menu in
+    let doomed : List MenuItem = doomed_records n per_key menu in
+    Contains-permutation (kept ++ doomed) menu item (IsPermutation-sym menu (kept ++ doomed) (parts_menu n per_key menu))
+    (Contains-append_right kept doomed item is)
 
+module _ (files : Files) (folders : Folders) (menu : List MenuItem) (is_menu : IsMenu (IsEntry files folders) menu) (n : ℕ) (per_key : Bool) where
   pub read_again : (paths : List Path) → menu_paths n per_key menu ≡ Ok paths → each path_in paths ≡ Ok paths
   read_again paths is =
       subst (λ (l : List Path). each path_in l ≡ Ok l) (doomed_are n per_key menu paths is)
-      (each_read (doomed_records n per_key menu) (λ item there. ap (path_or item.path) ((is_menu.entries item).0 (doomed_in item there)).is_path))
+      (each_read (doomed_records n per_key menu) (λ item there. ap (path_or item.path) ((is_menu.entries item).0 (doomed_in n per_key menu item there)).is_path))
 
 -- what the words come to, step by step
 pub result_is : (view : Files) (words : KeepWords) (n : ℕ) (folders : Folders) (menu : List MenuItem) (paths : List Path)
