@@ -31,13 +31,13 @@ was_there old new DiskFails kept view is = subst (IsIn view) kept is
 was_there old new PipeFails kept view is = subst (IsIn view) kept is
 
 -- a view that a run leaves is that after n of its lines, from a view that was there
-record ComesFrom (old : List Files) (asks : Files → Result (List Line) UsageReason) (sent : Sent) (view : Files)
+pub record ComesFrom (old : List Files) (asks : Files → Result (List Line) UsageReason) (sent : Sent) (view : Files)
     : Type 0 where
-  start : Files
-  there : IsIn start old
-  n : ℕ
-  may : MayDoBy start (asks start) sent n
-  is : view ≡ after_some start (asks start) n
+  pub start : Files
+  pub there : IsIn start old
+  pub n : ℕ
+  pub may : MayDoBy start (asks start) sent n
+  pub is : view ≡ after_some start (asks start) n
 
 -- a run that came to no command leaves each view as it was
 early_does : (first view : Files) (lines : List Line) (asks : Result (List Line) UsageReason) → AreAlike (Ok lines) asks
@@ -86,7 +86,7 @@ module _ (old new : List Files) (sent : Sent) (end : End) (some : old ≢ [])
     is = at ∙ ap (λ s. after_some (latest_view old) s n) (sym is);
   }
 
-  one_run : (r : Result (List Line) UsageReason) → asks (latest_view old) ≡ r → ((view : Files) → AreAlike r (asks view))
+  pub one_run : (r : Result (List Line) UsageReason) → asks (latest_view old) ≡ r → ((view : Files) → AreAlike r (asks view))
       → StepBy old r new sent end → (view : Files) → IsIn view new → ComesFrom old asks sent view
   one_run (Ok lines) is alike step view there = ⊎_elim
       (λ (early : IsEarly old lines new sent end step.acked).

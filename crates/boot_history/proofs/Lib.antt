@@ -1,8 +1,10 @@
 mod Alike
 mod Counting
 mod Keeping
+mod Newest
 mod PayloadMoves
 mod Payloads
+mod PayloadsNewest
 mod PayloadsStay
 mod Pushing
 mod Standing

@@ -80,6 +80,7 @@ use Rattle.boot_history.specs.Payloads.{BuildsApart, PayloadLaw, is_directly_in}
 use Rattle.boot_history.proofs.Keeping.{kept_later}
 use Rattle.boot_history.proofs.PayloadMoves.{booted_beside, moved, normal_folder}
 use Rattle.boot_history.proofs.Payloads.{cleanup_keeps, install_keeps}
+use Rattle.boot_history.proofs.PayloadsNewest.{keep_keeps}
 
 -- ---- places
 
@@ -279,6 +280,7 @@ module _ (esp : Path) (view : Files) (ok : ArePayloadsThere esp view) where
   stays (command.LoaderTimeout value word) given alone apart = kept_set Timeout value word
   stays (command.Type1Install words) given alone apart = cc
   stays (command.Type1Cleanup word) given alone apart = cc
+  stays (command.Keep words) given alone apart = cc
   stays (command.Put file target) given alone apart = cc
   stays (command.Enter at text) given alone apart = cc
   stays (command.Remove at) given alone apart = cc
@@ -362,6 +364,7 @@ after_meant : (esp : Path) (view : Files) (input : List ℕ) (meant : Result Com
 after_meant esp view input (Err reason) given apart ok = tt
 after_meant esp view input (Ok (command.Type1Install words)) given apart ok = install_keeps esp view input words ok
 after_meant esp view input (Ok (command.Type1Cleanup word)) given apart ok = cleanup_keeps esp view input word ok
+after_meant esp view input (Ok (command.Keep words)) given apart ok = keep_keeps esp view input words ok
 after_meant esp view input (Ok c) given apart ok =
     lines_keep esp view (lines_for input view c) ok (apart refl) (usual_lines input view c given refl)
 

@@ -5,6 +5,7 @@ use Rattle.boot_machine.specs.Disk.{Files}
 use Rattle.command_plans.specs.Declining.{path_in}
 use Rattle.tool_words.specs.declared.command.Command.{Command}
 use Rattle.tool_words.specs.declared.command.Command.TheVariants as command
+use Rattle.tool_words.specs.declared.command.KeepWords.{KeepWords}
 use Rattle.tool_words.specs.declared.command.Type1Words.{Type1Words}
 use Rattle.type1_install.specs.Payloads.{ArePayloadsThere, folders_at, payload_folder}
 use Rattle.boot_commands.specs.Expansions.{expands}
@@ -24,6 +25,12 @@ abbrev pub CleanupKeepsLaw : Type 0
 CleanupKeepsLaw =
     (esp : Path) (view : Files) (input word : List ℕ) → ArePayloadsThere esp view
     → KeptBy (ArePayloadsThere esp) view (Ok (lines_for input view (command.Type1Cleanup word)))
+
+-- and a `keep`
+abbrev pub RemovalKeepsLaw : Type 0
+RemovalKeepsLaw =
+    (esp : Path) (view : Files) (input : List ℕ) (words : KeepWords) → ArePayloadsThere esp view
+    → KeptBy (ArePayloadsThere esp) view (Ok (lines_for input view (command.Keep words)))
 
 -- the file is one directly in the folder
 abbrev pub is_directly_in : Path → Path → Bool

@@ -6,8 +6,9 @@ ghost use Rattle.std.specs.Prelude.{IsTrue};
 ghost use Rattle.boot_history.specs.GoodEntries.{GoodEntryLaw, ListedLaw};
 ghost use Rattle.boot_history.specs.Histories.{StartLaw, StopLaw};
 ghost use Rattle.boot_history.specs.Keeping.{KeptLaw};
+ghost use Rattle.boot_history.specs.Newest.{KeepSparesLaw, NewestLaw, ToldLaw, UnrefusedLaw};
 ghost use Rattle.boot_history.specs.Numbers.{HistoryLaw};
-ghost use Rattle.boot_history.specs.Payloads.{CleanupKeepsLaw, InstallKeepsLaw, PayloadLaw};
+ghost use Rattle.boot_history.specs.Payloads.{CleanupKeepsLaw, InstallKeepsLaw, PayloadLaw, RemovalKeepsLaw};
 
 mod each;
 #[cfg(test)]
@@ -49,10 +50,22 @@ pub fn good_entry_law()
 
 /// The payloads of entries stay: where each payload that an entry of an EFI system partition names is there, with its
 /// digest for its name, in each view at the start of some run, and no build from that run on has its output directly in
-/// the partition's folder of payloads or in that of its entries of type 1, it is so in each later view. An installation
-/// and a cleanup keep it after each number of their commands.
+/// the partition's folder of payloads or in that of its entries of type 1, it is so in each later view. An installation,
+/// a cleanup and a `keep` keep it after each number of their commands.
 pub fn payload_law()
     ensures stays { PayloadLaw }
     ensures installs { InstallKeepsLaw }
     ensures cleanups { CleanupKeepsLaw }
+    ensures removals { RemovalKeepsLaw }
+{}
+
+/// Keeping the newest: at each moment since the start of a `keep` that isn't refused, on a machine where boot sees one
+/// view, the menu is that at the start without a first part of the doomed entries, as many as are acknowledged or one
+/// more. Each entry that is kept is in it, and once all is said or the run has come to its end no other. No reply of it
+/// is a refusal, and it spares each entry that isn't doomed. One that only tells changes nothing.
+pub fn newest_law()
+    ensures newest { NewestLaw }
+    ensures told { ToldLaw }
+    ensures unrefused { UnrefusedLaw }
+    ensures spares { KeepSparesLaw }
 {}
