@@ -46,6 +46,7 @@ OPERANDS = {
     "loader set-default": ("id",),
     "loader set-timeout": ("timeout",),
     "type1 install": ("entry-name",),
+    "keep": ("number",),
     "demo": ("seed", "number"),
 }
 

@@ -23,6 +23,7 @@ set -g __boot_tools_rows \
     'loader set-timeout|timeout|--esp-path:once:folder' \
     'type1 install|entry-name|--linux:required:file --initrd:repeated:file --title:once:text --version:once:text --machine-id:once:text --sort-key:once:text --options:once:text --esp-path:once:folder' \
     'type1 cleanup||--esp-path:once:folder' \
+    'keep|number|--per-key:flag: --dry-run:flag: --esp-path:once:folder' \
     'script||' \
     'demo|seed number|'
 set -g __boot_tools_banks \
