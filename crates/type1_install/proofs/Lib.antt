@@ -3,6 +3,7 @@ pub mod PayloadsKept
 pub mod Installing
 pub mod Planned
 pub mod Cleaning
+mod SameBytes
 mod Appending
 mod Places
 mod Words

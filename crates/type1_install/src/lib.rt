@@ -5,6 +5,7 @@
 //! at the place of its payload, an entry is entered, a payload is removed. Each of these is planned here too.
 #![tactic(auto)]
 
+mod alike;
 mod cleanup;
 mod install_words;
 mod installation;

@@ -1,6 +1,7 @@
 //! The commands that an installation and a cleanup are made of.
-ghost use Rattle.std.specs.Prelude.{◌≡◌, length, IfOk, IsTrue};
-ghost use Rattle.std.specs.FinMap.{insert};
+ghost use Rattle.std.specs.Prelude.{◌≡◌, ◌≤◌, ℕ, length, true, List, Some, IfErr, IfOk, IsTrue};
+ghost use Rattle.std.specs.FinMap.{get, insert};
+ghost use Rattle.boot_base.specs.Limits.{file_limit};
 ghost use Rattle.boot_base.specs.Paths.{IsFree};
 ghost use Rattle.boot_machine.specs.Disk.{State};
 ghost use Rattle.boot_machine.specs.Reading.{OnlyReads, TakesAtMost};
@@ -11,8 +12,10 @@ ghost use Rattle.command_plans.specs.Changes.{unlink_answer};
 ghost use Rattle.command_plans.specs.Performs.{CountsStop};
 ghost use Rattle.command_plans.specs.Plans.{CanCopy, IsIdleIfRefused, IsMakeable, Plans, PlansAs};
 ghost use Rattle.command_plans.specs.Unsaying.{CountsUnsaid};
+ghost use Rattle.type1_install.specs.Unnamed.{IsNoRefusal};
 ghost use Rattle.type1_install.specs.Placing.{enter_answer, payload_text, put_answer, put_result};
 
+use crate::alike::are_alike;
 use boot_base::{BootPath, Bytes, Target};
 use boot_machine::Machine;
 use command_plans::{
@@ -43,6 +46,49 @@ fn put_plan(alloc: Global, file: &BootPath, target: &BootPath) -> Result<Plan, A
     plan_copy(alloc, file, target, text)
 }
 
+// The plan of a payload that stands at its place already: nothing is changed, so that no cut can harm a file that
+// entries name.
+fn standing_plan(alloc: Global, target: &BootPath) -> Result<Plan, AllocError>
+    ensures plans { IfOk result (λ plan. (s : State) (bytes : List ℕ) → get (seen s) target.now ≡ Some bytes
+        → Plans s plan (done_answer (insert (seen s) target.now bytes) (payload_text target.now))) }
+    ensures makeable { IfOk result (λ plan. IsMakeable plan.change) }
+    ensures idle { IfOk result IsIdleIfRefused }
+{
+    Ok(Plan {
+        change: Change::Nothing,
+        outcome: Outcome::Done,
+        text: payload_text(alloc, target)?,
+    })
+}
+
+// Whether the bytes of the file, which has `size`, stand at the target already.
+fn is_copied<M: Machine>(
+    alloc: Global,
+    file: &BootPath,
+    size: u64,
+    target: &BootPath,
+    machine: &mut M,
+) -> Result<bool, Unsaid>
+    requires limit { size ≤ file_limit }
+    ensures copied { IfOk result (λ copied. IsTrue M.tells
+        → length (contents (M.state machine.old).files file.now) ≡ size → copied ≡ true
+        → get (seen (M.state machine.old)) target.now ≡ Some (contents (M.state machine.old).files file.now)) }
+    ensures faults { IfErr result IsNoRefusal }
+    ensures reads { IsTrue M.tells → OnlyReads M.time M.state machine.old machine.new }
+    ensures counts { CountsUnsaid result (M.counts machine.old) (M.counts machine.new) }
+{
+    match readable_size(alloc, target, machine) {
+        Ok(length) if length == size => Ok(are_alike(file, target, size, machine)?),
+        Ok(_) => Ok(false),
+        Err(Unsaid::Memory) => Err(Unsaid::Memory),
+        Err(Unsaid::Disk) => Err(Unsaid::Disk),
+        Err(Unsaid::Refused(why)) => {
+            drop(why);
+            Ok(false)
+        }
+    }
+}
+
 fn put<M: Machine>(
     alloc: Global,
     file: &BootPath,
@@ -56,13 +102,16 @@ fn put<M: Machine>(
     ensures idle { IfOk result IsIdleIfRefused }
     ensures reads { IsTrue M.tells → OnlyReads M.time M.state machine.old machine.new }
     ensures counts { CountsUnsaid result (M.counts machine.old) (M.counts machine.new) }
-    ensures taken { IsTrue M.tells → TakesAtMost 0 (M.taken machine.old) (M.taken machine.new) }
 {
-    readable_size(alloc, file, machine)?;
+    let size = readable_size(alloc, file, machine)?;
+    if is_copied(alloc, file, size, target, machine)? {
+        return Ok(standing_plan(alloc, target)?);
+    }
     Ok(put_plan(alloc, file, target)?)
 }
 
-/// What the copy of a file to the place of its payload is going to do. None of its bytes are read yet.
+/// What the copy of a file to the place of its payload is going to do: nothing if these bytes stand there already. Its bytes
+/// are read only to tell that.
 pub fn plan_put<M: Machine>(
     alloc: Global,
     file: &BootPath,
@@ -76,7 +125,6 @@ pub fn plan_put<M: Machine>(
     ensures idle { IfOk result IsIdleIfRefused }
     ensures reads { IsTrue M.tells → OnlyReads M.time M.state machine.old machine.new }
     ensures counts { CountsStop result (M.counts machine.old) (M.counts machine.new) }
-    ensures taken { IsTrue M.tells → TakesAtMost 0 (M.taken machine.old) (M.taken machine.new) }
 {
     let plan = put(alloc, file, target, machine);
     answer_or_refusal(alloc, plan)

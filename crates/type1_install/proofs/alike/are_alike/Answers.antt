@@ -1,0 +1,51 @@
+use Rattle.std.proofs.Common.{◌≡◌, ◌∙◌, arith, drop, refl, rules, subst, sym}
+use Rattle.boot_machine.specs.Disk.{State}
+use Rattle.boot_machine.specs.Reading.{fill_with_zeros}
+use Rattle.boot_machine.specs.Rows.{contents}
+use Rattle.boot_machine.proofs.Pieces.{none_of}
+use Rattle.boot_machine.proofs.Reading.{reads_none, reads_on}
+use Rattle.type1_install.proofs.SameBytes.{alike_more}
+use Rattle.type1_install.proofs.alike.are_alike.Goals as goal
+
+pub loop-done-init : goal.loop-done-init
+loop-done-init g c =
+    let files = (g.M.Machine.state c.args.machine.now).files in
+    record {
+      within = omega arith;
+      same = λ told. sym (none_of (contents files c.args.first.now)) ∙ none_of (contents files c.args.second.now);
+      reads =
+          λ told.
+          reads_none g.M.Machine.time g.M.Machine.state c.args.machine.now
+          (λ m o left. g.met.M.Machine.only_now c.args.machine.now m o told left);
+      counts = refl;
+    }
+
+pub returns-in_err-count-clause-reads : goal.returns-in_err-count-clause-reads
+returns-in_err-count-clause-reads g c told =
+    reads_on g.M.Machine.time g.M.Machine.state c.args.machine.now c.loop-done.machine c.same_piece.new.machine (c.loop-done.invariant.reads told) (c.same_piece.ensures.reads told)
+
+pub returns-then-count-eq0-clause-reads : goal.returns-then-count-eq0-clause-reads
+returns-then-count-eq0-clause-reads g c told =
+    reads_on g.M.Machine.time g.M.Machine.state c.args.machine.now c.loop-done.machine c.same_piece.new.machine (c.loop-done.invariant.reads told) (c.same_piece.ensures.reads told)
+
+pub loop-done-preserved : goal.loop-done-preserved
+loop-done-preserved g c =
+    let before = c.loop-done.invariant in
+    let done = c.loop-done.done in
+    let count = c.in_ok-count.count in
+    let first = c.args.first.now in
+    let second = c.args.second.now in
+    let files = (g.M.Machine.state c.args.machine.now).files in
+    let next = λ (s : State). fill_with_zeros (drop done (contents s.files first)) count ≡ fill_with_zeros (drop done (contents s.files second)) count in
+    record {
+      within = omega (arith, c.in_ok-count.ensures.within);
+      same =
+          λ told.
+          alike_more (contents files first) (contents files second) done count (before.same told)
+          (subst next (before.reads told).same (c.in_ok-count.ensures.same told));
+      reads =
+          λ told.
+          reads_on g.M.Machine.time g.M.Machine.state c.args.machine.now c.loop-done.machine c.same_piece.new.machine
+          (before.reads told) (c.same_piece.ensures.reads told);
+      counts = search rules;
+    }

@@ -1,0 +1,17 @@
+use Rattle.std.proofs.Common.{◌≡◌, ◌≤◌, ◌-◌, IsTrue, length}
+use Rattle.boot_machine.specs.Reading.{OnlyReads, fill_with_zeros}
+use Rattle.boot_machine.specs.Rows.{contents}
+use Rattle.type1_install.proofs.alike.are_alike.Given as goal
+
+abbrev pub invariant-loop-done : goal.invariant-loop-done
+invariant-loop-done g l = record {
+  within : l.done ≤ l.size;
+  same : IsTrue g.M.Machine.tells
+      → fill_with_zeros (contents (g.M.Machine.state l.initial.machine).files l.first) l.done
+      ≡ fill_with_zeros (contents (g.M.Machine.state l.initial.machine).files l.second) l.done;
+  reads : IsTrue g.M.Machine.tells → OnlyReads g.M.Machine.time g.M.Machine.state l.initial.machine l.machine;
+  counts : g.M.Machine.counts l.machine ≡ g.M.Machine.counts l.initial.machine;
+}
+
+abbrev pub decreases-loop-done : goal.decreases-loop-done
+decreases-loop-done g l = l.size - l.done

@@ -1,0 +1,71 @@
+//! Whether two files have the same bytes.
+ghost use Rattle.std.specs.Prelude.{◌≡◌, ◌<◌, ◌≤◌, ◌+◌, ◌^◌, drop, length, true, IfOk, IsTrue};
+ghost use Rattle.boot_base.specs.Limits.{file_limit};
+ghost use Rattle.boot_machine.specs.Counts.{CountsDisk};
+ghost use Rattle.boot_machine.specs.Reading.{OnlyReads, fill_with_zeros};
+ghost use Rattle.boot_machine.specs.Rows.{contents};
+
+use boot_base::{BootPath, PIECE_SIZE, Piece};
+use boot_machine::{DiskFault, Machine, read_piece};
+
+// How many of the `left` bytes from `at` on are read of both files, if these are the same in both, and else 0.
+fn same_piece<M: Machine>(
+    first: &BootPath,
+    second: &BootPath,
+    at: u64,
+    left: u64,
+    machine: &mut M,
+    one: &mut [u8],
+    other: &mut [u8],
+) -> Result<u64, DiskFault>
+    requires left { 0 < left }
+    requires end { at + left < 2 ^ 64 }
+    requires room { 0 < length one.old }
+    requires both { length other.old ≡ length one.old }
+    ensures room { length one.new ≡ length one.old }
+    ensures both { length other.new ≡ length one.old }
+    ensures within { IfOk result (λ count. count ≤ left) }
+    ensures same { IfOk result (λ count. IsTrue M.tells
+        → fill_with_zeros (drop at (contents (M.state machine.old).files first.now)) count
+        ≡ fill_with_zeros (drop at (contents (M.state machine.old).files second.now)) count) }
+    ensures reads { IsTrue M.tells → OnlyReads M.time M.state machine.old machine.new }
+    ensures counts { CountsDisk result (M.counts machine.old) (M.counts machine.new) }
+{
+    let count = read_piece(machine, first, at, left, one)?;
+    let again = read_piece(machine, second, at, left, other)?;
+    if one[..count] == other[..again] {
+        Ok(count as u64)
+    } else {
+        Ok(0)
+    }
+}
+
+/// Whether the files of `size` bytes at two paths have the same bytes. They are read in pieces, as far as they are the same.
+pub(crate) fn are_alike<M: Machine>(
+    first: &BootPath,
+    second: &BootPath,
+    size: u64,
+    machine: &mut M,
+) -> Result<bool, DiskFault>
+    requires limit { size ≤ file_limit }
+    ensures same { IfOk result (λ alike. IsTrue M.tells
+        → length (contents (M.state machine.old).files first.now) ≡ size
+        → length (contents (M.state machine.old).files second.now) ≡ size
+        → alike ≡ true
+        → contents (M.state machine.old).files first.now ≡ contents (M.state machine.old).files second.now) }
+    ensures reads { IsTrue M.tells → OnlyReads M.time M.state machine.old machine.new }
+    ensures counts { CountsDisk result (M.counts machine.old) (M.counts machine.new) }
+{
+    let mut one: Piece = [0; PIECE_SIZE];
+    let mut other: Piece = [0; PIECE_SIZE];
+    let mut done = 0u64;
+    while done < size {
+        let left = size - done;
+        let count = same_piece(first, second, done, left, machine, &mut one, &mut other)?;
+        if count == 0 {
+            return Ok(false);
+        }
+        done += count;
+    }
+    Ok(true)
+}
