@@ -13,7 +13,7 @@ use Rattle.boot_folder.specs.Listing.{title_or_base}
 use Rattle.list_json.specs.Menus.{number_data, texts_array, joined_texts, name_members, key_members, counter_members, boot_members, entry_members, entry_data, menu_data}
 use Rattle.list_json.specs.Sections.{SectionFacts, section_data, section_members, sections_data}
 use Rattle.list_json.specs.Registers.{value_members, value_data, bank_member, register_member, registers_data, values_data}
-use Rattle.list_json.specs.Objects.{MaybeMember, object_of}
+use Rattle.list_json.specs.Objects.{MaybeMember}
 use Rattle.list_json.proofs.Plain.{IsPlain, IsPlainOption, ArePlainRows, plain_items, plain_array, plain_object, plain_string, plain_number, maybe_plain}
 
 maybe_text : (value : Option (List ℕ)) → IsPlainOption 1 (option_map string value)

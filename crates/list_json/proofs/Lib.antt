@@ -5,3 +5,6 @@ pub mod Answers
 pub mod Known
 pub mod Newline
 pub mod Some
+pub mod Rows
+pub mod ReadBack
+pub mod MenuLine

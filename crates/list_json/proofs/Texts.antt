@@ -1,16 +1,16 @@
 -- Whether the texts of a record are UTF-8.
-use Rattle.std.proofs.Common.{◌≡◌, ℕ, zero, suc, cond, arith, ◌<◌, List, [], ◌∷◌, ◌++◌, length, get_or, map, take, Some, None, Bool, true, false, ◌&&◌, ◌==◌, not, Result, Ok, Err, subst, refl, sym, ap, ◌∙◌}
+use Rattle.std.proofs.Common.{◌≡◌, ℕ, zero, suc, cond, arith, ◌<◌, List, [], ◌∷◌, length, get_or, map, take, Some, None, Bool, true, false, ◌&&◌, ◌==◌, not, Result, Ok, Err, subst, refl, sym, ap, ◌∙◌}
 use Rattle.std.specs.Prelude.{IsErr, IsErrAnd, nat_lt}
 use Rattle.std.specs.List.{find, list_all, position, prefix_len, slice_get}
 use Rattle.std.specs.Option.{option_map_or}
 use Rattle.std.specs.Str.{is_utf8}
-use Rattle.std.proofs.lemmas.Bool.{and_left, and_parts, and_right, and_from, lt-ltb}
-use Rattle.std.proofs.lemmas.List.Folds.{find_at, list_all-append}
+use Rattle.std.proofs.lemmas.Bool.{and_parts, lt-ltb}
+use Rattle.std.proofs.lemmas.List.Folds.{find_at}
 use Rattle.serde_json.specs.Data.{string, array}
 use Rattle.serde_json.specs.View.{items_of}
 use Rattle.list_json.specs.Faults.{TellsText, UntoldFor}
 use Rattle.list_json.specs.Menus.{texts_array}
-use Rattle.list_json.specs.Objects.{MaybeMember, are_text, is_text, items_are_text, member_is_text}
+use Rattle.list_json.specs.Objects.{is_text, items_are_text}
 use Rattle.list_json.specs.declared.fault.Untold.{Untold}
 use Rattle.list_json.specs.declared.fault.Untold.TheVariants as untold
 
@@ -21,15 +21,6 @@ items_are_text-strings (text ∷ texts) = ap (λ b. is_utf8 text && b) (items_ar
 pub untold_weaker : (fault : Untold) (a b : Bool) → (a ≡ false → b ≡ false) → UntoldFor a fault → UntoldFor b fault
 untold_weaker untold.Memory a b f h = tt
 untold_weaker untold.NotText a b f h = f h
-
-pub untold_front : (fault : Untold) (front back : List MaybeMember) → UntoldFor (are_text front) fault → UntoldFor (are_text (front ++ back)) fault
-untold_front fault front back = untold_weaker fault (are_text front) (are_text (front ++ back)) (λ h. list_all-append member_is_text front back ∙ and_left _ _ h)
-
-pub untold_back : (fault : Untold) (front back : List MaybeMember) → UntoldFor (are_text back) fault → UntoldFor (are_text (front ++ back)) fault
-untold_back fault front back = untold_weaker fault (are_text back) (are_text (front ++ back)) (λ h. list_all-append member_is_text front back ∙ and_right _ _ h)
-
-pub text_both : (front back : List MaybeMember) → are_text front ≡ true → are_text back ≡ true → are_text (front ++ back) ≡ true
-text_both front back h k = list_all-append member_is_text front back ∙ and_from _ _ h k
 
 pub tells_err : {X : Type 0} (result : Result X Untold) (fault : Untold) (b : Bool) → IsErr result → IsErrAnd result (λ e. e ≡ fault) → UntoldFor b fault → TellsText result b
 tells_err (Ok x) fault b failed is why = cc

@@ -1,159 +1,160 @@
-//! An entry of a menu as JSON.
-ghost use Rattle.std.specs.Prelude.{◌≡◌, OnOk, IfOk, map, option_map, true};
+//! An entry of a menu as JSON: its members are written one behind another, in the order of their keys.
+ghost use Rattle.std.specs.Prelude.{◌≡◌, ◌++◌, OnOk, IfOk, map, true};
 ghost use Rattle.std.specs.List.{list_all};
 ghost use Rattle.std.specs.Option.{option_map_or};
 ghost use Rattle.std.specs.Str.{is_utf8};
-ghost use Rattle.serde_json.specs.Data.{string};
-ghost use Rattle.serde_json.specs.View.{members_view, view};
+ghost use Rattle.json.specs.Token.{Token};
 ghost use Rattle.list_json.specs.Faults.{TellsText};
-ghost use Rattle.list_json.specs.Menus.{boot_members, counter_members, entry_data, id_member, is_told, joined_texts, key_members, name_members, source_member, texts_array, type_name};
-ghost use Rattle.list_json.specs.Objects.{are_text, is_text, member_is_text, put_all, put_some};
+ghost use Rattle.list_json.specs.Menus.{entry_data, id_member, is_told, joined_texts, source_member, texts_array, type_name};
+ghost use Rattle.list_json.specs.Objects.{are_text, is_text, member_is_text};
+ghost use Rattle.list_json.specs.Tokens.{CounterReads, ReadsBack, state_rows, data_tokens, end_rows, entry_rows, front_rows, middle_rows, put_row, put_rows, tries_rows};
 
 use crate::fault::Untold;
-use crate::object::{put_bytes, put_maybe, put_number, put_some, put_str, text_value};
+use crate::member::{write_bytes, write_item, write_maybe, write_number, write_str};
 use boot_base::{BootPath, Bytes};
 use boot_folder::{join_texts, status_text, title};
+use json::Writer;
 use menu_order::{Counter, MenuItem, Suffix};
-use serde_json::{Map, Value};
 use std::alloc::{AllocError, Global};
 
-/// The object of an entry.
-pub(crate) fn entry_value(alloc: Global, entry: &MenuItem) -> Result<Value, Untold>
-    ensures view { IfOk result (λ value. view value ≡ entry_data entry.now) }
+/// Writes the object of an entry.
+pub(crate) fn write_entry(alloc: Global, out: &mut Writer, entry: &MenuItem) -> Result<(), Untold>
+    ensures tokens { OnOk result (out.new.tokens ≡ out.old.tokens ++ data_tokens (entry_data entry.now)) }
+    ensures before { OnOk result (out.new.before ≡ out.old.before) }
     ensures text { TellsText result (is_told entry.now) }
+    ensures reads { OnOk result (ReadsBack (entry_data entry.now)) }
 {
-    let mut members = Map::new(alloc);
-    put_names(alloc, &mut members, entry)?;
-    put_keys(alloc, &mut members, entry)?;
-    put_counter(alloc, &mut members, entry.counter)?;
-    put_boots(alloc, &mut members, entry)?;
-    Ok(Value::Object(members))
+    out.begin_object()?;
+    write_members(alloc, out, entry)?;
+    Ok(out.end_object()?)
 }
 
-// Which entry it is.
-#[tactic(auto, unfolding(crate::specs::Menus::name_members))]
-fn put_names(
-    alloc: Global,
-    members: &mut Map<String, Value>,
-    entry: &MenuItem,
-) -> Result<(), Untold>
-    ensures members { OnOk result (members_view members.new.entries
-        ≡ put_all (members_view members.old.entries) (name_members entry.now)) }
-    ensures text { TellsText result (are_text (name_members entry.now)) }
+// Writes what an entry has.
+fn write_members(alloc: Global, out: &mut Writer, entry: &MenuItem) -> Result<(), Untold>
+    ensures tokens { OnOk result (out.new.tokens ≡ put_rows out.old.tokens (entry_rows entry.now)) }
+    ensures before { OnOk result (out.new.before ≡ out.old.before) }
+    ensures text { TellsText result (are_text (entry_rows entry.now)) }
+    ensures reads { OnOk result (CounterReads entry.now.counter) }
 {
-    put_id(alloc, members, entry)?;
-    put_source(alloc, members, &entry.path)?;
-    put_str(alloc, members, "type", type_name(entry.suffix))?;
-    put_maybe(alloc, members, "title", title(entry))
+    write_front(alloc, out, entry)?;
+    write_middle(alloc, out, entry)?;
+    write_state(out, entry)?;
+    write_tries(out, entry.counter)?;
+    write_end(out, entry)
+}
+
+// From `efi` to `linux`.
+#[tactic(auto, unfolding(crate::specs::Tokens::front_rows))]
+fn write_front(alloc: Global, out: &mut Writer, entry: &MenuItem) -> Result<(), Untold>
+    ensures tokens { OnOk result (out.new.tokens ≡ put_rows out.old.tokens (front_rows entry.now)) }
+    ensures before { OnOk result (out.new.before ≡ out.old.before) }
+    ensures text { TellsText result (are_text (front_rows entry.now)) }
+{
+    write_maybe(out, "efi", entry.efi.as_ref())?;
+    write_id(alloc, out, entry)?;
+    write_texts(out, "initrd", entry.initrds.as_slice())?;
+    write_maybe(out, "linux", entry.linux.as_ref())
 }
 
 // The name of its file without a counter.
-fn put_id(alloc: Global, members: &mut Map<String, Value>, entry: &MenuItem) -> Result<(), Untold>
-    ensures members { OnOk result (members_view members.new.entries
-        ≡ put_some (members_view members.old.entries) (id_member entry.now)) }
+fn write_id(alloc: Global, out: &mut Writer, entry: &MenuItem) -> Result<(), Untold>
+    ensures tokens { OnOk result (out.new.tokens ≡ put_row out.old.tokens (id_member entry.now)) }
+    ensures before { OnOk result (out.new.before ≡ out.old.before) }
     ensures text { TellsText result (member_is_text (id_member entry.now)) }
 {
     let mut id = entry.base.as_slice().to_vec(alloc)?;
     id.extend_from_slice(entry.suffix.as_str().as_bytes())?;
-    put_bytes(alloc, members, "id", &id)
+    write_bytes(out, "id", &id)
+}
+
+// From `machineId` to `source`.
+#[tactic(auto, unfolding(crate::specs::Tokens::middle_rows))]
+fn write_middle(alloc: Global, out: &mut Writer, entry: &MenuItem) -> Result<(), Untold>
+    ensures tokens { OnOk result (out.new.tokens ≡ put_rows out.old.tokens (middle_rows entry.now)) }
+    ensures before { OnOk result (out.new.before ≡ out.old.before) }
+    ensures text { TellsText result (are_text (middle_rows entry.now)) }
+{
+    let options = joined_texts(alloc, entry.options.as_slice())?;
+    write_maybe(out, "machineId", entry.machine_id.as_ref())?;
+    write_maybe(out, "options", options.as_ref())?;
+    write_maybe(out, "sortKey", entry.sort_key.as_ref())?;
+    Ok(write_source(alloc, out, &entry.path)?)
 }
 
 // Where its file stands.
-fn put_source(
-    alloc: Global,
-    members: &mut Map<String, Value>,
-    path: &BootPath,
-) -> Result<(), AllocError>
-    ensures members { OnOk result (members_view members.new.entries
-        ≡ put_some (members_view members.old.entries) (source_member path.now)) }
+fn write_source(alloc: Global, out: &mut Writer, path: &BootPath) -> Result<(), AllocError>
+    ensures tokens { OnOk result (out.new.tokens ≡ put_row out.old.tokens (source_member path.now)) }
+    ensures before { OnOk result (out.new.before ≡ out.old.before) }
     ensures text { OnOk result (member_is_text (source_member path.now) ≡ true) }
 {
     let source = format!(in alloc; "{path}")?;
-    put_str(alloc, members, "source", source.as_str())
+    write_str(out, "source", source.as_str())
 }
 
-// What it is ordered by.
-#[tactic(auto, unfolding(crate::specs::Menus::key_members))]
-fn put_keys(alloc: Global, members: &mut Map<String, Value>, entry: &MenuItem) -> Result<(), Untold>
-    ensures members { OnOk result (members_view members.new.entries
-        ≡ put_all (members_view members.old.entries) (key_members entry.now)) }
-    ensures text { TellsText result (are_text (key_members entry.now)) }
+// How its boots went, and `title`.
+#[tactic(auto, unfolding(crate::specs::Tokens::state_rows))]
+fn write_state(out: &mut Writer, entry: &MenuItem) -> Result<(), Untold>
+    ensures tokens { OnOk result (out.new.tokens ≡ put_rows out.old.tokens (state_rows entry.now)) }
+    ensures before { OnOk result (out.new.before ≡ out.old.before) }
+    ensures text { TellsText result (are_text (state_rows entry.now)) }
 {
-    put_maybe(alloc, members, "sortKey", entry.sort_key.as_ref())?;
-    put_maybe(alloc, members, "machineId", entry.machine_id.as_ref())?;
-    put_maybe(alloc, members, "version", entry.version.as_ref())
+    write_str(out, "status", status_text(entry.counter))?;
+    write_maybe(out, "title", title(entry))
 }
 
-// How its boots went.
-#[tactic(auto, unfolding(crate::specs::Menus::counter_members))]
-fn put_counter(
-    alloc: Global,
-    members: &mut Map<String, Value>,
-    counter: Option<Counter>,
-) -> Result<(), AllocError>
-    ensures members { OnOk result (members_view members.new.entries
-        ≡ put_all (members_view members.old.entries) (counter_members counter)) }
-    ensures text { OnOk result (are_text (counter_members counter) ≡ true) }
-{
-    put_str(alloc, members, "status", status_text(counter))?;
-    let (left, done) = counts(counter);
-    put_number(alloc, members, "triesLeft", left)?;
-    put_number(alloc, members, "triesDone", done)
-}
-
-// How many boots are left and were tried.
-fn counts(counter: Option<Counter>) -> (Option<u64>, Option<u64>)
-    ensures left { result.0 ≡ option_map (λ c. c.left) counter }
-    ensures done { result.1 ≡ option_map (λ c. c.done) counter }
+// How many boots were tried, and how many are left.
+#[tactic(auto, unfolding(crate::specs::Tokens::tries_rows))]
+fn write_tries(out: &mut Writer, counter: Option<Counter>) -> Result<(), AllocError>
+    ensures tokens { OnOk result (out.new.tokens ≡ put_rows out.old.tokens (tries_rows counter)) }
+    ensures before { OnOk result (out.new.before ≡ out.old.before) }
+    ensures text { OnOk result (are_text (tries_rows counter) ≡ true) }
+    ensures reads { OnOk result (CounterReads counter) }
 {
     match counter {
-        None => (None, None),
-        Some(Counter { left, done }) => (Some(u64::from(left)), Some(u64::from(done))),
+        None => Ok(()),
+        Some(Counter { left, done }) => {
+            write_number(out, "triesDone", u64::from(done))?;
+            write_number(out, "triesLeft", u64::from(left))
+        }
     }
 }
 
-// What it boots.
-#[tactic(auto, unfolding(crate::specs::Menus::boot_members))]
-fn put_boots(
-    alloc: Global,
-    members: &mut Map<String, Value>,
-    entry: &MenuItem,
-) -> Result<(), Untold>
-    ensures members { OnOk result (members_view members.new.entries
-        ≡ put_all (members_view members.old.entries) (boot_members entry.now)) }
-    ensures text { TellsText result (are_text (boot_members entry.now)) }
+// `type` and `version`.
+#[tactic(auto, unfolding(crate::specs::Tokens::end_rows))]
+fn write_end(out: &mut Writer, entry: &MenuItem) -> Result<(), Untold>
+    ensures tokens { OnOk result (out.new.tokens ≡ put_rows out.old.tokens (end_rows entry.now)) }
+    ensures before { OnOk result (out.new.before ≡ out.old.before) }
+    ensures text { TellsText result (are_text (end_rows entry.now)) }
 {
-    put_maybe(alloc, members, "linux", entry.linux.as_ref())?;
-    put_maybe(alloc, members, "efi", entry.efi.as_ref())?;
-    let initrds = texts_value(alloc, entry.initrds.as_slice())?;
-    put_some(alloc, members, "initrd", initrds)?;
-    let options = joined_texts(alloc, entry.options.as_slice())?;
-    put_maybe(alloc, members, "options", options.as_ref())
+    write_str(out, "type", type_name(entry.suffix))?;
+    write_maybe(out, "version", entry.version.as_ref())
 }
 
 // Texts as an array, if there are any.
-fn texts_value(alloc: Global, texts: &[Bytes]) -> Result<Option<Value>, Untold>
-    ensures view { IfOk result (λ value. option_map view value ≡ texts_array texts.now) }
+fn write_texts(out: &mut Writer, key: &str, texts: &[Bytes]) -> Result<(), Untold>
+    ensures tokens { OnOk result (out.new.tokens ≡ put_row out.old.tokens (key.now, texts_array texts.now)) }
+    ensures before { OnOk result (out.new.before ≡ out.old.before) }
     ensures text { TellsText result (option_map_or is_text (texts_array texts.now) true) }
 {
     if texts.is_empty() {
-        return Ok(None);
+        return Ok(());
     }
-    let values = text_values(alloc, texts)?;
-    Ok(Some(Value::Array(values)))
+    out.key(key)?;
+    out.begin_array()?;
+    write_items(out, texts)?;
+    Ok(out.end_array()?)
 }
 
 // Each of the texts.
-fn text_values(alloc: Global, texts: &[Bytes]) -> Result<Vec<Value>, Untold>
-    ensures view { IfOk result (λ values. map view values.items ≡ map string texts.now) }
+fn write_items(out: &mut Writer, texts: &[Bytes]) -> Result<(), Untold>
+    ensures tokens { OnOk result (out.new.tokens ≡ out.old.tokens ++ map Token.string texts.now) }
+    ensures before { OnOk result (out.new.before ≡ out.old.before) }
     ensures text { TellsText result (list_all is_utf8 texts.now) }
 {
-    let mut values = Vec::new(alloc);
     for text in texts {
-        let value = text_value(alloc, text.as_slice())?;
-        values.push(value)?;
+        write_item(out, text.as_slice())?;
     }
-    Ok(values)
+    Ok(())
 }
 
 // Texts with a space between each two, if there are any.

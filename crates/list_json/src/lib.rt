@@ -8,6 +8,7 @@ mod fault;
 mod inspection;
 mod laws;
 mod line;
+mod member;
 mod menu;
 mod object;
 mod registers;

@@ -1,14 +1,13 @@
-//! A menu as JSON.
+//! A menu as JSON, written entry by entry into its line.
 ghost use Rattle.std.specs.Prelude.{◌≡◌, IfOk, IfErr, OnOk, None, find};
 ghost use Rattle.list_json.specs.Faults.{IsCause};
 ghost use Rattle.list_json.specs.Lines.{ReadsAs, json_line};
 ghost use Rattle.list_json.specs.Menus.{is_untold, menu_data};
 
-use crate::entry::entry_value;
+use crate::entry::write_entry;
 use crate::fault::{JsonFault, Untold};
-use crate::line::json_line;
+use json::Writer;
 use menu_order::MenuItem;
-use serde_json::Value;
 use std::alloc::Global;
 
 /// The line of a menu: an array of its entries in order, each an object of the values that it has. Its faults are want
@@ -19,13 +18,17 @@ pub fn menu_json(alloc: Global, entries: &[MenuItem]) -> Result<Vec<u8>, JsonFau
     ensures told { OnOk result (find is_untold entries.now ≡ None) }
     ensures untold { IfErr result (IsCause entries.now) }
 {
-    let mut values = Vec::new(alloc);
+    let mut out = Writer::new(Vec::new(alloc));
+    out.begin_array()?;
     for (index, entry) in entries.iter().enumerate() {
-        match entry_value(alloc, entry) {
-            Ok(value) => values.push(value)?,
+        match write_entry(alloc, &mut out, entry) {
+            Ok(()) => {}
             Err(Untold::Memory) => return Err(JsonFault::Memory),
             Err(Untold::NotText) => return Err(JsonFault::NotText { index }),
         }
     }
-    Ok(json_line(alloc, Value::Array(values))?)
+    out.end_array()?;
+    let mut line = out.into_inner();
+    line.push(b'\n')?;
+    Ok(line)
 }
