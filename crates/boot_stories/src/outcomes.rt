@@ -111,9 +111,9 @@ enum Replies {
     One(usize),
 }
 
-// Whether these words name a command that stands for others.
+// Whether these words name a command that stands for others. A `keep` that only tells has one reply.
 fn stands_for_others(words: &str) -> bool {
-    words.starts_with("type1 ")
+    words.starts_with("type1 ") || (words.starts_with("keep ") && !words.contains("--dry-run"))
 }
 
 // The run that is looked at.
