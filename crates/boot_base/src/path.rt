@@ -1,27 +1,21 @@
-//! Paths of boot files and of temporary ones, and names of files.
-ghost use Rattle.std.specs.Prelude.{◌≡◌, ◌++◌, false, true, not, length, Some, None, IfOk, OnOk, string_bytes, if◌then◌else◌, ◌==◌, ◌∷◌, []};
-ghost use Rattle.std.specs.List.{list_any};
+//! Paths of boot files.
+ghost use Rattle.std.specs.Prelude.{◌≡◌, false, true, Some, None, IfOk, string_bytes, if◌then◌else◌};
 ghost use Rattle.std.specs.Str.{is_utf8};
-ghost use Rattle.boot_base.specs.Paths.{IsFree, intent, is_form, is_nameable, is_normal, temp_end, is_temp, is_slash, components, is_kept, is_refused, normal_of, is_path_text, path_of, path_below, file_name_of, beside, is_component, sibling_of, is_file_name, leftover_of, TempNamesAreFileNames};
+ghost use Rattle.boot_base.specs.Paths.{IsFree, intent, is_nameable, is_normal, is_temp, components, is_path_text, path_of, path_below, file_name_of, beside, sibling_of};
 
 use crate::append::{AppendText, append_displayed};
+use crate::components::{
+    has_component, has_nul, has_refused_component, is_one_component, joined_with, normal_text,
+};
+use crate::temp_path::ends_as_temp;
 use std::alloc::{AllocError, Global};
 use std::cmp::Ordering;
 use std::marker::Model;
 use std::{fmt, str};
 use thiserror::Error;
 
-/// The most bytes of a component of a path. A temporary file's name has four more.
-const COMPONENT_LIMIT: usize = 251;
-
-/// The most bytes of a file's name.
-const NAME_LIMIT: usize = 255;
-
 /// The most bytes of a path.
 const PATH_LIMIT: usize = 1024;
-
-/// What the path of a temporary file has behind that of the file that it is for.
-pub const TEMP_SUFFIX: &str = ".tmp";
 
 /// The path of the file that names a rename while it is made.
 pub const INTENT: &str = "boot_tools.intent";
@@ -280,269 +274,9 @@ impl Eq for BootPath {
     ghost laws = { eq_by_cmp_equiv nat_list_cmp_total };
 }
 
-/// The path of a temporary file. It ends in `.tmp`, and its last component is a file's name.
-#[derive(Debug, Drop)]
-pub struct TempPath {
-    text: String,
-}
-
-impl Model for TempPath {
-    ghost use Rattle.std.specs.Prelude.{◌≡◌, true, List, ℕ, string_bytes};
-    ghost use Rattle.boot_base.specs.Paths.{is_temp_path};
-
-    ghost Value = { List ℕ };
-
-    ghost view = { λ p. string_bytes p.text };
-
-    ghost invariant = { λ p. is_temp_path (string_bytes p.text) ≡ true };
-}
-
-impl TempPath {
-    /// Where the file of that path is written first: its path with `.tmp` behind it.
-    pub fn of(alloc: Global, path: &BootPath) -> Result<TempPath, AllocError>
-        ensures { IfOk result (λ temp. temp ≡ path.now ++ temp_end) }
-    {
-        path.know_normal();
-        let mut text = String::from_str(alloc, path.as_str())?;
-        text.push_str(TEMP_SUFFIX)?;
-        Ok(TempPath { text })
-    }
-
-    /// The path of a file of that name in the folder, where the name is that of a temporary file: None
-    /// exactly where it doesn't end in `.tmp`.
-    pub fn leftover(
-        alloc: Global,
-        folder: &BootPath,
-        name: &FileName,
-    ) -> Result<Option<TempPath>, AllocError>
-        ensures { IfOk result (λ temp. temp ≡ leftover_of folder.now name.now) }
-    {
-        let name = name.as_str();
-        if !ends_as_temp(name) {
-            return Ok(None);
-        }
-        let text = joined_with(alloc, folder.as_str(), "/", name)?;
-        Ok(Some(TempPath { text }))
-    }
-
-    /// The path's text, without a leading `/`.
-    pub fn as_str(&self) -> &str
-        ensures text { result.now ≡ self.now }
-        ensures passing { is_temp self.now ≡ true }
-        ensures named { is_file_name (file_name_of self.now) ≡ true }
-    {
-        self.text.as_str()
-    }
-
-    /// It says that the path is that of a temporary file, and does nothing.
-    pub fn know(&self)
-        ensures { is_temp self.now ≡ true }
-    {
-        let _ = &self.text;
-    }
-}
-
-/// Paths are ordered by the bytes of their texts.
-impl Ord for TempPath {
-    ghost use Rattle.std.specs.Ordering.{nat_cmp};
-    ghost use Rattle.std.specs.Cmp.Lexicographic.{slice_cmp, nat_list_cmp_total};
-    ghost use Rattle.std.specs.Prelude.{refl};
-
-    ghost cmp = { slice_cmp nat_cmp };
-
-    ghost total = { nat_list_cmp_total };
-
-    ghost matches_partial_cmp = { λ _ _. refl };
-
-    ghost matches_eq = { λ _ _. refl };
-
-    fn cmp(&self, other: &TempPath) -> Ordering {
-        self.text.as_str().cmp(other.text.as_str())
-    }
-}
-
-impl PartialOrd for TempPath {
-    ghost use Rattle.std.specs.Ordering.{nat_cmp, as_partial_cmp};
-    ghost use Rattle.std.specs.Cmp.{partial_order_from_total};
-    ghost use Rattle.std.specs.Cmp.Lexicographic.{slice_cmp, nat_list_cmp_total};
-
-    ghost partial_cmp = { as_partial_cmp (slice_cmp nat_cmp) };
-
-    ghost laws = { partial_order_from_total nat_list_cmp_total };
-
-    fn partial_cmp(&self, other: &TempPath) -> Option<Ordering> {
-        Some(self.cmp(other))
-    }
-}
-
-impl PartialEq for TempPath {
-    ghost use Rattle.std.specs.Ordering.{nat_cmp, eq_by_cmp};
-    ghost use Rattle.std.specs.Cmp.{partial_equiv_from_equiv};
-    ghost use Rattle.std.specs.Cmp.Lexicographic.{slice_cmp, nat_list_cmp_total};
-    ghost use Rattle.std.proofs.lemmas.Cmp.{eq_by_cmp_equiv};
-
-    ghost eq = { eq_by_cmp (slice_cmp nat_cmp) };
-
-    ghost laws = { partial_equiv_from_equiv (eq_by_cmp_equiv nat_list_cmp_total) };
-
-    fn eq(&self, other: &TempPath) -> bool {
-        self.cmp(other) == Ordering::Equal
-    }
-}
-
-impl Eq for TempPath {
-    ghost use Rattle.std.specs.Cmp.Lexicographic.{nat_list_cmp_total};
-    ghost use Rattle.std.proofs.lemmas.Cmp.{eq_by_cmp_equiv};
-
-    ghost laws = { eq_by_cmp_equiv nat_list_cmp_total };
-}
-
-/// The name of a target's temporary file is a file name, whatever path of a boot file the target has.
-pub fn temp_names_are_file_names()
-    ensures { TempNamesAreFileNames }
-{}
-
-/// Where a file is to stand, and where it is written first.
-#[derive(Debug, Drop)]
-pub struct Target {
-    pub path: BootPath,
-    pub temp: TempPath,
-}
-
-impl Target {
-    /// The target at that path, and its temporary file beside it.
-    pub fn of(alloc: Global, path: BootPath) -> Result<Target, AllocError>
-        ensures path { IfOk result (λ target. target.path ≡ path) }
-        ensures temp { IfOk result (λ target. target.temp ≡ path ++ temp_end) }
-    {
-        let temp = TempPath::of(alloc, &path)?;
-        Ok(Target { path, temp })
-    }
-}
-
-/// The name of a file directly in a folder, temporary or not.
-#[derive(Debug, Drop)]
-pub struct FileName {
-    text: String,
-}
-
-impl Model for FileName {
-    ghost use Rattle.std.specs.Prelude.{◌≡◌, true, List, ℕ, string_bytes};
-    ghost use Rattle.boot_base.specs.Paths.{is_file_name};
-
-    ghost Value = { List ℕ };
-
-    ghost view = { λ n. string_bytes n.text };
-
-    ghost invariant = { λ n. is_file_name (string_bytes n.text) ≡ true };
-}
-
-impl FileName {
-    /// The name with this text.
-    ///
-    /// # Errors
-    ///
-    /// `BadPath` exactly where the text is empty, `.` or `..`, holds `/` or NUL, or has more than 255 bytes.
-    pub fn read(alloc: Global, text: &str) -> Result<FileName, PathFault>
-        ensures ok { IfOk result (λ name. (is_file_name text.now ≡ true) × (name ≡ text.now)) }
-        ensures bad { result ≡ Err PathFault.BadPath → is_file_name text.now ≡ false }
-    {
-        if !is_name(text) {
-            return Err(PathFault::BadPath);
-        }
-        let text = String::from_str(alloc, text)?;
-        Ok(FileName { text })
-    }
-
-    /// The name's text.
-    pub fn as_str(&self) -> &str
-        ensures text { result.now ≡ self.now }
-        ensures name { is_file_name self.now ≡ true }
-    {
-        self.text.as_str()
-    }
-}
-
-#[tactic(auto, unfolding(crate::specs::Paths::is_file_name))]
-fn is_name(text: &str) -> bool
-    ensures { result ≡ is_file_name text.now }
-{
-    is_one_component(text) && text != ".." && !has_nul(text) && text.len() <= NAME_LIMIT
-}
-
-// The text is one component of a path.
-fn is_one_component(name: &str) -> bool
-    ensures { result ≡ is_component name.now }
-{
-    counts(name) && !name.as_bytes().contains(&b'/')
-}
-
-// Some component of the text counts.
-fn has_component(text: &str) -> bool
-    ensures { result ≡ list_any is_kept (components text.now) }
-{
-    text.split('/').any(|component| counts(component))
-}
-
-// The three texts, one behind the other.
-fn joined_with(alloc: Global, front: &str, middle: &str, back: &str) -> Result<String, AllocError>
-    ensures { IfOk result (λ text. string_bytes text ≡ front.now ++ (middle.now ++ back.now)) }
-{
-    format!(in alloc; "{front}{middle}{back}")
-}
-
-/// Whether a path is that of a temporary file.
-#[tactic(auto, unfolding(crate::specs::Paths::is_temp))]
-pub fn ends_as_temp(text: &str) -> bool
-    ensures { result ≡ is_temp text.now }
-{
-    text.as_bytes().ends_with(TEMP_SUFFIX.as_bytes())
-}
-
-fn has_nul(text: &str) -> bool
-    ensures { result ≡ list_any (λ b. b == 0) text.now }
-{
-    text.as_bytes().contains(&0)
-}
-
-fn has_refused_component(text: &str) -> bool
-    ensures { result ≡ list_any is_refused (components text.now) }
-{
-    text.split('/').any(|component| component == ".." || component.len() > COMPONENT_LIMIT)
-}
-
+// The text is one that a path has.
 fn is_boot_text(text: &str) -> bool
     ensures { result ≡ is_path_text text.now }
 {
     !(text.is_empty() || text.len() > PATH_LIMIT || ends_as_temp(text)) && text != INTENT
-}
-
-fn normal_text(alloc: Global, text: &str) -> Result<String, AllocError>
-    ensures { IfOk result (λ normal. string_bytes normal ≡ normal_of text.now) }
-{
-    let mut normal = String::new(alloc);
-    for component in text.split('/') {
-        if counts(component) {
-            add(&mut normal, component)?;
-        }
-    }
-    Ok(normal)
-}
-
-// The component counts: it is neither empty nor `.`.
-fn counts(component: &str) -> bool
-    ensures { result ≡ is_kept component.now }
-{
-    !(component.is_empty() || component == ".")
-}
-
-fn add(text: &mut String, component: &str) -> Result<(), AllocError>
-    ensures { OnOk result (string_bytes text.new
-        ≡ (if length (string_bytes text.old) == 0 then component.now
-        else string_bytes text.old ++ (47 ∷ component.now))) }
-{
-    if !text.is_empty() {
-        text.push('/')?;
-    }
-    text.push_str(component)
 }

@@ -2,7 +2,7 @@
 use Rattle.std.proofs.Common.{◌≡◌, ◌≤◌, ℕ, List, true, false, length, sym, ap, ◌∙◌, refl, subst}
 use Rattle.std.specs.FinMap.{insert, remove}
 use Rattle.boot_base.specs.Paths.{Path}
-use Rattle.boot_base.specs.declared.path.Target.{Target}
+use Rattle.boot_base.specs.declared.temp_path.Target.{Target}
 use Rattle.boot_machine.specs.Disk.{Files, State, IsRested, has, recovered_view}
 use Rattle.boot_machine.specs.Rows.{contents}
 use Rattle.boot_machine.specs.Sent.{seen}

@@ -4,7 +4,7 @@ use Rattle.std.proofs.lemmas.Iterator.Consumers.{YieldsList-end}
 use Rattle.std.proofs.lemmas.Iterator.Splits.{YieldsList-from_str_split}
 use Rattle.boot_base.specs.Paths.{is_kept}
 use Rattle.boot_base.proofs.Joined.{add_piece, is_kept-long, join_filtered, join_filtered-kept}
-use Rattle.boot_base.proofs.path.normal_text.Goals as goal
+use Rattle.boot_base.proofs.components.normal_text.Goals as goal
 
 pub loop-component-preserved-in-Continue-1 : goal.loop-component-preserved-in-Continue-1
 loop-component-preserved-in-Continue-1 c =
