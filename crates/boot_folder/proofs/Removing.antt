@@ -10,7 +10,7 @@ use Rattle.std.proofs.lemmas.Map.Made.{length-le_from_is_member}
 use Rattle.boot_base.specs.Paths.{Path}
 use Rattle.boot_machine.proofs.Listing.{same_bytes}
 use Rattle.boot_machine.specs.Disk.{Files, has}
-use Rattle.boot_machine.specs.Maps.{get-remove}
+use Rattle.boot_machine.specs.proofs.Maps.{get-remove}
 use Rattle.menu_order.proofs.Menus.{menu_of-IsPermutation}
 use Rattle.menu_order.specs.Menu.{IsBefore}
 use Rattle.menu_order.specs.declared.counted.Suffix.{Suffix}

@@ -20,7 +20,7 @@ use Rattle.boot_folder.proofs.OncePaths.{own_moved}
 use Rattle.boot_folder.proofs.Removing.{count_removed, menu_own, menu_removed}
 use Rattle.boot_machine.specs.Disk.{Files, IsIn, is_same_path}
 use Rattle.boot_machine.proofs.Listing.{same_bytes}
-use Rattle.boot_machine.specs.Maps.{get-remove, get-remove_apart, is_same_path-true, same_files}
+use Rattle.boot_machine.specs.proofs.Maps.{get-remove, get-remove_apart, is_same_path-true, same_files}
 use Rattle.boot_machine.specs.Sent.{latest_view}
 use Rattle.command_plans.specs.Answers.{is_refusal}
 use Rattle.command_plans.specs.Changes.{removal, unlink_answer}

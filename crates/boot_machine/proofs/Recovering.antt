@@ -11,7 +11,7 @@ use Rattle.boot_base.proofs.Normal.{normal-temp}
 use Rattle.boot_machine.specs.Disk.{Files, Paths, has, view, is_recovered, is_left, intent_names, of_intent, recovered_view, is_same_path, HasNoHalfRename}
 use Rattle.boot_machine.specs.Images.{IsImageOf}
 use Rattle.boot_machine.specs.Rows.{append_to, contents, move_in}
-use Rattle.boot_machine.specs.Maps.{cases_same, get-none, same_self, same_files, get-insert, get-insert_here, get-insert_apart, get-remove, get-remove_here, get-remove_apart, get-retain}
+use Rattle.boot_machine.specs.proofs.Maps.{cases_same, get-none, same_self, same_files, get-insert, get-insert_here, get-insert_apart, get-remove, get-remove_here, get-remove_apart, get-retain}
 use Rattle.boot_machine.proofs.Views.{get-view, shown_if_not_temp, temp_apart, get-append_to, get-view_shown, view-insert, view-remove, view-move_in}
 
 pub get-recovered_view : (m : Files) (q : Path) → map.get (recovered_view m) q ≡ cond (is_recovered m q) (map.get m q) None

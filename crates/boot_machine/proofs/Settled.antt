@@ -3,7 +3,7 @@ use Rattle.std.proofs.Common.{◌≡◌, inl, inr, Bool, true, false, List, [], 
 use Rattle.std.specs.FinSet as set
 use Rattle.boot_machine.specs.Disk.{Files, Paths, State, IsIn, IsCandidate, path_cmp, recovered_view}
 use Rattle.boot_machine.specs.Images.{IsImageOf, IsFirm, IsSettled}
-use Rattle.boot_machine.specs.Maps.{same_files}
+use Rattle.boot_machine.specs.proofs.Maps.{same_files}
 use Rattle.boot_machine.proofs.Soft.{firm_of_soft}
 
 pub firm_of_settled : (s : State) → IsSettled s → IsFirm s

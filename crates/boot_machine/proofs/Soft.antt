@@ -8,7 +8,7 @@ use Rattle.boot_base.specs.Paths.{Path, is_temp, intent}
 use Rattle.boot_machine.specs.Disk.{of_intent, intent_names, is_left, is_intended, is_recovered, Files, Paths, State, has, recovered_view, candidates, IsIn, IsCandidate, IsSound, is_same_path}
 use Rattle.boot_machine.specs.Images.{IsImage, IsFirm}
 use Rattle.boot_machine.specs.Rows.{after_half_rename, RenameRow, contents, append_to, move_in, with_files, after_create, after_append, after_sync_file, after_rename, after_unlink, after_sync_names, DoneOrNot, AppendRow, SyncFileRow, SyncNamesRow}
-use Rattle.boot_machine.specs.Maps.{is_same_path-true, contains-insert, contains-remove, contains-retain}
+use Rattle.boot_machine.specs.proofs.Maps.{is_same_path-true, contains-insert, contains-remove, contains-retain}
 use Rattle.boot_machine.proofs.Recovering.{AreShown, get-recovered_view, temp_not_recovered, shown_names, intent_shown, off_temp, recovered_view-insert_temp, recovered_view-append_to}
 
 abbrev pub AreTemp : Paths → Type 0

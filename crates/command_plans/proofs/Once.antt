@@ -13,7 +13,7 @@ use Rattle.std.specs.List.Sorted.{IsPermutation, IsSorted, IsStrictlySortedBy}
 use Rattle.std.specs.Ordering.{nat_cmp, eq_by_cmp}
 use Rattle.std.specs.Cmp.Lexicographic.{slice_cmp}
 use Rattle.boot_base.specs.Paths.{Path}
-use Rattle.boot_machine.specs.Maps.{is_same_path-true}
+use Rattle.boot_machine.specs.proofs.Maps.{is_same_path-true}
 
 abbrev same_path : Path → Path → Bool
 same_path = eq_by_cmp (slice_cmp nat_cmp)

@@ -21,7 +21,7 @@ use Rattle.boot_folder.specs.declared.folders.Folders.{Folders}
 use Rattle.boot_folder.proofs.EntryFiles.{built, bytes_self, one_type}
 use Rattle.boot_folder.proofs.Places.{file_name_under, name_parts, own_some}
 use Rattle.boot_machine.specs.Disk.{Files, has}
-use Rattle.boot_machine.specs.Maps.{cases_same, get-insert_apart, get-insert_here, get-remove_apart}
+use Rattle.boot_machine.specs.proofs.Maps.{cases_same, get-insert_apart, get-insert_here, get-remove_apart}
 use Rattle.boot_machine.specs.Rows.{contents, move_in}
 use Rattle.command_plans.specs.Answers.{Answer, answer_or_refusal, done_answer}
 use Rattle.command_plans.specs.Declining.{path_under, printed_path}

@@ -1,6 +1,5 @@
 -- What the machine on a real folder tells: its counts, and nothing of what it holds.
-use Rattle.std.specs.Prelude.{◌≡◌, [], false, IsTrue, Result, MatchResult}
-use Rattle.std.proofs.lemmas.Bool.{false≢true}
+use Rattle.std.specs.Prelude.{◌≡◌, [], Result, MatchResult}
 use Rattle.std.specs.FinMap as map
 use Rattle.std.specs.FinSet as set
 use Rattle.boot_machine.specs.Counts.{Counts, DiskFailsOnce, PipeFailsOnce}
@@ -33,6 +32,3 @@ CountsNamesOnce result old new = MatchResult result (λ _. new ≡ old) (λ faul
 -- the state that no clause speaks of
 abbrev pub no_state : State
 no_state = record { files = map.empty; earlier = []; soft = set.empty; printed = []; input = [] }
-
-pub silent : IsTrue false → ⊥
-silent told = false≢true told

@@ -1,1 +1,2 @@
+pub mod proofs
 pub mod Hosts

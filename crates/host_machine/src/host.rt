@@ -95,7 +95,8 @@ impl<R: Runtime<File = File> + AllocGlobal, E: Print + Drop> Machine for HostMac
     ghost use Rattle.std.specs.Prelude.{◌≤◌, false, length};
     ghost use Rattle.boot_machine.specs.Counts.{CountsDisk, CountsNames, CountsPipe};
     ghost use Rattle.boot_machine.specs.Moments.{Timeline};
-    ghost use Rattle.host_machine.specs.Hosts.{counts_of, no_state, silent, CountsDiskOnce, CountsPipeOnce, CountsNamesOnce};
+    ghost use Rattle.host_machine.specs.Hosts.{counts_of, no_state, CountsDiskOnce, CountsPipeOnce, CountsNamesOnce};
+    ghost use Rattle.host_machine.specs.proofs.Silence.{silent};
 
     ghost tells = { false };
 

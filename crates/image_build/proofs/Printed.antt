@@ -4,7 +4,7 @@ use Rattle.std.specs.FinMap.{insert}
 use Rattle.boot_base.specs.Paths.{Path}
 use Rattle.boot_base.specs.declared.refusal.Refusal.{Refusal}
 use Rattle.boot_machine.specs.Disk.{Files}
-use Rattle.boot_machine.specs.Maps.{get-insert_here}
+use Rattle.boot_machine.specs.proofs.Maps.{get-insert_here}
 use Rattle.boot_machine.specs.Rows.{contents}
 use Rattle.pcr_values.specs.Phases.{default_phase_paths}
 use Rattle.pcr_values.specs.ValueLines.{value_lines}

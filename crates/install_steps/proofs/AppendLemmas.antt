@@ -3,7 +3,7 @@ use Rattle.std.proofs.Common.{◌≡◌, inl, inr, ℕ, true, false, List, [], �
 use Rattle.std.specs.FinMap as map
 use Rattle.boot_base.specs.Paths.{Path, intent, is_temp}
 use Rattle.boot_machine.specs.Disk.{Files, State, has, is_same_path, recovered_view}
-use Rattle.boot_machine.specs.Maps.{get-insert_here}
+use Rattle.boot_machine.specs.proofs.Maps.{get-insert_here}
 use Rattle.boot_machine.specs.Moments.{Timeline}
 use Rattle.boot_machine.specs.Reading.{IsIdleMoment, bytes_between}
 use Rattle.boot_machine.specs.Rows.{contents, append_to, move_in}
@@ -14,7 +14,7 @@ use Rattle.boot_machine.proofs.Recovering.{IsCalm}
 use Rattle.boot_machine.proofs.Soft.{Stands, stands-appended}
 use Rattle.boot_machine.proofs.Written.{has-created, calm-written, recovered_view-written, temps-written}
 use Rattle.install_steps.specs.Appends.{with_soft_path, HasAppended, AppendsOnly, IsGrown}
-use Rattle.install_steps.specs.AppendLaws.{contents-append_to}
+use Rattle.install_steps.specs.proofs.AppendLaws.{contents-append_to}
 use Rattle.install_steps.specs.Steps.{Keeps}
 use Rattle.install_steps.proofs.CopyLemmas.{source_stays, with_file, with_none}
 

@@ -5,7 +5,7 @@ use Rattle.std.specs.FinMap as map
 use Rattle.boot_base.specs.Paths.{Path, intent, is_temp, read_intent}
 use Rattle.boot_machine.specs.Disk.{Files, HasNoHalfRename, has, intent_names, recovered_view}
 use Rattle.boot_machine.specs.Rows.{contents, move_in}
-use Rattle.boot_machine.specs.Maps.{cases_same, get-none, get-insert_here, get-insert_apart, get-remove_here, get-remove_apart}
+use Rattle.boot_machine.specs.proofs.Maps.{cases_same, get-none, get-insert_here, get-insert_apart, get-remove_here, get-remove_apart}
 use Rattle.boot_machine.proofs.Recovering.{AreNames, IsCalm, names_of, turn, recovered_view_from, recovered_view-drop_intent, recovered_view-move_in, whole-first, whole-second, get-move_in_apart}
 use Rattle.install_steps.specs.Steps.{Intends}
 

@@ -9,13 +9,13 @@ use Rattle.boot_base.specs.Paths.{Path, IsFree, intent, intent_bytes, is_normal,
 use Rattle.boot_base.proofs.IntentForm.{read-intent_bytes}
 use Rattle.boot_machine.specs.Disk.{Files, State, has}
 use Rattle.boot_machine.specs.Rows.{contents, move_in}
-use Rattle.boot_machine.specs.Maps.{get-insert_here, get-insert_apart, get-remove_apart}
+use Rattle.boot_machine.specs.proofs.Maps.{get-insert_here, get-insert_apart, get-remove_apart}
 use Rattle.boot_machine.proofs.Views.{temp_apart}
 use Rattle.boot_machine.proofs.Written.{temps-written}
 use Rattle.boot_machine.proofs.Recovering.{intent_shown}
 use Rattle.install_steps.specs.Appends.{HasAppended, IsGrown}
 use Rattle.install_steps.specs.Steps.{Intends}
-use Rattle.install_steps.specs.AppendLaws.{has_appended_on}
+use Rattle.install_steps.specs.proofs.AppendLaws.{has_appended_on}
 use Rattle.install_steps.proofs.AppendLemmas.{written_file}
 use Rattle.install_steps.proofs.CopyLemmas.{with_file, with_file_here, with_file_apart}
 

@@ -18,7 +18,7 @@ struct Growing<'a> {
 
 impl<M: Machine> ByteSink<M> for Growing<'_> {
     ghost use Rattle.install_steps.specs.Appends.{CanGrow, GrowsAlone};
-    ghost use Rattle.install_steps.specs.GrowingLaws.{grows_reads, grows_more, grows_on, grows_source};
+    ghost use Rattle.install_steps.specs.proofs.GrowingLaws.{grows_reads, grows_more, grows_on, grows_source};
 
     ghost can_take = { λ s m. CanGrow M.tells M.state s.temp.now m };
 

@@ -10,7 +10,7 @@ use Rattle.std.specs.Cmp.Lexicographic.{nat_list_cmp_total}
 use Rattle.boot_base.specs.Paths.{Path, is_temp, is_file_name, under}
 use Rattle.boot_machine.specs.Disk.{has, view, path_cmp, is_same_path}
 use Rattle.memory_machine.specs.Entries.{files_of, counts_once}
-use Rattle.boot_machine.specs.Maps.{is_same_path-true, same_self, same_files}
+use Rattle.boot_machine.specs.proofs.Maps.{is_same_path-true, same_self, same_files}
 use Rattle.boot_machine.specs.Rows.{IsNamesOf}
 use Rattle.boot_machine.specs.Listed.{is_listed}
 use Rattle.memory_machine.specs.declared.files.Entry.{Entry}

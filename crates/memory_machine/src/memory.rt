@@ -7,7 +7,7 @@ ghost use Rattle.boot_machine.specs.Disk.{State, has, view};
 ghost use Rattle.memory_machine.specs.Events.{log_state, files_after, printed_after};
 ghost use Rattle.memory_machine.specs.Given.{given_files, given_paths};
 ghost use Rattle.boot_machine.specs.Images.{IsImage, IsSettled};
-ghost use Rattle.boot_machine.specs.Maps.{same_files_prop};
+ghost use Rattle.boot_machine.specs.proofs.Maps.{same_files_prop};
 ghost use Rattle.boot_machine.specs.Rows.{on_channel};
 ghost use Rattle.memory_machine.specs.Stops.{IsLeft};
 ghost use Rattle.memory_machine.specs.Plan.{mode_of};
@@ -530,7 +530,7 @@ impl MemMachine {
 
 impl Machine for MemMachine {
     ghost use Rattle.memory_machine.specs.Memory.{mem_start, mem_events, mem_input, mem_state, mem_time, mem_counts, mem_reads, mem_taken, KeepsRead, mem_starved, mem_calls, mem_plan, next_mode, TellsTheSame, TellsOneMore, IsNextCall, IsStarved, RecordsCall, AsTold, NamesAsTold};
-    ghost use Rattle.memory_machine.specs.EventLaws.{now_counts, now_only, sound_held, sound-input, image-input, image_input};
+    ghost use Rattle.memory_machine.specs.proofs.EventLaws.{now_counts, now_only, sound_held, sound-input, image-input, image_input};
     ghost use Rattle.memory_machine.specs.Events.{step};
     ghost use Rattle.boot_machine.specs.Moments.{Elapses};
     ghost use Rattle.boot_machine.specs.Rows.{DoneOrNot, SizeRow, ReadRow, NamesRow, CreateRow, AppendRow, SyncFileRow, RenameRow, UnlinkRow, SyncNamesRow, PrintRow, InputRow, after_create, after_append, after_sync_file, after_rename, after_unlink, after_sync_names, with_printed, after_input};

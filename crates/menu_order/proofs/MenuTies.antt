@@ -14,7 +14,8 @@ use Rattle.menu_order.proofs.VersionTies.{tokens_cmp-Equal}
 use Rattle.menu_order.specs.declared.item.Counter.{Counter}
 use Rattle.menu_order.specs.Parts.{MenuParts, parts_of, left_of, done_of}
 use Rattle.menu_order.specs.Rules.{Rule, menu_rules, by_rules, parts_cmp, bytes_cmp, bad_last, sort_key_first, sort_key_up, machine_id_up, version_down, base_down, uncounted_first, left_down, done_up, path_up}
-use Rattle.menu_order.specs.MenuLaws.{EqualParts, FirstRule, parts_cmp_total}
+use Rattle.menu_order.specs.MenuLaws.{EqualParts, FirstRule}
+use Rattle.menu_order.specs.proofs.Orders.{parts_cmp_total}
 
 -- each of the rules finds the two equal
 abbrev AllTie : List Rule → MenuParts → MenuParts → Type 0

@@ -8,7 +8,8 @@ use Rattle.std.specs.declared.cmp.Ordering.{Ordering}
 use Rattle.std.specs.declared.cmp.Ordering.TheVariants.{Less, Equal, Greater}
 use Rattle.menu_order.specs.VersionTokens.{Token, Tilde, End, Hyphen, Caret, Dot, Letters, Number, tokens_of}
 use Rattle.menu_order.specs.VersionOrder.{rank_of, letters_of, token_number, token_cmp, to_end, tokens_cmp}
-use Rattle.menu_order.specs.VersionLaws.{EqualTokens, FirstDifference, token_cmp_total, tokens_cmp_total}
+use Rattle.menu_order.specs.VersionLaws.{EqualTokens, FirstDifference}
+use Rattle.menu_order.specs.proofs.Orders.{token_cmp_total, tokens_cmp_total}
 
 -- a token from its place, its letters and its number
 abbrev token_from : ℕ → List ℕ → ℕ → Token

@@ -35,7 +35,7 @@ impl VersionKey {
 
 impl Ord for VersionKey {
     ghost use Rattle.menu_order.specs.VersionOrder.{tokens_cmp};
-    ghost use Rattle.menu_order.specs.VersionLaws.{tokens_cmp_total};
+    ghost use Rattle.menu_order.specs.proofs.Orders.{tokens_cmp_total};
     ghost use Rattle.std.specs.Prelude.{refl};
 
     ghost cmp = { tokens_cmp };
@@ -53,7 +53,7 @@ impl Ord for VersionKey {
 
 impl PartialOrd for VersionKey {
     ghost use Rattle.menu_order.specs.VersionOrder.{tokens_cmp};
-    ghost use Rattle.menu_order.specs.VersionLaws.{tokens_cmp_total};
+    ghost use Rattle.menu_order.specs.proofs.Orders.{tokens_cmp_total};
     ghost use Rattle.std.specs.Ordering.{as_partial_cmp};
     ghost use Rattle.std.specs.Cmp.{partial_order_from_total};
 
@@ -68,7 +68,7 @@ impl PartialOrd for VersionKey {
 
 impl PartialEq for VersionKey {
     ghost use Rattle.menu_order.specs.VersionOrder.{tokens_cmp};
-    ghost use Rattle.menu_order.specs.VersionLaws.{tokens_cmp_total};
+    ghost use Rattle.menu_order.specs.proofs.Orders.{tokens_cmp_total};
     ghost use Rattle.std.specs.Ordering.{eq_by_cmp};
     ghost use Rattle.std.specs.Cmp.{partial_equiv_from_equiv};
     ghost use Rattle.std.proofs.lemmas.Cmp.{eq_by_cmp_equiv};
@@ -83,7 +83,7 @@ impl PartialEq for VersionKey {
 }
 
 impl Eq for VersionKey {
-    ghost use Rattle.menu_order.specs.VersionLaws.{tokens_cmp_total};
+    ghost use Rattle.menu_order.specs.proofs.Orders.{tokens_cmp_total};
     ghost use Rattle.std.proofs.lemmas.Cmp.{eq_by_cmp_equiv};
 
     ghost laws = { eq_by_cmp_equiv tokens_cmp_total };

@@ -18,7 +18,7 @@ use Rattle.stub_replay.specs.Registers.{Holds, AllHold, Takes, Closes, Extends}
 use Rattle.stub_replay.specs.Taking.{TakesWhere, ExtendsWhere, AreBetween}
 use Rattle.stub_replay.proofs.Taking.{length-content_bytes}
 use Rattle.stub_replay.proofs.Zips.{zip_moved}
-use Rattle.stub_replay.specs.TakingLaws.{zip_same, zip_joined}
+use Rattle.stub_replay.specs.proofs.TakingLaws.{zip_same, zip_joined}
 
 -- nothing extends the registers
 pub extends_none : (xs : List Register) → AllZip (Extends []) xs xs

@@ -24,7 +24,7 @@ use Rattle.stub_replay.specs.Registers.{Holds, AreHeld, Takes}
 use Rattle.stub_replay.specs.Taking.{TakesWhere, AreBetween}
 use Rattle.stub_replay.proofs.Shown.{shown_contents}
 use Rattle.stub_replay.proofs.Zips.{zip_moved}
-use Rattle.stub_replay.specs.TakingLaws.{takes_none, takes_more}
+use Rattle.stub_replay.specs.proofs.TakingLaws.{takes_none, takes_more}
 
 -- zeros behind zeros
 pub zeros_more : (done count : ℕ) (zeros : List ℕ) (xs ys zs : List Register) → zeros ≡ replicate count 0 → AllZip (Takes (replicate done 0)) xs ys

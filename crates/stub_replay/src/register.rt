@@ -60,7 +60,7 @@ impl<M: Machine> ByteSink<M> for Hashes<'_> {
     ghost use Rattle.boot_machine.specs.Rows.{contents};
     ghost use Rattle.boot_machine.proofs.Reading.{reads_on};
     ghost use Rattle.stub_replay.specs.Taking.{TakesReading};
-    ghost use Rattle.stub_replay.specs.TakingLaws.{takes_none, takes_more};
+    ghost use Rattle.stub_replay.specs.proofs.TakingLaws.{takes_none, takes_more};
 
     ghost can_take = { λ s m. Unit {0} };
 

@@ -15,7 +15,7 @@ use Rattle.boot_folder.specs.declared.folders.Folders.{Folders}
 use Rattle.boot_folder.proofs.EntryFiles.{entries_menu}
 use Rattle.boot_folder.proofs.Places.{file_name_under}
 use Rattle.boot_machine.specs.Disk.{Files}
-use Rattle.boot_machine.specs.Maps.{cases_same, get-remove_apart, get-remove_here, same_apart}
+use Rattle.boot_machine.specs.proofs.Maps.{cases_same, get-remove_apart, get-remove_here, same_apart}
 use Rattle.menu_order.specs.declared.item.MenuItem.{MenuItem}
 use Rattle.command_plans.specs.Declining.{path_in, path_under}
 use Rattle.command_plans.specs.Folders.{folders_of}

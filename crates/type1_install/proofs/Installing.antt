@@ -14,7 +14,7 @@ use Rattle.boot_base.specs.Paths.{Path, components, file_name_of, is_kept, is_pa
 use Rattle.boot_base.specs.declared.refusal.Refusal.TheVariants as refusals
 use Rattle.boot_base.proofs.Normal.{path-some}
 use Rattle.boot_machine.specs.Disk.{Files}
-use Rattle.boot_machine.specs.Maps.{get-insert_apart, get-insert_here, same_apart}
+use Rattle.boot_machine.specs.proofs.Maps.{get-insert_apart, get-insert_here, same_apart}
 use Rattle.boot_machine.specs.Rows.{contents}
 use Rattle.boot_folder.proofs.Places.{file_name_under}
 use Rattle.boot_texts.specs.BootEntries.{type1_of}

@@ -10,7 +10,7 @@ use Rattle.std.specs.declared.cmp.Ordering.TheVariants.{Less, Equal, Greater}
 use Rattle.std.proofs.lemmas.Map.Keys.{sorted_head, sorted_tail}
 use Rattle.boot_base.specs.Paths.{Path}
 use Rattle.boot_machine.specs.Disk.{Files, is_same_path, path_cmp}
-use Rattle.boot_machine.specs.Maps.{cases_same, is_same_path-true, same_self}
+use Rattle.boot_machine.specs.proofs.Maps.{cases_same, is_same_path-true, same_self}
 
 -- it is one of them
 abbrev pub is_member : Path → List Path → Bool

@@ -18,7 +18,7 @@ use Rattle.boot_folder.specs.declared.fault.Missing.{Missing}
 use Rattle.boot_folder.specs.declared.fault.Missing.TheVariants as missing
 use Rattle.boot_folder.proofs.Places.{file_name_under, name_parts}
 use Rattle.boot_machine.specs.Disk.{Files, has}
-use Rattle.boot_machine.specs.Maps.{cases_same, get-insert_apart, get-insert_here, get-remove_apart, get-remove_here, same_apart}
+use Rattle.boot_machine.specs.proofs.Maps.{cases_same, get-insert_apart, get-insert_here, get-remove_apart, get-remove_here, same_apart}
 use Rattle.boot_machine.specs.Rows.{contents, move_in}
 use Rattle.boot_texts.specs.BootEntries.{boots, type1_of}
 use Rattle.boot_texts.specs.OsRelease.{os_pairs, title_of}

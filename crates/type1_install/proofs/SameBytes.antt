@@ -6,7 +6,7 @@ use Rattle.std.specs.Cmp.Lexicographic.{nat_list_cmp_total}
 use Rattle.boot_base.specs.Limits.{file_limit}
 use Rattle.boot_base.specs.Paths.{Path}
 use Rattle.boot_machine.specs.Disk.{Files}
-use Rattle.boot_machine.specs.Maps.{cases_same, get-insert_apart, get-insert_here}
+use Rattle.boot_machine.specs.proofs.Maps.{cases_same, get-insert_apart, get-insert_here}
 use Rattle.boot_machine.specs.Reading.{fill_with_zeros}
 use Rattle.boot_machine.proofs.Ranges.{fill_with_zeros-add}
 use Rattle.boot_base.specs.declared.refusal.Refusal.{Refusal}

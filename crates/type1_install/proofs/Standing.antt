@@ -15,7 +15,7 @@ use Rattle.std.proofs.lemmas.Slice.Eq.{bytes_eq-Decides}
 use Rattle.boot_base.specs.Paths.{Path, file_name_of, is_file_name, is_temp, under}
 use Rattle.boot_base.proofs.Beside.{file_name_under}
 use Rattle.boot_machine.specs.Disk.{Files, has, is_same_path, is_shown, path_cmp, view}
-use Rattle.boot_machine.specs.Maps.{cases_same, get-retain, same_self}
+use Rattle.boot_machine.specs.proofs.Maps.{cases_same, get-retain, same_self}
 use Rattle.boot_machine.specs.Rows.{IsNamesOf}
 use Rattle.boot_texts.specs.EntryText.{is_payload_name}
 use Rattle.menu_order.specs.declared.item.MenuItem.{MenuItem}

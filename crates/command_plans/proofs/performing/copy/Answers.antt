@@ -1,6 +1,6 @@
 use Rattle.std.proofs.Common.{subst, ap, arith, ℕ, List, length}
 use Rattle.install_steps.specs.Steps.{IsDone, StepsTo}
-use Rattle.install_steps.specs.AppendLaws.{contents-view}
+use Rattle.install_steps.specs.proofs.AppendLaws.{contents-view}
 use Rattle.install_steps.proofs.StepLemmas.{ok_then}
 use Rattle.command_plans.proofs.Effects.{copied_rested, copies, small_rested}
 use Rattle.command_plans.proofs.performing.copy.Goals as goal

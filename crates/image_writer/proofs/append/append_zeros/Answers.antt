@@ -1,7 +1,7 @@
 use Rattle.std.proofs.Common.{ℕ, refl, subst, rules, arith}
 use Rattle.std.specs.Prelude.{replicate}
 use Rattle.install_steps.specs.Appends.{IsGrown}
-use Rattle.install_steps.specs.AppendLaws.{appends_none, appends_on, appends-there, grown_none, grown_on, grown_as}
+use Rattle.install_steps.specs.proofs.AppendLaws.{appends_none, appends_on, appends-there, grown_none, grown_on, grown_as}
 use Rattle.image_writer.proofs.Filled.{zeros_more}
 use Rattle.image_writer.proofs.append.append_zeros.Goals as goal
 

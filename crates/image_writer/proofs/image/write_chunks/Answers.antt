@@ -1,5 +1,5 @@
 use Rattle.std.proofs.Common.{◌+◌, ℕ, List, refl, rules, arith}
-use Rattle.install_steps.specs.AppendLaws.{appends_none, appends_on, appends-there, appends-source, grown_none, grown_on, grown_as}
+use Rattle.install_steps.specs.proofs.AppendLaws.{appends_none, appends_on, appends-there, appends-source, grown_none, grown_on, grown_as}
 use Rattle.image_writer.specs.Taken.{chunk_length}
 use Rattle.image_writer.proofs.Filled.{flat_map-next, reads_all, reads_more}
 use Rattle.image_writer.specs.Chunks.{chunk_bytes}

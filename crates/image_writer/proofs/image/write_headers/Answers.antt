@@ -1,5 +1,5 @@
 use Rattle.std.proofs.Common.{ℕ, List, refl, rules, ap, arith}
-use Rattle.install_steps.specs.AppendLaws.{appends_none, appends_on, appends-there, appends-source, grown_none, grown_on, grown_as}
+use Rattle.install_steps.specs.proofs.AppendLaws.{appends_none, appends_on, appends-there, appends-source, grown_none, grown_on, grown_as}
 use Rattle.image_writer.proofs.Filled.{flat_map-next}
 use Rattle.image_writer.specs.Chunks.{chunks_bytes, section_chunks}
 use Rattle.image_writer.specs.Sourced.{new_sbat, stub_path}

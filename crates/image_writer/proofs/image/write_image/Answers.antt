@@ -6,7 +6,7 @@ use Rattle.pe_reader.specs.declared.head.Head.{Head}
 use Rattle.pe_builder.specs.Known.{planned_before, planned_stub_length}
 use Rattle.image_writer.specs.Chunks.{behind_stub, new_stub_bytes}
 use Rattle.image_writer.specs.Sourced.{new_sbat, part_list, parts_bytes, stub_path}
-use Rattle.install_steps.specs.AppendLaws.{appends_on, appends-there, appends-source, contents-view, grown_as, grown_from_none, ok_then}
+use Rattle.install_steps.specs.proofs.AppendLaws.{appends_on, appends-there, appends-source, contents-view, grown_as, grown_from_none, ok_then}
 use Rattle.std.specs.Prelude.{sum_by}
 use Rattle.uki_parts.specs.declared.part.Part.{Part}
 use Rattle.image_writer.specs.Taken.{kept_length, part_reading}

@@ -2,7 +2,7 @@ use Rattle.std.proofs.Common.{ℕ, List, ap, ◌∙◌}
 use Rattle.boot_machine.specs.Rows.{contents}
 use Rattle.image_writer.specs.Chunks.{chunks_bytes, headers_bytes}
 use Rattle.image_writer.specs.Sourced.{new_sbat, stub_path}
-use Rattle.install_steps.specs.AppendLaws.{appends_on, appends-there, appends-source, grown_on, grown_as, ok_then}
+use Rattle.install_steps.specs.proofs.AppendLaws.{appends_on, appends-there, appends-source, grown_on, grown_as, ok_then}
 use Rattle.image_writer.proofs.Filled.{four}
 use Rattle.image_writer.proofs.image.write_stub.Goals as goal
 

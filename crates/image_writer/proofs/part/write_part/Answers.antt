@@ -3,7 +3,7 @@ use Rattle.std.specs.Prelude.{replicate}
 use Rattle.std.specs.List.{flat_map}
 use Rattle.uki_parts.specs.declared.piece.Piece.{Piece}
 use Rattle.image_writer.specs.Chunks.{given_bytes}
-use Rattle.install_steps.specs.AppendLaws.{appends_on, appends-there, grown_on, grown_as, ok_then}
+use Rattle.install_steps.specs.proofs.AppendLaws.{appends_on, appends-there, grown_on, grown_as, ok_then}
 use Rattle.image_writer.proofs.part.write_part.Goals as goal
 
 pub write_zeros-requires-clause-there : goal.write_zeros-requires-clause-there

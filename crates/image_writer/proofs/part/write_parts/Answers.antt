@@ -1,6 +1,6 @@
 use Rattle.std.proofs.Common.{sym, ◌∙◌}
 use Rattle.boot_base.specs.Paths.{Path}
-use Rattle.install_steps.specs.AppendLaws.{appends_none, appends_on, appends-there, appends-source, grown_on, grown_as, ok_then}
+use Rattle.install_steps.specs.proofs.AppendLaws.{appends_none, appends_on, appends-there, appends-source, grown_on, grown_as, ok_then}
 use Rattle.image_writer.proofs.Filled.{behind_some}
 use Rattle.image_writer.proofs.part.write_parts.Goals as goal
 

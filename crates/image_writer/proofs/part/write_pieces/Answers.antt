@@ -1,7 +1,7 @@
 use Rattle.std.proofs.Common.{refl, sym, ◌∙◌, rules, ap, arith}
 use Rattle.std.proofs.lemmas.List.Sums.{sum_by_more}
 use Rattle.boot_base.specs.Paths.{Path}
-use Rattle.install_steps.specs.AppendLaws.{appends_none, appends_on, appends-there, appends-source, grown_none, grown_on, grown_as}
+use Rattle.install_steps.specs.proofs.AppendLaws.{appends_none, appends_on, appends-there, appends-source, grown_none, grown_on, grown_as}
 use Rattle.uki_parts.specs.Pieces.{file_length}
 use Rattle.image_writer.proofs.Filled.{flat_map-more, flat_map-all}
 use Rattle.image_writer.specs.Chunks.{given_bytes}

@@ -6,7 +6,7 @@ use Rattle.boot_machine.proofs.Going.{goes-create}
 use Rattle.boot_machine.proofs.Views.{view-insert_temp}
 use Rattle.boot_machine.proofs.Written.{has-created}
 use Rattle.image_writer.specs.Sourced.{IsSourced, IsPlannedImage, new_sbat, part_list, parts_bytes, stub_path}
-use Rattle.install_steps.specs.AppendLaws.{appends-there}
+use Rattle.install_steps.specs.proofs.AppendLaws.{appends-there}
 use Rattle.image_writer.proofs.Assembled.{one_image}
 use Rattle.install_steps.specs.Steps.{StepsTo, IsDone}
 use Rattle.install_steps.proofs.AppendLemmas.{goes-appends, contents-created, sees_written, calm_left, temps_left}

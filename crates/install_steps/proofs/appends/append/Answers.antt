@@ -1,4 +1,4 @@
-use Rattle.install_steps.specs.AppendLaws.{appends_once, grown_once}
+use Rattle.install_steps.specs.proofs.AppendLaws.{appends_once, grown_once}
 use Rattle.install_steps.proofs.appends.append.Goals as goal
 
 pub returns-in_err-append-clause-appends : goal.returns-in_err-append-clause-appends

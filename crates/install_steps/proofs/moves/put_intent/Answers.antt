@@ -5,7 +5,7 @@ use Rattle.boot_machine.specs.Rows.{contents, move_in}
 use Rattle.boot_machine.proofs.Going.{goes-create}
 use Rattle.boot_machine.proofs.Written.{has-created}
 use Rattle.install_steps.specs.Steps.{Intends, StepsTo}
-use Rattle.install_steps.specs.AppendLaws.{appends-there}
+use Rattle.install_steps.specs.proofs.AppendLaws.{appends-there}
 use Rattle.install_steps.proofs.MoveLemmas.{intended_view}
 use Rattle.install_steps.proofs.StepLemmas.{begins_same, firm_so_far, settled_so_far, steps_same, steps_on, ok_then}
 use Rattle.install_steps.proofs.AppendLemmas.{goes-appends, contents-created}

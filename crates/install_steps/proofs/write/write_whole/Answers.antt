@@ -6,7 +6,7 @@ use Rattle.boot_machine.proofs.Going.{goes-create, goes-read}
 use Rattle.boot_machine.proofs.Recovering.{has-recovered_view}
 use Rattle.boot_machine.proofs.Written.{has-created}
 use Rattle.install_steps.specs.Steps.{StepsTo, IsDone}
-use Rattle.install_steps.specs.AppendLaws.{appends-there}
+use Rattle.install_steps.specs.proofs.AppendLaws.{appends-there}
 use Rattle.install_steps.proofs.AppendLemmas.{calm_left, copied_file, goes-appends, temps_left}
 use Rattle.install_steps.proofs.CopyLemmas.{sees_copy, size_there, size_within}
 use Rattle.install_steps.proofs.KeepLemmas.{keeps_appends, keeps_create, keeps_on, keeps_same, takes_first, takes_later, takes_nothing, takes_part}

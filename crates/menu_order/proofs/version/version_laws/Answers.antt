@@ -1,5 +1,5 @@
 -- The laws of the order.
-use Rattle.menu_order.specs.VersionLaws.{version_cmp_total}
+use Rattle.menu_order.specs.proofs.Orders.{version_cmp_total}
 use Rattle.menu_order.proofs.VersionTies.{equal_tokens, first_difference}
 use Rattle.menu_order.proofs.version.version_laws.Goals as goal
 

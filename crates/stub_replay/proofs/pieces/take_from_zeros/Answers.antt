@@ -1,7 +1,7 @@
 use Rattle.std.proofs.Common.{◌≤◌, rules, arith, ap, length, take, ◌∙◌}
 use Rattle.std.proofs.lemmas.List.{take-replicate}
 use Rattle.stub_replay.proofs.Taking.{zeros_more}
-use Rattle.stub_replay.specs.TakingLaws.{takes_none}
+use Rattle.stub_replay.specs.proofs.TakingLaws.{takes_none}
 use Rattle.stub_replay.proofs.pieces.take_from_zeros.Goals as goal
 
 pub loop-done-init : goal.loop-done-init

@@ -1,7 +1,7 @@
 use Rattle.std.proofs.Common.{IsTrue, List, ℕ, refl}
 use Rattle.boot_machine.proofs.Pieces.{after_error}
 use Rattle.install_steps.specs.Appends.{GrowsAlone}
-use Rattle.install_steps.specs.GrowingLaws.{grows_some}
+use Rattle.install_steps.specs.proofs.GrowingLaws.{grows_some}
 use Rattle.install_steps.proofs.appends.GrowingByteSink.take.Goals as goal
 
 pub returns-in_err-append-clause-some : goal.returns-in_err-append-clause-some

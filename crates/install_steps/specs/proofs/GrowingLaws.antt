@@ -7,7 +7,7 @@ use Rattle.boot_machine.specs.Moments.{Timeline}
 use Rattle.boot_machine.specs.Reading.{OnlyReads}
 use Rattle.boot_machine.specs.Rows.{contents}
 use Rattle.install_steps.specs.Appends.{HasAppended, AppendsOnly, IsGrown, GrowsBy, CanGrow, GrowsAlone}
-use Rattle.install_steps.specs.AppendLaws.{appends_reads, appends_on, appends-there, appends-source, grown_none, grown_on, grown_once}
+use Rattle.install_steps.specs.proofs.AppendLaws.{appends_reads, appends_on, appends-there, appends-source, grown_none, grown_on, grown_once}
 
 grown_left : (p : Path) (s t : State) → has s.files p ≡ true → HasAppended p s t → (more : List ℕ) × IsGrown p more s t
 grown_left p s t there (inl is) = ([], subst (λ (v : State). IsGrown p [] s v) (sym is) (grown_none p s))

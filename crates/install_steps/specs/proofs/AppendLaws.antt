@@ -9,7 +9,7 @@ use Rattle.std.specs.FinSet as set
 use Rattle.boot_base.specs.Paths.{Path, is_temp}
 use Rattle.boot_machine.specs.Disk.{Files, Paths, State, has, is_same_path, view}
 use Rattle.boot_machine.specs.Images.{IsImage}
-use Rattle.boot_machine.specs.Maps.{same_self, is_same_path-true, cases_same, same_files, contains-insert, path_antisym}
+use Rattle.boot_machine.specs.proofs.Maps.{same_self, is_same_path-true, cases_same, same_files, contains-insert, path_antisym}
 use Rattle.boot_machine.specs.Moments.{IsMoment, Timeline, Elapses}
 use Rattle.boot_machine.specs.Reading.{IsIdleMoment, OnlyReads}
 use Rattle.boot_machine.specs.Rows.{contents, append_to, after_append, AppendRow}
