@@ -3,6 +3,7 @@
 -- limits are profile).
 use Rattle.std.specs.Prelude.{◌≡◌, ◌≤◌, ℕ, ◌==◌, Bool, true, false, not, ◌&&◌, ◌||◌, All, List, [], ◌∷◌, ◌++◌, codes, length, map, nat_le, Option, Some, None}
 use Rattle.std.specs.List.{list_all}
+use Rattle.boot_base.specs.Limits.{text_limit}
 use Rattle.boot_texts.specs.BootEntries.{boots, type1_of}
 use Rattle.boot_texts.specs.FileLines.{key_line, text_of_lines}
 use Rattle.boot_texts.specs.declared.entry.Type1.{Type1}
@@ -98,4 +99,4 @@ pub record AreEntryFields (f : Type1) : Type 0 where
 pub record ReadsBack (f : Type1) : Type 0 where
   pub same : type1_of (entry_text f) ≡ f
   pub boots : boots (entry_text f) ≡ true
-  pub short : length (entry_text f) ≤ 65536
+  pub short : length (entry_text f) ≤ text_limit

@@ -1,15 +1,13 @@
 //! Type 1 entries.
 ghost use Rattle.std.specs.Prelude.{◌≡◌, ◌↔◌, ◌≤◌, ◌<◌, false, true, length, IfOk};
+ghost use Rattle.boot_base.specs.Limits.{text_limit};
 ghost use Rattle.boot_texts.specs.BootEntries.{boots, type1_of};
 
 use crate::entry_line::last_value;
 use crate::entry_values::{all_copies, last_copy};
-use boot_base::{Bytes, BytesList};
+use boot_base::{Bytes, BytesList, TEXT_LIMIT};
 use std::alloc::{AllocError, Global};
 use thiserror::Error;
-
-/// The most bytes of an entry file.
-const ENTRY_LIMIT: usize = 65_536;
 
 /// Why a file is no entry.
 #[derive(Debug, PartialEq, Eq, Drop, Error)]
@@ -74,12 +72,12 @@ impl Type1 {
     /// `linux` nor `efi` has a value; `Memory` where there is no memory for the entry.
     pub fn read(alloc: Global, bytes: &[u8]) -> Result<Type1, EntryFault>
         ensures ok { IfOk result (λ entry. entry ≡ type1_of bytes.now) }
-        ensures valid { IfOk result (λ _. (length bytes.now ≤ 65536) × (boots bytes.now ≡ true)) }
-        ensures too_long { (result ≡ Err EntryFault.TooLong) ↔ (65536 < length bytes.now) }
+        ensures valid { IfOk result (λ _. (length bytes.now ≤ text_limit) × (boots bytes.now ≡ true)) }
+        ensures too_long { (result ≡ Err EntryFault.TooLong) ↔ (text_limit < length bytes.now) }
         ensures nothing_to_boot { (result ≡ Err EntryFault.NothingToBoot)
-            ↔ ((length bytes.now ≤ 65536) × (boots bytes.now ≡ false)) }
+            ↔ ((length bytes.now ≤ text_limit) × (boots bytes.now ≡ false)) }
     {
-        if bytes.len() > ENTRY_LIMIT {
+        if bytes.len() as u64 > TEXT_LIMIT {
             return Err(EntryFault::TooLong);
         }
         if !says_what_to_boot(bytes) {

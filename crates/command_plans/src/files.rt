@@ -1,5 +1,5 @@
 //! Files that a command names.
-ghost use Rattle.std.specs.Prelude.{◌≡◌, ◌≤◌, ◌<◌, ◌+◌, ◌^◌, IfOk, IsTrue, OnOk, Ok, Result, drop, length, true, vec_len};
+ghost use Rattle.std.specs.Prelude.{◌≡◌, ◌≤◌, ◌<◌, ◌+◌, ◌^◌, IfOk, IsTrue, OnOk, Ok, Result, drop, length, true};
 ghost use Rattle.boot_machine.specs.Counts.{Counts};
 ghost use Rattle.boot_machine.specs.Disk.{has};
 ghost use Rattle.boot_machine.specs.Reading.{OnlyReads, TakesAtMost, fill_with_zeros};
@@ -18,7 +18,7 @@ use crate::declined::{not_there, printed_path};
 use crate::reading::seen_size;
 use crate::unsaid::Unsaid;
 use boot_base::{BootPath, FILE_LIMIT, PeText, Refusal};
-use boot_machine::{Machine, read_part};
+use boot_machine::{Machine, read_part, zeros};
 use pe_reader::{HeadFault, Pe, PeReason};
 use std::alloc::{AllocError, Global};
 
@@ -140,13 +140,6 @@ pub fn sized_head<M: Machine>(
         Ok(head) => Ok(head),
         Err(fault) => Err(head_unsaid(alloc, fault)),
     }
-}
-
-// So many zeros. The length is a variable, so that no proof writes out a list of that many.
-fn zeros(alloc: Global, count: usize) -> Result<Vec<u8>, AllocError>
-    ensures { IfOk result (λ zeros. vec_len zeros ≡ count) }
-{
-    vec![in alloc; 0u8; count]
 }
 
 /// So many bytes of the file from that place on, and zeros for those that aren't there.

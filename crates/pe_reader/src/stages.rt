@@ -1,6 +1,7 @@
 //! The headers of a machine's file, read in their four stages: each stage reads its own bytes, and no other.
 
-ghost use Rattle.std.specs.Prelude.{◌≡◌, ◌+◌, ◌*◌, ◌≤◌, ◌<◌, [], length, vec_len, IfOk, IsTrue};
+ghost use Rattle.std.specs.Prelude.{◌≡◌, ◌+◌, ◌*◌, ◌≤◌, ◌<◌, [], length, IfOk, IsTrue};
+ghost use Rattle.boot_base.specs.Limits.{file_limit};
 ghost use Rattle.boot_machine.specs.Counts.{CountsDisk};
 ghost use Rattle.boot_machine.specs.Reading.{OnlyReads, TakesAtMost};
 ghost use Rattle.boot_machine.specs.Rows.{contents};
@@ -13,15 +14,15 @@ use crate::head::{Coff, Head, coff_header, optional_header, pe_place};
 use crate::section::Section;
 use crate::table::sections;
 use boot_base::{BootPath, FILE_LIMIT};
-use boot_machine::{DiskFault, Machine, read_part};
-use std::alloc::{AllocError, Global};
+use boot_machine::{DiskFault, Machine, read_part, zeros};
+use std::alloc::Global;
 
 /// The file's length in bytes: 0 where no such file is there, and at most the limit.
 pub fn known_size<M: Machine>(machine: &mut M, path: &BootPath) -> Result<u64, DiskFault>
     ensures value { IfOk result (λ size. IsTrue M.tells
-        → length (contents (M.state machine.old).files path.now) ≤ 268435456
+        → length (contents (M.state machine.old).files path.now) ≤ file_limit
         → size ≡ length (contents (M.state machine.old).files path.now)) }
-    ensures small { IfOk result (λ size. size ≤ 268435456) }
+    ensures small { IfOk result (λ size. size ≤ file_limit) }
     ensures reads { IsTrue M.tells → OnlyReads M.time M.state machine.old machine.new }
     ensures counts { CountsDisk result (M.counts machine.old) (M.counts machine.new) }
     ensures taken { IsTrue M.tells → TakesAtMost 0 (M.taken machine.old) (M.taken machine.new) }
@@ -38,7 +39,7 @@ pub fn head_in<M: Machine>(
     path: &BootPath,
     size: u64,
 ) -> Result<Head, HeadFault>
-    requires small { size ≤ 268435456 }
+    requires small { size ≤ file_limit }
     ensures exact { IsTrue M.tells → size ≡ length (contents (M.state machine.old).files path.now)
         → GivesFrom (λ head. head) result (head_of (contents (M.state machine.old).files path.now)) }
     ensures read { IfOk result (λ head. HeadFrom head size) }
@@ -100,7 +101,7 @@ fn optional_in<M: Machine>(
     place: u32,
     coff: Coff,
 ) -> Result<Head, HeadFault>
-    requires small { size ≤ 268435456 }
+    requires small { size ≤ file_limit }
     requires long { 112 ≤ coff.optional_size }
     requires inside { place + 24 + coff.optional_size ≤ size }
     ensures exact { IsTrue M.tells → size ≡ length (contents (M.state machine.old).files path.now)
@@ -126,7 +127,7 @@ pub fn sections_in<M: Machine>(
     size: u64,
     head: &Head,
 ) -> Result<Vec<Section>, HeadFault>
-    requires small { size ≤ 268435456 }
+    requires small { size ≤ file_limit }
     requires inside { head.now.table_place + 40 * head.now.section_count ≤ size }
     ensures exact { IsTrue M.tells → size ≡ length (contents (M.state machine.old).files path.now)
         → GivesFrom (λ sections. sections.items) result
@@ -149,11 +150,4 @@ pub fn sections_in<M: Machine>(
         head.table_place,
         &table,
     )?)
-}
-
-// So many zeros. The length is a variable, so that no proof writes out a list of that many.
-fn zeros(alloc: Global, length: usize) -> Result<Vec<u8>, AllocError>
-    ensures { IfOk result (λ zeros. vec_len zeros ≡ length) }
-{
-    vec![in alloc; 0u8; length]
 }
