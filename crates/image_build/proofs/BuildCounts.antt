@@ -209,13 +209,13 @@ read_within false words c is = (refl, is)
 -- what the words name
 named_parts : (build : BuildWords) (named : NamedFiles) → named_files build ≡ Ok named
     → (sections : List (SectionName × Given)) × (each section_of build.sections ≡ Ok sections) × (each sources_of (wanted_parts build sections) ≡ Ok named.parts)
-    × (if_given source_of build.sbat ≡ Ok named.sbat)
+    × (if_given source_of build.parts.sbat ≡ Ok named.sbat)
 named_parts build named is =
     let sections = bind_ok (each section_of build.sections) _ named is in
     let stub = bind_ok (path_in build.stub) _ named sections.2 in
     let linux = bind_ok (path_in build.linux) _ named stub.2 in
     let parts = bind_ok (each sources_of (wanted_parts build sections.0)) _ named linux.2 in
-    let sbat = bind_ok (if_given source_of build.sbat) _ named parts.2 in
+    let sbat = bind_ok (if_given source_of build.parts.sbat) _ named parts.2 in
     let output = bind_ok (path_in build.output) _ named sbat.2 in
     let same : record { stub = stub.0; linux = linux.0; parts = parts.0; sbat = sbat.0; output = output.0 } ≡ named = cc output.2 in
     (sections.0, sections.1, parts.1 ∙ ap (λ (n : NamedFiles). Ok n.parts) same, sbat.1 ∙ ap (λ (n : NamedFiles). Ok n.sbat) same)
@@ -269,8 +269,8 @@ build_bounded words build named is names =
     let fewer = built.behind_is.fewer in
     let most : values_count part_options built.found ≤ 16777214 =
     omega (arith, values_few part_options built.found options_apart, few.few, fewer, within.few) in
-    let said : if_given source_of (build_words (gather_items name.Build built.found)).sbat ≡ Ok named.sbat =
-    subst (λ (w : BuildWords). if_given source_of w.sbat ≡ Ok named.sbat) (sym built.words_are) parts.3 in
+    let said : if_given source_of (build_words (gather_items name.Build built.found)).parts.sbat ≡ Ok named.sbat =
+    subst (λ (w : BuildWords). if_given source_of w.parts.sbat ≡ Ok named.sbat) (sym built.words_are) parts.3 in
     record {
       parts = record { few = omega (arith, bounds.few, most); light = omega (arith, bounds.light, most) };
       sbat = sbat_short (last_option_value (codes "--sbat") built.found) named.sbat (last_is_short None (all_values (codes "--sbat") built.found) tt (values_short (codes "--sbat") built.found few.short)) said;

@@ -12,7 +12,7 @@ use Rattle.command_plans.proofs.Each.{bind_ok, each_cut, none_made}
 use Rattle.command_plans.specs.Files.{each, if_given}
 use Rattle.tool_words.specs.declared.command.BuildWords.{BuildWords}
 use Rattle.tool_words.specs.declared.command.Given.{Given}
-use Rattle.tool_words.specs.declared.command.Given.TheVariants.{File, Inline}
+use Rattle.tool_words.specs.declared.command.Given.TheVariants.{File}
 use Rattle.uki_parts.specs.Kinds.{append_place}
 use Rattle.uki_parts.specs.Parts.{part_place}
 use Rattle.uki_parts.specs.declared.kind.PartKind.{PartKind}
@@ -86,14 +86,14 @@ with_extras low before sections next rises =
 wanted_rise : (words : BuildWords) (sections : List (SectionName × Given)) → Rises 0 (map wanted_place (wanted_parts words sections)) (append_place kinds.Extra)
 unfolding append_place
 wanted_rise words sections =
-    let osrel = one_more 0 kinds.Osrel (codes ".osrel") (given_list words.osrel) [] (omega arith) (omega arith) in
-    let cmdline = one_more _ kinds.Cmdline (codes ".cmdline") (given_list (option_map clean words.cmdline)) _ (omega arith) osrel in
-    let dtb = one_more _ kinds.Dtb (codes ".dtb") (given_list (option_map File words.dtb)) _ (omega arith) cmdline in
-    let uname = one_more _ kinds.Uname (codes ".uname") (given_list (option_map Inline words.uname)) _ (omega arith) dtb in
-    let splash = one_more _ kinds.Splash (codes ".splash") (given_list (option_map File words.splash)) _ (omega arith) uname in
-    let pcrpkey = one_more _ kinds.Pcrpkey (codes ".pcrpkey") (given_list (option_map File words.pcrpkey)) _ (omega arith) splash in
+    let osrel = one_more 0 kinds.Osrel (codes ".osrel") (given_list words.parts.osrel) [] (omega arith) (omega arith) in
+    let cmdline = one_more _ kinds.Cmdline (codes ".cmdline") (given_list (option_map clean words.parts.cmdline)) _ (omega arith) osrel in
+    let dtb = one_more _ kinds.Dtb (codes ".dtb") (given_list words.parts.dtb) _ (omega arith) cmdline in
+    let uname = one_more _ kinds.Uname (codes ".uname") (given_list words.parts.uname) _ (omega arith) dtb in
+    let splash = one_more _ kinds.Splash (codes ".splash") (given_list words.parts.splash) _ (omega arith) uname in
+    let pcrpkey = one_more _ kinds.Pcrpkey (codes ".pcrpkey") (given_list words.parts.pcrpkey) _ (omega arith) splash in
     let initrd = one_more _ kinds.Initrd (codes ".initrd") (map File words.initrds) _ (omega arith) pcrpkey in
-    let ucode = one_more _ kinds.Ucode (codes ".ucode") (given_list (option_map File words.ucode)) _ (omega arith) initrd in
+    let ucode = one_more _ kinds.Ucode (codes ".ucode") (given_list words.parts.ucode) _ (omega arith) initrd in
     with_extras _ _ sections (omega arith) ucode
 
 -- what is named has the places of what is wanted
@@ -118,7 +118,7 @@ parts_found words named is =
     let stub = bind_ok (path_in words.stub) _ named sections.2 in
     let linux = bind_ok (path_in words.linux) _ named stub.2 in
     let parts = bind_ok (each sources_of (wanted_parts words sections.0)) _ named linux.2 in
-    let sbat = bind_ok (if_given source_of words.sbat) _ named parts.2 in
+    let sbat = bind_ok (if_given source_of words.parts.sbat) _ named parts.2 in
     let output = bind_ok (path_in words.output) _ named sbat.2 in
     let same : (let all : NamedFiles = record { stub = stub.0; linux = linux.0; parts = parts.0; sbat = sbat.0; output = output.0 } in all) ≡ named = cc output.2 in
     (sections.0, parts.1 ∙ ap (λ (n : NamedFiles). Ok n.parts) same)

@@ -27,7 +27,7 @@ named_output words =
     bind_if (path_in words.stub) _ _ λ stub is.
     bind_if (path_in words.linux) _ _ λ linux is.
     bind_if (each sources_of (wanted_parts words sections)) _ _ λ parts is.
-    bind_if (if_given source_of words.sbat) _ _ λ sbat is.
+    bind_if (if_given source_of words.parts.sbat) _ _ λ sbat is.
     bind_if (path_in words.output) _ _ λ output is. is
 
 module _ (output : Path) (headers : Headers) (stub : List ℕ) where

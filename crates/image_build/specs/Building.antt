@@ -86,14 +86,14 @@ extra_part section = record { kind = kinds.Extra; name = section.0; sources = se
 -- the parts but for the SBAT text and the kernel, in append order
 abbrev pub wanted_parts : BuildWords → List (SectionName × Given) → List WantedPart
 wanted_parts words sections =
-    optional_part kinds.Osrel (codes ".osrel") (given_list words.osrel)
-    ++ optional_part kinds.Cmdline (codes ".cmdline") (given_list (option_map clean words.cmdline))
-    ++ optional_part kinds.Dtb (codes ".dtb") (given_list (option_map File words.dtb))
-    ++ optional_part kinds.Uname (codes ".uname") (given_list (option_map Inline words.uname))
-    ++ optional_part kinds.Splash (codes ".splash") (given_list (option_map File words.splash))
-    ++ optional_part kinds.Pcrpkey (codes ".pcrpkey") (given_list (option_map File words.pcrpkey))
+    optional_part kinds.Osrel (codes ".osrel") (given_list words.parts.osrel)
+    ++ optional_part kinds.Cmdline (codes ".cmdline") (given_list (option_map clean words.parts.cmdline))
+    ++ optional_part kinds.Dtb (codes ".dtb") (given_list words.parts.dtb)
+    ++ optional_part kinds.Uname (codes ".uname") (given_list words.parts.uname)
+    ++ optional_part kinds.Splash (codes ".splash") (given_list words.parts.splash)
+    ++ optional_part kinds.Pcrpkey (codes ".pcrpkey") (given_list words.parts.pcrpkey)
     ++ optional_part kinds.Initrd (codes ".initrd") (map File words.initrds)
-    ++ optional_part kinds.Ucode (codes ".ucode") (given_list (option_map File words.ucode))
+    ++ optional_part kinds.Ucode (codes ".ucode") (given_list words.parts.ucode)
     ++ map extra_part sections
 
 -- where bytes come from: a text, or a file whose word is read as a path
@@ -201,7 +201,7 @@ named_files words =
     path_in words.stub >>= λ stub.
     path_in words.linux >>= λ linux.
     each sources_of (wanted_parts words sections) >>= λ parts.
-    if_given source_of words.sbat >>= λ sbat.
+    if_given source_of words.parts.sbat >>= λ sbat.
     path_in words.output >>= λ output.
     Ok (record { stub = stub; linux = linux; parts = parts; sbat = sbat; output = output })
 

@@ -3,7 +3,7 @@ ghost use Rattle.std.specs.Prelude.{◌≡◌, ◌++◌, ◌∷◌, [], List, �
 ghost use Rattle.std.specs.Option.{option_map};
 ghost use Rattle.boot_base.specs.Paths.{IsFree};
 ghost use Rattle.command_plans.specs.Declining.{Means};
-ghost use Rattle.tool_words.specs.declared.command.Given.TheVariants.{Inline, File};
+ghost use Rattle.tool_words.specs.declared.command.Given.TheVariants.{File};
 ghost use Rattle.uki_parts.specs.declared.kind.PartKind.TheVariants as kinds;
 ghost use Rattle.uki_parts.specs.Names.{fixed_name, padded_name, read_name};
 ghost use Rattle.image_build.specs.Building.{clean, extra_part, given_list, named_as, named_files, named_part, part_named, section_name, section_of, source_of, sources_of, optional_part, wanted_parts, with_parts};
@@ -180,49 +180,6 @@ fn append_cmdline(
     }
 }
 
-// Puts the part of that kind behind the others, where its file is given.
-fn append_file(
-    alloc: Global,
-    kind: PartKind,
-    word: &Option<Text>,
-    parts: &mut Vec<PartSources>,
-) -> Result<(), Declined>
-    requires { IsTrue (is_some (fixed_name kind)) }
-    ensures { (name : List ℕ) → fixed_name kind ≡ Some (padded_name name)
-        → Means (λ _. map part_named parts.new.items) result
-        (with_parts (map part_named parts.old.items)
-        (optional_part kind name (given_list (option_map File word.now)))) }
-{
-    match word {
-        None => Ok(()),
-        Some(word) => {
-            let source = file_source(alloc, word.as_str())?;
-            push_one(alloc, kind, source, parts)?;
-            Ok(())
-        }
-    }
-}
-
-// Puts the kernel's release behind the others, where it is given.
-fn append_uname(
-    alloc: Global,
-    text: &Option<Text>,
-    parts: &mut Vec<PartSources>,
-) -> Result<(), Declined>
-    ensures { Means (λ _. map part_named parts.new.items) result
-        (with_parts (map part_named parts.old.items)
-        (optional_part kinds.Uname (codes ".uname") (given_list (option_map Inline text.now)))) }
-{
-    match text {
-        None => Ok(()),
-        Some(text) => {
-            let source = text_source(alloc, text.as_str())?;
-            push_one(alloc, PartKind::Uname, source, parts)?;
-            Ok(())
-        }
-    }
-}
-
 fn file_sources(alloc: Global, words: &[Text]) -> Result<Vec<Source>, Declined>
     ensures { Means (λ sources. sources.items) result (each (λ word. source_of (File word)) words.now) }
 {
@@ -297,14 +254,14 @@ fn parts_of(
         (each sources_of (wanted_parts words.now sections.now)) }
 {
     let mut parts = Vec::new(alloc);
-    append_given(alloc, PartKind::Osrel, &words.osrel, &mut parts)?;
-    append_cmdline(alloc, &words.cmdline, &mut parts)?;
-    append_file(alloc, PartKind::Dtb, &words.dtb, &mut parts)?;
-    append_uname(alloc, &words.uname, &mut parts)?;
-    append_file(alloc, PartKind::Splash, &words.splash, &mut parts)?;
-    append_file(alloc, PartKind::Pcrpkey, &words.pcrpkey, &mut parts)?;
+    append_given(alloc, PartKind::Osrel, &words.parts.osrel, &mut parts)?;
+    append_cmdline(alloc, &words.parts.cmdline, &mut parts)?;
+    append_given(alloc, PartKind::Dtb, &words.parts.dtb, &mut parts)?;
+    append_given(alloc, PartKind::Uname, &words.parts.uname, &mut parts)?;
+    append_given(alloc, PartKind::Splash, &words.parts.splash, &mut parts)?;
+    append_given(alloc, PartKind::Pcrpkey, &words.parts.pcrpkey, &mut parts)?;
     append_initrds(alloc, words.initrds.as_slice(), &mut parts)?;
-    append_file(alloc, PartKind::Ucode, &words.ucode, &mut parts)?;
+    append_given(alloc, PartKind::Ucode, &words.parts.ucode, &mut parts)?;
     append_sections(alloc, sections, &mut parts)?;
     Ok(parts)
 }
@@ -328,7 +285,7 @@ pub fn build_sources(alloc: Global, words: &BuildWords) -> Result<BuildSources, 
     let stub = path_in(alloc, words.stub.as_str())?;
     let linux = path_in(alloc, words.linux.as_str())?;
     let parts = parts_of(alloc, words, &sections)?;
-    let sbat = optional_source(alloc, &words.sbat)?;
+    let sbat = optional_source(alloc, &words.parts.sbat)?;
     let output = path_in(alloc, words.output.as_str())?;
     Ok(BuildSources {
         stub,

@@ -14,15 +14,15 @@ use Rattle.command_plans.specs.Choices.{banks_of, paths_of}
 abbrev pub part_words : CalculateWords → List (List ℕ × Option (List ℕ))
 part_words words =
     (codes ".linux", Some words.linux)
-    ∷ (codes ".osrel", words.osrel)
-    ∷ (codes ".cmdline", words.cmdline)
+    ∷ (codes ".osrel", words.parts.osrel)
+    ∷ (codes ".cmdline", words.parts.cmdline)
     ∷ (codes ".initrd", words.initrd)
-    ∷ (codes ".ucode", words.ucode)
-    ∷ (codes ".splash", words.splash)
-    ∷ (codes ".dtb", words.dtb)
-    ∷ (codes ".uname", words.uname)
-    ∷ (codes ".sbat", words.sbat)
-    ∷ (codes ".pcrpkey", words.pcrpkey)
+    ∷ (codes ".ucode", words.parts.ucode)
+    ∷ (codes ".splash", words.parts.splash)
+    ∷ (codes ".dtb", words.parts.dtb)
+    ∷ (codes ".uname", words.parts.uname)
+    ∷ (codes ".sbat", words.parts.sbat)
+    ∷ (codes ".pcrpkey", words.parts.pcrpkey)
     ∷ []
 
 -- the words that are given, each under the name of its part

@@ -75,15 +75,15 @@ fn part_paths(
         alloc,
         &[
             (b".linux", Some(words.linux.as_str())),
-            (b".osrel", text_of(&words.osrel)),
-            (b".cmdline", text_of(&words.cmdline)),
+            (b".osrel", text_of(&words.parts.osrel)),
+            (b".cmdline", text_of(&words.parts.cmdline)),
             (b".initrd", text_of(&words.initrd)),
-            (b".ucode", text_of(&words.ucode)),
-            (b".splash", text_of(&words.splash)),
-            (b".dtb", text_of(&words.dtb)),
-            (b".uname", text_of(&words.uname)),
-            (b".sbat", text_of(&words.sbat)),
-            (b".pcrpkey", text_of(&words.pcrpkey)),
+            (b".ucode", text_of(&words.parts.ucode)),
+            (b".splash", text_of(&words.parts.splash)),
+            (b".dtb", text_of(&words.parts.dtb)),
+            (b".uname", text_of(&words.parts.uname)),
+            (b".sbat", text_of(&words.parts.sbat)),
+            (b".pcrpkey", text_of(&words.parts.pcrpkey)),
         ],
     )
 }

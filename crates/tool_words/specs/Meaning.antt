@@ -9,6 +9,7 @@ use Rattle.tool_words.specs.declared.command.Command.{Command}
 use Rattle.tool_words.specs.declared.command.Command.TheVariants as command
 use Rattle.tool_words.specs.declared.command.BuildWords.{BuildWords}
 use Rattle.tool_words.specs.declared.command.CalculateWords.{CalculateWords}
+use Rattle.tool_words.specs.declared.command.PartWords.{PartWords}
 use Rattle.tool_words.specs.declared.command.Type1Words.{Type1Words}
 use Rattle.tool_words.specs.declared.command.EntryTexts.{EntryTexts}
 use Rattle.tool_words.specs.declared.command.KeepWords.{KeepWords}
@@ -112,38 +113,50 @@ required_value value = unwrap_or value []
 abbrev pub esp : (Word → Option Word) → Word
 esp last = unwrap_or (last (codes "--esp-path")) (codes "efi")
 
+-- the parts of a build by its options: three are texts or files, the release is a text, the others are files (ukify(1))
+abbrev pub build_parts : (Word → Option Word) → PartWords Given
+build_parts last = record {
+  osrel = option_map inline_or_file (last (codes "--os-release"));
+  cmdline = option_map inline_or_file (last (codes "--cmdline"));
+  sbat = option_map inline_or_file (last (codes "--sbat"));
+  dtb = option_map File (last (codes "--devicetree"));
+  uname = option_map Inline (last (codes "--uname"));
+  splash = option_map File (last (codes "--splash"));
+  pcrpkey = option_map File (last (codes "--pcrpkey"));
+  ucode = option_map File (last (codes "--microcode"));
+}
+
 -- the words of a build by its options
 abbrev pub build_words : GatheredItems → BuildWords
 build_words g = record {
   stub = required_value (g.last (codes "--stub"));
   linux = required_value (g.last (codes "--linux"));
   output = required_value (g.last (codes "--output"));
-  osrel = option_map inline_or_file (g.last (codes "--os-release"));
-  cmdline = option_map inline_or_file (g.last (codes "--cmdline"));
-  sbat = option_map inline_or_file (g.last (codes "--sbat"));
-  dtb = g.last (codes "--devicetree");
-  uname = g.last (codes "--uname");
-  splash = g.last (codes "--splash");
-  pcrpkey = g.last (codes "--pcrpkey");
+  parts = build_parts g.last;
   initrds = g.all (codes "--initrd");
-  ucode = g.last (codes "--microcode");
   sections = g.all (codes "--section");
   measure = is_some (g.last (codes "--measure"));
+}
+
+-- the parts of a calculation by its options: all are paths of files (systemd-measure(1))
+abbrev pub calculate_parts : (Word → Option Word) → PartWords Word
+calculate_parts last = record {
+  osrel = last (codes "--osrel");
+  cmdline = last (codes "--cmdline");
+  sbat = last (codes "--sbat");
+  dtb = last (codes "--dtb");
+  uname = last (codes "--uname");
+  splash = last (codes "--splash");
+  pcrpkey = last (codes "--pcrpkey");
+  ucode = last (codes "--ucode");
 }
 
 -- the words of a calculation by its options
 abbrev pub calculate_words : GatheredItems → CalculateWords
 calculate_words g = record {
   linux = required_value (g.last (codes "--linux"));
-  osrel = g.last (codes "--osrel");
-  cmdline = g.last (codes "--cmdline");
   initrd = g.last (codes "--initrd");
-  ucode = g.last (codes "--ucode");
-  splash = g.last (codes "--splash");
-  dtb = g.last (codes "--dtb");
-  uname = g.last (codes "--uname");
-  sbat = g.last (codes "--sbat");
-  pcrpkey = g.last (codes "--pcrpkey");
+  parts = calculate_parts g.last;
   banks = g.all (codes "--bank");
   phases = g.all (codes "--phase");
   json = is_some (g.last (codes "--json"));

@@ -110,59 +110,52 @@ pub struct BuildWords {
     pub linux: Text,
     /// The path that the image is written to.
     pub output: Text,
-    /// The os-release text, or the file that holds it.
-    pub osrel: Option<Given>,
-    /// The kernel's command line, or the file that holds it.
-    pub cmdline: Option<Given>,
-    /// More SBAT lines, or the file that holds them.
-    pub sbat: Option<Given>,
-    /// The path of the device tree.
-    pub dtb: Option<Text>,
-    /// The kernel's release, as `uname -r` prints it.
-    pub uname: Option<Text>,
-    /// The path of the splash picture.
-    pub splash: Option<Text>,
-    /// The path of the public key for PCR signatures.
-    pub pcrpkey: Option<Text>,
+    /// The other parts, each as a text or the path of the file that holds it.
+    pub parts: PartWords<Given>,
     /// The paths of the initrds, in order.
     pub initrds: TextList,
-    /// The path of the microcode.
-    pub ucode: Option<Text>,
     /// The values of `--section`, in order and whole, as `NAME:TEXT` or `NAME:@PATH`.
     pub sections: TextList,
     /// Whether the predicted values are printed too.
     pub measure: bool,
 }
 
-/// The words of `measure calculate`. Each part is the path of a file.
+/// The words of `measure calculate`.
 #[derive(Debug, Drop)]
 pub struct CalculateWords {
-    /// The kernel.
+    /// The path of the kernel.
     pub linux: Text,
-    /// The os-release text.
-    pub osrel: Option<Text>,
-    /// The kernel's command line.
-    pub cmdline: Option<Text>,
-    /// The initrd.
+    /// The path of the initrd.
     pub initrd: Option<Text>,
-    /// The microcode.
-    pub ucode: Option<Text>,
-    /// The splash picture.
-    pub splash: Option<Text>,
-    /// The device tree.
-    pub dtb: Option<Text>,
-    /// The kernel's release.
-    pub uname: Option<Text>,
-    /// The SBAT text.
-    pub sbat: Option<Text>,
-    /// The public key for PCR signatures.
-    pub pcrpkey: Option<Text>,
+    /// The other parts, each as the path of its file.
+    pub parts: PartWords<Text>,
     /// The names of the banks, in order.
     pub banks: TextList,
     /// The phase paths, in order.
     pub phases: TextList,
     /// Whether the values are told as JSON.
     pub json: bool,
+}
+
+/// The parts of an image that an option each gives, beside the kernel and the initrds.
+#[derive(Debug, Drop)]
+pub struct PartWords<T> {
+    /// The os-release text.
+    pub osrel: Option<T>,
+    /// The kernel's command line.
+    pub cmdline: Option<T>,
+    /// The SBAT text.
+    pub sbat: Option<T>,
+    /// The device tree.
+    pub dtb: Option<T>,
+    /// The kernel's release, as `uname -r` prints it.
+    pub uname: Option<T>,
+    /// The splash picture.
+    pub splash: Option<T>,
+    /// The public key for PCR signatures.
+    pub pcrpkey: Option<T>,
+    /// The microcode.
+    pub ucode: Option<T>,
 }
 
 /// The words of `type1 install`.

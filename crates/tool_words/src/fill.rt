@@ -1,18 +1,18 @@
 //! The fields of a command, each copied once from the words.
-ghost use Rattle.std.specs.Prelude.{◌≡◌, [], List, IfOk, is_some, unwrap_or, option_map, codes, slice_index_or};
-ghost use Rattle.std.specs.Option.{option_copied};
-ghost use Rattle.tool_words.specs.Items.{all_values, last_option_value, operands};
-ghost use Rattle.tool_words.specs.Meaning.{inline_or_file, required_value, gather_items, command_from, entry_texts as entry_texts_meant, esp as esp_meant};
+ghost use Rattle.std.specs.Prelude.{◌≡◌, [], IfOk, is_some, unwrap_or, option_map, codes, slice_index_or};
+ghost use Rattle.tool_words.specs.Items.{last_option_value, operands};
+ghost use Rattle.tool_words.specs.Meaning.{inline_or_file, required_value, gather_items, command_from, build_parts, calculate_parts, entry_texts as entry_texts_meant, esp as esp_meant};
+ghost use Rattle.tool_words.specs.declared.command.Given.TheVariants.{Inline, File};
 ghost use Rattle.tool_words.specs.Shown.{items_shown};
 ghost use Rattle.word_grammar.specs.declared.grammar.CommandName.TheVariants.{Build, Calculate, Image, Install, Unlink, LoaderDefault, LoaderTimeout, Type1Install, Keep, Demo};
-ghost use Rattle.word_grammar.specs.Grammar.{Word};
 
 use crate::command::{
-    BlessWord, BuildWords, CalculateWords, Command, EntryTexts, Given, KeepWords, Type1Words,
+    BlessWord, BuildWords, CalculateWords, Command, EntryTexts, Given, KeepWords, PartWords,
+    Type1Words,
 };
 use crate::items::Item;
 use crate::values::{all_values, last_value, operand_at};
-use boot_base::{Text, TextList};
+use boot_base::Text;
 use std::alloc::{AllocError, Global};
 use word_grammar::CommandName;
 
@@ -69,19 +69,37 @@ fn optional_value(
     })
 }
 
-// The last value of the option, as a text or the path of its file.
-fn optional_given(
+// The last value of the option, as a text or after a leading `@` as the path of its file.
+fn text_or_file(
     alloc: Global,
     items: &[Item<'_>],
     option: &str,
 ) -> Result<Option<Given>, AllocError>
-    ensures { IfOk result (λ made.
-        made ≡ option_map inline_or_file (last_option_value option.now (items_shown items.now))) }
+    ensures { IfOk result (λ given.
+        given ≡ option_map inline_or_file (last_option_value option.now (items_shown items.now))) }
 {
     Ok(match last_value(items, option) {
         Some(value) => Some(inline_or_file(alloc, value)?),
         None => None,
     })
+}
+
+// The last value of the option, as a text.
+fn inline(alloc: Global, items: &[Item<'_>], option: &str) -> Result<Option<Given>, AllocError>
+    ensures { IfOk result (λ given.
+        given ≡ option_map Inline (last_option_value option.now (items_shown items.now))) }
+{
+    let text = optional_value(alloc, items, option)?;
+    Ok(text.map(Given::Inline))
+}
+
+// The last value of the option, as the path of a file.
+fn file(alloc: Global, items: &[Item<'_>], option: &str) -> Result<Option<Given>, AllocError>
+    ensures { IfOk result (λ given.
+        given ≡ option_map File (last_option_value option.now (items_shown items.now))) }
+{
+    let path = optional_value(alloc, items, option)?;
+    Ok(path.map(Given::File))
 }
 
 // Whether the option is given.
@@ -98,280 +116,77 @@ fn operand(alloc: Global, items: &[Item<'_>], place: usize) -> Result<Text, Allo
     Text::of(alloc, operand_at(items, place))
 }
 
-// The paths that every build is given.
-#[derive(Drop)]
-struct BuildPaths {
-    stub: Text,
-    linux: Text,
-    output: Text,
-}
-
-// The parts of a build that are texts, or files that hold them.
-#[derive(Drop)]
-struct TextParts {
-    osrel: Option<Given>,
-    cmdline: Option<Given>,
-    sbat: Option<Given>,
-}
-
-// The parts that a build and a calculation take alike, each as it is given.
-#[derive(Drop)]
-struct PlainParts {
-    dtb: Option<Text>,
-    uname: Option<Text>,
-    splash: Option<Text>,
-    pcrpkey: Option<Text>,
-    ucode: Option<Text>,
-}
-
-// The parts that a calculation takes as files alone.
-#[derive(Drop)]
-struct FileParts {
-    osrel: Option<Text>,
-    cmdline: Option<Text>,
-    initrd: Option<Text>,
-    sbat: Option<Text>,
-}
-
-fn build_paths(alloc: Global, items: &[Item<'_>]) -> Result<BuildPaths, AllocError>
-    ensures { let last = (λ (option : Word). last_option_value option (items_shown items.now)) in
-        IfOk result (λ made. made ≡ record {
-          stub = required_value (last (codes "--stub"));
-          linux = required_value (last (codes "--linux"));
-          output = required_value (last (codes "--output"));
-        }) }
+// The parts of a build.
+fn build_parts(alloc: Global, items: &[Item<'_>]) -> Result<PartWords<Given>, AllocError>
+    ensures { IfOk result
+        (λ made. made ≡ build_parts (λ option. last_option_value option (items_shown items.now))) }
 {
-    Ok(BuildPaths {
-        stub: required_value(alloc, items, "--stub")?,
-        linux: required_value(alloc, items, "--linux")?,
-        output: required_value(alloc, items, "--output")?,
+    Ok(PartWords {
+        osrel: text_or_file(alloc, items, "--os-release")?,
+        cmdline: text_or_file(alloc, items, "--cmdline")?,
+        sbat: text_or_file(alloc, items, "--sbat")?,
+        dtb: file(alloc, items, "--devicetree")?,
+        uname: inline(alloc, items, "--uname")?,
+        splash: file(alloc, items, "--splash")?,
+        pcrpkey: file(alloc, items, "--pcrpkey")?,
+        ucode: file(alloc, items, "--microcode")?,
     })
-}
-
-fn text_parts(alloc: Global, items: &[Item<'_>]) -> Result<TextParts, AllocError>
-    ensures { let text = (λ (option : Word).
-        option_map inline_or_file (last_option_value option (items_shown items.now))) in
-        IfOk result (λ made. made ≡ record {
-          osrel = text (codes "--os-release");
-          cmdline = text (codes "--cmdline");
-          sbat = text (codes "--sbat");
-        }) }
-{
-    Ok(TextParts {
-        osrel: optional_given(alloc, items, "--os-release")?,
-        cmdline: optional_given(alloc, items, "--cmdline")?,
-        sbat: optional_given(alloc, items, "--sbat")?,
-    })
-}
-
-// The options of the device tree and of the microcode have other names in a build than in a calculation.
-fn plain_parts(
-    alloc: Global,
-    items: &[Item<'_>],
-    dtb: &str,
-    ucode: &str,
-) -> Result<PlainParts, AllocError>
-    ensures { let last = (λ (option : Word). last_option_value option (items_shown items.now)) in
-        IfOk result (λ made. made ≡ record {
-          dtb = last dtb.now;
-          uname = last (codes "--uname");
-          splash = last (codes "--splash");
-          pcrpkey = last (codes "--pcrpkey");
-          ucode = last ucode.now;
-        }) }
-{
-    Ok(PlainParts {
-        dtb: optional_value(alloc, items, dtb)?,
-        uname: optional_value(alloc, items, "--uname")?,
-        splash: optional_value(alloc, items, "--splash")?,
-        pcrpkey: optional_value(alloc, items, "--pcrpkey")?,
-        ucode: optional_value(alloc, items, ucode)?,
-    })
-}
-
-fn file_parts(alloc: Global, items: &[Item<'_>]) -> Result<FileParts, AllocError>
-    ensures { let last = (λ (option : Word). last_option_value option (items_shown items.now)) in
-        IfOk result (λ made. made ≡ record {
-          osrel = last (codes "--osrel");
-          cmdline = last (codes "--cmdline");
-          initrd = last (codes "--initrd");
-          sbat = last (codes "--sbat");
-        }) }
-{
-    Ok(FileParts {
-        osrel: optional_value(alloc, items, "--osrel")?,
-        cmdline: optional_value(alloc, items, "--cmdline")?,
-        initrd: optional_value(alloc, items, "--initrd")?,
-        sbat: optional_value(alloc, items, "--sbat")?,
-    })
-}
-
-// The words of a build, put together.
-fn build_of(
-    paths: BuildPaths,
-    texts: TextParts,
-    parts: PlainParts,
-    lists: (TextList, TextList),
-    measure: bool,
-) -> BuildWords
-    ensures { result ≡ record {
-      stub = paths.stub;
-      linux = paths.linux;
-      output = paths.output;
-      osrel = texts.osrel;
-      cmdline = texts.cmdline;
-      sbat = texts.sbat;
-      dtb = parts.dtb;
-      uname = parts.uname;
-      splash = parts.splash;
-      pcrpkey = parts.pcrpkey;
-      initrds = lists.0;
-      ucode = parts.ucode;
-      sections = lists.1;
-      measure = measure;
-    } }
-{
-    let BuildPaths {
-        stub,
-        linux,
-        output,
-    } = paths;
-    let TextParts {
-        osrel,
-        cmdline,
-        sbat,
-    } = texts;
-    let PlainParts {
-        dtb,
-        uname,
-        splash,
-        pcrpkey,
-        ucode,
-    } = parts;
-    let (initrds, sections) = lists;
-    BuildWords {
-        stub,
-        linux,
-        output,
-        osrel,
-        cmdline,
-        sbat,
-        dtb,
-        uname,
-        splash,
-        pcrpkey,
-        initrds,
-        ucode,
-        sections,
-        measure,
-    }
-}
-
-// The words of a calculation, put together.
-fn calculation_of(
-    linux: Text,
-    files: FileParts,
-    parts: PlainParts,
-    lists: (TextList, TextList),
-    json: bool,
-) -> CalculateWords
-    ensures { result ≡ record {
-      linux = linux;
-      osrel = files.osrel;
-      cmdline = files.cmdline;
-      initrd = files.initrd;
-      ucode = parts.ucode;
-      splash = parts.splash;
-      dtb = parts.dtb;
-      uname = parts.uname;
-      sbat = files.sbat;
-      pcrpkey = parts.pcrpkey;
-      banks = lists.0;
-      phases = lists.1;
-      json = json;
-    } }
-{
-    let FileParts {
-        osrel,
-        cmdline,
-        initrd,
-        sbat,
-    } = files;
-    let PlainParts {
-        dtb,
-        uname,
-        splash,
-        pcrpkey,
-        ucode,
-    } = parts;
-    let (banks, phases) = lists;
-    CalculateWords {
-        linux,
-        osrel,
-        cmdline,
-        initrd,
-        ucode,
-        splash,
-        dtb,
-        uname,
-        sbat,
-        pcrpkey,
-        banks,
-        phases,
-        json,
-    }
-}
-
-// All values of two options.
-fn two_lists(
-    alloc: Global,
-    items: &[Item<'_>],
-    first: &str,
-    second: &str,
-) -> Result<(TextList, TextList), AllocError>
-    ensures { IfOk {T = List Word × List Word} result (λ lists.
-        (lists.0 ≡ all_values first.now (items_shown items.now))
-        × (lists.1 ≡ all_values second.now (items_shown items.now))) }
-{
-    let first = all_values(alloc, items, first)?;
-    let second = all_values(alloc, items, second)?;
-    Ok((first, second))
 }
 
 // `ukify build`.
 fn build(alloc: Global, items: &[Item<'_>]) -> Result<Command, AllocError>
     ensures { IfOk result (λ made. made ≡ command_from Build (gather_items Build (items_shown items.now))) }
 {
-    let lists = two_lists(alloc, items, "--initrd", "--section")?;
-    let paths = build_paths(alloc, items)?;
-    let texts = text_parts(alloc, items)?;
-    let parts = plain_parts(alloc, items, "--devicetree", "--microcode")?;
-    let measure = is_given(items, "--measure");
-    Ok(Command::Build(build_of(paths, texts, parts, lists, measure)))
+    Ok(Command::Build(BuildWords {
+        stub: required_value(alloc, items, "--stub")?,
+        linux: required_value(alloc, items, "--linux")?,
+        output: required_value(alloc, items, "--output")?,
+        parts: build_parts(alloc, items)?,
+        initrds: all_values(alloc, items, "--initrd")?,
+        sections: all_values(alloc, items, "--section")?,
+        measure: is_given(items, "--measure"),
+    }))
+}
+
+// The parts of a calculation.
+fn calculate_parts(alloc: Global, items: &[Item<'_>]) -> Result<PartWords<Text>, AllocError>
+    ensures { IfOk result
+        (λ made. made ≡ calculate_parts (λ option. last_option_value option (items_shown items.now))) }
+{
+    Ok(PartWords {
+        osrel: optional_value(alloc, items, "--osrel")?,
+        cmdline: optional_value(alloc, items, "--cmdline")?,
+        sbat: optional_value(alloc, items, "--sbat")?,
+        dtb: optional_value(alloc, items, "--dtb")?,
+        uname: optional_value(alloc, items, "--uname")?,
+        splash: optional_value(alloc, items, "--splash")?,
+        pcrpkey: optional_value(alloc, items, "--pcrpkey")?,
+        ucode: optional_value(alloc, items, "--ucode")?,
+    })
 }
 
 // `measure calculate`.
 fn calculate(alloc: Global, items: &[Item<'_>]) -> Result<Command, AllocError>
     ensures { IfOk result (λ made. made ≡ command_from Calculate (gather_items Calculate (items_shown items.now))) }
 {
-    let linux = required_value(alloc, items, "--linux")?;
-    let lists = two_lists(alloc, items, "--bank", "--phase")?;
-    let files = file_parts(alloc, items)?;
-    let parts = plain_parts(alloc, items, "--dtb", "--ucode")?;
-    let json = is_given(items, "--json");
-    Ok(Command::Calculate(calculation_of(linux, files, parts, lists, json)))
+    Ok(Command::Calculate(CalculateWords {
+        linux: required_value(alloc, items, "--linux")?,
+        initrd: optional_value(alloc, items, "--initrd")?,
+        parts: calculate_parts(alloc, items)?,
+        banks: all_values(alloc, items, "--bank")?,
+        phases: all_values(alloc, items, "--phase")?,
+        json: is_given(items, "--json"),
+    }))
 }
 
 // `measure image`.
 fn image(alloc: Global, items: &[Item<'_>]) -> Result<Command, AllocError>
     ensures { IfOk result (λ made. made ≡ command_from Image (gather_items Image (items_shown items.now))) }
 {
-    let file = operand(alloc, items, 0)?;
-    let (banks, phases) = two_lists(alloc, items, "--bank", "--phase")?;
     Ok(Command::Image {
-        file,
-        banks,
-        phases,
+        file: operand(alloc, items, 0)?,
+        banks: all_values(alloc, items, "--bank")?,
+        phases: all_values(alloc, items, "--phase")?,
         json: is_given(items, "--json"),
     })
 }
@@ -407,13 +222,12 @@ fn type1_install(alloc: Global, items: &[Item<'_>]) -> Result<Command, AllocErro
     ensures { IfOk result
         (λ made. made ≡ command_from Type1Install (gather_items Type1Install (items_shown items.now))) }
 {
-    let (name, esp) = operand_and_esp(alloc, items)?;
     Ok(Command::Type1Install(Type1Words {
-        name,
+        name: operand(alloc, items, 0)?,
         linux: required_value(alloc, items, "--linux")?,
         initrds: all_values(alloc, items, "--initrd")?,
         texts: entry_texts(alloc, items)?,
-        esp,
+        esp: esp(alloc, items)?,
     }))
 }
 
@@ -427,33 +241,27 @@ fn demo(alloc: Global, items: &[Item<'_>]) -> Result<Command, AllocError>
     })
 }
 
-// An operand and the folder of the boot files.
-fn operand_and_esp(alloc: Global, items: &[Item<'_>]) -> Result<(Text, Text), AllocError>
-    ensures { IfOk {T = Word × Word} result (λ texts.
-        (texts.0 ≡ slice_index_or (operands (items_shown items.now)) 0 [])
-        × (texts.1 ≡ esp_meant (λ option. last_option_value option (items_shown items.now)))) }
-{
-    let text = operand(alloc, items, 0)?;
-    let esp = esp(alloc, items)?;
-    Ok((text, esp))
-}
-
 // `bless` with this verb.
 fn bless(alloc: Global, verb: BlessWord, items: &[Item<'_>]) -> Result<Command, AllocError>
     ensures { IfOk result (λ made. made ≡ Command.Bless verb
         (slice_index_or (operands (items_shown items.now)) 0 [])
         (esp_meant (λ option. last_option_value option (items_shown items.now)))) }
 {
-    let (path, esp) = operand_and_esp(alloc, items)?;
-    Ok(Command::Bless { verb, path, esp })
+    Ok(Command::Bless {
+        verb,
+        path: operand(alloc, items, 0)?,
+        esp: esp(alloc, items)?,
+    })
 }
 
 // `bootctl unlink`.
 fn unlink(alloc: Global, items: &[Item<'_>]) -> Result<Command, AllocError>
     ensures { IfOk result (λ made. made ≡ command_from Unlink (gather_items Unlink (items_shown items.now))) }
 {
-    let (name, esp) = operand_and_esp(alloc, items)?;
-    Ok(Command::Unlink { name, esp })
+    Ok(Command::Unlink {
+        name: operand(alloc, items, 0)?,
+        esp: esp(alloc, items)?,
+    })
 }
 
 // `loader set-default`.
@@ -461,8 +269,10 @@ fn loader_default(alloc: Global, items: &[Item<'_>]) -> Result<Command, AllocErr
     ensures { IfOk result
         (λ made. made ≡ command_from LoaderDefault (gather_items LoaderDefault (items_shown items.now))) }
 {
-    let (pattern, esp) = operand_and_esp(alloc, items)?;
-    Ok(Command::LoaderDefault { pattern, esp })
+    Ok(Command::LoaderDefault {
+        pattern: operand(alloc, items, 0)?,
+        esp: esp(alloc, items)?,
+    })
 }
 
 // `loader set-timeout`.
@@ -470,20 +280,21 @@ fn loader_timeout(alloc: Global, items: &[Item<'_>]) -> Result<Command, AllocErr
     ensures { IfOk result
         (λ made. made ≡ command_from LoaderTimeout (gather_items LoaderTimeout (items_shown items.now))) }
 {
-    let (value, esp) = operand_and_esp(alloc, items)?;
-    Ok(Command::LoaderTimeout { value, esp })
+    Ok(Command::LoaderTimeout {
+        value: operand(alloc, items, 0)?,
+        esp: esp(alloc, items)?,
+    })
 }
 
 // `keep`.
 fn keep(alloc: Global, items: &[Item<'_>]) -> Result<Command, AllocError>
     ensures { IfOk result (λ made. made ≡ command_from Keep (gather_items Keep (items_shown items.now))) }
 {
-    let (number, esp) = operand_and_esp(alloc, items)?;
     Ok(Command::Keep(KeepWords {
-        number,
+        number: operand(alloc, items, 0)?,
         per_key: is_given(items, "--per-key"),
         dry_run: is_given(items, "--dry-run"),
-        esp,
+        esp: esp(alloc, items)?,
     }))
 }
 

@@ -13,7 +13,8 @@ mod scan;
 mod values;
 
 pub use command::{
-    BlessWord, BuildWords, CalculateWords, Command, EntryTexts, Given, KeepWords, Type1Words,
+    BlessWord, BuildWords, CalculateWords, Command, EntryTexts, Given, KeepWords, PartWords,
+    Type1Words,
 };
 pub use fault::{LineFault, UsageReason, WordsFault};
 pub use fill::inline_or_file;

@@ -33,12 +33,12 @@ returns-in_err-append_cmdline c =
     (with_more_declined declined _ _ _
     (after_more_declined declined _ _ _ _ osrel c.in_err-append_cmdline.ensures)))))))))
 
-pub returns-in_err-append_file : goal.returns-in_err-append_file
-returns-in_err-append_file c =
-    let declined = c.in_err-append_file.field-0.0 in
+pub returns-in_err-append_given-2 : goal.returns-in_err-append_given-2
+returns-in_err-append_given-2 c =
+    let declined = c.in_err-append_given-2.field-0.0 in
     let osrel = c.in_ok-append_given.ensures (codes ".osrel") refl in
     let cmdline = done_more _ _ _ _ _ osrel c.in_ok-append_cmdline.ensures in
-    means_declined _ declined _ _ c.from_residual-in_err-append_file.ensures.0 c.from_residual-in_err-append_file.ensures.1
+    means_declined _ declined _ _ c.from_residual-in_err-append_given-2.ensures.0 c.from_residual-in_err-append_given-2.ensures.1
     (all_declined declined _ (wanted_parts c.args.words.now c.args.sections.now) (ap (map part_named) c.new-parts.ensures.items)
     (with_more_declined declined _ _ _
     (with_more_declined declined _ _ _
@@ -46,94 +46,94 @@ returns-in_err-append_file c =
     (with_more_declined declined _ _ _
     (with_more_declined declined _ _ _
     (with_more_declined declined _ _ _
-    (after_more_declined declined _ _ _ _ cmdline (c.in_err-append_file.ensures (codes ".dtb") refl)))))))))
+    (after_more_declined declined _ _ _ _ cmdline (c.in_err-append_given-2.ensures (codes ".dtb") refl)))))))))
 
-pub returns-in_err-append_uname : goal.returns-in_err-append_uname
-returns-in_err-append_uname c =
-    let declined = c.in_err-append_uname.field-0.0 in
+pub returns-in_err-append_given-3 : goal.returns-in_err-append_given-3
+returns-in_err-append_given-3 c =
+    let declined = c.in_err-append_given-3.field-0.0 in
     let osrel = c.in_ok-append_given.ensures (codes ".osrel") refl in
     let cmdline = done_more _ _ _ _ _ osrel c.in_ok-append_cmdline.ensures in
-    let dtb = done_more _ _ _ _ _ cmdline (c.in_ok-append_file.ensures (codes ".dtb") refl) in
-    means_declined _ declined _ _ c.from_residual-in_err-append_uname.ensures.0 c.from_residual-in_err-append_uname.ensures.1
+    let dtb = done_more _ _ _ _ _ cmdline (c.in_ok-append_given-2.ensures (codes ".dtb") refl) in
+    means_declined _ declined _ _ c.from_residual-in_err-append_given-3.ensures.0 c.from_residual-in_err-append_given-3.ensures.1
     (all_declined declined _ (wanted_parts c.args.words.now c.args.sections.now) (ap (map part_named) c.new-parts.ensures.items)
     (with_more_declined declined _ _ _
     (with_more_declined declined _ _ _
     (with_more_declined declined _ _ _
     (with_more_declined declined _ _ _
     (with_more_declined declined _ _ _
-    (after_more_declined declined _ _ _ _ dtb c.in_err-append_uname.ensures)))))))
+    (after_more_declined declined _ _ _ _ dtb (c.in_err-append_given-3.ensures (codes ".uname") refl))))))))
 
-pub returns-in_err-append_file-2 : goal.returns-in_err-append_file-2
-returns-in_err-append_file-2 c =
-    let declined = c.in_err-append_file-2.field-0.0 in
+pub returns-in_err-append_given-4 : goal.returns-in_err-append_given-4
+returns-in_err-append_given-4 c =
+    let declined = c.in_err-append_given-4.field-0.0 in
     let osrel = c.in_ok-append_given.ensures (codes ".osrel") refl in
     let cmdline = done_more _ _ _ _ _ osrel c.in_ok-append_cmdline.ensures in
-    let dtb = done_more _ _ _ _ _ cmdline (c.in_ok-append_file.ensures (codes ".dtb") refl) in
-    let uname = done_more _ _ _ _ _ dtb c.in_ok-append_uname.ensures in
-    means_declined _ declined _ _ c.from_residual-in_err-append_file-2.ensures.0 c.from_residual-in_err-append_file-2.ensures.1
+    let dtb = done_more _ _ _ _ _ cmdline (c.in_ok-append_given-2.ensures (codes ".dtb") refl) in
+    let uname = done_more _ _ _ _ _ dtb (c.in_ok-append_given-3.ensures (codes ".uname") refl) in
+    means_declined _ declined _ _ c.from_residual-in_err-append_given-4.ensures.0 c.from_residual-in_err-append_given-4.ensures.1
     (all_declined declined _ (wanted_parts c.args.words.now c.args.sections.now) (ap (map part_named) c.new-parts.ensures.items)
     (with_more_declined declined _ _ _
     (with_more_declined declined _ _ _
     (with_more_declined declined _ _ _
     (with_more_declined declined _ _ _
-    (after_more_declined declined _ _ _ _ uname (c.in_err-append_file-2.ensures (codes ".splash") refl)))))))
+    (after_more_declined declined _ _ _ _ uname (c.in_err-append_given-4.ensures (codes ".splash") refl)))))))
 
-pub returns-in_err-append_file-3 : goal.returns-in_err-append_file-3
-returns-in_err-append_file-3 c =
-    let declined = c.in_err-append_file-3.field-0.0 in
+pub returns-in_err-append_given-5 : goal.returns-in_err-append_given-5
+returns-in_err-append_given-5 c =
+    let declined = c.in_err-append_given-5.field-0.0 in
     let osrel = c.in_ok-append_given.ensures (codes ".osrel") refl in
     let cmdline = done_more _ _ _ _ _ osrel c.in_ok-append_cmdline.ensures in
-    let dtb = done_more _ _ _ _ _ cmdline (c.in_ok-append_file.ensures (codes ".dtb") refl) in
-    let uname = done_more _ _ _ _ _ dtb c.in_ok-append_uname.ensures in
-    let splash = done_more _ _ _ _ _ uname (c.in_ok-append_file-2.ensures (codes ".splash") refl) in
-    means_declined _ declined _ _ c.from_residual-in_err-append_file-3.ensures.0 c.from_residual-in_err-append_file-3.ensures.1
+    let dtb = done_more _ _ _ _ _ cmdline (c.in_ok-append_given-2.ensures (codes ".dtb") refl) in
+    let uname = done_more _ _ _ _ _ dtb (c.in_ok-append_given-3.ensures (codes ".uname") refl) in
+    let splash = done_more _ _ _ _ _ uname (c.in_ok-append_given-4.ensures (codes ".splash") refl) in
+    means_declined _ declined _ _ c.from_residual-in_err-append_given-5.ensures.0 c.from_residual-in_err-append_given-5.ensures.1
     (all_declined declined _ (wanted_parts c.args.words.now c.args.sections.now) (ap (map part_named) c.new-parts.ensures.items)
     (with_more_declined declined _ _ _
     (with_more_declined declined _ _ _
     (with_more_declined declined _ _ _
-    (after_more_declined declined _ _ _ _ splash (c.in_err-append_file-3.ensures (codes ".pcrpkey") refl))))))
+    (after_more_declined declined _ _ _ _ splash (c.in_err-append_given-5.ensures (codes ".pcrpkey") refl))))))
 
 pub returns-in_err-append_initrds : goal.returns-in_err-append_initrds
 returns-in_err-append_initrds c =
     let declined = c.in_err-append_initrds.field-0.0 in
     let osrel = c.in_ok-append_given.ensures (codes ".osrel") refl in
     let cmdline = done_more _ _ _ _ _ osrel c.in_ok-append_cmdline.ensures in
-    let dtb = done_more _ _ _ _ _ cmdline (c.in_ok-append_file.ensures (codes ".dtb") refl) in
-    let uname = done_more _ _ _ _ _ dtb c.in_ok-append_uname.ensures in
-    let splash = done_more _ _ _ _ _ uname (c.in_ok-append_file-2.ensures (codes ".splash") refl) in
-    let pcrpkey = done_more _ _ _ _ _ splash (c.in_ok-append_file-3.ensures (codes ".pcrpkey") refl) in
+    let dtb = done_more _ _ _ _ _ cmdline (c.in_ok-append_given-2.ensures (codes ".dtb") refl) in
+    let uname = done_more _ _ _ _ _ dtb (c.in_ok-append_given-3.ensures (codes ".uname") refl) in
+    let splash = done_more _ _ _ _ _ uname (c.in_ok-append_given-4.ensures (codes ".splash") refl) in
+    let pcrpkey = done_more _ _ _ _ _ splash (c.in_ok-append_given-5.ensures (codes ".pcrpkey") refl) in
     means_declined _ declined _ _ c.from_residual-in_err-append_initrds.ensures.0 c.from_residual-in_err-append_initrds.ensures.1
     (all_declined declined _ (wanted_parts c.args.words.now c.args.sections.now) (ap (map part_named) c.new-parts.ensures.items)
     (with_more_declined declined _ _ _
     (with_more_declined declined _ _ _
     (after_more_declined declined _ _ _ _ pcrpkey (rw c.as_slice.ensures at c.in_err-append_initrds.ensures)))))
 
-pub returns-in_err-append_file-4 : goal.returns-in_err-append_file-4
-returns-in_err-append_file-4 c =
-    let declined = c.in_err-append_file-4.field-0.0 in
+pub returns-in_err-append_given-6 : goal.returns-in_err-append_given-6
+returns-in_err-append_given-6 c =
+    let declined = c.in_err-append_given-6.field-0.0 in
     let osrel = c.in_ok-append_given.ensures (codes ".osrel") refl in
     let cmdline = done_more _ _ _ _ _ osrel c.in_ok-append_cmdline.ensures in
-    let dtb = done_more _ _ _ _ _ cmdline (c.in_ok-append_file.ensures (codes ".dtb") refl) in
-    let uname = done_more _ _ _ _ _ dtb c.in_ok-append_uname.ensures in
-    let splash = done_more _ _ _ _ _ uname (c.in_ok-append_file-2.ensures (codes ".splash") refl) in
-    let pcrpkey = done_more _ _ _ _ _ splash (c.in_ok-append_file-3.ensures (codes ".pcrpkey") refl) in
+    let dtb = done_more _ _ _ _ _ cmdline (c.in_ok-append_given-2.ensures (codes ".dtb") refl) in
+    let uname = done_more _ _ _ _ _ dtb (c.in_ok-append_given-3.ensures (codes ".uname") refl) in
+    let splash = done_more _ _ _ _ _ uname (c.in_ok-append_given-4.ensures (codes ".splash") refl) in
+    let pcrpkey = done_more _ _ _ _ _ splash (c.in_ok-append_given-5.ensures (codes ".pcrpkey") refl) in
     let initrds = done_more _ _ _ _ _ pcrpkey (rw c.as_slice.ensures at c.in_ok-append_initrds.ensures) in
-    means_declined _ declined _ _ c.from_residual-in_err-append_file-4.ensures.0 c.from_residual-in_err-append_file-4.ensures.1
+    means_declined _ declined _ _ c.from_residual-in_err-append_given-6.ensures.0 c.from_residual-in_err-append_given-6.ensures.1
     (all_declined declined _ (wanted_parts c.args.words.now c.args.sections.now) (ap (map part_named) c.new-parts.ensures.items)
     (with_more_declined declined _ _ _
-    (after_more_declined declined _ _ _ _ initrds (c.in_err-append_file-4.ensures (codes ".ucode") refl))))
+    (after_more_declined declined _ _ _ _ initrds (c.in_err-append_given-6.ensures (codes ".ucode") refl))))
 
 pub returns-in_err-append_sections : goal.returns-in_err-append_sections
 returns-in_err-append_sections c =
     let declined = c.in_err-append_sections.field-0.0 in
     let osrel = c.in_ok-append_given.ensures (codes ".osrel") refl in
     let cmdline = done_more _ _ _ _ _ osrel c.in_ok-append_cmdline.ensures in
-    let dtb = done_more _ _ _ _ _ cmdline (c.in_ok-append_file.ensures (codes ".dtb") refl) in
-    let uname = done_more _ _ _ _ _ dtb c.in_ok-append_uname.ensures in
-    let splash = done_more _ _ _ _ _ uname (c.in_ok-append_file-2.ensures (codes ".splash") refl) in
-    let pcrpkey = done_more _ _ _ _ _ splash (c.in_ok-append_file-3.ensures (codes ".pcrpkey") refl) in
+    let dtb = done_more _ _ _ _ _ cmdline (c.in_ok-append_given-2.ensures (codes ".dtb") refl) in
+    let uname = done_more _ _ _ _ _ dtb (c.in_ok-append_given-3.ensures (codes ".uname") refl) in
+    let splash = done_more _ _ _ _ _ uname (c.in_ok-append_given-4.ensures (codes ".splash") refl) in
+    let pcrpkey = done_more _ _ _ _ _ splash (c.in_ok-append_given-5.ensures (codes ".pcrpkey") refl) in
     let initrds = done_more _ _ _ _ _ pcrpkey (rw c.as_slice.ensures at c.in_ok-append_initrds.ensures) in
-    let ucode = done_more _ _ _ _ _ initrds (c.in_ok-append_file-4.ensures (codes ".ucode") refl) in
+    let ucode = done_more _ _ _ _ _ initrds (c.in_ok-append_given-6.ensures (codes ".ucode") refl) in
     means_declined _ declined _ _ c.from_residual-in_err-append_sections.ensures.0 c.from_residual-in_err-append_sections.ensures.1
     (all_declined declined _ (wanted_parts c.args.words.now c.args.sections.now) (ap (map part_named) c.new-parts.ensures.items)
     (after_more_declined declined _ _ _ _ ucode c.in_err-append_sections.ensures))
@@ -142,11 +142,11 @@ pub returns : goal.returns
 returns c =
     let osrel = c.in_ok-append_given.ensures (codes ".osrel") refl in
     let cmdline = done_more _ _ _ _ _ osrel c.in_ok-append_cmdline.ensures in
-    let dtb = done_more _ _ _ _ _ cmdline (c.in_ok-append_file.ensures (codes ".dtb") refl) in
-    let uname = done_more _ _ _ _ _ dtb c.in_ok-append_uname.ensures in
-    let splash = done_more _ _ _ _ _ uname (c.in_ok-append_file-2.ensures (codes ".splash") refl) in
-    let pcrpkey = done_more _ _ _ _ _ splash (c.in_ok-append_file-3.ensures (codes ".pcrpkey") refl) in
+    let dtb = done_more _ _ _ _ _ cmdline (c.in_ok-append_given-2.ensures (codes ".dtb") refl) in
+    let uname = done_more _ _ _ _ _ dtb (c.in_ok-append_given-3.ensures (codes ".uname") refl) in
+    let splash = done_more _ _ _ _ _ uname (c.in_ok-append_given-4.ensures (codes ".splash") refl) in
+    let pcrpkey = done_more _ _ _ _ _ splash (c.in_ok-append_given-5.ensures (codes ".pcrpkey") refl) in
     let initrds = done_more _ _ _ _ _ pcrpkey (rw c.as_slice.ensures at c.in_ok-append_initrds.ensures) in
-    let ucode = done_more _ _ _ _ _ initrds (c.in_ok-append_file-4.ensures (codes ".ucode") refl) in
+    let ucode = done_more _ _ _ _ _ initrds (c.in_ok-append_given-6.ensures (codes ".ucode") refl) in
     let sections = done_more _ _ _ _ _ ucode c.in_ok-append_sections.ensures in
     all_found _ _ (wanted_parts c.args.words.now c.args.sections.now) (ap (map part_named) c.new-parts.ensures.items) sections

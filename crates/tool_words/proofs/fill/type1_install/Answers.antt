@@ -4,9 +4,9 @@ use Rattle.tool_words.proofs.fill.type1_install.Goals as goal
 
 pub returns : goal.returns
 returns c = ap command.Type1Install (λ i. record {
-  name = c.in_ok-name.ensures.0 i;
+  name = c.in_ok-operand.ensures i;
   linux = c.in_ok-required_value.ensures i;
   initrds = c.in_ok-all_values.ensures i;
   texts = c.in_ok-entry_texts.ensures i;
-  esp = c.in_ok-name.ensures.1 i;
+  esp = c.in_ok-esp.ensures i;
 })
