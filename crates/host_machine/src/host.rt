@@ -213,6 +213,7 @@ impl<R: Runtime<File = File> + AllocGlobal, E: Print + Drop> Machine for HostMac
         ensures counts { CountsPipe result (counts_of self.old.faults) (counts_of self.new.faults) }
         ensures once { CountsPipeOnce result (counts_of self.old.faults) (counts_of self.new.faults) }
     {
+        self.system.end_reply();
         match to {
             Channel::Out => {
                 let answer = self.system.write_out(bytes);

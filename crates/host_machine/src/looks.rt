@@ -87,6 +87,11 @@ impl Looks {
         Ok(())
     }
 
+    // Whether the look before the last sync of names has found the same at that path.
+    pub(crate) fn was_same(&self, path: &str, found: Option<&Metadata>) -> bool {
+        look_at(&self.before_sync, path).is_some_and(|look| look.found == found.map(Identity::of))
+    }
+
     // A folder has these names.
     pub(crate) fn add_names(&mut self, folder: &str, names: &[FileName]) -> Result<(), AllocError> {
         let folder = String::from_str(*self.listings_since_sync.allocator(), folder)?;

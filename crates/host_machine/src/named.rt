@@ -1,5 +1,6 @@
 //! What the next sync of names has to sync: the files that got a new name, the folders that were changed,
 //! and the folders that were only looked at.
+use crate::intent::parted;
 use std::alloc::{AllocError, Global};
 
 /// The most components that a path may have, and so the most folders above a file.
@@ -68,6 +69,39 @@ impl Folders {
         Ok(())
     }
 
+    // Adds the folder of a path, and each above it. One above is left out if it and the folder below it are settled.
+    fn add_unsettled(&mut self, path: &str, settled: &Folders) -> Result<(), AllocError> {
+        let (mut below, _) = parted(path);
+        self.add(below)?;
+        for _ in 0..DEPTH_LIMIT {
+            if below.is_empty() {
+                break;
+            }
+            let (folder, _) = parted(below);
+            if !(settled.has(below) && settled.has(folder)) {
+                self.add(folder)?;
+            }
+            below = folder;
+        }
+        Ok(())
+    }
+
+    // Adds one folder. That of no name is the one that the program starts in.
+    pub(crate) fn add(&mut self, folder: &str) -> Result<(), AllocError> {
+        if folder.is_empty() {
+            self.has_root = true;
+            return Ok(());
+        }
+        self.below.add(folder)
+    }
+
+    fn has(&self, folder: &str) -> bool {
+        if folder.is_empty() {
+            return self.has_root;
+        }
+        self.below.has(folder)
+    }
+
     fn clear(&mut self) {
         self.has_root = false;
         self.below.clear();
@@ -80,6 +114,8 @@ pub(crate) struct Named {
     pub(crate) renamed: Paths,
     pub(crate) changed: Folders,
     pub(crate) seen: Folders,
+    /// the folders that were there and were synced since the last reply
+    pub(crate) settled: Folders,
 }
 
 impl Named {
@@ -89,12 +125,23 @@ impl Named {
             renamed: Paths::new(alloc),
             changed: Folders::new(alloc),
             seen: Folders::new(alloc),
+            settled: Folders::new(alloc),
         }
     }
 
     // A file was looked at: a name above it that another process changed is synced too.
     pub(crate) fn look_at(&mut self, path: &str) -> Result<(), AllocError> {
         self.seen.add_above(path)
+    }
+
+    // A file was looked at again, and is as it was before the last sync of names. A folder that was synced since the
+    // last reply needs no second sync for it.
+    pub(crate) fn look_again(&mut self, path: &str) -> Result<(), AllocError> {
+        let (folder, _) = parted(path);
+        if self.settled.has(folder) {
+            return Ok(());
+        }
+        self.look_at(path)
     }
 
     // The names of a folder were looked at.
@@ -116,10 +163,28 @@ impl Named {
         self.changed.add_above(from)
     }
 
+    // The same of a boot file, which was there before the names were last synced: the folders above its own that were
+    // synced since the last reply need no second sync.
+    pub(crate) fn rename_known(&mut self, from: &str, to: &str) -> Result<(), AllocError> {
+        self.renamed.add(to)?;
+        self.changed.add_unsettled(to, &self.settled)?;
+        self.changed.add_unsettled(from, &self.settled)
+    }
+
+    // A file goes. The folders above its own that were synced since the last reply need no second sync.
+    pub(crate) fn remove(&mut self, path: &str) -> Result<(), AllocError> {
+        self.changed.add_unsettled(path, &self.settled)
+    }
+
     // All of it is synced.
     pub(crate) fn clear(&mut self) {
         self.renamed.clear();
         self.changed.clear();
         self.seen.clear();
+    }
+
+    // Something was printed: a reply ends here, and the next command relies on no sync before it.
+    pub(crate) fn end_reply(&mut self) {
+        self.settled.clear();
     }
 }

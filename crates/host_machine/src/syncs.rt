@@ -15,7 +15,7 @@ use std::{fs, io};
 // longer needs none.
 pub(crate) fn sync_changed<R: Files<File = File>, E: Print + Drop>(
     rt: &R,
-    named: &Named,
+    named: &mut Named,
     moved: Option<&KeptFile>,
     reports: &Reports<E>,
 ) -> io::Result<()> {
@@ -27,55 +27,66 @@ pub(crate) fn sync_changed<R: Files<File = File>, E: Print + Drop>(
         };
         reports.report("sync", path, answer)?;
     }
-    sync_folders(rt, &named.changed, reports)
-}
-
-fn sync_folders<R: Files<File = File>, E: Print + Drop>(
-    rt: &R,
-    folders: &Folders,
-    reports: &Reports<E>,
-) -> io::Result<()> {
-    for folder in folders.below.as_slice() {
+    for folder in named.changed.below.as_slice() {
         let folder = folder.as_str();
-        reports.report("sync", folder, sync_folder(rt, folder))?;
+        let answer = settle_folder(rt, folder, &mut named.settled);
+        reports.report("sync", folder, answer)?;
     }
-    if folders.has_root {
-        reports.report("sync", ".", sync_folder(rt, "."))?;
+    if named.changed.has_root {
+        reports.report("sync", ".", settle_folder(rt, "", &mut named.settled))?;
     }
     Ok(())
 }
 
 // Syncs the folders that were only looked at, as far as that can be done.
-pub(crate) fn sync_seen<R: Files<File = File>>(rt: &R, named: &Named) {
+pub(crate) fn sync_seen<R: Files<File = File>>(rt: &R, named: &mut Named) {
     for folder in named.seen.below.as_slice() {
         if !named.changed.below.has(folder.as_str()) {
-            let _ = sync_folder(rt, folder.as_str());
+            let _ = settle_folder(rt, folder.as_str(), &mut named.settled);
         }
     }
     if named.seen.has_root && !named.changed.has_root {
-        let _ = sync_folder(rt, ".");
+        let _ = settle_folder(rt, "", &mut named.settled);
     }
+}
+
+// Syncs a folder, and notes it if it was there. If there is no memory for the note the folder is synced once more.
+fn settle_folder<R: Files<File = File>>(
+    rt: &R,
+    folder: &str,
+    settled: &mut Folders,
+) -> io::Result<()> {
+    let path = if folder.is_empty() { "." } else { folder };
+    if sync_folder(rt, path)? {
+        let _ = settled.add(folder);
+    }
+    Ok(())
 }
 
 pub(crate) fn sync_file<R: Files<File = File>>(rt: &R, path: &str) -> io::Result<()> {
     match if_there(fs::metadata(rt, path))? {
-        Some(found) if found.is_file() => sync_path(rt, path),
+        Some(found) if found.is_file() => {
+            sync_path(rt, path)?;
+            Ok(())
+        }
         _ => Ok(()),
     }
 }
 
-pub(crate) fn sync_folder<R: Files<File = File>>(rt: &R, path: &str) -> io::Result<()> {
+// Whether a folder was there and is synced.
+pub(crate) fn sync_folder<R: Files<File = File>>(rt: &R, path: &str) -> io::Result<bool> {
     match if_there(fs::metadata(rt, path))? {
         Some(found) if found.is_dir() => sync_path(rt, path),
-        _ => Ok(()),
+        _ => Ok(false),
     }
 }
 
-fn sync_path<R: Files<File = File>>(rt: &R, path: &str) -> io::Result<()> {
-    match if_there(fs::open(rt, path))? {
-        Some(file) => file.sync_all(),
-        None => Ok(()),
-    }
+fn sync_path<R: Files<File = File>>(rt: &R, path: &str) -> io::Result<bool> {
+    let Some(file) = if_there(fs::open(rt, path))? else {
+        return Ok(false);
+    };
+    file.sync_all()?;
+    Ok(true)
 }
 
 // After a removal the file system must still be one that can be written. FAT's driver makes it read-only if the

@@ -17,7 +17,7 @@ use crate::reports::Reports;
 use crate::syncs::{require_writable, sync_changed, sync_file, sync_folder, sync_seen};
 use boot_base::{FileName, INTENT, IntentNames, TEMP_SUFFIX};
 use std::alloc::Global;
-use std::fs::{File, OpenOptions};
+use std::fs::{File, Metadata, OpenOptions};
 use std::io::ErrorKind;
 use std::rt::Runtime;
 use std::{fs, io};
@@ -65,20 +65,30 @@ impl<R: Runtime<File = File> + AllocGlobal> System<R> {
     // The length of a file, and None if none is there. While another run moves a file it may have no name to be found
     // by, so that is a fault then.
     pub(crate) fn size_of(&mut self, path: &str) -> io::Result<Option<u64>> {
-        self.named.look_at(path)?;
         if path == INTENT {
+            self.named.look_at(path)?;
             return self.size_of_intent();
         }
         let found = if_there(fs::metadata(&self.rt, path))?;
         if found.is_none() {
             require_no_other_move(&self.rt, self.intent.as_ref())?;
         }
-        self.looks.add(path, found.as_ref())?;
+        self.note_look(path, found.as_ref())?;
         Ok(
             found
                 .filter(|found| found.is_file())
                 .map(|found| found.len()),
         )
+    }
+
+    // This stands at a path, or nothing. Its folder is to be synced, unless it was after a look that found the same.
+    fn note_look(&mut self, path: &str, found: Option<&Metadata>) -> io::Result<()> {
+        if self.looks.was_same(path, found) {
+            self.named.look_again(path)?;
+        } else {
+            self.named.look_at(path)?;
+        }
+        self.looks.add(path, found)
     }
 
     // The length of the intent, which this run holds from then on.
@@ -113,14 +123,13 @@ impl<R: Runtime<File = File> + AllocGlobal> System<R> {
     }
 
     fn open_looked(&mut self, path: &str) -> io::Result<Option<KeptFile>> {
-        self.named.look_at(path)?;
         let kept = copy_path(self.rt.alloc(), path)?;
         let Some(file) = open_file(&self.rt, path)? else {
             require_no_other_move(&self.rt, self.intent.as_ref())?;
-            self.looks.add(path, None)?;
+            self.note_look(path, None)?;
             return Ok(None);
         };
-        self.looks.add(path, Some(&file.metadata()?))?;
+        self.note_look(path, Some(&file.metadata()?))?;
         Ok(Some(KeptFile::new(kept, file)))
     }
 
@@ -213,6 +222,7 @@ impl<R: Runtime<File = File> + AllocGlobal> System<R> {
             require_no_other_move(&self.rt, self.intent.as_ref())?;
             self.looks.require_same(&self.rt, to)?;
         }
+        self.named.rename(from, to)?;
         self.rename(from, to)?;
         self.moved = Some(written.with_path(kept));
         Ok(())
@@ -224,6 +234,11 @@ impl<R: Runtime<File = File> + AllocGlobal> System<R> {
         let temp = temp_of(self.rt.alloc(), to)?;
         require_not_written(&self.rt, temp.as_str())?;
         self.looks.require_same(&self.rt, to)?;
+        self.rename_known(from, to)
+    }
+
+    fn rename_known(&mut self, from: &str, to: &str) -> io::Result<()> {
+        self.named.rename_known(from, to)?;
         self.rename(from, to)
     }
 
@@ -232,7 +247,6 @@ impl<R: Runtime<File = File> + AllocGlobal> System<R> {
         self.looked = None;
         self.moved = None;
         require_replaceable(&self.rt, to)?;
-        self.named.rename(from, to)?;
         self.make_folders(to)?;
         self.looks.forget(from);
         self.looks.forget(to);
@@ -266,7 +280,7 @@ impl<R: Runtime<File = File> + AllocGlobal> System<R> {
             return self.remove_intent();
         }
         match self.emptied_name(path)? {
-            Some(to) => self.rename(path, to.as_str()),
+            Some(to) => self.rename_known(path, to.as_str()),
             None => self.unlink(path),
         }
     }
@@ -307,13 +321,14 @@ impl<R: Runtime<File = File> + AllocGlobal> System<R> {
         };
         fs::rename(&self.rt, rescue.alias.as_str(), rescue.name)?;
         sync_file(&self.rt, rescue.name)?;
-        sync_folder(&self.rt, folder_of(rescue.name))
+        sync_folder(&self.rt, folder_of(rescue.name))?;
+        Ok(())
     }
 
     fn unlink(&mut self, path: &str) -> io::Result<()> {
         self.looked = None;
         let removed = copy_path(self.rt.alloc(), path)?;
-        self.named.change(path)?;
+        self.named.remove(path)?;
         self.looks.forget(path);
         fs::remove_file(&self.rt, path)?;
         self.removed = Some(removed);
@@ -337,11 +352,11 @@ impl<R: Runtime<File = File> + AllocGlobal> System<R> {
         self.looked = None;
         reports.report("sync", ".", self.require_no_loss())?;
         reports.report("sync", ".", self.require_same_entries())?;
-        let answer = sync_changed(&self.rt, &self.named, self.moved.as_ref(), reports);
+        let answer = sync_changed(&self.rt, &mut self.named, self.moved.as_ref(), reports);
         self.has_lost = answer.is_err();
         answer?;
         require_writable(&self.rt, self.removed.as_ref(), reports)?;
-        sync_seen(&self.rt, &self.named);
+        sync_seen(&self.rt, &mut self.named);
         self.keep_intent();
         self.removed = None;
         self.named.clear();
@@ -372,6 +387,11 @@ impl<R: Runtime<File = File> + AllocGlobal> System<R> {
             return Err(io::Error::other("an earlier sync failed"));
         }
         Ok(())
+    }
+
+    // A reply is printed, or a part of one: no later command relies on a sync before it.
+    pub(crate) fn end_reply(&mut self) {
+        self.named.end_reply();
     }
 
     // Prints all of the bytes.
