@@ -2,7 +2,7 @@
 use Rattle.std.proofs.Common.{◌≡◌, ◌≤◌, ℕ, List, true, false, length, sym, ap, ◌∙◌, refl, subst}
 use Rattle.std.specs.FinMap.{insert, remove}
 use Rattle.boot_base.specs.Paths.{Path}
-use Rattle.boot_base.specs.declared.temp_path.Target.{Target}
+use Rattle.install_steps.specs.declared.moves.Intent.{Intent}
 use Rattle.boot_machine.specs.Disk.{Files, State, IsRested, has, recovered_view}
 use Rattle.boot_machine.specs.Rows.{contents}
 use Rattle.boot_machine.specs.Sent.{seen}
@@ -54,7 +54,7 @@ module _ (s : State) (change : Change) (rested : IsRested s) where
   pub left_rested : (temps : _) → change ≡ Leftovers temps → recovered_view s.files ≡ effect (seen s) change
   left_rested temps is = calm ∙ ap (effect (seen s)) (sym is)
 
-  module _ (from to : Path) (intent : Target) (gone exists : RefusalLine) (is : change ≡ Move from to intent gone exists) (can : CanMake s change) where
+  module _ (from to : Path) (intent : Intent) (gone exists : RefusalLine) (is : change ≡ Move from to intent gone exists) (can : CanMake s change) where
     can_move : (has (seen s) from ≡ true) × (has (seen s) to ≡ false)
     can_move = subst (CanMake s) is can
 

@@ -3,7 +3,7 @@ use Rattle.std.specs.Prelude.{◌≡◌, ◌≤◌, ℕ, true, false, All, Resul
 use Rattle.std.specs.List.{IsDistinct}
 use Rattle.std.specs.FinMap.{insert, remove}
 use Rattle.boot_base.specs.Limits.{file_limit}
-use Rattle.boot_base.specs.Paths.{Path, IsFree, intent as intent_path}
+use Rattle.boot_base.specs.Paths.{Path, IsFree}
 use Rattle.boot_base.specs.Refusals.{line_of, number_of}
 use Rattle.boot_base.specs.declared.refusal.Refusal.{Refusal}
 use Rattle.boot_base.specs.declared.refusal.Refusal.TheVariants as refusals
@@ -14,7 +14,7 @@ use Rattle.pe_builder.specs.declared.plan.Plan.{Plan as ImagePlan}
 use Rattle.image_writer.specs.declared.sources.Sources.{Sources}
 use Rattle.image_writer.specs.Sourced.{IsSourced, planned_image}
 use Rattle.image_writer.specs.Taken.{writing_length}
-use Rattle.install_steps.specs.Steps.{Lacks}
+use Rattle.install_steps.specs.Steps.{IsIntentOf, Lacks}
 use Rattle.command_plans.specs.Declining.{printed_path}
 use Rattle.command_plans.specs.Unsaying.{UnsaidFor}
 use Rattle.command_plans.specs.declared.unsaid.Unsaid.{Unsaid}
@@ -66,7 +66,7 @@ IsMakeable (Write image sources target) = IsFree target.path
 IsMakeable (Put target bytes) = IsFree target.path
 IsMakeable (Copy from target gone) = IsFree target.path × TellsGone from gone
 IsMakeable (Move from to intent gone exists) =
-    IsFree from × IsFree to × (intent.path ≡ intent_path) × TellsGone from gone × TellsThere to exists
+    IsFree from × IsFree to × IsIntentOf from to intent × TellsGone from gone × TellsThere to exists
 
 -- the file is there, and has no more bytes than are read
 abbrev pub CanCopy : State → Path → Type 0

@@ -3,6 +3,7 @@
 use crate::outcome::Outcome;
 use boot_base::{BootPath, Bytes, Target, TempPath};
 use image_writer::Sources;
+use install_steps::Intent;
 
 /// A refusal as it is printed: its number, and the whole line.
 #[derive(Debug, Drop)]
@@ -51,7 +52,7 @@ pub enum Change {
     Move {
         from: BootPath,
         to: BootPath,
-        intent: Target,
+        intent: Intent,
         gone: RefusalLine,
         exists: RefusalLine,
     },

@@ -11,9 +11,10 @@ ghost use Rattle.command_plans.specs.Plans.{IsIdleIfRefused, IsMakeable, Plans};
 ghost use Rattle.command_plans.specs.Declining.{printed_path};
 ghost use Rattle.entry_commands.specs.Moving.{IsMove};
 
-use boot_base::{BootPath, Bytes, Refusal, Target};
+use boot_base::{BootPath, Bytes, Refusal};
 use boot_machine::{DiskFault, Machine};
 use command_plans::{Change, Outcome, Plan, gone_line, printed_line, printed_path, seen_size};
+use install_steps::Intent;
 use std::alloc::{AllocError, Global};
 
 /// Whether a boot file stands at a path.
@@ -41,7 +42,7 @@ fn move_of(alloc: Global, from: &BootPath, to: &BootPath) -> Result<Change, Allo
 {
     let gone = gone_line(alloc, from)?;
     let exists = printed_line(alloc, already_there(alloc, to)?)?;
-    let intent = Target::of(alloc, BootPath::intent(alloc)?)?;
+    let intent = Intent::of(alloc, from, to)?;
     Ok(Change::Move {
         from: from.copy(alloc)?,
         to: to.copy(alloc)?,

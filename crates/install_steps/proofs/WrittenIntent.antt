@@ -1,5 +1,5 @@
 -- An intent that is written under its temporary name and put in its place.
-use Rattle.std.proofs.Common.{◌≡◌, ◌≢◌, ℕ, true, List, [], ◌∷◌, ◌++◌, Option, Some, unwrap_or, refl, sym, ap, ◌∙◌, subst, append_assoc}
+use Rattle.std.proofs.Common.{◌≡◌, ◌≢◌, ℕ, true, List, [], ◌∷◌, ◌++◌, Option, Some, unwrap_or, refl, sym, ap, ◌∙◌, subst}
 use Rattle.std.specs.Prelude.{bytes_eq, option_and_then}
 use Rattle.std.specs.FinMap as map
 use Rattle.std.specs.Str.{is_utf8}
@@ -15,17 +15,12 @@ use Rattle.boot_machine.proofs.Written.{temps-written}
 use Rattle.boot_machine.proofs.Recovering.{intent_shown}
 use Rattle.install_steps.specs.Appends.{HasAppended, IsGrown}
 use Rattle.install_steps.specs.Steps.{Intends}
-use Rattle.install_steps.specs.proofs.AppendLaws.{has_appended_on}
 use Rattle.install_steps.proofs.AppendLemmas.{written_file}
 use Rattle.install_steps.proofs.CopyLemmas.{with_file, with_file_here, with_file_apart}
 
--- what two names and their NULs come to
-pub bytes_joined : (a b : Path) → (a ++ 0 ∷ []) ++ (b ++ 0 ∷ []) ≡ intent_bytes a b
-bytes_joined a b = append_assoc a (0 ∷ []) (b ++ 0 ∷ [])
-
-pub grown_joined : (p a b : Path) (s t u : State) → contents s.files p ≡ [] → IsGrown p (a ++ 0 ∷ []) s t → IsGrown p (b ++ 0 ∷ []) t u → contents u.files p ≡ intent_bytes a b
-grown_joined p a b s t u none first second =
-    second.bytes ∙ ap (λ (l : List ℕ). l ++ (b ++ 0 ∷ [])) (first.bytes ∙ ap (λ (l : List ℕ). l ++ (a ++ 0 ∷ [])) none) ∙ bytes_joined a b
+-- an empty file that has grown by these bytes
+pub grown_whole : (p : Path) (bytes : List ℕ) (s t : State) → contents s.files p ≡ [] → IsGrown p bytes s t → contents t.files p ≡ bytes
+grown_whole p bytes s t none grown = grown.bytes ∙ ap (λ (l : List ℕ). l ++ bytes) none
 
 -- two paths that commands may name, in normal form
 pub may_stand_from : (a b : Path) → is_utf8 a ≡ true → is_normal a ≡ true → IsFree a → is_utf8 b ≡ true → is_normal b ≡ true → IsFree b → a ≢ b → may_stand a b ≡ true
@@ -46,17 +41,17 @@ intends_put m temp a b bytes is_temporary is a_normal b_normal stand = record {
       get-insert_apart (map.remove (with_file temp bytes m) temp) intent (contents (with_file temp bytes m) temp) q off ∙ get-remove_apart (with_file temp bytes m) temp q apart ∙ with_file_apart m temp bytes q apart;
 }
 
-module _ (m : Files) (temp path : Path) (mid first second : State) (is_temporary : is_temp temp ≡ true) (at_intent : path ≡ intent) (created : mid.files ≡ map.insert m temp [])
-    (one : HasAppended temp mid first) (two : HasAppended temp first second) where
-  whole_file : second.files ≡ with_file temp (contents second.files temp) m
-  whole_file = written_file m temp mid second created (has_appended_on temp mid first second one two)
+module _ (m : Files) (temp path : Path) (mid last : State) (is_temporary : is_temp temp ≡ true) (at_intent : path ≡ intent) (created : mid.files ≡ map.insert m temp [])
+    (appended : HasAppended temp mid last) where
+  whole_file : last.files ≡ with_file temp (contents last.files temp) m
+  whole_file = written_file m temp mid last created appended
 
-  pub intends_written : (a b : Path) → contents second.files temp ≡ intent_bytes a b → is_normal a ≡ true → is_normal b ≡ true → may_stand a b ≡ true → Intends a b m (move_in temp path second.files)
+  pub intends_written : (a b : Path) → contents last.files temp ≡ intent_bytes a b → is_normal a ≡ true → is_normal b ≡ true → may_stand a b ≡ true → Intends a b m (move_in temp path last.files)
   intends_written a b bytes a_normal b_normal stand =
-      subst (λ (p : Path). Intends a b m (move_in temp p second.files)) (sym at_intent)
-      (subst (λ (n : Files). Intends a b m (move_in temp intent n)) (sym whole_file) (intends_put m temp a b (contents second.files temp) is_temporary bytes a_normal b_normal stand))
+      subst (λ (p : Path). Intends a b m (move_in temp p last.files)) (sym at_intent)
+      (subst (λ (n : Files). Intends a b m (move_in temp intent n)) (sym whole_file) (intends_put m temp a b (contents last.files temp) is_temporary bytes a_normal b_normal stand))
 
   -- and no other temporary file
-  pub temps_put : (q : Path) → is_temp q ≡ true → has (move_in temp path second.files) q ≡ true → has m q ≡ true
+  pub temps_put : (q : Path) → is_temp q ≡ true → has (move_in temp path last.files) q ≡ true → has m q ≡ true
   temps_put q q_temp there =
-      temps-written m temp path (contents second.files temp) is_temporary (ap is_temp at_intent ∙ intent_shown) q q_temp (subst (λ (n : Files). has (move_in temp path n) q ≡ true) whole_file there)
+      temps-written m temp path (contents last.files temp) is_temporary (ap is_temp at_intent ∙ intent_shown) q q_temp (subst (λ (n : Files). has (move_in temp path n) q ≡ true) whole_file there)

@@ -1,7 +1,7 @@
 -- What the steps of an installation do to what boot sees.
 use Rattle.std.specs.Prelude.{if◌then◌else◌, None, ◌≡◌, ◌≢◌, ◌⊎◌, ◌&&◌, not, true, false, List, Some, Result, MatchResult}
 use Rattle.std.specs.FinMap as map
-use Rattle.boot_base.specs.Paths.{Path, intent, is_temp}
+use Rattle.boot_base.specs.Paths.{Path, intent, intent_bytes, is_temp}
 use Rattle.boot_machine.specs.Disk.{Files, State, HasOneCandidate, IsRested, has, intent_names, is_same_path, recovered_view}
 use Rattle.boot_machine.specs.Images.{IsImage, IsFirm}
 use Rattle.boot_machine.specs.Moments.{Timeline, EachSince}
@@ -14,6 +14,7 @@ use Rattle.install_steps.specs.declared.faults.RecoverFault.{RecoverFault}
 use Rattle.install_steps.specs.declared.faults.RecoverFault.TheVariants.{Disk as RDisk, Memory as RMemory}
 use Rattle.install_steps.specs.declared.faults.StepFault.{StepFault}
 use Rattle.install_steps.specs.declared.faults.StepFault.TheVariants.{Disk as SDisk, NotFound as SNotFound}
+use Rattle.install_steps.specs.declared.moves.Intent.{Intent}
 use Rattle.boot_machine.specs.declared.machine.Printed.{Printed}
 
 -- boot sees what it saw before the step, or what it is to see, and nothing more is printed
@@ -82,6 +83,10 @@ CountsStep result old new = MatchResult result (λ _. new ≡ old) (λ fault. st
 pub record Intends (from to : Path) (old new : Files) : Type 0 where
   pub named : intent_names new ≡ Some (from, to)
   pub alike : (q : Path) → is_temp q ≡ false → is_same_path q intent ≡ false → map.get new q ≡ map.get old q
+
+-- the intent of a move from one path to another: it stands at its own path, and its bytes name both
+abbrev pub IsIntentOf : Path → Path → Intent → Type 0
+IsIntentOf from to made = (made.target.path ≡ intent) × (made.bytes ≡ intent_bytes from to)
 
 -- the disk failed, or the counts stay
 abbrev pub recover_fault : RecoverFault → Counts → Counts → Type 0

@@ -19,7 +19,7 @@ mod write;
 
 pub use appends::{append, copy_part};
 pub use faults::{MoveFault, RecoverFault, StepFault};
-pub use moves::move_name;
+pub use moves::{Intent, move_name};
 pub use recovery::recover;
 pub use steps::{drop_leftovers, drop_name, settle};
 pub use write::{put_in_place, write_bytes, write_whole};

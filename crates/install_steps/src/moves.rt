@@ -1,36 +1,49 @@
 //! Moving a file under an intent, which says at a stop which of its two names counts.
-ghost use Rattle.std.specs.Prelude.{◌≡◌, ◌≢◌, ◌++◌, ◌∷◌, [], true, false, IsTrue, OnOk, IsErrOf, Some};
-ghost use Rattle.boot_base.specs.Paths.{IsFree, intent as intent_path};
+ghost use Rattle.std.specs.Prelude.{◌≡◌, ◌≢◌, true, false, IfOk, IsTrue, OnOk, IsErrOf, Some};
+ghost use Rattle.boot_base.specs.Paths.{IsFree, intent_bytes};
 ghost use Rattle.boot_machine.specs.Disk.{HasOneCandidate, IsRested, has, intent_names, recovered_view};
 ghost use Rattle.boot_machine.specs.Images.{IsFirm};
 ghost use Rattle.boot_machine.specs.Reading.{OnlyReads};
 ghost use Rattle.boot_machine.specs.Rows.{move_in};
 ghost use Rattle.boot_machine.specs.Counts.{CountsDisk};
 ghost use Rattle.boot_machine.specs.Taken.{TakesNone};
-ghost use Rattle.install_steps.specs.Appends.{AppendsOnly, IsGrown};
-ghost use Rattle.install_steps.specs.Steps.{Keeps, StepsTo, IsDone, NoNewTemp, Intends, PrintsNothing, RestsUnless, CountsMove, after_move};
+ghost use Rattle.install_steps.specs.Steps.{Keeps, StepsTo, IsDone, NoNewTemp, Intends, IsIntentOf, PrintsNothing, RestsUnless, CountsMove, after_move};
 
 use crate::MoveFault;
+use crate::appends::append;
 use crate::steps::unlink_synced;
 use crate::write::put_in_place;
-use boot_base::{BootPath, Target, TempPath};
+use boot_base::{BootPath, Bytes, Target};
 use boot_machine::{DiskFault, Machine};
+use std::alloc::{AllocError, Global};
 
-// Writes a path and a NUL behind what the intent's temporary file has.
-fn append_name<M: Machine>(
-    machine: &mut M,
-    temp: &TempPath,
-    name: &BootPath,
-) -> Result<(), DiskFault>
-    requires there { IsTrue M.tells → has (M.state machine.old).files temp.now ≡ true }
-    ensures appends { IsTrue M.tells → AppendsOnly M.time M.state temp.now machine.old machine.new }
-    ensures grown { OnOk result (IsTrue M.tells
-        → IsGrown temp.now (name.now ++ 0 ∷ []) (M.state machine.old) (M.state machine.new)) }
-    ensures counts { CountsDisk result (M.counts machine.old) (M.counts machine.new) }
-    ensures taken { IsTrue M.tells → TakesNone (M.taken machine.old) (M.taken machine.new) }
+/// The intent of a move: where it stands and is written first, and its bytes, which name the two paths.
+#[derive(Debug, Drop)]
+pub struct Intent {
+    pub target: Target,
+    pub bytes: Bytes,
+}
+
+impl Intent {
+    /// That of the move from one path to another.
+    pub fn of(alloc: Global, from: &BootPath, to: &BootPath) -> Result<Intent, AllocError>
+        ensures { IfOk result (IsIntentOf from.now to.now) }
+    {
+        let target = Target::of(alloc, BootPath::intent(alloc)?)?;
+        let bytes = bytes_of(alloc, from.as_str().as_bytes(), to.as_str().as_bytes())?;
+        Ok(Intent { target, bytes })
+    }
+}
+
+// Each of two paths with a NUL behind it.
+fn bytes_of(alloc: Global, from: &[u8], to: &[u8]) -> Result<Bytes, AllocError>
+    ensures { IfOk result (λ bytes. bytes ≡ intent_bytes from.now to.now) }
 {
-    machine.append(temp, name.as_str().as_bytes())?;
-    machine.append(temp, &[0])
+    let mut bytes = from.to_vec(alloc)?;
+    bytes.push(0)?;
+    bytes.extend_from_slice(to)?;
+    bytes.push(0)?;
+    Ok(Bytes::from(bytes))
 }
 
 // Puts the intent in its place. Boot sees the same all the while.
@@ -38,9 +51,9 @@ fn put_intent<M: Machine>(
     machine: &mut M,
     from: &BootPath,
     to: &BootPath,
-    intent: &Target,
+    intent: &Intent,
 ) -> Result<(), DiskFault>
-    requires at_intent { intent.now.path ≡ intent_path }
+    requires intent { IsIntentOf from.now to.now intent.now }
     requires free_from { IsFree from.now }
     requires free_to { IsFree to.now }
     requires differ { IsTrue M.tells → from.now ≢ to.now }
@@ -60,11 +73,10 @@ fn put_intent<M: Machine>(
 {
     from.know_normal();
     to.know_normal();
-    intent.temp.know();
-    machine.create(&intent.temp)?;
-    append_name(machine, &intent.temp, from)?;
-    append_name(machine, &intent.temp, to)?;
-    put_in_place(machine, intent)
+    intent.target.temp.know();
+    machine.create(&intent.target.temp)?;
+    append(machine, &intent.target.temp, intent.bytes.as_slice())?;
+    put_in_place(machine, &intent.target)
 }
 
 // Renames a file as the intent says, and syncs the names. While both names are there boot sees the new one alone.
@@ -96,9 +108,9 @@ fn move_intended<M: Machine>(
     machine: &mut M,
     from: &BootPath,
     to: &BootPath,
-    intent: &Target,
+    intent: &Intent,
 ) -> Result<(), DiskFault>
-    requires at_intent { intent.now.path ≡ intent_path }
+    requires intent { IsIntentOf from.now to.now intent.now }
     requires free_from { IsFree from.now }
     requires free_to { IsFree to.now }
     requires one { IsTrue M.tells → HasOneCandidate (M.state machine.old) }
@@ -120,7 +132,7 @@ fn move_intended<M: Machine>(
     to.know();
     put_intent(machine, from, to, intent)?;
     rename_synced(machine, from, to)?;
-    unlink_synced(machine, &intent.path)
+    unlink_synced(machine, &intent.target.path)
 }
 
 // Refuses a move of a file that isn't there, and one to a path at which one is.
@@ -152,9 +164,9 @@ pub fn move_name<M: Machine>(
     machine: &mut M,
     from: &BootPath,
     to: &BootPath,
-    intent: &Target,
+    intent: &Intent,
 ) -> Result<(), MoveFault>
-    requires at_intent { intent.now.path ≡ intent_path }
+    requires intent { IsIntentOf from.now to.now intent.now }
     requires free_from { IsFree from.now }
     requires free_to { IsFree to.now }
     requires one { IsTrue M.tells → HasOneCandidate (M.state machine.old) }

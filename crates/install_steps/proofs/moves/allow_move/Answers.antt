@@ -1,4 +1,4 @@
-use Rattle.std.proofs.Common.{◌≡◌, true, false, not, sym, ap, ◌∙◌}
+use Rattle.std.proofs.Common.{◌≡◌, true, not, sym, ap, ◌∙◌}
 use Rattle.boot_machine.specs.Disk.{State, has}
 use Rattle.boot_machine.proofs.Reading.{reads_once, reads_on}
 use Rattle.install_steps.proofs.RefusedLemmas.{has-sized}

@@ -40,7 +40,7 @@ returns-in_err-rename_synced-clause-step g c told firm =
 
 pub unlink_synced-requires-clause-there : goal.unlink_synced-requires-clause-there
 unlink_synced-requires-clause-there g c told =
-    rw (c.requires.at_intent, c.in_ok-rename_synced.ensures.files told) (intent_there (g.M.Machine.state c.args.machine.now).files _ c.args.from.now c.args.to.now (c.requires.rested told) (c.in_ok-put_intent.ensures.intends told))
+    rw (c.requires.intent.0, c.in_ok-rename_synced.ensures.files told) (intent_there (g.M.Machine.state c.args.machine.now).files _ c.args.from.now c.args.to.now (c.requires.rested told) (c.in_ok-put_intent.ensures.intends told))
 
 pub returns-clause-step : goal.returns-clause-step
 returns-clause-step g c told firm =
@@ -55,7 +55,7 @@ returns-clause-step g c told firm =
     let n = g.M.Machine.state c.rename_synced.new.machine in
     let files = c.in_ok-rename_synced.ensures.files told in
     let sees : recovered_view n.files ≡ next = ap recovered_view files ∙ moved in
-    let without : recovered_view (map.remove n.files c.args.intent.now.path) ≡ next = rw (c.requires.at_intent, files) (dropped_view s.files m.files c.args.from.now c.args.to.now (c.requires.rested told) intends) in
+    let without : recovered_view (map.remove n.files c.args.intent.now.target.path) ≡ next = rw (c.requires.intent.0, files) (dropped_view s.files m.files c.args.from.now c.args.to.now (c.requires.rested told) intends) in
     steps_then g.M.Machine.time g.M.Machine.state next _ c.args.machine.now c.rename_synced.new.machine c.unlink_synced.new.machine second ((c.rename_synced.ensures.keeps told).printed ∙ (c.put_intent.ensures.keeps told).printed) (inr sees) (inr without) (c.unlink_synced.ensures.step told second.firm)
 
 pub returns-clause-done : goal.returns-clause-done
@@ -64,16 +64,16 @@ returns-clause-done g c = ok_both c.unlink_synced.result c.unlink_synced.ensures
     let next = move_in c.args.from.now c.args.to.now (recovered_view s.files) in
     let intends = c.in_ok-put_intent.ensures.intends told in
     let m = g.M.Machine.state c.put_intent.new.machine in
-    let is : recovered_view (g.M.Machine.state c.unlink_synced.new.machine).files ≡ next = rw (removed told, c.requires.at_intent, c.in_ok-rename_synced.ensures.files told) (dropped_view s.files m.files c.args.from.now c.args.to.now (c.requires.rested told) intends) in
+    let is : recovered_view (g.M.Machine.state c.unlink_synced.new.machine).files ≡ next = rw (removed told, c.requires.intent.0, c.in_ok-rename_synced.ensures.files told) (dropped_view s.files m.files c.args.from.now c.args.to.now (c.requires.rested told) intends) in
     done_after g.M.Machine.time g.M.Machine.state next c.args.machine.now c.unlink_synced.new.machine (g.met.M.Machine.sound c.unlink_synced.new.machine told) (returns-clause-step g c told firm) (one told) is)
 
 pub returns-clause-rests : goal.returns-clause-rests
 returns-clause-rests g c = ok_then c.unlink_synced.result c.unlink_synced.ensures.files (λ removed told.
-    rw (removed told, c.requires.at_intent) (calm-removed (g.M.Machine.state c.rename_synced.new.machine).files))
+    rw (removed told, c.requires.intent.0) (calm-removed (g.M.Machine.state c.rename_synced.new.machine).files))
 
 pub returns-clause-temps : goal.returns-clause-temps
 returns-clause-temps g c = ok_then c.unlink_synced.result c.unlink_synced.ensures.files (λ removed told q temp there.
-    let kept = has-removed (g.M.Machine.state c.rename_synced.new.machine).files c.args.intent.now.path q (rw (removed told) at there) in
+    let kept = has-removed (g.M.Machine.state c.rename_synced.new.machine).files c.args.intent.now.target.path q (rw (removed told) at there) in
     c.in_ok-put_intent.ensures.temps told q temp
     (temps-move_in (g.M.Machine.state c.put_intent.new.machine).files c.args.from.now c.args.to.now c.know-2.ensures q temp (rw (c.in_ok-rename_synced.ensures.files told) at kept)))
 

@@ -37,7 +37,7 @@ returns-in_err-allow_move-clause-exists g c = λ err told.
 
 pub move_intended-requires : goal.move_intended-requires
 move_intended-requires g c = record {
-  at_intent = c.requires.at_intent;
+  intent = c.requires.intent;
   free_from = c.requires.free_from;
   free_to = c.requires.free_to;
   one = λ told. rw ((c.allow_move.ensures.reads told).same) (c.requires.one told);

@@ -1,4 +1,4 @@
-use Rattle.std.proofs.Common.{◌≡◌, true, [], refl, sym, subst}
+use Rattle.std.proofs.Common.{◌≡◌, ◌∙◌, true, [], refl, sym, subst}
 use Rattle.std.specs.FinMap as map
 use Rattle.boot_machine.specs.Disk.{Files, has, recovered_view}
 use Rattle.boot_machine.specs.Rows.{contents, move_in}
@@ -9,7 +9,7 @@ use Rattle.install_steps.specs.proofs.AppendLaws.{appends-there}
 use Rattle.install_steps.proofs.MoveLemmas.{intended_view}
 use Rattle.install_steps.proofs.StepLemmas.{begins_same, firm_so_far, settled_so_far, steps_same, steps_on, ok_then}
 use Rattle.install_steps.proofs.AppendLemmas.{goes-appends, contents-created}
-use Rattle.install_steps.proofs.WrittenIntent.{grown_joined, intends_written, temps_put, may_stand_from}
+use Rattle.install_steps.proofs.WrittenIntent.{grown_whole, intends_written, temps_put, may_stand_from}
 use Rattle.install_steps.proofs.QuietLemmas.{quiet-create, quiet_appends, quiet_start, quiet_then}
 use Rattle.install_steps.proofs.moves.put_intent.Goals as goal
 
@@ -17,113 +17,86 @@ pub returns-in_err-create-clause-step : goal.returns-in_err-create-clause-step
 returns-in_err-create-clause-step g c told firm =
     let s = g.M.Machine.state c.args.machine.now in
     let start = begins_same g.M.Machine.time g.M.Machine.state c.args.machine.now (λ m o. g.met.M.Machine.only_now c.args.machine.now m o told) (g.met.M.Machine.sound c.args.machine.now told) firm (c.requires.one told) in
-    let made = goes-create _ _ _ _ _ _ c.create.result start (c.create.ensures.moments told) c.args.intent.now.temp c.know.ensures (c.create.ensures.row told) in
+    let made = goes-create _ _ _ _ _ _ c.create.result start (c.create.ensures.moments told) c.args.intent.now.target.temp c.know.ensures (c.create.ensures.row told) in
     steps_same _ _ _ _ _ made
 
-pub append_name-requires : goal.append_name-requires
-append_name-requires g c = record {
-  there = λ told. rw (c.in_ok-create.ensures.row told) (has-created (g.M.Machine.state c.args.machine.now).files c.args.intent.now.temp);
+pub append-requires : goal.append-requires
+append-requires g c = record {
+  there = λ told. rw (c.in_ok-create.ensures.row told) (has-created (g.M.Machine.state c.args.machine.now).files c.args.intent.now.target.temp);
 }
 
-pub returns-in_err-append_name-clause-step : goal.returns-in_err-append_name-clause-step
-returns-in_err-append_name-clause-step g c told firm =
+pub returns-in_err-append-clause-step : goal.returns-in_err-append-clause-step
+returns-in_err-append-clause-step g c told firm =
     let s = g.M.Machine.state c.args.machine.now in
     let start = begins_same g.M.Machine.time g.M.Machine.state c.args.machine.now (λ m o. g.met.M.Machine.only_now c.args.machine.now m o told) (g.met.M.Machine.sound c.args.machine.now told) firm (c.requires.one told) in
-    let made = goes-create _ _ _ _ _ _ c.create.result start (c.create.ensures.moments told) c.args.intent.now.temp c.know.ensures (c.create.ensures.row told) in
-    let first = goes-appends _ _ _ _ _ _ made c.args.intent.now.temp c.know.ensures (c.append_name.ensures.appends told) in
+    let made = goes-create _ _ _ _ _ _ c.create.result start (c.create.ensures.moments told) c.args.intent.now.target.temp c.know.ensures (c.create.ensures.row told) in
+    let first = goes-appends _ _ _ _ _ _ made c.args.intent.now.target.temp c.know.ensures (c.append.ensures.appends told) in
     steps_same _ _ _ _ _ first
-
-pub append_name-requires-2 : goal.append_name-requires-2
-append_name-requires-2 g c = record {
-  there = λ told.
-      let there : has (g.M.Machine.state c.create.new.self).files c.args.intent.now.temp ≡ true = rw (c.in_ok-create.ensures.row told) (has-created (g.M.Machine.state c.args.machine.now).files c.args.intent.now.temp) in
-      appends-there g.M.Machine.time g.M.Machine.state c.args.intent.now.temp c.create.new.self c.append_name.new.machine (c.append_name.ensures.appends told) there;
-}
-
-pub returns-in_err-append_name-2-clause-step : goal.returns-in_err-append_name-2-clause-step
-returns-in_err-append_name-2-clause-step g c told firm =
-    let s = g.M.Machine.state c.args.machine.now in
-    let start = begins_same g.M.Machine.time g.M.Machine.state c.args.machine.now (λ m o. g.met.M.Machine.only_now c.args.machine.now m o told) (g.met.M.Machine.sound c.args.machine.now told) firm (c.requires.one told) in
-    let made = goes-create _ _ _ _ _ _ c.create.result start (c.create.ensures.moments told) c.args.intent.now.temp c.know.ensures (c.create.ensures.row told) in
-    let first = goes-appends _ _ _ _ _ _ made c.args.intent.now.temp c.know.ensures (c.append_name.ensures.appends told) in
-    let second = goes-appends _ _ _ _ _ _ first c.args.intent.now.temp c.know.ensures (c.append_name-2.ensures.appends told) in
-    steps_same _ _ _ _ _ second
 
 pub put_in_place-requires : goal.put_in_place-requires
 put_in_place-requires g c = record {
   there = λ told.
-      let there : has (g.M.Machine.state c.create.new.self).files c.args.intent.now.temp ≡ true = rw (c.in_ok-create.ensures.row told) (has-created (g.M.Machine.state c.args.machine.now).files c.args.intent.now.temp) in
-      appends-there g.M.Machine.time g.M.Machine.state c.args.intent.now.temp c.append_name.new.machine c.append_name-2.new.machine (c.append_name-2.ensures.appends told)
-      (appends-there g.M.Machine.time g.M.Machine.state c.args.intent.now.temp c.create.new.self c.append_name.new.machine (c.append_name.ensures.appends told) there);
+      let there : has (g.M.Machine.state c.create.new.self).files c.args.intent.now.target.temp ≡ true = rw (c.in_ok-create.ensures.row told) (has-created (g.M.Machine.state c.args.machine.now).files c.args.intent.now.target.temp) in
+      appends-there g.M.Machine.time g.M.Machine.state c.args.intent.now.target.temp c.create.new.self c.append.new.machine (c.append.ensures.appends told) there;
 }
 
 pub returns-clause-step : goal.returns-clause-step
 returns-clause-step g c told firm =
     let s = g.M.Machine.state c.args.machine.now in
     let start = begins_same g.M.Machine.time g.M.Machine.state c.args.machine.now (λ m o. g.met.M.Machine.only_now c.args.machine.now m o told) (g.met.M.Machine.sound c.args.machine.now told) firm (c.requires.one told) in
-    let made = goes-create _ _ _ _ _ _ c.create.result start (c.create.ensures.moments told) c.args.intent.now.temp c.know.ensures (c.create.ensures.row told) in
-    let first = goes-appends _ _ _ _ _ _ made c.args.intent.now.temp c.know.ensures (c.append_name.ensures.appends told) in
-    let second = goes-appends _ _ _ _ _ _ first c.args.intent.now.temp c.know.ensures (c.append_name-2.ensures.appends told) in
+    let made = goes-create _ _ _ _ _ _ c.create.result start (c.create.ensures.moments told) c.args.intent.now.target.temp c.know.ensures (c.create.ensures.row told) in
+    let first = goes-appends _ _ _ _ _ _ made c.args.intent.now.target.temp c.know.ensures (c.append.ensures.appends told) in
     let m = (g.M.Machine.state c.args.machine.now).files in
     let mid = g.M.Machine.state c.create.new.self in
-    let created : mid.files ≡ map.insert m c.args.intent.now.temp [] = rw (c.in_ok-create.ensures.row told) refl in
-    let none : contents mid.files c.args.intent.now.temp ≡ [] = rw (c.in_ok-create.ensures.row told) (contents-created m c.args.intent.now.temp) in
-    let bytes = grown_joined c.args.intent.now.temp c.args.from.now c.args.to.now mid (g.M.Machine.state c.append_name.new.machine) (g.M.Machine.state c.append_name-2.new.machine) none (c.in_ok-append_name.ensures.grown told) (c.in_ok-append_name-2.ensures.grown told) in
+    let created : mid.files ≡ map.insert m c.args.intent.now.target.temp [] = rw (c.in_ok-create.ensures.row told) refl in
+    let none : contents mid.files c.args.intent.now.target.temp ≡ [] = rw (c.in_ok-create.ensures.row told) (contents-created m c.args.intent.now.target.temp) in
+    let bytes = grown_whole c.args.intent.now.target.temp _ mid (g.M.Machine.state c.append.new.machine) none (c.in_ok-append.ensures.grows told) ∙ c.as_slice.ensures ∙ c.requires.intent.1 in
     let stand = may_stand_from c.args.from.now c.args.to.now c.know_normal.ensures.text c.know_normal.ensures.normal c.requires.free_from c.know_normal-2.ensures.text c.know_normal-2.ensures.normal c.requires.free_to (c.requires.differ told) in
-    let put : Intends c.args.from.now c.args.to.now m (move_in c.args.intent.now.temp c.args.intent.now.path (g.M.Machine.state c.append_name-2.new.machine).files) =
-    intends_written m c.args.intent.now.temp c.args.intent.now.path mid (g.M.Machine.state c.append_name.new.machine) (g.M.Machine.state c.append_name-2.new.machine) c.know.ensures c.requires.at_intent created
-    (c.append_name.ensures.appends told).left (c.append_name-2.ensures.appends told).left c.args.from.now c.args.to.now bytes c.know_normal.ensures.normal c.know_normal-2.ensures.normal stand in
-    let is : recovered_view (move_in c.args.intent.now.temp c.args.intent.now.path (g.M.Machine.state c.append_name-2.new.machine).files) ≡ recovered_view s.files = intended_view m _ c.args.from.now c.args.to.now (c.requires.rested told) put (c.requires.none told) in
-    let finished = c.put_in_place.ensures.step told (firm_so_far _ _ _ _ _ second) (settled_so_far _ _ _ _ second) in
-    steps_on _ _ _ _ _ _ second (subst (λ (v : Files). StepsTo g.M.Machine.time g.M.Machine.state v c.append_name-2.new.machine c.put_in_place.new.machine) is finished)
+    let put : Intends c.args.from.now c.args.to.now m (move_in c.args.intent.now.target.temp c.args.intent.now.target.path (g.M.Machine.state c.append.new.machine).files) =
+    intends_written m c.args.intent.now.target.temp c.args.intent.now.target.path mid (g.M.Machine.state c.append.new.machine) c.know.ensures c.requires.intent.0 created
+    (c.append.ensures.appends told).left c.args.from.now c.args.to.now bytes c.know_normal.ensures.normal c.know_normal-2.ensures.normal stand in
+    let is : recovered_view (move_in c.args.intent.now.target.temp c.args.intent.now.target.path (g.M.Machine.state c.append.new.machine).files) ≡ recovered_view s.files = intended_view m _ c.args.from.now c.args.to.now (c.requires.rested told) put (c.requires.none told) in
+    let finished = c.put_in_place.ensures.step told (firm_so_far _ _ _ _ _ first) (settled_so_far _ _ _ _ first) in
+    steps_on _ _ _ _ _ _ first (subst (λ (v : Files). StepsTo g.M.Machine.time g.M.Machine.state v c.append.new.machine c.put_in_place.new.machine) is finished)
 
 pub returns-clause-intends : goal.returns-clause-intends
 returns-clause-intends g c = ok_then c.put_in_place.result c.put_in_place.ensures.files (λ files told.
     let m = (g.M.Machine.state c.args.machine.now).files in
     let mid = g.M.Machine.state c.create.new.self in
-    let created : mid.files ≡ map.insert m c.args.intent.now.temp [] = rw (c.in_ok-create.ensures.row told) refl in
-    let none : contents mid.files c.args.intent.now.temp ≡ [] = rw (c.in_ok-create.ensures.row told) (contents-created m c.args.intent.now.temp) in
-    let bytes = grown_joined c.args.intent.now.temp c.args.from.now c.args.to.now mid (g.M.Machine.state c.append_name.new.machine) (g.M.Machine.state c.append_name-2.new.machine) none (c.in_ok-append_name.ensures.grown told) (c.in_ok-append_name-2.ensures.grown told) in
+    let created : mid.files ≡ map.insert m c.args.intent.now.target.temp [] = rw (c.in_ok-create.ensures.row told) refl in
+    let none : contents mid.files c.args.intent.now.target.temp ≡ [] = rw (c.in_ok-create.ensures.row told) (contents-created m c.args.intent.now.target.temp) in
+    let bytes = grown_whole c.args.intent.now.target.temp _ mid (g.M.Machine.state c.append.new.machine) none (c.in_ok-append.ensures.grows told) ∙ c.as_slice.ensures ∙ c.requires.intent.1 in
     let stand = may_stand_from c.args.from.now c.args.to.now c.know_normal.ensures.text c.know_normal.ensures.normal c.requires.free_from c.know_normal-2.ensures.text c.know_normal-2.ensures.normal c.requires.free_to (c.requires.differ told) in
-    let put : Intends c.args.from.now c.args.to.now m (move_in c.args.intent.now.temp c.args.intent.now.path (g.M.Machine.state c.append_name-2.new.machine).files) =
-    intends_written m c.args.intent.now.temp c.args.intent.now.path mid (g.M.Machine.state c.append_name.new.machine) (g.M.Machine.state c.append_name-2.new.machine) c.know.ensures c.requires.at_intent created
-    (c.append_name.ensures.appends told).left (c.append_name-2.ensures.appends told).left c.args.from.now c.args.to.now bytes c.know_normal.ensures.normal c.know_normal-2.ensures.normal stand in
+    let put : Intends c.args.from.now c.args.to.now m (move_in c.args.intent.now.target.temp c.args.intent.now.target.path (g.M.Machine.state c.append.new.machine).files) =
+    intends_written m c.args.intent.now.target.temp c.args.intent.now.target.path mid (g.M.Machine.state c.append.new.machine) c.know.ensures c.requires.intent.0 created
+    (c.append.ensures.appends told).left c.args.from.now c.args.to.now bytes c.know_normal.ensures.normal c.know_normal-2.ensures.normal stand in
     subst (Intends c.args.from.now c.args.to.now m) (sym (files told)) put)
 
 pub returns-clause-temps : goal.returns-clause-temps
 returns-clause-temps g c = ok_then c.put_in_place.result c.put_in_place.ensures.files (λ files told q temp there.
     let m = (g.M.Machine.state c.args.machine.now).files in
     let mid = g.M.Machine.state c.create.new.self in
-    let created : mid.files ≡ map.insert m c.args.intent.now.temp [] = rw (c.in_ok-create.ensures.row told) refl in
-    temps_put m c.args.intent.now.temp c.args.intent.now.path mid (g.M.Machine.state c.append_name.new.machine) (g.M.Machine.state c.append_name-2.new.machine) c.know.ensures c.requires.at_intent created
-    (c.append_name.ensures.appends told).left (c.append_name-2.ensures.appends told).left q temp (rw (files told) at there))
+    let created : mid.files ≡ map.insert m c.args.intent.now.target.temp [] = rw (c.in_ok-create.ensures.row told) refl in
+    temps_put m c.args.intent.now.target.temp c.args.intent.now.target.path mid (g.M.Machine.state c.append.new.machine) c.know.ensures c.requires.intent.0 created
+    (c.append.ensures.appends told).left q temp (rw (files told) at there))
 
 pub returns-in_err-create-clause-quiet : goal.returns-in_err-create-clause-quiet
 returns-in_err-create-clause-quiet g c told =
     let start = quiet_start g.M.Machine.time g.M.Machine.state c.args.machine.now (λ m o. g.met.M.Machine.only_now c.args.machine.now m o told) in
-    let made = quiet-create _ _ _ _ _ start (λ m o. g.met.M.Machine.only_now c.args.machine.now m o told) (c.create.ensures.moments told) c.create.result c.args.intent.now.temp (c.create.ensures.row told) in
+    let made = quiet-create _ _ _ _ _ start (λ m o. g.met.M.Machine.only_now c.args.machine.now m o told) (c.create.ensures.moments told) c.create.result c.args.intent.now.target.temp (c.create.ensures.row told) in
     made.moments
 
-pub returns-in_err-append_name-clause-quiet : goal.returns-in_err-append_name-clause-quiet
-returns-in_err-append_name-clause-quiet g c told =
+pub returns-in_err-append-clause-quiet : goal.returns-in_err-append-clause-quiet
+returns-in_err-append-clause-quiet g c told =
     let start = quiet_start g.M.Machine.time g.M.Machine.state c.args.machine.now (λ m o. g.met.M.Machine.only_now c.args.machine.now m o told) in
-    let made = quiet-create _ _ _ _ _ start (λ m o. g.met.M.Machine.only_now c.args.machine.now m o told) (c.create.ensures.moments told) c.create.result c.args.intent.now.temp (c.create.ensures.row told) in
-    let first = quiet_appends _ _ c.args.intent.now.temp _ _ _ made (c.append_name.ensures.appends told) in
+    let made = quiet-create _ _ _ _ _ start (λ m o. g.met.M.Machine.only_now c.args.machine.now m o told) (c.create.ensures.moments told) c.create.result c.args.intent.now.target.temp (c.create.ensures.row told) in
+    let first = quiet_appends _ _ c.args.intent.now.target.temp _ _ _ made (c.append.ensures.appends told) in
     first.moments
-
-pub returns-in_err-append_name-2-clause-quiet : goal.returns-in_err-append_name-2-clause-quiet
-returns-in_err-append_name-2-clause-quiet g c told =
-    let start = quiet_start g.M.Machine.time g.M.Machine.state c.args.machine.now (λ m o. g.met.M.Machine.only_now c.args.machine.now m o told) in
-    let made = quiet-create _ _ _ _ _ start (λ m o. g.met.M.Machine.only_now c.args.machine.now m o told) (c.create.ensures.moments told) c.create.result c.args.intent.now.temp (c.create.ensures.row told) in
-    let first = quiet_appends _ _ c.args.intent.now.temp _ _ _ made (c.append_name.ensures.appends told) in
-    let second = quiet_appends _ _ c.args.intent.now.temp _ _ _ first (c.append_name-2.ensures.appends told) in
-    second.moments
 
 pub returns-clause-quiet : goal.returns-clause-quiet
 returns-clause-quiet g c told =
     let start = quiet_start g.M.Machine.time g.M.Machine.state c.args.machine.now (λ m o. g.met.M.Machine.only_now c.args.machine.now m o told) in
-    let made = quiet-create _ _ _ _ _ start (λ m o. g.met.M.Machine.only_now c.args.machine.now m o told) (c.create.ensures.moments told) c.create.result c.args.intent.now.temp (c.create.ensures.row told) in
-    let first = quiet_appends _ _ c.args.intent.now.temp _ _ _ made (c.append_name.ensures.appends told) in
-    let second = quiet_appends _ _ c.args.intent.now.temp _ _ _ first (c.append_name-2.ensures.appends told) in
-    let ended = quiet_then _ _ _ _ _ second (c.put_in_place.ensures.quiet told) (c.put_in_place.ensures.keeps told) in
+    let made = quiet-create _ _ _ _ _ start (λ m o. g.met.M.Machine.only_now c.args.machine.now m o told) (c.create.ensures.moments told) c.create.result c.args.intent.now.target.temp (c.create.ensures.row told) in
+    let first = quiet_appends _ _ c.args.intent.now.target.temp _ _ _ made (c.append.ensures.appends told) in
+    let ended = quiet_then _ _ _ _ _ first (c.put_in_place.ensures.quiet told) (c.put_in_place.ensures.keeps told) in
     ended.moments
