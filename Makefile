@@ -1,16 +1,17 @@
 # What people type: `make` proves and builds, `make try` builds unproved, `make check` is the merge gate, and `make install` puts
-# what `make` has built where Debian's and Fedora's tools look for it, below DESTDIR.
+# what `make` has built where Debian's and Fedora's tools look for it, below DESTDIR. The program names its commit: `make COMMIT=..` says
+# which that is if neither git nor the archive does.
 PREFIX ?= /usr/local
 PROGRAM ?= crates/boot_tools/out/boot_tools
 ZSHDIR ?= $(PREFIX)/share/zsh/$(if $(and $(filter /usr,$(PREFIX)),$(wildcard /etc/debian_version)),vendor-completions,site-functions)
 FISHDIR ?= $(if $(filter /usr,$(PREFIX)),/usr/share/fish/vendor_completions.d,/etc/fish/completions)
 HOOKDIR ?= $(if $(filter /usr,$(PREFIX)),/usr/lib,/etc)/kernel/install.d
-SHOWN = -- measure calculate --linux=data/k --bank=sha256 --phase=
+SHOWN = measure calculate --linux=data/k --bank=sha256 --phase=
 
 all:
-	cd crates/boot_tools && rt run $(SHOWN)
+	tools/build $(SHOWN)
 try:
-	cd crates/boot_tools && rt try --data data/k=data/k $(SHOWN)
+	cd crates/boot_tools && rt try --data data/k=data/k -- $(SHOWN)
 	@echo "make try: this was built unproved, and is gone again; make proves it and keeps it"
 check:
 	.ci/run

@@ -2,21 +2,29 @@
 //! changes a boot folder, as `ukify`, `bootctl`, `systemd-measure` and `systemd-bless-boot` do.
 //!
 //! `run` is the whole program over any machine, and carries the theorem; `main` calls it on the folder
-//! that the program starts in and its standard streams.
+//! that the program starts in and its standard streams. Before that it says which build this is, if the environment
+//! asks for a log.
 #![tactic(auto)]
 
+mod build;
+
 use boot_run::{Ended, run};
-use host_machine::{HostMachine, reports_are_wanted};
+use build::{COMMIT, VERSION};
+use host_machine::{HostMachine, report_build, reports_are_wanted};
 use std::io::ErrorKind;
 use std::process::ExitCode;
 use std::rt::Env;
 use std::{env, io};
 
 fn main(rt: HostRuntime) -> ExitCode {
+    let are_wanted = reports_are_wanted(&rt);
+    if are_wanted {
+        report_build(&rt.stderr(), VERSION, COMMIT);
+    }
     let Ok(words) = given_words(&rt) else {
         return ExitCode::from(Ended::Memory.status());
     };
-    let mut machine = HostMachine::new(rt, rt.stderr()).with_reports(reports_are_wanted(&rt));
+    let mut machine = HostMachine::new(rt, rt.stderr()).with_reports(are_wanted);
     ExitCode::from(run(rt.alloc(), &words, &mut machine))
 }
 

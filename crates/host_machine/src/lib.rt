@@ -21,4 +21,4 @@ mod syncs;
 mod system;
 
 pub use host::HostMachine;
-pub use reports::reports_are_wanted;
+pub use reports::{report_build, reports_are_wanted};
