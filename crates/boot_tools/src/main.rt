@@ -1,4 +1,4 @@
-//! `boot_tools`: builds unified kernel images, tells their PCR 11 values before they are booted, and
+//! `boot_tools`: builds unified kernel images, predicts their values of PCR 11 before they are booted, and
 //! changes a boot folder, as `ukify`, `bootctl`, `systemd-measure` and `systemd-bless-boot` do.
 //!
 //! `run` is the whole program over any machine, and carries the theorem; `main` calls it on the folder
@@ -28,7 +28,7 @@ fn main(rt: HostRuntime) -> ExitCode {
     ExitCode::from(run(rt.alloc(), &words, &mut machine))
 }
 
-// The words behind the program's name. Where one of them isn't UTF-8 they are a single word that is no
+// The words behind the program's name. If one of them isn't UTF-8 they are a single word that is no
 // command.
 fn given_words<R: Env + AllocGlobal>(rt: &R) -> io::Result<Vec<String>> {
     match env::args(rt) {
