@@ -1,12 +1,9 @@
 //! A plan is carried out.
 ghost use Rattle.std.specs.Prelude.{◌≡◌, IsTrue};
-ghost use Rattle.boot_machine.specs.Disk.{Files, IsRested};
-ghost use Rattle.boot_machine.specs.Images.{IsFirm};
-ghost use Rattle.boot_machine.specs.Sent.{seen};
+ghost use Rattle.boot_machine.specs.Prelude.{Files, IsFirm, IsRested, seen};
 ghost use Rattle.boot_commands.specs.Commands.{LeavesTidied, TidiesTo};
 ghost use Rattle.command_plans.specs.Deeds.{deed_of_answer};
-ghost use Rattle.command_plans.specs.Performs.{CountsStop, LeavesNoTemp, LeavesRested, Performs, end_of};
-ghost use Rattle.command_plans.specs.Plans.{CanMake, Drops, IsMakeable, answer_of_plan};
+ghost use Rattle.command_plans.specs.Prelude.{CanMake, CountsStop, Drops, IsMakeable, LeavesNoTemp, LeavesRested, Performs, answer_of_plan, end_of};
 ghost use Rattle.tool_words.specs.declared.command.Command.{Command};
 
 use boot_machine::Machine;

@@ -3,14 +3,8 @@ ghost use Rattle.std.specs.Prelude.{◌≡◌, ◌≤◌, string_bytes, IfOk, So
 ghost use Rattle.std.specs.Char.{is_ascii_digit};
 ghost use Rattle.std.specs.List.{list_all};
 ghost use Rattle.boot_base.specs.Paths.{path_of};
-ghost use Rattle.boot_machine.specs.Counts.{Counts};
-ghost use Rattle.boot_machine.specs.Disk.{State, view};
-ghost use Rattle.boot_machine.specs.Sent.{seen};
-ghost use Rattle.command_plans.specs.Answers.{answer_of_read};
-ghost use Rattle.command_plans.specs.Performs.{CountsStop};
-ghost use Rattle.command_plans.specs.Plans.{IsMakeable, Plans};
-ghost use Rattle.command_plans.specs.Declining.{Means};
-ghost use Rattle.command_plans.specs.Unsaying.{CountsUnsaid, Says};
+ghost use Rattle.boot_machine.specs.Prelude.{Counts, State, seen, view};
+ghost use Rattle.command_plans.specs.Prelude.{CountsStop, CountsUnsaid, IsMakeable, Means, Plans, Says, answer_of_read};
 ghost use Rattle.memory_machine.specs.Memory.{mem_state};
 ghost use Rattle.boot_commands.specs.DemoImages.{demo_image};
 ghost use Rattle.boot_commands.specs.Demonstration.{demo_esp, demo_files, demo_result, demo_start, demo_text, demo_turns, count_lines, end_lines, is_long_number, list_digest, long_number, number_up_to, run_line};

@@ -1,12 +1,11 @@
 //! The turns of a demonstration: drawn commands over a machine in memory.
 ghost use Rattle.std.specs.Prelude.{◌≡◌, ◌<◌, ◌^◌, ◌++◌, map, true, string_bytes, IfOk, OnOk, codes};
-ghost use Rattle.boot_machine.specs.Sent.{seen};
+ghost use Rattle.boot_machine.specs.Prelude.{Files, seen};
 ghost use Rattle.memory_machine.specs.Memory.{mem_state};
 ghost use Rattle.boot_commands.specs.Demonstration.{after_command, demo_esp, demo_name, demo_turn, drawn_command, drawn_install, listed_on_out, next_command, path_told, run_drawn, third_number};
 ghost use Rattle.boot_commands.specs.DemoRuns.{IsReady, demo_state, reply_answer};
 ghost use Rattle.boot_commands.specs.Plain.{is_plain, is_step, plain_reply};
 ghost use Rattle.tool_words.specs.declared.command.Command.TheVariants.{Bless as BlessCommand, Unlink as UnlinkCommand};
-ghost use Rattle.boot_machine.specs.Disk.{Files};
 
 use crate::draws::Draws;
 use crate::plain::plain_step;

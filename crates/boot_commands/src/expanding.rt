@@ -1,15 +1,9 @@
 //! The commands that a command stands for.
 ghost use Rattle.std.specs.Prelude.{◌≡◌, true, All, IfOk, IsTrue, List, Result, codes};
 ghost use Rattle.boot_base.specs.declared.refusal.Refusal.{Refusal};
-ghost use Rattle.boot_machine.specs.Counts.{Counts};
-ghost use Rattle.boot_machine.specs.Disk.{State};
-ghost use Rattle.boot_machine.specs.Reading.{OnlyReads};
-ghost use Rattle.boot_machine.specs.Sent.{seen};
+ghost use Rattle.boot_machine.specs.Prelude.{Counts, OnlyReads, State, seen};
 ghost use Rattle.boot_commands.specs.Plain.{answer_or_none, is_step};
-ghost use Rattle.command_plans.specs.Answers.{done_answer, refusal};
-ghost use Rattle.command_plans.specs.Performs.{CountsStop};
-ghost use Rattle.command_plans.specs.Plans.{IsMakeable, Plans};
-ghost use Rattle.command_plans.specs.Unsaying.{CountsUnsaid, Says};
+ghost use Rattle.command_plans.specs.Prelude.{CountsStop, CountsUnsaid, IsMakeable, Plans, Says, done_answer, refusal};
 ghost use Rattle.command_plans.specs.declared.plan.Change.TheVariants.{Nothing};
 ghost use Rattle.tool_words.specs.declared.command.Command.{Command};
 ghost use Rattle.boot_commands.specs.Expansions.{expands, expansion, ok_commands, own_answer, refused_answer};

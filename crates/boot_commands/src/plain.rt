@@ -1,13 +1,9 @@
 //! One command that runs no other, from its reads to the end of its reply.
 ghost use Rattle.std.specs.Prelude.{◌≡◌, true, IfOk, IsTrue};
-ghost use Rattle.boot_machine.specs.Disk.{Files, IsRested};
-ghost use Rattle.boot_machine.specs.Images.{IsFirm};
-ghost use Rattle.boot_machine.specs.Sent.{seen};
+ghost use Rattle.boot_machine.specs.Prelude.{Files, IsFirm, IsRested, OnlyReads, seen};
 ghost use Rattle.boot_commands.specs.Commands.{LeavesTidied, TidiesTo, deed_of, step_reply};
 ghost use Rattle.boot_commands.specs.Plain.{is_plain, is_step};
-ghost use Rattle.boot_machine.specs.Reading.{OnlyReads};
-ghost use Rattle.command_plans.specs.Performs.{CountsStop, LeavesNoTemp, LeavesRested, Performs, end_of};
-ghost use Rattle.command_plans.specs.Plans.{Drops, IsMakeable, Plans};
+ghost use Rattle.command_plans.specs.Prelude.{CountsStop, Drops, IsMakeable, LeavesNoTemp, LeavesRested, Performs, Plans, end_of};
 
 use crate::carrying::carry_out;
 use boot_machine::Machine;

@@ -8,25 +8,17 @@ ghost use Rattle.boot_folder.specs.Entries.{entry_at, entry_if, own_path};
 ghost use Rattle.boot_folder.specs.Items.{CountsItem, GivesItem};
 ghost use Rattle.boot_folder.specs.Records.{Unfit, value_if_ok, type1_entry, type1_item};
 ghost use Rattle.boot_folder.specs.Scanning.{CountsRead, read_limit, size_within};
-ghost use Rattle.boot_machine.specs.Counts.{Counts, CountsDisk};
-ghost use Rattle.boot_machine.specs.Reading.{OnlyReads, TakesAtMost};
-ghost use Rattle.boot_machine.specs.Rows.{contents};
+ghost use Rattle.boot_machine.specs.Prelude.{Counts, CountsDisk, OnlyReads, TakesAtMost, contents};
 ghost use Rattle.menu_order.specs.declared.item.MenuItem.{MenuItem};
 
 use crate::fault::{ItemFault, ReadFault};
 use crate::name::split_name;
-use crate::uki::{uki_item, zeros};
-use boot_base::{BootPath, FileName, PathFault};
-use boot_machine::{DiskFault, Machine, read_part};
+use crate::uki::uki_item;
+use boot_base::{BootPath, FILE_LIMIT, FileName, PathFault, TEXT_LIMIT};
+use boot_machine::{DiskFault, Machine, read_part, zeros};
 use boot_texts::{EntryFault, Type1};
 use menu_order::{MenuItem, Suffix};
 use std::alloc::{AllocError, Global};
-
-/// The most bytes of a type 1 file.
-const TEXT_LIMIT: u64 = 65_536;
-
-/// The most bytes of a type 2 file.
-const IMAGE_LIMIT: u64 = 268_435_456;
 
 // The size of a machine's file, if it is there with no more bytes than that.
 fn size_within<M: Machine>(
@@ -143,7 +135,7 @@ fn image_at<M: Machine>(
     ensures counts { CountsRead result (M.counts machine.old) (M.counts machine.new) }
     ensures taken { IsTrue M.tells → TakesAtMost 134999 (M.taken machine.old) (M.taken machine.new) }
 {
-    if size_within(machine, &path, IMAGE_LIMIT)?.is_none() {
+    if size_within(machine, &path, FILE_LIMIT)?.is_none() {
         return Ok(None);
     }
     let file = path.copy(alloc)?;

@@ -5,7 +5,7 @@ ghost use Rattle.menu_order.specs.Splits.{has_suffix};
 ghost use Rattle.menu_order.specs.declared.counted.Suffix.TheVariants.{Conf, Efi};
 ghost use Rattle.boot_folder.specs.Entries.{entry_count};
 ghost use Rattle.boot_folder.specs.Scanning.{AreEntryNames, CountsRead, CountsScan, FindsFolders, fault_many};
-ghost use Rattle.boot_machine.specs.Reading.{OnlyReads};
+ghost use Rattle.boot_machine.specs.Prelude.{OnlyReads};
 
 use crate::fault::{ReadFault, ScanFault};
 use crate::folders::Folders;

@@ -3,7 +3,7 @@ ghost use Rattle.std.specs.Prelude.{◌≡◌, ℕ, List, AllPairs, Contains, If
 ghost use Rattle.std.specs.List.{IsDistinct};
 ghost use Rattle.std.specs.List.Sorted.{IsSorted};
 ghost use Rattle.boot_folder.specs.Scanning.{path_order};
-ghost use Rattle.boot_machine.specs.Disk.{path_cmp};
+ghost use Rattle.boot_machine.specs.Prelude.{path_cmp};
 ghost use Rattle.menu_order.specs.Menu.{HaveOwnPaths, IsBefore};
 ghost use Rattle.menu_order.specs.declared.item.MenuItem.{MenuItem};
 

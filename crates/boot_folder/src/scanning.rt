@@ -5,8 +5,7 @@ ghost use Rattle.menu_order.specs.Splits.{has_suffix};
 ghost use Rattle.menu_order.specs.declared.counted.Suffix.TheVariants.{Conf, Efi};
 ghost use Rattle.boot_folder.specs.Entries.{IsEntry, boot_menu, entry_count, entry_if, esp_folders};
 ghost use Rattle.boot_folder.specs.Scanning.{AreEntryNames, CountsRead, CountsScan, FindsFolders, entries_named, fault_many, read_limit, scan_limit};
-ghost use Rattle.boot_machine.specs.Reading.{OnlyReads, TakesAtMost};
-ghost use Rattle.boot_machine.specs.Sent.{seen};
+ghost use Rattle.boot_machine.specs.Prelude.{OnlyReads, TakesAtMost, seen};
 ghost use Rattle.menu_order.specs.Menu.{HaveOwnPaths, IsMenu};
 ghost use Rattle.menu_order.specs.declared.item.MenuItem.{MenuItem};
 

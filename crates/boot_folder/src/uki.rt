@@ -1,12 +1,9 @@
 //! Entries of unified kernel images.
 ghost use Rattle.std.specs.Prelude.{◌≡◌, ◌≤◌, ◌<◌, ◌+◌, ◌^◌, ℕ, List, IfOk, IfErr, IsTrue, Ok, true, drop, length, replicate, option_copied};
 ghost use Rattle.boot_base.specs.Paths.{file_name_of};
-ghost use Rattle.boot_machine.specs.Counts.{Counts};
-ghost use Rattle.boot_machine.specs.Disk.{has};
+ghost use Rattle.boot_machine.specs.Prelude.{Counts, OnlyReads, TakesAtMost, contents, has};
 ghost use Rattle.menu_order.specs.Splits.{has_suffix};
 ghost use Rattle.boot_folder.specs.Records.{titled_item, type2_item, uki_of};
-ghost use Rattle.boot_machine.specs.Reading.{OnlyReads, TakesAtMost};
-ghost use Rattle.boot_machine.specs.Rows.{contents};
 ghost use Rattle.pe_reader.specs.LoadedBytes.{bytes_in};
 ghost use Rattle.boot_folder.specs.Items.{CountsItem, GivesItem, IsUnread};
 ghost use Rattle.pe_reader.specs.Grammar.{pe_of};
@@ -15,15 +12,12 @@ ghost use Rattle.boot_folder.specs.Ranges.{IsRange, FindsOsrel};
 
 use crate::fault::{ItemFault, Missing};
 use crate::name::split_name;
-use boot_base::{BootPath, Bytes, BytesList};
-use boot_machine::{Machine, read_part};
+use boot_base::{BootPath, Bytes, BytesList, TEXT_LIMIT};
+use boot_machine::{Machine, read_part, zeros};
 use boot_texts::OsRelease;
 use menu_order::{MenuItem, Suffix};
 use pe_reader::{LoadedRange, Pe};
 use std::alloc::{AllocError, Global};
-
-/// The most bytes of an os-release text.
-const OSREL_LIMIT: u64 = 65_536;
 
 /// The entry of a machine's file of type 2, as if the file stood at `path`. It reads the file's headers and its
 /// os-release text: at most 134,999 bytes. Nothing is changed.
@@ -132,17 +126,10 @@ pub(crate) fn osrel_range(head: &Pe) -> Result<LoadedRange, Missing>
     }
     let osrel = range_named(head, b".osrel");
     let count = osrel.length + osrel.zeros;
-    if count == 0 || count > OSREL_LIMIT {
+    if count == 0 || count > TEXT_LIMIT {
         return Err(Missing::Osrel);
     }
     Ok(osrel)
-}
-
-/// So many zeros. The length is a variable, so that no proof writes out a list of that many.
-pub(crate) fn zeros(alloc: Global, count: usize) -> Result<Vec<u8>, AllocError>
-    ensures { IfOk result (λ zeros. zeros.items ≡ replicate count 0) }
-{
-    vec![in alloc; 0u8; count]
 }
 
 /// The bytes of a machine's file in a range that lies in it.

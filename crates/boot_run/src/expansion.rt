@@ -1,13 +1,12 @@
 //! The lines of a command that stands for others.
 ghost use Rattle.std.specs.Prelude.{◌≡◌, true, All, IfOk, IsTrue, OnOk};
-ghost use Rattle.boot_machine.specs.Disk.{HasOneCandidate};
-ghost use Rattle.boot_machine.specs.Images.{IsFirm};
-ghost use Rattle.boot_machine.specs.Sent.{latest_view, recovered_views};
+ghost use Rattle.boot_machine.specs.Prelude.{HasOneCandidate, IsFirm, recovered_views};
+ghost use Rattle.boot_machine.specs.Sent.{latest_view};
 ghost use Rattle.boot_commands.specs.Expansions.{expands, expansion};
 ghost use Rattle.boot_commands.specs.Plain.{is_step};
 ghost use Rattle.install_steps.specs.Recovery.{RecoversTo, SameFrom};
 ghost use Rattle.install_steps.specs.Steps.{Keeps, NoNewTemp};
-ghost use Rattle.command_plans.specs.Performs.{CountsStop};
+ghost use Rattle.command_plans.specs.Prelude.{CountsStop};
 ghost use Rattle.boot_run.specs.AskedLines.{plain_lines};
 
 use crate::line::Line;

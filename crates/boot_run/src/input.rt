@@ -1,9 +1,8 @@
 //! Standard input, read to its end.
 ghost use Rattle.std.specs.Prelude.{◌≡◌, ◌+◌, ◌≤◌, ℕ, drop, take, IfOk, OnOk, IsErrOf, IsTrue};
-ghost use Rattle.boot_machine.specs.Images.{IsImage};
-ghost use Rattle.boot_machine.specs.Moments.{EachSince};
+ghost use Rattle.boot_machine.specs.Prelude.{EachSince, IsImage};
 ghost use Rattle.boot_machine.specs.Sent.{SameButInput};
-ghost use Rattle.command_plans.specs.Performs.{CountsStop};
+ghost use Rattle.command_plans.specs.Prelude.{CountsStop};
 ghost use Rattle.boot_run.specs.Lines.{script_limit};
 
 use boot_machine::Machine;

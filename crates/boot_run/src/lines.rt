@@ -1,17 +1,13 @@
 //! A run over a list of lines.
 ghost use Rattle.std.specs.Prelude.{◌≡◌, ◌||◌, true, false, not, All, IfOk, OnOk, OnErr, ℕ, take, IsTrue};
 ghost use Rattle.boot_base.specs.Refusals.{line_of};
-ghost use Rattle.boot_machine.specs.Counts.{CountsPipe};
-ghost use Rattle.boot_machine.specs.Disk.{IsRested};
-ghost use Rattle.boot_machine.specs.Images.{IsFirm};
-ghost use Rattle.boot_machine.specs.Moments.{EachSince};
-ghost use Rattle.boot_machine.specs.Rows.{on_channel, with_printed};
-ghost use Rattle.boot_machine.specs.Sent.{PrintsPart, recovered_now, seen};
+ghost use Rattle.boot_machine.specs.Prelude.{CountsPipe, EachSince, IsFirm, IsRested, on_channel, recovered_now, seen};
+ghost use Rattle.boot_machine.specs.Rows.{with_printed};
+ghost use Rattle.boot_machine.specs.Sent.{PrintsPart};
 ghost use Rattle.boot_machine.specs.declared.machine.Channel.TheVariants.{Err, Out};
-ghost use Rattle.command_plans.specs.Answers.{is_refusal};
+ghost use Rattle.command_plans.specs.Prelude.{CountsStop, LeavesNoTemp, LeavesRested, Performs, end_of, is_refusal};
 ghost use Rattle.boot_commands.specs.Commands.{LeavesTidied, deed_of};
 ghost use Rattle.boot_commands.specs.Plain.{is_step};
-ghost use Rattle.command_plans.specs.Performs.{CountsStop, LeavesNoTemp, LeavesRested, Performs, end_of};
 ghost use Rattle.boot_run.specs.Endings.{AllTidied, ended_by};
 ghost use Rattle.boot_run.specs.Lines.{IsStep, Prints, TidiedBy, with_acknowledgement, acknowledgement, acknowledgement_in, has_command, is_unread, line_deed, no_command_text, too_long_text, unread_deed};
 ghost use Rattle.boot_run.specs.RunBy.{CleanBehind};

@@ -1,10 +1,9 @@
 //! The recovery with which a run begins, before its first command.
 ghost use Rattle.std.specs.Prelude.{◌≡◌, IsTrue, OnOk};
-ghost use Rattle.boot_machine.specs.Disk.{HasOneCandidate, IsRested};
-ghost use Rattle.boot_machine.specs.Images.{IsFirm};
+ghost use Rattle.boot_machine.specs.Prelude.{HasOneCandidate, IsFirm, IsRested};
 ghost use Rattle.install_steps.specs.Recovery.{RecoversTo, SameFrom};
 ghost use Rattle.install_steps.specs.Steps.{Keeps, NoNewTemp};
-ghost use Rattle.command_plans.specs.Performs.{CountsStop};
+ghost use Rattle.command_plans.specs.Prelude.{CountsStop};
 
 use boot_base::{BootPath, Target};
 use boot_machine::Machine;

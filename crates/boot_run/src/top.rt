@@ -1,14 +1,11 @@
 //! The top call.
 ghost use Rattle.std.specs.Prelude.{◌≡◌, ◌≤◌, ◌++◌, true, false, ℕ, List, [], ◌∷◌, All, IfOk, IsErrOf, IsTrue, OnOk, Ok, Err, drop, take, ◌+◌, map, string_bytes};
-ghost use Rattle.boot_machine.specs.Disk.{IsRested, State, recovered_view};
-ghost use Rattle.boot_machine.specs.Images.{IsImage, IsFirm, IsSettled};
-ghost use Rattle.boot_machine.specs.Moments.{EachSince};
-ghost use Rattle.boot_machine.specs.Rows.{on_channel};
-ghost use Rattle.boot_machine.specs.Sent.{Adds, SameButInput, recovered_now, recovered_views};
+ghost use Rattle.boot_machine.specs.Prelude.{EachSince, IsFirm, IsImage, IsRested, IsSettled, State, on_channel, recovered_now, recovered_view, recovered_views};
+ghost use Rattle.boot_machine.specs.Sent.{Adds, SameButInput};
 ghost use Rattle.boot_machine.specs.declared.machine.Channel.TheVariants.{Err as ErrChannel};
 ghost use Rattle.install_steps.specs.Steps.{NoNewTemp};
 ghost use Rattle.command_plans.specs.Deeds.{Stopped};
-ghost use Rattle.command_plans.specs.Performs.{CountsStop, LeavesNoTemp};
+ghost use Rattle.command_plans.specs.Prelude.{CountsStop, LeavesNoTemp};
 ghost use Rattle.tool_words.specs.Meaning.{meaning};
 ghost use Rattle.tool_words.specs.declared.fault.UsageReason.{UsageReason};
 ghost use Rattle.boot_run.specs.AskedLines.{asked_lines_of, lines_at, lines_in, usage_line};

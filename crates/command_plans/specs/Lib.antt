@@ -10,3 +10,4 @@ pub mod Plans
 pub mod Folders
 pub mod Menus
 pub mod Refusing
+pub mod Prelude

@@ -1,10 +1,6 @@
 //! Files that a command names.
 ghost use Rattle.std.specs.Prelude.{◌≡◌, ◌≤◌, ◌<◌, ◌+◌, ◌^◌, IfOk, IsTrue, OnOk, Ok, Result, drop, length, true};
-ghost use Rattle.boot_machine.specs.Counts.{Counts};
-ghost use Rattle.boot_machine.specs.Disk.{has};
-ghost use Rattle.boot_machine.specs.Reading.{OnlyReads, TakesAtMost, fill_with_zeros};
-ghost use Rattle.boot_machine.specs.Rows.{contents};
-ghost use Rattle.boot_machine.specs.Sent.{seen};
+ghost use Rattle.boot_machine.specs.Prelude.{Counts, OnlyReads, TakesAtMost, contents, fill_with_zeros, has, seen};
 ghost use Rattle.pe_reader.specs.Grammar.{Headers, pe_of};
 ghost use Rattle.pe_reader.specs.Reads.{CountsHead, FailsFrom, GivesFrom, ReadFrom, head_counts, headers_of};
 ghost use Rattle.pe_reader.specs.Reasons.{pe_reason_text};

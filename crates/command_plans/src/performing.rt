@@ -3,14 +3,9 @@ ghost use Rattle.std.specs.Prelude.{◌≡◌, ◌≤◌, ℕ, true, length, tak
 ghost use Rattle.std.specs.FinMap.{insert};
 ghost use Rattle.boot_base.specs.Limits.{file_limit};
 ghost use Rattle.boot_base.specs.Paths.{IsFree};
-ghost use Rattle.boot_machine.specs.Counts.{CountsDisk};
-ghost use Rattle.boot_machine.specs.Disk.{HasOneCandidate, IsRested, has};
-ghost use Rattle.boot_machine.specs.Images.{IsFirm};
-ghost use Rattle.boot_machine.specs.Moments.{EachSince};
-ghost use Rattle.boot_machine.specs.Reading.{TakesAtMost};
-ghost use Rattle.boot_machine.specs.Rows.{contents, on_channel, with_printed};
-ghost use Rattle.boot_machine.specs.Sent.{PrintsPart, seen};
-ghost use Rattle.boot_machine.specs.Taken.{TakesNone};
+ghost use Rattle.boot_machine.specs.Prelude.{CountsDisk, EachSince, HasOneCandidate, IsFirm, IsRested, TakesAtMost, TakesNone, contents, has, on_channel, seen};
+ghost use Rattle.boot_machine.specs.Rows.{with_printed};
+ghost use Rattle.boot_machine.specs.Sent.{PrintsPart};
 ghost use Rattle.image_writer.specs.Sourced.{IsSourced};
 ghost use Rattle.image_writer.specs.Taken.{writing_length};
 ghost use Rattle.install_steps.specs.Steps.{CountsStep, IsDone, Keeps, NoNewTemp, RestsUnless, StepsTo};

@@ -2,9 +2,7 @@
 ghost use Rattle.std.specs.Prelude.{◌≡◌, length, IfOk, IsTrue};
 ghost use Rattle.std.specs.Option.{option_map};
 ghost use Rattle.std.specs.FinMap.{get};
-ghost use Rattle.boot_machine.specs.Counts.{CountsDisk};
-ghost use Rattle.boot_machine.specs.Sent.{seen};
-ghost use Rattle.boot_machine.specs.Reading.{OnlyReads, TakesAtMost};
+ghost use Rattle.boot_machine.specs.Prelude.{CountsDisk, OnlyReads, TakesAtMost, seen};
 
 use boot_base::BootPath;
 use boot_machine::{DiskFault, Machine};

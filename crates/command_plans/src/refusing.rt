@@ -1,8 +1,7 @@
 //! Refusals as they are printed, and as a plan.
 ghost use Rattle.std.specs.Prelude.{◌≡◌, IfOk};
 ghost use Rattle.boot_base.specs.Refusals.{line_of, number_of};
-ghost use Rattle.boot_machine.specs.Disk.{State};
-ghost use Rattle.boot_machine.specs.Sent.{seen};
+ghost use Rattle.boot_machine.specs.Prelude.{State, seen};
 ghost use Rattle.command_plans.specs.Answers.{refusal};
 ghost use Rattle.command_plans.specs.Plans.{IsMakeable, Plans};
 ghost use Rattle.command_plans.specs.Refusing.{PlansDeclined};

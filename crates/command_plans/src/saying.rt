@@ -1,9 +1,7 @@
 //! What a command that may be refused comes to, as a plan.
 ghost use Rattle.std.specs.Prelude.{◌≡◌, IfOk, List, Result, ℕ};
 ghost use Rattle.boot_base.specs.declared.refusal.Refusal.{Refusal};
-ghost use Rattle.boot_machine.specs.Counts.{Counts};
-ghost use Rattle.boot_machine.specs.Disk.{State};
-ghost use Rattle.boot_machine.specs.Sent.{seen};
+ghost use Rattle.boot_machine.specs.Prelude.{Counts, State, seen};
 ghost use Rattle.command_plans.specs.Unsaying.{CountsUnsaid, Says, unsaid_counts};
 ghost use Rattle.command_plans.specs.Answers.{Answer, answer_of_read, answer_or_refusal};
 ghost use Rattle.command_plans.specs.Performs.{CountsStop};

@@ -4,16 +4,8 @@ ghost use Rattle.std.specs.Option.{option_map};
 ghost use Rattle.boot_base.specs.Paths.{IsFree, beside, file_name_of, sibling_of};
 ghost use Rattle.menu_order.specs.Bless.{choice_of, target_of};
 ghost use Rattle.menu_order.specs.Renames.{bad_name_of, good_name_of};
-ghost use Rattle.boot_machine.specs.Counts.{Counts, CountsDisk};
-ghost use Rattle.boot_machine.specs.Disk.{State, has};
-ghost use Rattle.boot_machine.specs.Reading.{OnlyReads, TakesAtMost};
-ghost use Rattle.boot_machine.specs.Sent.{seen};
-ghost use Rattle.command_plans.specs.Answers.{answer_of_read};
-ghost use Rattle.command_plans.specs.Performs.{CountsStop};
-ghost use Rattle.command_plans.specs.Plans.{IsIdleIfRefused, IsMakeable, Plans, PlansAs};
-ghost use Rattle.command_plans.specs.Refusing.{DeclinesWords, RefusesWords};
-ghost use Rattle.command_plans.specs.Declining.{Means, printed_path};
-ghost use Rattle.command_plans.specs.Unsaying.{CountsUnsaid, Says};
+ghost use Rattle.boot_machine.specs.Prelude.{Counts, CountsDisk, OnlyReads, State, TakesAtMost, has, seen};
+ghost use Rattle.command_plans.specs.Prelude.{CountsStop, CountsUnsaid, DeclinesWords, IsIdleIfRefused, IsMakeable, Means, Plans, PlansAs, RefusesWords, Says, answer_of_read, printed_path};
 ghost use Rattle.entry_commands.specs.Blessing.{AreFree, bad_name_in, bless_answer, bless_entry, bless_result, blessed_by, blessed_from, blessed_text, entry_paths, good_name_in, name_or, path_at, present_at, reported_paths, status_by, status_result, verb_text};
 
 use crate::moves::{is_there, plan_move, plan_nothing};

@@ -3,15 +3,8 @@ ghost use Rattle.std.specs.Prelude.{◌≡◌, ◌∷◌, true, [], Ok, IfOk, Is
 ghost use Rattle.std.specs.Option.{option_map};
 ghost use Rattle.boot_base.specs.Paths.{IsFree, path_of};
 ghost use Rattle.boot_folder.specs.Entries.{IsEntry, folder_of};
-ghost use Rattle.boot_machine.specs.Disk.{has};
-ghost use Rattle.boot_machine.specs.Reading.{OnlyReads, TakesAtMost};
-ghost use Rattle.boot_machine.specs.Sent.{seen};
-ghost use Rattle.command_plans.specs.Folders.{folders_of};
-ghost use Rattle.command_plans.specs.Menus.{menu_limit};
-ghost use Rattle.command_plans.specs.Performs.{CountsStop};
-ghost use Rattle.command_plans.specs.Plans.{IsIdleIfRefused, IsMakeable, Plans, PlansAs};
-ghost use Rattle.command_plans.specs.Refusing.{DeclinesWords, RefusesWords};
-ghost use Rattle.command_plans.specs.Unsaying.{CountsUnsaid};
+ghost use Rattle.boot_machine.specs.Prelude.{OnlyReads, TakesAtMost, has, seen};
+ghost use Rattle.command_plans.specs.Prelude.{CountsStop, CountsUnsaid, DeclinesWords, IsIdleIfRefused, IsMakeable, Plans, PlansAs, RefusesWords, folders_of, menu_limit};
 ghost use Rattle.entry_commands.specs.Booting.{boot_answer, boot_entry, boot_result, booted_entry, booted_text, renamed_entry};
 
 use crate::moves::{already_there, is_there, plan_move, plan_nothing};

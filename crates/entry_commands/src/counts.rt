@@ -1,6 +1,6 @@
 //! Counts that words give.
 ghost use Rattle.std.specs.Prelude.{◌≤◌, IfOk};
-ghost use Rattle.command_plans.specs.Declining.{Means};
+ghost use Rattle.command_plans.specs.Prelude.{Means};
 ghost use Rattle.entry_commands.specs.Counts.{count_in};
 
 use boot_base::{Refusal, Text};

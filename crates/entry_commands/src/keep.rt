@@ -1,14 +1,8 @@
 //! `keep`.
 ghost use Rattle.std.specs.Prelude.{◌≡◌, ◌++◌, All, IfOk, IsTrue, OnOk};
 ghost use Rattle.boot_base.specs.Paths.{IsFree};
-ghost use Rattle.boot_machine.specs.Counts.{Counts};
-ghost use Rattle.boot_machine.specs.Reading.{OnlyReads, TakesAtMost};
-ghost use Rattle.boot_machine.specs.Sent.{seen};
-ghost use Rattle.command_plans.specs.Declining.{Means, path_in};
-ghost use Rattle.command_plans.specs.Files.{each};
-ghost use Rattle.command_plans.specs.Folders.{folders_of};
-ghost use Rattle.command_plans.specs.Menus.{menu_limit};
-ghost use Rattle.command_plans.specs.Unsaying.{CountsUnsaid, Says};
+ghost use Rattle.boot_machine.specs.Prelude.{Counts, OnlyReads, TakesAtMost, seen};
+ghost use Rattle.command_plans.specs.Prelude.{CountsUnsaid, Means, Says, each, folders_of, menu_limit, path_in};
 ghost use Rattle.entry_commands.specs.Keeping.{keep_result, menu_paths, would_line, would_text};
 
 use crate::counts::count_in;

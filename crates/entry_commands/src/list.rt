@@ -1,17 +1,8 @@
 //! `bootctl list`.
 ghost use Rattle.std.specs.Prelude.{◌≡◌, IfOk, IsTrue};
-ghost use Rattle.boot_machine.specs.Counts.{Counts};
-ghost use Rattle.boot_machine.specs.Reading.{OnlyReads, TakesAtMost};
-ghost use Rattle.boot_machine.specs.Sent.{seen};
-ghost use Rattle.command_plans.specs.Answers.{answer_of_read};
-ghost use Rattle.command_plans.specs.Folders.{folders_of};
-ghost use Rattle.command_plans.specs.Menus.{menu_limit};
-ghost use Rattle.command_plans.specs.Performs.{CountsStop};
-ghost use Rattle.command_plans.specs.Plans.{IsMakeable, Plans};
-ghost use Rattle.command_plans.specs.Refusing.{DeclinesWords, RefusesWords};
+ghost use Rattle.boot_machine.specs.Prelude.{Counts, OnlyReads, TakesAtMost, seen};
+ghost use Rattle.command_plans.specs.Prelude.{CountsStop, CountsUnsaid, DeclinesWords, IsMakeable, Plans, RefusesWords, Says, answer_of_read, folders_of, menu_limit, printed_path};
 ghost use Rattle.command_plans.specs.declared.plan.Change.TheVariants.{Nothing};
-ghost use Rattle.command_plans.specs.Unsaying.{CountsUnsaid, Says};
-ghost use Rattle.command_plans.specs.Declining.{printed_path};
 ghost use Rattle.entry_commands.specs.Listing.{json_result, list_result, menu_result};
 
 use boot_base::Refusal;

@@ -1,14 +1,8 @@
 //! Boot files that get another name.
 ghost use Rattle.std.specs.Prelude.{◌≡◌, true, false, IfOk, IsTrue, string_bytes};
 ghost use Rattle.boot_base.specs.Paths.{IsFree};
-ghost use Rattle.boot_machine.specs.Disk.{State, has};
-ghost use Rattle.boot_machine.specs.Reading.{OnlyReads, TakesAtMost};
-ghost use Rattle.boot_machine.specs.Rows.{move_in};
-ghost use Rattle.boot_machine.specs.Sent.{seen};
-ghost use Rattle.boot_machine.specs.Counts.{CountsDisk};
-ghost use Rattle.command_plans.specs.Answers.{done_answer};
-ghost use Rattle.command_plans.specs.Plans.{IsIdleIfRefused, IsMakeable, Plans};
-ghost use Rattle.command_plans.specs.Declining.{printed_path};
+ghost use Rattle.boot_machine.specs.Prelude.{CountsDisk, OnlyReads, State, TakesAtMost, has, move_in, seen};
+ghost use Rattle.command_plans.specs.Prelude.{IsIdleIfRefused, IsMakeable, Plans, done_answer, printed_path};
 ghost use Rattle.entry_commands.specs.Moving.{IsMove};
 
 use boot_base::{BootPath, Bytes, Refusal};

@@ -2,13 +2,8 @@
 ghost use Rattle.std.specs.Prelude.{◌≡◌, All, Contains, IfOk, IsTrue, bytes_eq, codes, true};
 ghost use Rattle.std.specs.List.{IsDistinct};
 ghost use Rattle.boot_base.specs.Paths.{Path};
-ghost use Rattle.boot_machine.specs.Disk.{State, has, Files};
-ghost use Rattle.boot_machine.specs.Sent.{seen};
-ghost use Rattle.boot_machine.specs.Reading.{OnlyReads, TakesAtMost};
-ghost use Rattle.command_plans.specs.Folders.{folders_of};
-ghost use Rattle.command_plans.specs.Performs.{CountsStop};
-ghost use Rattle.command_plans.specs.Plans.{Drops, IsIdleIfRefused, IsMakeable, Plans};
-ghost use Rattle.command_plans.specs.Refusing.{RefusesWords, unless_refused};
+ghost use Rattle.boot_machine.specs.Prelude.{Files, OnlyReads, State, TakesAtMost, has, seen};
+ghost use Rattle.command_plans.specs.Prelude.{CountsStop, Drops, IsIdleIfRefused, IsMakeable, Plans, RefusesWords, folders_of, unless_refused};
 ghost use Rattle.entry_commands.specs.Tidying.{AreClean, HasLeftovers, IsTidied, leftovers_among, tidy_answer};
 
 use boot_base::{BootPath, Bytes, FileName, TempPath};

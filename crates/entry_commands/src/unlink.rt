@@ -1,12 +1,7 @@
 //! `bootctl unlink`.
 ghost use Rattle.std.specs.Prelude.{◌≡◌, string_bytes, IfOk, IsTrue};
-ghost use Rattle.boot_machine.specs.Sent.{seen};
-ghost use Rattle.boot_machine.specs.Reading.{OnlyReads, TakesAtMost};
-ghost use Rattle.command_plans.specs.Changes.{unlink_answer};
-ghost use Rattle.command_plans.specs.Performs.{CountsStop};
-ghost use Rattle.command_plans.specs.Plans.{IsIdleIfRefused, IsMakeable, Plans};
-ghost use Rattle.command_plans.specs.Declining.{Means};
-ghost use Rattle.command_plans.specs.Refusing.{RefusesWords, unless_refused};
+ghost use Rattle.boot_machine.specs.Prelude.{OnlyReads, TakesAtMost, seen};
+ghost use Rattle.command_plans.specs.Prelude.{CountsStop, IsIdleIfRefused, IsMakeable, Means, Plans, RefusesWords, unless_refused, unlink_answer};
 ghost use Rattle.entry_commands.specs.Unlinking.{entry_below, entry_path, entry_under, is_entry_name, is_type1_name};
 
 use boot_base::{BootPath, FileName, PathFault, Refusal, Text};

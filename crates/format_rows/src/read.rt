@@ -1,6 +1,6 @@
 //! Headers of files.
 ghost use Rattle.std.specs.Prelude.{◌≡◌, Ok, IfOk};
-ghost use Rattle.boot_machine.specs.Rows.{contents};
+ghost use Rattle.boot_machine.specs.Prelude.{contents};
 ghost use Rattle.memory_machine.specs.Memory.{mem_state};
 ghost use Rattle.pe_reader.specs.Grammar.{pe_of};
 ghost use Rattle.pe_reader.specs.Reads.{headers_of};

@@ -25,7 +25,7 @@ pub struct HostMachine<R: Runtime<File = File> + AllocGlobal, E: Print + Drop> {
 }
 
 impl<R: Runtime<File = File> + AllocGlobal, E: Print + Drop> HostMachine<R, E> {
-    ghost use Rattle.boot_machine.specs.Counts.{CountsDisk, CountsPipe};
+    ghost use Rattle.boot_machine.specs.Prelude.{CountsDisk, CountsPipe};
     ghost use Rattle.host_machine.specs.Hosts.{counts_of, CountsDiskOnce, CountsPipeOnce};
 
     /// The machine over a runtime, with `err` for what is printed on Err. No call has failed yet, and none
@@ -93,7 +93,8 @@ impl<R: Runtime<File = File> + AllocGlobal, E: Print + Drop> HostMachine<R, E> {
 
 impl<R: Runtime<File = File> + AllocGlobal, E: Print + Drop> Machine for HostMachine<R, E> {
     ghost use Rattle.std.specs.Prelude.{◌≤◌, false, length};
-    ghost use Rattle.boot_machine.specs.Counts.{CountsDisk, CountsNames, CountsPipe};
+    ghost use Rattle.boot_machine.specs.Prelude.{CountsDisk, CountsPipe};
+    ghost use Rattle.boot_machine.specs.Counts.{CountsNames};
     ghost use Rattle.boot_machine.specs.Moments.{Timeline};
     ghost use Rattle.host_machine.specs.Hosts.{counts_of, no_state, CountsDiskOnce, CountsPipeOnce, CountsNamesOnce};
     ghost use Rattle.host_machine.specs.proofs.Silence.{silent};

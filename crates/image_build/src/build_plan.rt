@@ -2,7 +2,7 @@
 ghost use Rattle.std.specs.Prelude.{◌≡◌, ◌≤◌, ◌<◌, ◌-◌, ◌^◌, ◌↔◌, IfOk, count_by, filter, length, map, min, sum_by, true};
 ghost use Rattle.std.specs.List.{AllByRecursion};
 ghost use Rattle.std.specs.List.Sorted.{IsNonDecreasingBy};
-ghost use Rattle.boot_machine.specs.Disk.{Files};
+ghost use Rattle.boot_machine.specs.Prelude.{Files};
 ghost use Rattle.pe_reader.specs.Reads.{ReadFrom, headers_of};
 ghost use Rattle.pe_builder.specs.Replaced.{MayReplace};
 ghost use Rattle.pe_builder.specs.Layout.{FitsPart};

@@ -1,9 +1,7 @@
 //! What a build reads of the machine, before the image is planned.
 ghost use Rattle.std.specs.Prelude.{◌≡◌, ◌≤◌, ◌<◌, ◌+◌, ◌-◌, ◌^◌, ◌++◌, ◌∷◌, [], All, IfOk, IsTrue, List, Ok, OnOk, drop, length, map, min, sum_by, ℕ};
 ghost use Rattle.std.specs.List.{AllZip};
-ghost use Rattle.boot_machine.specs.Reading.{OnlyReads, TakesAtMost};
-ghost use Rattle.boot_machine.specs.Rows.{contents};
-ghost use Rattle.boot_machine.specs.Sent.{seen};
+ghost use Rattle.boot_machine.specs.Prelude.{OnlyReads, TakesAtMost, contents, seen};
 ghost use Rattle.pe_builder.specs.Replaced.{sbat_name};
 ghost use Rattle.pe_reader.specs.Grammar.{pe_of};
 ghost use Rattle.pe_reader.specs.Fields.{part};
@@ -13,9 +11,8 @@ ghost use Rattle.uki_parts.specs.Pieces.{HasSizes, Reading, bytes_of, piece_byte
 ghost use Rattle.uki_parts.specs.Sbat.{sbat_entries};
 ghost use Rattle.image_build.specs.Building.{contents_of, given_sbat, material_of, named_as, part_bytes, part_named, sbat_of, source_bytes};
 ghost use Rattle.boot_base.specs.Limits.{file_limit};
-ghost use Rattle.command_plans.specs.Files.{bytes_at, each};
+ghost use Rattle.command_plans.specs.Prelude.{CountsUnsaid, Says, bytes_at, each};
 ghost use Rattle.image_build.specs.Reads.{BuiltFrom, BuiltHasSizes, FilesFrom, FilesHaveSizes, IsKernel, PartFrom, PartHasSizes, contents_as, loaded_sbat_length, material_as, part_as, reading_length, source_file_length, source_limit};
-ghost use Rattle.command_plans.specs.Unsaying.{CountsUnsaid, Says};
 
 use crate::source::{BuildSources, PartSources, Source};
 use boot_base::BootPath;

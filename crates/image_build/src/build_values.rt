@@ -2,10 +2,7 @@
 ghost use Rattle.std.specs.Prelude.{◌≡◌, ◌≤◌, All, IfOk, IfSome, IsTrue, Ok, bytes_eq, map};
 ghost use Rattle.std.specs.List.{find};
 ghost use Rattle.std.specs.Option.{option_copied};
-ghost use Rattle.boot_machine.specs.Disk.{Files};
-ghost use Rattle.boot_machine.specs.Reading.{OnlyReads, TakesAtMost};
-ghost use Rattle.boot_machine.specs.Rows.{contents};
-ghost use Rattle.boot_machine.specs.Sent.{seen};
+ghost use Rattle.boot_machine.specs.Prelude.{Files, OnlyReads, TakesAtMost, contents, seen};
 ghost use Rattle.pcr_values.specs.ValueLines.{value_lines};
 ghost use Rattle.pcr_values.specs.Phases.{default_phase_paths};
 ghost use Rattle.image_writer.specs.Sourced.{planned_image};
@@ -18,7 +15,7 @@ ghost use Rattle.pe_reader.specs.Reads.{headers_of};
 ghost use Rattle.stub_replay.specs.Measured.{measured_length, measured_list, stub_pcr};
 ghost use Rattle.uki_parts.specs.Names.{name_bytes};
 ghost use Rattle.uki_parts.specs.Pieces.{Reading};
-ghost use Rattle.command_plans.specs.Unsaying.{CountsUnsaid, Says};
+ghost use Rattle.command_plans.specs.Prelude.{CountsUnsaid, Says};
 ghost use Rattle.image_build.specs.Planning.{IsContent, IsPlannedOn, kept_bytes, section_bytes};
 
 use crate::planned::PlannedBuild;

@@ -2,12 +2,11 @@
 ghost use Rattle.std.specs.Prelude.{◌≡◌, ◌++◌, ◌∷◌, [], List, ℕ, Some, IfOk, IsTrue, OnOk, codes, is_some, map};
 ghost use Rattle.std.specs.Option.{option_map};
 ghost use Rattle.boot_base.specs.Paths.{IsFree};
-ghost use Rattle.command_plans.specs.Declining.{Means};
+ghost use Rattle.command_plans.specs.Prelude.{Means, each, if_given};
 ghost use Rattle.tool_words.specs.declared.command.Given.TheVariants.{File};
 ghost use Rattle.uki_parts.specs.declared.kind.PartKind.TheVariants as kinds;
 ghost use Rattle.uki_parts.specs.Names.{fixed_name, padded_name, read_name};
 ghost use Rattle.image_build.specs.Building.{clean, extra_part, given_list, named_as, named_files, named_part, part_named, section_name, section_of, source_of, sources_of, optional_part, wanted_parts, with_parts};
-ghost use Rattle.command_plans.specs.Files.{each, if_given};
 
 use crate::source::{BuildSources, PartSources, Source};
 use boot_base::{Bytes, Refusal, Text};

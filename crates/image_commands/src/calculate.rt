@@ -1,22 +1,14 @@
 //! `measure calculate`.
 ghost use Rattle.std.specs.Prelude.{◌≡◌, ◌≤◌, ◌++◌, List, ℕ, All, IfOk, IsTrue, Ok, length, map, sum_by};
 ghost use Rattle.std.specs.Option.{option_copied};
-ghost use Rattle.boot_machine.specs.Reading.{OnlyReads, TakesAtMost};
-ghost use Rattle.boot_machine.specs.Rows.{contents};
-ghost use Rattle.boot_machine.specs.Sent.{seen};
+ghost use Rattle.boot_machine.specs.Prelude.{OnlyReads, TakesAtMost, contents, seen};
 ghost use Rattle.uki_parts.specs.Pieces.{Reading, piece_bytes, piece_length};
 ghost use Rattle.pcr_values.specs.Banks.{fold_pcr};
 ghost use Rattle.pcr_values.specs.Values.{pcr_bank, pcr_value};
 ghost use Rattle.stub_replay.specs.Ordered.{present_parts};
 ghost use Rattle.stub_replay.specs.Parts.{HaveSizes, IsPlaced, items_of, named_bytes};
-ghost use Rattle.command_plans.specs.Answers.{answer_of_read};
-ghost use Rattle.command_plans.specs.Performs.{CountsStop};
-ghost use Rattle.command_plans.specs.Plans.{IsMakeable, Plans};
-ghost use Rattle.command_plans.specs.Refusing.{DeclinesWords, RefusesWords};
+ghost use Rattle.command_plans.specs.Prelude.{CountsStop, CountsUnsaid, DeclinesWords, IsMakeable, Means, Plans, RefusesWords, Says, answer_of_read, bytes_at, each, path_in};
 ghost use Rattle.command_plans.specs.declared.plan.Change.TheVariants.{Nothing};
-ghost use Rattle.command_plans.specs.Files.{bytes_at, each};
-ghost use Rattle.command_plans.specs.Declining.{Means, path_in};
-ghost use Rattle.command_plans.specs.Unsaying.{CountsUnsaid, Says};
 ghost use Rattle.image_commands.specs.Calculating.{calculate_result, given_words, under_name};
 ghost use Rattle.image_commands.specs.Parts.{HasItsSize, named_file, named_path, named_word};
 ghost use Rattle.image_commands.specs.Taking.{named_length};

@@ -1,17 +1,11 @@
 //! `bootctl kernel-identify`.
 ghost use Rattle.std.specs.Prelude.{◌≡◌, IfOk, IsTrue, List, Ok, ℕ};
-ghost use Rattle.boot_machine.specs.Reading.{OnlyReads, TakesAtMost};
-ghost use Rattle.boot_machine.specs.Sent.{seen};
+ghost use Rattle.boot_machine.specs.Prelude.{OnlyReads, TakesAtMost, seen};
 ghost use Rattle.pe_reader.specs.Grammar.{pe_of};
 ghost use Rattle.pe_reader.specs.Reads.{headers_of};
-ghost use Rattle.command_plans.specs.Answers.{answer_of_read};
-ghost use Rattle.command_plans.specs.Performs.{CountsStop};
-ghost use Rattle.command_plans.specs.Plans.{IsMakeable, Plans};
-ghost use Rattle.command_plans.specs.Refusing.{DeclinesWords, RefusesWords};
+ghost use Rattle.command_plans.specs.Prelude.{CountsStop, CountsUnsaid, DeclinesWords, IsMakeable, Plans, RefusesWords, Says, answer_of_read, path_in};
 ghost use Rattle.command_plans.specs.declared.plan.Change.TheVariants.{Nothing};
 ghost use Rattle.image_commands.specs.Said.{has_loaded, identify_result, kind_at, kind_of};
-ghost use Rattle.command_plans.specs.Declining.{path_in};
-ghost use Rattle.command_plans.specs.Unsaying.{CountsUnsaid, Says};
 
 use boot_base::BootPath;
 use boot_machine::Machine;

@@ -1,23 +1,15 @@
 //! `measure image`: the value of PCR 11 that an image's stub comes to.
 ghost use Rattle.std.specs.Prelude.{◌≡◌, ◌+◌, IfOk, IsTrue, Ok, map};
-ghost use Rattle.boot_machine.specs.Reading.{OnlyReads, TakesAtMost};
-ghost use Rattle.boot_machine.specs.Rows.{contents};
-ghost use Rattle.boot_machine.specs.Sent.{seen};
+ghost use Rattle.boot_machine.specs.Prelude.{OnlyReads, TakesAtMost, contents, seen};
 ghost use Rattle.pcr_values.specs.Banks.{fold_pcr};
 ghost use Rattle.pcr_values.specs.Values.{pcr_bank, pcr_value};
 ghost use Rattle.pe_reader.specs.Grammar.{pe_of};
 ghost use Rattle.pe_reader.specs.Reads.{headers_of};
 ghost use Rattle.stub_replay.specs.Measured.{measured_raw_length, measured_list};
-ghost use Rattle.command_plans.specs.Answers.{answer_of_read};
-ghost use Rattle.command_plans.specs.Performs.{CountsStop};
-ghost use Rattle.command_plans.specs.Plans.{IsMakeable, Plans};
-ghost use Rattle.command_plans.specs.Refusing.{DeclinesWords, RefusesWords};
+ghost use Rattle.command_plans.specs.Prelude.{CountsStop, CountsUnsaid, DeclinesWords, IsMakeable, Plans, RefusesWords, Says, answer_of_read, bytes_at, path_in};
 ghost use Rattle.command_plans.specs.declared.plan.Change.TheVariants.{Nothing};
 ghost use Rattle.image_commands.specs.Said.{measure_result, values_at};
 ghost use Rattle.image_commands.specs.Taking.{found_bytes, named_content};
-ghost use Rattle.command_plans.specs.Declining.{path_in};
-ghost use Rattle.command_plans.specs.Unsaying.{CountsUnsaid, Says};
-ghost use Rattle.command_plans.specs.Files.{bytes_at};
 
 use crate::told::told_values;
 use boot_base::{BootPath, PIECE_SIZE, Text};

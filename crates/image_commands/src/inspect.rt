@@ -1,25 +1,17 @@
 //! `ukify inspect`: the sections of an image.
 ghost use Rattle.std.specs.Prelude.{◌≡◌, ◌<◌, ◌≤◌, ◌+◌, All, IfOk, IsTrue, Ok, drop, length, map, sum_by};
-ghost use Rattle.boot_machine.specs.Reading.{OnlyReads, TakesAtMost};
-ghost use Rattle.boot_machine.specs.Rows.{contents};
-ghost use Rattle.boot_machine.specs.Sent.{seen};
+ghost use Rattle.boot_machine.specs.Prelude.{OnlyReads, TakesAtMost, contents, seen};
 ghost use Rattle.pcr_values.specs.Values.{bank_of};
 ghost use Rattle.pcr_values.specs.declared.bank.Bank.TheVariants as banks;
 ghost use Rattle.pe_reader.specs.Grammar.{pe_of};
 ghost use Rattle.pe_reader.specs.LoadedBytes.{range_of};
 ghost use Rattle.pe_reader.specs.Reads.{headers_of};
 ghost use Rattle.list_json.specs.Sections.{facts_of};
-ghost use Rattle.command_plans.specs.Answers.{answer_of_read};
-ghost use Rattle.command_plans.specs.Performs.{CountsStop};
-ghost use Rattle.command_plans.specs.Plans.{IsMakeable, Plans};
-ghost use Rattle.command_plans.specs.Refusing.{DeclinesWords, RefusesWords};
+ghost use Rattle.command_plans.specs.Prelude.{CountsStop, CountsUnsaid, DeclinesWords, IsMakeable, Plans, RefusesWords, Says, answer_of_read, bytes_at, path_in};
 ghost use Rattle.command_plans.specs.declared.plan.Change.TheVariants.{Nothing};
-ghost use Rattle.command_plans.specs.Files.{bytes_at};
-ghost use Rattle.command_plans.specs.Declining.{path_in};
 ghost use Rattle.image_commands.specs.Said.{inspect_result, inspection_at, section_facts};
 ghost use Rattle.stub_replay.specs.Measured.{raw_length};
 ghost use Rattle.image_commands.specs.Taking.{all_raw_length, found_bytes, named_content};
-ghost use Rattle.command_plans.specs.Unsaying.{CountsUnsaid, Says};
 
 use crate::told::told_sections;
 use boot_base::{BootPath, Bytes, PIECE_SIZE, short_name};

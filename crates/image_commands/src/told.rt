@@ -8,7 +8,7 @@ ghost use Rattle.pcr_values.specs.Values.{bank_of, bytes_of_digest, pcr_value};
 ghost use Rattle.pcr_values.specs.declared.bank.Bank.{Bank};
 ghost use Rattle.pcr_values.specs.declared.bank.Bank.TheVariants as banks;
 ghost use Rattle.list_json.specs.Sections.{facts_of};
-ghost use Rattle.command_plans.specs.Declining.{printed_path};
+ghost use Rattle.command_plans.specs.Prelude.{printed_path};
 ghost use Rattle.image_commands.specs.Told.{first_line, measures, section_lines, told_sections, told_values};
 
 use boot_base::{BootPath, shown_name};

@@ -1,9 +1,7 @@
 //! Appends zeros to a temporary file.
 
 ghost use Rattle.std.specs.Prelude.{◌≡◌, ◌<◌, true, length, replicate, IsTrue, OnOk};
-ghost use Rattle.boot_machine.specs.Counts.{CountsDisk};
-ghost use Rattle.boot_machine.specs.Disk.{has};
-ghost use Rattle.boot_machine.specs.Taken.{TakesNone};
+ghost use Rattle.boot_machine.specs.Prelude.{CountsDisk, TakesNone, has};
 ghost use Rattle.install_steps.specs.Appends.{AppendsOnly, IsGrown};
 
 use boot_base::TempPath;

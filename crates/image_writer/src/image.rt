@@ -1,10 +1,7 @@
 //! The whole of an image.
 
 ghost use Rattle.std.specs.Prelude.{◌≡◌, ◌<◌, [], true, length, IsTrue, OnOk};
-ghost use Rattle.boot_machine.specs.Counts.{CountsDisk};
-ghost use Rattle.boot_machine.specs.Disk.{has, view};
-ghost use Rattle.boot_machine.specs.Reading.{TakesAtMost};
-ghost use Rattle.boot_machine.specs.Rows.{contents};
+ghost use Rattle.boot_machine.specs.Prelude.{CountsDisk, TakesAtMost, contents, has, view};
 ghost use Rattle.install_steps.specs.Appends.{AppendsOnly, IsGrown};
 ghost use Rattle.image_writer.specs.Chunks.{chunk_bytes, chunks_bytes, headers_bytes, new_stub_bytes};
 ghost use Rattle.image_writer.specs.Sourced.{IsSourced, IsPlannedImage, stub_path, new_sbat};

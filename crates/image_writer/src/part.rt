@@ -2,9 +2,7 @@
 
 ghost use Rattle.std.specs.Prelude.{◌≡◌, ◌<◌, true, length, replicate, sum_by, IsTrue, OnOk};
 ghost use Rattle.std.specs.List.{flat_map};
-ghost use Rattle.boot_machine.specs.Counts.{CountsDisk};
-ghost use Rattle.boot_machine.specs.Disk.{has};
-ghost use Rattle.boot_machine.specs.Reading.{TakesAtMost};
+ghost use Rattle.boot_machine.specs.Prelude.{CountsDisk, TakesAtMost, has};
 ghost use Rattle.uki_parts.specs.Pieces.{Reading, file_length};
 ghost use Rattle.install_steps.specs.Appends.{AppendsOnly, IsGrown};
 ghost use Rattle.image_writer.specs.Chunks.{Agrees, behind_stub, gap, given_bytes, padded_part};

@@ -1,10 +1,6 @@
 //! Appends to a temporary file: bytes at hand, and some of a file's bytes.
 ghost use Rattle.std.specs.Prelude.{◌≡◌, ◌<◌, ◌-◌, true, length, IsTrue, OnOk};
-ghost use Rattle.boot_machine.specs.Counts.{CountsDisk};
-ghost use Rattle.boot_machine.specs.Disk.{has};
-ghost use Rattle.boot_machine.specs.Reading.{TakesAtMost, bytes_between};
-ghost use Rattle.boot_machine.specs.Rows.{contents};
-ghost use Rattle.boot_machine.specs.Taken.{TakesNone};
+ghost use Rattle.boot_machine.specs.Prelude.{CountsDisk, TakesAtMost, TakesNone, bytes_between, contents, has};
 ghost use Rattle.install_steps.specs.Appends.{AppendsOnly, IsGrown};
 
 use boot_base::{BootPath, TempPath};

@@ -1,12 +1,8 @@
 //! Moving a file under an intent, which says at a stop which of its two names counts.
 ghost use Rattle.std.specs.Prelude.{◌≡◌, ◌≢◌, true, false, IfOk, IsTrue, OnOk, IsErrOf, Some};
 ghost use Rattle.boot_base.specs.Paths.{IsFree, intent_bytes};
-ghost use Rattle.boot_machine.specs.Disk.{HasOneCandidate, IsRested, has, intent_names, recovered_view};
-ghost use Rattle.boot_machine.specs.Images.{IsFirm};
-ghost use Rattle.boot_machine.specs.Reading.{OnlyReads};
-ghost use Rattle.boot_machine.specs.Rows.{move_in};
-ghost use Rattle.boot_machine.specs.Counts.{CountsDisk};
-ghost use Rattle.boot_machine.specs.Taken.{TakesNone};
+ghost use Rattle.boot_machine.specs.Prelude.{CountsDisk, HasOneCandidate, IsFirm, IsRested, OnlyReads, TakesNone, has, move_in, recovered_view};
+ghost use Rattle.boot_machine.specs.Disk.{intent_names};
 ghost use Rattle.install_steps.specs.Steps.{Keeps, StepsTo, IsDone, NoNewTemp, Intends, IsIntentOf, PrintsNothing, RestsUnless, CountsMove, after_move};
 
 use crate::MoveFault;

@@ -3,28 +3,16 @@ ghost use Rattle.std.specs.Prelude.{◌≡◌, ◌⊎◌, true, false, length, I
 ghost use Rattle.std.specs.Option.{option_map};
 ghost use Rattle.boot_base.specs.Intents.{names_of};
 ghost use Rattle.boot_base.specs.Paths.{intent as intent_path};
-ghost use Rattle.boot_machine.specs.Disk.{HasNoHalfRename, HasOneCandidate, IsRested, has, intent_names, recovered_view};
-ghost use Rattle.boot_machine.specs.Images.{IsFirm, IsSettled};
-ghost use Rattle.boot_machine.specs.Moments.{EachSince};
-ghost use Rattle.boot_machine.specs.Reading.{OnlyReads, TakesAtMost};
-ghost use Rattle.boot_machine.specs.Rows.{contents};
-ghost use Rattle.boot_machine.specs.Counts.{CountsDisk};
-ghost use Rattle.boot_machine.specs.Taken.{TakesNone};
+ghost use Rattle.boot_machine.specs.Prelude.{CountsDisk, EachSince, HasOneCandidate, IsFirm, IsRested, IsSettled, OnlyReads, TakesAtMost, TakesNone, contents, has, recovered_view};
+ghost use Rattle.boot_machine.specs.Disk.{HasNoHalfRename, intent_names};
 ghost use Rattle.install_steps.specs.Recovery.{RecoversTo, SameFrom, SeesSame};
 ghost use Rattle.install_steps.specs.Steps.{Keeps, StepsTo, NoNewTemp, PrintsNothing, CountsRecover};
 
 use crate::RecoverFault;
 use crate::steps::{settle, unlink_synced};
 use boot_base::{INTENT_LIMIT, IntentNames, Target};
-use boot_machine::{DiskFault, Machine, read_part};
+use boot_machine::{DiskFault, Machine, read_part, zeros};
 use std::alloc::{AllocError, Global};
-
-// So many zeros.
-fn zeros(alloc: Global, count: usize) -> Result<Vec<u8>, AllocError>
-    ensures { IfOk result (λ bytes. length bytes.items ≡ count) }
-{
-    vec![in alloc; 0u8; count]
-}
 
 // The names in the intent of that size, where it is in the right form. A longer file is not.
 fn left_names<M: Machine>(

@@ -3,11 +3,7 @@ ghost use Rattle.std.specs.Prelude.{◌≡◌, ◌≢◌, true, false, IsTrue, O
 ghost use Rattle.std.specs.List.{IsDistinct};
 ghost use Rattle.std.specs.FinMap as map;
 ghost use Rattle.boot_base.specs.Paths.{IsFree};
-ghost use Rattle.boot_machine.specs.Disk.{HasOneCandidate, IsRested, has, recovered_view};
-ghost use Rattle.boot_machine.specs.Images.{IsImage, IsFirm, IsSettled};
-ghost use Rattle.boot_machine.specs.Moments.{EachSince};
-ghost use Rattle.boot_machine.specs.Counts.{CountsDisk};
-ghost use Rattle.boot_machine.specs.Taken.{TakesNone};
+ghost use Rattle.boot_machine.specs.Prelude.{CountsDisk, EachSince, HasOneCandidate, IsFirm, IsImage, IsRested, IsSettled, TakesNone, has, recovered_view};
 ghost use Rattle.install_steps.specs.Steps.{Keeps, StepsTo, IsDone, NoNewTemp, Lacks, PrintsNothing, RestsUnless, CountsStep};
 
 use crate::StepFault;

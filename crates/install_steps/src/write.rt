@@ -1,12 +1,7 @@
 //! Writes files: bytes at hand, and copies of whole files.
 ghost use Rattle.std.specs.Prelude.{◌≡◌, ◌≤◌, ℕ, List, true, false, length, IsTrue, OnOk, IsErrOf};
 ghost use Rattle.std.specs.FinMap as map;
-ghost use Rattle.boot_machine.specs.Disk.{HasOneCandidate, IsRested, has, recovered_view, view};
-ghost use Rattle.boot_machine.specs.Images.{IsFirm, IsSettled};
-ghost use Rattle.boot_machine.specs.Reading.{TakesAtMost};
-ghost use Rattle.boot_machine.specs.Rows.{contents, move_in};
-ghost use Rattle.boot_machine.specs.Counts.{CountsDisk};
-ghost use Rattle.boot_machine.specs.Taken.{TakesNone};
+ghost use Rattle.boot_machine.specs.Prelude.{CountsDisk, HasOneCandidate, IsFirm, IsRested, IsSettled, TakesAtMost, TakesNone, contents, has, move_in, recovered_view, view};
 ghost use Rattle.boot_base.specs.Paths.{IsFree};
 ghost use Rattle.install_steps.specs.Steps.{Keeps, StepsTo, IsDone, NoNewTemp, PrintsNothing, RestsUnless, CountsStep, after_copy};
 

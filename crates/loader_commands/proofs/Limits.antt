@@ -5,6 +5,7 @@ use Rattle.std.proofs.lemmas.List.{take_all}
 use Rattle.std.specs.Prelude.{nat_lt}
 use Rattle.std.specs.FinMap.{get}
 use Rattle.std.specs.Option.{option_map}
+use Rattle.boot_base.specs.Limits.{text_limit}
 use Rattle.boot_base.specs.Paths.{Path}
 use Rattle.boot_base.specs.declared.refusal.Refusal.{Refusal}
 use Rattle.boot_machine.specs.Disk.{Files}
@@ -12,13 +13,13 @@ use Rattle.boot_machine.specs.Reading.{fill_with_zeros}
 use Rattle.boot_machine.specs.Rows.{contents}
 use Rattle.boot_machine.proofs.Filling.{fill_with_zeros-inside}
 use Rattle.command_plans.proofs.Sizes.{some_of}
-use Rattle.loader_commands.specs.Places.{conf_bytes, conf_limit, conf_or_empty, within_limit}
+use Rattle.loader_commands.specs.Places.{conf_bytes, conf_or_empty, within_limit}
 
 not_above : (limit n : ℕ) → n ≤ limit → nat_lt limit n ≡ false
 not_above limit n small = grind (arith, nat_tests)
 
 within : (path : Path) (text : List ℕ) → length text ≤ 65536 → within_limit path text ≡ Ok text
-within path text small = rw (not_above conf_limit (length text) small) refl
+within path text small = rw (not_above text_limit (length text) small) refl
 
 whole : (file : List ℕ) (size : ℕ) → length file ≡ size → fill_with_zeros (drop 0 file) size ≡ file
 whole file size long = fill_with_zeros-inside file size (omega (arith, long)) ∙ take_all size file (omega (arith, long))

@@ -1,6 +1,7 @@
 -- What `loader show` tells, and what a change leaves.
 use Rattle.std.proofs.Common.{◌≡◌, ℕ, Bool, true, false, List, map, Option, Some, None, Result, Ok, Err, subst, sym, ap, ◌∙◌, refl, length}
 use Rattle.std.specs.Prelude.{MatchOption, if◌then◌else◌, nat_lt, option_and_then, slice_get}
+use Rattle.boot_base.specs.Limits.{text_limit}
 use Rattle.boot_base.specs.Paths.{Path}
 use Rattle.boot_base.specs.declared.refusal.Refusal.{Refusal}
 use Rattle.boot_base.specs.declared.refusal.Refusal.TheVariants as refusals
@@ -13,7 +14,7 @@ use Rattle.command_plans.specs.Unsaying.{Says}
 use Rattle.command_plans.specs.declared.unsaid.Unsaid.{Unsaid}
 use Rattle.command_plans.proofs.Declining.{done_next}
 use Rattle.loader_commands.specs.Laws.{ChangesOneKey, ShowsDefaultEntry}
-use Rattle.loader_commands.specs.Places.{conf_bytes, conf_limit, conf_path, loader_paths, within_limit}
+use Rattle.loader_commands.specs.Places.{conf_bytes, conf_path, loader_paths, within_limit}
 use Rattle.loader_commands.specs.Setting.{bad_value, conf_update, changed_text, value_in}
 use Rattle.loader_commands.specs.Showing.{default_item, menu_shown, show_result, show_text, shown_or_empty}
 use Rattle.loader_commands.specs.declared.places.LoaderPaths.{LoaderPaths}
@@ -110,7 +111,7 @@ value_fits key word value is = by (may_be_value key word) refl is
     by false test is = absurd (err_ok (bad_value key word) value is)
 
 text_is : (path : Path) (made text : List ℕ) → within_limit path made ≡ Ok text → made ≡ text
-text_is path made text is = done_if (nat_lt conf_limit (length made)) (refusals.TooLarge (printed_path path) (length made)) made text is
+text_is path made text is = done_if (nat_lt text_limit (length made)) (refusals.TooLarge (printed_path path) (length made)) made text is
 
 changed : (view : Files) (key : ConfKey) (value word : List ℕ) (path : Path) (text bytes : List ℕ) → IsConfValue key value → conf_path word ≡ Ok path
     → conf_bytes view path ≡ Ok bytes → text_with_value (conf_key_name key) value bytes ≡ text → ChangesOneKey view key value word path text

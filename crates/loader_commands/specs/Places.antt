@@ -1,6 +1,7 @@
 -- Where loader.conf and the entries that it chooses among stand in an EFI system partition, and what is read of them.
 use Rattle.std.specs.Prelude.{ℕ, List, [], codes, length, nat_lt, Option, Some, None, Result, Ok, Err, if◌then◌else◌}
 use Rattle.std.specs.FinMap.{get}
+use Rattle.boot_base.specs.Limits.{text_limit}
 use Rattle.boot_base.specs.Paths.{Path}
 use Rattle.boot_base.specs.declared.refusal.Refusal.{Refusal}
 use Rattle.boot_base.specs.declared.refusal.Refusal.TheVariants as refusals
@@ -8,10 +9,6 @@ use Rattle.boot_machine.specs.Disk.{Files}
 use Rattle.command_plans.specs.Declining.{◌>>=◌, path_in, path_under, printed_path}
 use Rattle.command_plans.specs.Folders.{folders_of}
 use Rattle.loader_commands.specs.declared.places.LoaderPaths.{LoaderPaths}
-
--- the most bytes of a loader.conf that is read or written (profile)
-abbrev pub conf_limit : ℕ
-conf_limit = 65536
 
 -- where loader.conf stands below an ESP
 abbrev pub conf_below : List ℕ
@@ -29,7 +26,7 @@ loader_paths word =
 -- bytes of a loader.conf at a path, unless they are too many
 abbrev pub within_limit : Path → List ℕ → Result (List ℕ) Refusal
 within_limit path bytes =
-    if nat_lt conf_limit (length bytes) then Err (refusals.TooLarge (printed_path path) (length bytes)) else Ok bytes
+    if nat_lt text_limit (length bytes) then Err (refusals.TooLarge (printed_path path) (length bytes)) else Ok bytes
 
 -- a file that isn't there counts as empty
 abbrev pub conf_or_empty : Path → Option (List ℕ) → Result (List ℕ) Refusal

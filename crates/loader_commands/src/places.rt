@@ -1,22 +1,18 @@
 //! Where loader.conf and the entries stand, and what is read of them.
 ghost use Rattle.std.specs.Prelude.{◌≡◌, IfOk, IsTrue};
+ghost use Rattle.boot_base.specs.Limits.{text_limit};
 ghost use Rattle.boot_base.specs.Paths.{IsFree};
-ghost use Rattle.boot_machine.specs.Reading.{OnlyReads, TakesAtMost};
-ghost use Rattle.boot_machine.specs.Sent.{seen};
-ghost use Rattle.command_plans.specs.Declining.{Means, printed_path};
-ghost use Rattle.command_plans.specs.Unsaying.{CountsUnsaid, Says};
+ghost use Rattle.boot_machine.specs.Prelude.{OnlyReads, TakesAtMost, seen};
+ghost use Rattle.command_plans.specs.Prelude.{CountsUnsaid, Means, Says, printed_path};
 ghost use Rattle.loader_commands.specs.Places.{conf_bytes, conf_path, loader_paths};
 
-use boot_base::{BootPath, Refusal};
+use boot_base::{BootPath, Refusal, TEXT_LIMIT};
 use boot_folder::Folders;
 use boot_machine::Machine;
 use command_plans::{
     Declined, Unsaid, file_part, folders_in, path_in, path_under, printed_path, seen_size,
 };
 use std::alloc::{AllocError, Global};
-
-/// The most bytes of a loader.conf that is read or written.
-pub(crate) const CONF_LIMIT: u64 = 65_536;
 
 /// Where loader.conf and the boot entries of an EFI system partition stand.
 #[derive(Debug, Drop)]
@@ -64,11 +60,11 @@ pub(crate) fn conf_bytes<M: Machine>(
         (conf_bytes (seen (M.state machine.old)) path.now) }
     ensures reads { IsTrue M.tells → OnlyReads M.time M.state machine.old machine.new }
     ensures counts { CountsUnsaid result (M.counts machine.old) (M.counts machine.new) }
-    ensures taken { IsTrue M.tells → TakesAtMost 65536 (M.taken machine.old) (M.taken machine.new) }
+    ensures taken { IsTrue M.tells → TakesAtMost text_limit (M.taken machine.old) (M.taken machine.new) }
 {
     match seen_size(path, machine)? {
         None => Ok(Vec::new(alloc)),
-        Some(size) if size > CONF_LIMIT => Err(Unsaid::Refused(too_long(alloc, path, size)?)),
+        Some(size) if size > TEXT_LIMIT => Err(Unsaid::Refused(too_long(alloc, path, size)?)),
         Some(size) => file_part(alloc, path, 0, size, machine),
     }
 }

@@ -1,22 +1,17 @@
 //! `loader set-default` and `loader set-timeout`.
 ghost use Rattle.std.specs.Prelude.{◌≡◌, IfOk, IsTrue, OnOk};
+ghost use Rattle.boot_base.specs.Limits.{text_limit};
 ghost use Rattle.boot_base.specs.Paths.{IsFree};
-ghost use Rattle.boot_machine.specs.Counts.{Counts};
-ghost use Rattle.boot_machine.specs.Reading.{OnlyReads, TakesAtMost};
-ghost use Rattle.boot_machine.specs.Sent.{seen};
-ghost use Rattle.command_plans.specs.Performs.{CountsStop};
-ghost use Rattle.command_plans.specs.Plans.{IsIdleIfRefused, IsMakeable, Plans, PlansAs};
-ghost use Rattle.command_plans.specs.Refusing.{DeclinesWords, RefusesWords};
-ghost use Rattle.command_plans.specs.Declining.{Means};
-ghost use Rattle.command_plans.specs.Unsaying.{CountsUnsaid, Says};
+ghost use Rattle.boot_machine.specs.Prelude.{Counts, OnlyReads, TakesAtMost, seen};
+ghost use Rattle.command_plans.specs.Prelude.{CountsStop, CountsUnsaid, DeclinesWords, IsIdleIfRefused, IsMakeable, Means, Plans, PlansAs, RefusesWords, Says};
 ghost use Rattle.loader_commands.specs.Places.{within_limit};
 ghost use Rattle.loader_commands.specs.Setting.{bad_value, conf_update, conf_words, set_answer, set_result, set_text, changed_text, value_in};
 ghost use Rattle.boot_texts.specs.Conf.{IsConfValue, conf_key_name};
 ghost use Rattle.boot_texts.specs.FileLines.{text_with_value};
 ghost use Rattle.boot_texts.specs.declared.conf_change.ConfKey.TheVariants as keys;
 
-use crate::places::{CONF_LIMIT, conf_bytes, conf_path, too_long};
-use boot_base::{BootPath, Bytes, Refusal, Target, Text};
+use crate::places::{conf_bytes, conf_path, too_long};
+use boot_base::{BootPath, Bytes, Refusal, TEXT_LIMIT, Target, Text};
 use boot_machine::Machine;
 use boot_texts::{ConfKey, may_be_value, with_key};
 use command_plans::{Change, Declined, Outcome, Plan, Stop, Unsaid, answer_or_refusal};
@@ -57,7 +52,7 @@ fn within_limit(alloc: Global, path: &BootPath, text: Vec<u8>) -> Result<Vec<u8>
     ensures counts { (counts : Counts) → CountsUnsaid result counts counts }
 {
     let size = text.len() as u64;
-    if size > CONF_LIMIT {
+    if size > TEXT_LIMIT {
         return Err(Unsaid::Refused(too_long(alloc, path, size)?));
     }
     Ok(text)
@@ -76,7 +71,7 @@ fn changed_text<M: Machine>(
         → Says (λ text. text.items) result (changed_text (seen (M.state machine.old)) key value.now path.now) }
     ensures reads { IsTrue M.tells → OnlyReads M.time M.state machine.old machine.new }
     ensures counts { CountsUnsaid result (M.counts machine.old) (M.counts machine.new) }
-    ensures taken { IsTrue M.tells → TakesAtMost 65536 (M.taken machine.old) (M.taken machine.new) }
+    ensures taken { IsTrue M.tells → TakesAtMost text_limit (M.taken machine.old) (M.taken machine.new) }
 {
     let bytes = conf_bytes(alloc, path, machine)?;
     let text = with_key(alloc, &bytes, key, value.as_bytes())?;
@@ -124,7 +119,7 @@ fn conf_update<M: Machine>(
     ensures text { IfOk result (λ change. change.text ≡ set_text key value.now) }
     ensures reads { IsTrue M.tells → OnlyReads M.time M.state machine.old machine.new }
     ensures counts { CountsUnsaid result (M.counts machine.old) (M.counts machine.new) }
-    ensures taken { IsTrue M.tells → TakesAtMost 65536 (M.taken machine.old) (M.taken machine.new) }
+    ensures taken { IsTrue M.tells → TakesAtMost text_limit (M.taken machine.old) (M.taken machine.new) }
     ensures words { DeclinesWords (conf_words key value.now esp.now) result }
 {
     check_value(alloc, key, value)?;
@@ -163,7 +158,7 @@ fn set_plan<M: Machine>(
     ensures idle { IfOk result IsIdleIfRefused }
     ensures reads { IsTrue M.tells → OnlyReads M.time M.state machine.old machine.new }
     ensures counts { CountsUnsaid result (M.counts machine.old) (M.counts machine.new) }
-    ensures taken { IsTrue M.tells → TakesAtMost 65536 (M.taken machine.old) (M.taken machine.new) }
+    ensures taken { IsTrue M.tells → TakesAtMost text_limit (M.taken machine.old) (M.taken machine.new) }
     ensures words { DeclinesWords (conf_words key value.now esp.now) result }
 {
     let change = conf_update(alloc, key, value, esp, machine)?;
@@ -184,7 +179,7 @@ pub fn plan_default<M: Machine>(
     ensures idle { IfOk result IsIdleIfRefused }
     ensures reads { IsTrue M.tells → OnlyReads M.time M.state machine.old machine.new }
     ensures counts { CountsStop result (M.counts machine.old) (M.counts machine.new) }
-    ensures taken { IsTrue M.tells → TakesAtMost 65536 (M.taken machine.old) (M.taken machine.new) }
+    ensures taken { IsTrue M.tells → TakesAtMost text_limit (M.taken machine.old) (M.taken machine.new) }
     ensures words { RefusesWords (conf_words keys.Default pattern.now esp.now) result }
 {
     let plan = set_plan(alloc, ConfKey::Default, pattern, esp, machine);
@@ -204,7 +199,7 @@ pub fn plan_timeout<M: Machine>(
     ensures idle { IfOk result IsIdleIfRefused }
     ensures reads { IsTrue M.tells → OnlyReads M.time M.state machine.old machine.new }
     ensures counts { CountsStop result (M.counts machine.old) (M.counts machine.new) }
-    ensures taken { IsTrue M.tells → TakesAtMost 65536 (M.taken machine.old) (M.taken machine.new) }
+    ensures taken { IsTrue M.tells → TakesAtMost text_limit (M.taken machine.old) (M.taken machine.new) }
     ensures words { RefusesWords (conf_words keys.Timeout value.now esp.now) result }
 {
     let plan = set_plan(alloc, ConfKey::Timeout, value, esp, machine);

@@ -4,13 +4,12 @@ ghost use Rattle.std.specs.Option.{option_map};
 ghost use Rattle.std.specs.Prelude.{map as all};
 ghost use Rattle.std.specs.FinMap as map;
 ghost use Rattle.boot_base.specs.Paths.{under, is_file_name};
-ghost use Rattle.boot_machine.specs.Disk.{has, view};
+ghost use Rattle.boot_machine.specs.Prelude.{contents, has, is_listed, move_in, view};
 ghost use Rattle.memory_machine.specs.Entries.{files_of, pairs_of, pair_of, left_pair, counts_once};
 ghost use Rattle.memory_machine.specs.declared.files.Entry.{Entry};
 ghost use Rattle.memory_machine.specs.Events.{files_after};
 ghost use Rattle.memory_machine.specs.Given.{given_files};
-ghost use Rattle.boot_machine.specs.Rows.{Gave, IsNamesOf, move_in, contents, append_to};
-ghost use Rattle.boot_machine.specs.Listed.{is_listed};
+ghost use Rattle.boot_machine.specs.Rows.{Gave, IsNamesOf, append_to};
 ghost use Rattle.memory_machine.specs.Stops.{IsFilled};
 
 use crate::MemFile;
@@ -33,7 +32,7 @@ pub(crate) struct FileList {
 impl Model for FileList {
     ghost use Rattle.std.specs.Coded.{coded_ℕ, coded_list};
     ghost use Rattle.std.specs.FinMap as map;
-    ghost use Rattle.boot_machine.specs.Disk.{Files};
+    ghost use Rattle.boot_machine.specs.Prelude.{Files};
 
     ghost Value = { Files };
 

@@ -3,12 +3,10 @@
 ghost use Rattle.std.specs.Prelude.{◌≡◌, ◌≢◌, ◌⊎◌, ◌∷◌, ◌++◌, [], ◌≤◌, ℕ, true, length, vec_len, map, drop, bytes_eq, Some, None, Ok, Err, IfOk, IfErr, OnOk, OnErr, IsErrOf, MatchResult};
 ghost use Rattle.std.specs.List.{IsDistinct};
 ghost use Rattle.std.specs.FinMap as maps;
-ghost use Rattle.boot_machine.specs.Disk.{State, has, view};
+ghost use Rattle.boot_machine.specs.Prelude.{IsImage, IsSettled, State, has, on_channel, view};
 ghost use Rattle.memory_machine.specs.Events.{log_state, files_after, printed_after};
 ghost use Rattle.memory_machine.specs.Given.{given_files, given_paths};
-ghost use Rattle.boot_machine.specs.Images.{IsImage, IsSettled};
 ghost use Rattle.boot_machine.specs.proofs.Maps.{same_files_prop};
-ghost use Rattle.boot_machine.specs.Rows.{on_channel};
 ghost use Rattle.memory_machine.specs.Stops.{IsLeft};
 ghost use Rattle.memory_machine.specs.Plan.{mode_of};
 ghost use Rattle.boot_machine.specs.Counts.{one_more};
@@ -143,7 +141,8 @@ impl MemMachine {
     ghost use Rattle.memory_machine.specs.Events.{step, say, start_state, after_stop};
     ghost use Rattle.boot_machine.specs.Moments.{Elapses};
     ghost use Rattle.boot_machine.specs.Rows.{DoneOrNot, SizeRow, ReadRow, NamesRow, CreateRow, AppendRow, SyncFileRow, RenameRow, UnlinkRow, SyncNamesRow, PrintRow, InputRow, after_create, after_append, after_sync_file, after_rename, after_unlink, after_sync_names, with_printed, after_input};
-    ghost use Rattle.boot_machine.specs.Counts.{CountsDisk, CountsPipe, CountsNames, DiskFailed, DiskFailsOnce, PipeFailed, PipeFailsOnce};
+    ghost use Rattle.boot_machine.specs.Prelude.{CountsDisk, CountsPipe, DiskFailsOnce, PipeFailsOnce};
+    ghost use Rattle.boot_machine.specs.Counts.{CountsNames, DiskFailed, PipeFailed};
     ghost use Rattle.memory_machine.specs.declared.event.Event.TheVariants.{Look as look};
 
     /// A machine with these files and nothing else: all of them synced, nothing printed, no input, and no
@@ -534,8 +533,9 @@ impl Machine for MemMachine {
     ghost use Rattle.memory_machine.specs.Events.{step};
     ghost use Rattle.boot_machine.specs.Moments.{Elapses};
     ghost use Rattle.boot_machine.specs.Rows.{DoneOrNot, SizeRow, ReadRow, NamesRow, CreateRow, AppendRow, SyncFileRow, RenameRow, UnlinkRow, SyncNamesRow, PrintRow, InputRow, after_create, after_append, after_sync_file, after_rename, after_unlink, after_sync_names, with_printed, after_input};
-    ghost use Rattle.boot_machine.specs.Counts.{CountsDisk, CountsPipe, CountsNames, DiskFailsOnce, PipeFailsOnce};
-    ghost use Rattle.boot_machine.specs.Taken.{TakesNone, TakesRead};
+    ghost use Rattle.boot_machine.specs.Prelude.{CountsDisk, CountsPipe, DiskFailsOnce, PipeFailsOnce, TakesNone};
+    ghost use Rattle.boot_machine.specs.Counts.{CountsNames};
+    ghost use Rattle.boot_machine.specs.Taken.{TakesRead};
 
     ghost tells = { true };
 

@@ -2,9 +2,7 @@
 
 ghost use Rattle.std.specs.Prelude.{◌≡◌, ◌+◌, ◌*◌, ◌≤◌, ◌<◌, [], length, IfOk, IsTrue};
 ghost use Rattle.boot_base.specs.Limits.{file_limit};
-ghost use Rattle.boot_machine.specs.Counts.{CountsDisk};
-ghost use Rattle.boot_machine.specs.Reading.{OnlyReads, TakesAtMost};
-ghost use Rattle.boot_machine.specs.Rows.{contents};
+ghost use Rattle.boot_machine.specs.Prelude.{CountsDisk, OnlyReads, TakesAtMost, contents};
 ghost use Rattle.pe_reader.specs.Fields.{part};
 ghost use Rattle.pe_reader.specs.Grammar.{head_of, pe_place_of, coff_of, optional_of, sections_of};
 ghost use Rattle.pe_reader.specs.Reads.{FromBytes, GivesFrom, CountsHead, HeadFrom};

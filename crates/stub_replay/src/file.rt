@@ -1,8 +1,6 @@
 //! What a stub measures of the image in a machine's file, read in pieces.
 ghost use Rattle.std.specs.Prelude.{◌≡◌, ◌+◌, ◌<◌, ◌≤◌, ◌^◌, Ok, length, drop, map, IfOk, IsTrue, OnOk};
-ghost use Rattle.boot_machine.specs.Counts.{CountsDisk};
-ghost use Rattle.boot_machine.specs.Reading.{OnlyReads, TakesAtMost};
-ghost use Rattle.boot_machine.specs.Rows.{contents};
+ghost use Rattle.boot_machine.specs.Prelude.{CountsDisk, OnlyReads, TakesAtMost, contents};
 ghost use Rattle.pe_reader.specs.Grammar.{pe_of};
 ghost use Rattle.pe_reader.specs.LoadedBytes.{loaded_bytes, bytes_in};
 ghost use Rattle.pe_reader.specs.Reads.{headers_of};

@@ -1,10 +1,7 @@
 //! The bytes of contents, taken into the hashes of registers.
 ghost use Rattle.std.specs.Prelude.{◌≡◌, ◌<◌, ◌≤◌, ◌+◌, ◌^◌, length, take, drop, replicate, sum_by, IfOk, OnOk, IsTrue};
 ghost use Rattle.std.specs.List.{AllZip};
-ghost use Rattle.boot_machine.specs.Counts.{CountsDisk};
-ghost use Rattle.boot_machine.specs.Reading.{OnlyReads, TakesAtMost};
-ghost use Rattle.boot_machine.specs.Rows.{contents};
-ghost use Rattle.boot_machine.specs.Sent.{seen};
+ghost use Rattle.boot_machine.specs.Prelude.{CountsDisk, OnlyReads, TakesAtMost, contents, seen};
 ghost use Rattle.pe_reader.specs.LoadedBytes.{bytes_in};
 ghost use Rattle.uki_parts.specs.Pieces.{HasSizes, bytes_of, file_length, piece_bytes, piece_length};
 ghost use Rattle.stub_replay.specs.Parts.{IsPlaced, IsWhole, content_bytes, read_length};

@@ -1,9 +1,6 @@
 //! The values that registers come to.
 ghost use Rattle.std.specs.Prelude.{◌≡◌, ◌<◌, length, map, All, IfOk, OnOk, IsTrue};
-ghost use Rattle.boot_machine.specs.Counts.{CountsDisk};
-ghost use Rattle.boot_machine.specs.Reading.{OnlyReads, TakesAtMost};
-ghost use Rattle.boot_machine.specs.Rows.{contents};
-ghost use Rattle.boot_machine.specs.Sent.{seen};
+ghost use Rattle.boot_machine.specs.Prelude.{CountsDisk, OnlyReads, TakesAtMost, contents, seen};
 ghost use Rattle.pcr_values.specs.Banks.{fold_pcr};
 ghost use Rattle.pcr_values.specs.Values.{pcr_bank, pcr_value};
 ghost use Rattle.stub_replay.specs.Measured.{section_items};

@@ -57,7 +57,7 @@ pub(crate) struct Hashes<'a> {
 impl<M: Machine> ByteSink<M> for Hashes<'_> {
     ghost use Rattle.std.specs.Prelude.{◌≡◌, refl};
     ghost use Rattle.std.proofs.Common.{ap, ◌∙◌};
-    ghost use Rattle.boot_machine.specs.Rows.{contents};
+    ghost use Rattle.boot_machine.specs.Prelude.{contents};
     ghost use Rattle.boot_machine.proofs.Reading.{reads_on};
     ghost use Rattle.stub_replay.specs.Taking.{TakesReading};
     ghost use Rattle.stub_replay.specs.proofs.TakingLaws.{takes_none, takes_more};

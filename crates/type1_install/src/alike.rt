@@ -1,9 +1,7 @@
 //! Whether two files have the same bytes.
 ghost use Rattle.std.specs.Prelude.{◌≡◌, ◌<◌, ◌≤◌, ◌+◌, ◌^◌, drop, length, true, IfOk, IsTrue};
 ghost use Rattle.boot_base.specs.Limits.{file_limit};
-ghost use Rattle.boot_machine.specs.Counts.{CountsDisk};
-ghost use Rattle.boot_machine.specs.Reading.{OnlyReads, fill_with_zeros};
-ghost use Rattle.boot_machine.specs.Rows.{contents};
+ghost use Rattle.boot_machine.specs.Prelude.{CountsDisk, OnlyReads, contents, fill_with_zeros};
 
 use boot_base::{BootPath, PIECE_SIZE, Piece};
 use boot_machine::{DiskFault, Machine, read_piece};

@@ -1,11 +1,10 @@
 //! The commands that `type1 cleanup` stands for.
 ghost use Rattle.std.specs.Prelude.{◌≡◌, ◌≤◌, ◌+◌, All, IfErr, IfOk, IsTrue, length, map};
 ghost use Rattle.boot_base.specs.Paths.{IsFree};
-ghost use Rattle.boot_machine.specs.Reading.{OnlyReads};
+ghost use Rattle.boot_machine.specs.Prelude.{OnlyReads, seen};
 ghost use Rattle.boot_machine.specs.Rows.{IsNamesOf};
-ghost use Rattle.boot_machine.specs.Sent.{seen};
 ghost use Rattle.tool_words.specs.declared.command.Command.TheVariants.{Remove};
-ghost use Rattle.command_plans.specs.Unsaying.{CountsUnsaid, Says};
+ghost use Rattle.command_plans.specs.Prelude.{CountsUnsaid, Says};
 ghost use Rattle.type1_install.specs.Cleaning.{cleanup_expansion, unnamed_payloads};
 ghost use Rattle.type1_install.specs.Payloads.{payload_folder};
 ghost use Rattle.type1_install.specs.Shown.{HasFreePath};

@@ -1,8 +1,7 @@
 //! What the words of `type1 install` say, or what they are refused for.
 ghost use Rattle.std.specs.Prelude.{◌≡◌, ◌≤◌, ◌+◌, ◌∷◌, bytes_eq, length, IfOk, string_bytes};
 ghost use Rattle.boot_base.specs.Paths.{IsFree, file_name_of, under};
-ghost use Rattle.command_plans.specs.Declining.{Means, path_in};
-ghost use Rattle.command_plans.specs.Files.{each, if_given};
+ghost use Rattle.command_plans.specs.Prelude.{Means, each, if_given, path_in};
 ghost use Rattle.type1_install.specs.Installing.{SourceFiles, entry_file, field_text, files_in, initrds_in, install_plan, place_in, install_source, texts_in};
 ghost use Rattle.type1_install.specs.Payloads.{payload_folder};
 ghost use Rattle.type1_install.specs.Shown.{AreFields, files_shown, place_shown, plan_shown};

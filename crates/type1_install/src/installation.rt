@@ -2,11 +2,10 @@
 ghost use Rattle.std.specs.Prelude.{◌≡◌, ◌≤◌, ◌+◌, ◌++◌, ◌∷◌, [], All, IfOk, IsTrue, OnOk, length, map};
 ghost use Rattle.std.specs.Option.{option_to_list};
 ghost use Rattle.boot_base.specs.Paths.{IsFree};
-ghost use Rattle.boot_machine.specs.Reading.{OnlyReads};
-ghost use Rattle.boot_machine.specs.Sent.{seen};
+ghost use Rattle.boot_machine.specs.Prelude.{OnlyReads, seen};
 ghost use Rattle.boot_texts.specs.EntryText.{entry_text};
 ghost use Rattle.tool_words.specs.declared.command.Command.TheVariants.{Enter};
-ghost use Rattle.command_plans.specs.Unsaying.{CountsUnsaid, Says};
+ghost use Rattle.command_plans.specs.Prelude.{CountsUnsaid, Says};
 ghost use Rattle.type1_install.specs.Installing.{install_expansion};
 ghost use Rattle.type1_install.specs.Shown.{AreFields, HasFreePath, HasPayloadName, fields_with, put_in, value_of_payload};
 

@@ -4,7 +4,7 @@ ghost use Rattle.std.specs.List.{filter_map, flat_map, list_any};
 ghost use Rattle.std.specs.List.Sorted.{IsStrictlySortedBy};
 ghost use Rattle.std.specs.Option.{option_to_list};
 ghost use Rattle.boot_base.specs.Paths.{IsFree, Path, under};
-ghost use Rattle.boot_machine.specs.Disk.{path_cmp};
+ghost use Rattle.boot_machine.specs.Prelude.{path_cmp};
 ghost use Rattle.boot_texts.specs.EntryText.{is_payload_name};
 ghost use Rattle.type1_install.specs.Payloads.{path_of_value};
 ghost use Rattle.type1_install.specs.Unnamed.{paths_named_by, unnamed_among};

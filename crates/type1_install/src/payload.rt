@@ -2,16 +2,12 @@
 ghost use Rattle.std.specs.Prelude.{◌≡◌, ◌<◌, ◌≤◌, true, length, All, IfOk, IsTrue};
 ghost use Rattle.hex.specs.Hex.{encode_lower};
 ghost use Rattle.boot_base.specs.Limits.{file_limit};
-ghost use Rattle.boot_machine.specs.Counts.{CountsDisk};
-ghost use Rattle.boot_machine.specs.Reading.{OnlyReads};
-ghost use Rattle.boot_machine.specs.Rows.{contents};
-ghost use Rattle.boot_machine.specs.Sent.{seen};
+ghost use Rattle.boot_machine.specs.Prelude.{CountsDisk, OnlyReads, contents, seen};
 ghost use Rattle.boot_texts.specs.EntryText.{is_payload_name};
 ghost use Rattle.pcr_values.specs.Banks.{digest_of};
 ghost use Rattle.pcr_values.specs.Values.{bank_of, bytes_of_digest};
 ghost use Rattle.pcr_values.specs.declared.bank.Bank.TheVariants.{Sha256};
-ghost use Rattle.command_plans.specs.Files.{each};
-ghost use Rattle.command_plans.specs.Unsaying.{CountsUnsaid, Says};
+ghost use Rattle.command_plans.specs.Prelude.{CountsUnsaid, Says, each};
 ghost use Rattle.type1_install.specs.Shown.{HasPayloadName, payload_at};
 
 use boot_base::{BootPath, Text};

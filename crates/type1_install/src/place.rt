@@ -2,7 +2,7 @@
 ghost use Rattle.std.specs.Prelude.{◌≡◌, ◌≤◌, ◌+◌, ◌++◌, true, codes, length, replicate, string_bytes, IfOk};
 ghost use Rattle.boot_base.specs.Paths.{IsFree, under};
 ghost use Rattle.boot_texts.specs.EntryText.{is_payload_name};
-ghost use Rattle.command_plans.specs.Declining.{Means, path_under};
+ghost use Rattle.command_plans.specs.Prelude.{Means, path_under};
 ghost use Rattle.type1_install.specs.Installing.{payload_probe};
 ghost use Rattle.type1_install.specs.Payloads.{payload_folder};
 

@@ -3,15 +3,8 @@ ghost use Rattle.std.specs.Prelude.{◌≡◌, ◌≤◌, ℕ, length, true, Lis
 ghost use Rattle.std.specs.FinMap.{get, insert};
 ghost use Rattle.boot_base.specs.Limits.{file_limit};
 ghost use Rattle.boot_base.specs.Paths.{IsFree};
-ghost use Rattle.boot_machine.specs.Disk.{State};
-ghost use Rattle.boot_machine.specs.Reading.{OnlyReads, TakesAtMost};
-ghost use Rattle.boot_machine.specs.Rows.{contents};
-ghost use Rattle.boot_machine.specs.Sent.{seen};
-ghost use Rattle.command_plans.specs.Answers.{done_answer};
-ghost use Rattle.command_plans.specs.Changes.{unlink_answer};
-ghost use Rattle.command_plans.specs.Performs.{CountsStop};
-ghost use Rattle.command_plans.specs.Plans.{CanCopy, IsIdleIfRefused, IsMakeable, Plans, PlansAs};
-ghost use Rattle.command_plans.specs.Unsaying.{CountsUnsaid};
+ghost use Rattle.boot_machine.specs.Prelude.{OnlyReads, State, TakesAtMost, contents, seen};
+ghost use Rattle.command_plans.specs.Prelude.{CanCopy, CountsStop, CountsUnsaid, IsIdleIfRefused, IsMakeable, Plans, PlansAs, done_answer, unlink_answer};
 ghost use Rattle.type1_install.specs.Unnamed.{IsNoRefusal};
 ghost use Rattle.type1_install.specs.Placing.{enter_answer, payload_text, put_answer, put_result};
 

@@ -17,5 +17,5 @@ returns-in-Some-2-clause-says g c told =
     let reads = c.in_ok-seen_size.ensures.reads told in
     subst (λ (meant : Result (List ℕ) Refusal). Says (λ bytes. bytes.items) c.file_part.result meant)
     (conf_read (seen old) (seen (g.M.Machine.state c.seen_size.new.machine)) c.args.path.now c.in-Some.size (ap (λ (s : State). seen s) reads.same)
-    (c.in_ok-seen_size.ensures.size told ∙ c.in-Some.is) c.if-size-gt-CONF_LIMIT.false)
+    (c.in_ok-seen_size.ensures.size told ∙ c.in-Some.is) c.if-size-gt-TEXT_LIMIT.false)
     (c.file_part.ensures.says told)
