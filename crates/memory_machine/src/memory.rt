@@ -1,9 +1,9 @@
 //! A machine in memory. It keeps the files of its start and all that it did since, so that it can
 //! tell each moment.
-ghost use Rattle.std.specs.Prelude.{◌≡◌, ◌≢◌, ◌⊎◌, ◌∷◌, ◌++◌, [], ◌≤◌, ℕ, true, length, vec_len, map, drop, bytes_eq, Some, None, Ok, Err, IfOk, IfErr, OnOk, OnErr, IsErrOf, MatchResult};
+ghost use Rattle.std.specs.Prelude.{◌≡◌, ◌≢◌, ◌⊎◌, ◌∷◌, ◌++◌, [], ◌≤◌, ℕ, true, length, drop, bytes_eq, Some, None, Ok, Err, IfOk, OnOk, OnErr};
 ghost use Rattle.std.specs.List.{IsDistinct};
 ghost use Rattle.std.specs.FinMap as maps;
-ghost use Rattle.boot_machine.specs.Prelude.{IsImage, IsSettled, State, has, on_channel, view};
+ghost use Rattle.boot_machine.specs.Prelude.{IsImage, IsSettled, has, on_channel, view};
 ghost use Rattle.memory_machine.specs.Events.{log_state, files_after, printed_after};
 ghost use Rattle.memory_machine.specs.Given.{given_files, given_paths};
 ghost use Rattle.boot_machine.specs.proofs.Maps.{same_files_prop};
@@ -137,12 +137,14 @@ fn mode_at(failures: &[Failure], call: u64) -> Option<FailMode>
 }
 
 impl MemMachine {
-    ghost use Rattle.memory_machine.specs.Memory.{mem_start, mem_events, mem_input, mem_state, mem_clock, mem_time, mem_counts, mem_reads, mem_starved, mem_calls, mem_plan, next_mode, SameOrders, TellsTheSame, TellsOneMore, IsNextCall, IsStarved, RecordsCall, AsTold, NamesAsTold};
+    ghost use Rattle.memory_machine.specs.Memory.{mem_start, mem_events, mem_input, mem_state, mem_clock, mem_time, mem_counts, mem_reads, mem_starved, mem_calls, mem_plan, next_mode, SameOrders, TellsTheSame, TellsOneMore, IsStarved, RecordsCall};
+    ghost use Rattle.memory_machine.specs.Calls.{KeepsNone, MemCall, MemFails, SkipsCall, StarvesCall, disk_call, pipe_call, no_effect};
+    ghost use Rattle.boot_machine.specs.Taken.{TakesNone};
     ghost use Rattle.memory_machine.specs.Events.{step, say, start_state, after_stop};
     ghost use Rattle.boot_machine.specs.Moments.{Elapses};
-    ghost use Rattle.boot_machine.specs.Rows.{DoneOrNot, SizeRow, ReadRow, NamesRow, CreateRow, AppendRow, SyncFileRow, RenameRow, UnlinkRow, SyncNamesRow, PrintRow, InputRow, after_create, after_append, after_sync_file, after_rename, after_unlink, after_sync_names, with_printed, after_input};
-    ghost use Rattle.boot_machine.specs.Prelude.{CountsDisk, CountsPipe, DiskFailsOnce, PipeFailsOnce};
-    ghost use Rattle.boot_machine.specs.Counts.{CountsNames, DiskFailed, PipeFailed};
+    ghost use Rattle.boot_machine.specs.Rows.{DoneOrNot, AppendRow, after_append};
+    ghost use Rattle.boot_machine.specs.Prelude.{DiskFailsOnce, PipeFailsOnce};
+    ghost use Rattle.boot_machine.specs.Counts.{DiskFailed, PipeFailed};
     ghost use Rattle.memory_machine.specs.declared.event.Event.TheVariants.{Look as look};
 
     /// A machine with these files and nothing else: all of them synced, nothing printed, no input, and no
@@ -299,12 +301,7 @@ impl MemMachine {
     // Records that a call did nothing.
     fn skip(&mut self)
         ensures state { mem_state self.new ≡ mem_state self.old }
-        ensures plan { mem_plan self.new ≡ mem_plan self.old }
-        ensures moments { Elapses mem_time mem_state self.old self.new }
-        ensures records { RecordsCall self.old self.new }
-        ensures counts { mem_counts self.new ≡ mem_counts self.old }
-        ensures reads { mem_reads self.new ≡ mem_reads self.old }
-        ensures calls { mem_calls self.new ≡ mem_calls self.old }
+        ensures skips { SkipsCall self.old self.new }
         ensures starved { (mem_starved self.new ≡ mem_starved self.old) ⊎ IsStarved self.old self.new }
     {
         let _ = self.note(Event::Look);
@@ -338,22 +335,14 @@ impl MemMachine {
     }
 
     fn fail_disk(&mut self) -> DiskFault
-        ensures same { TellsTheSame self.old self.new }
-        ensures starved { mem_starved self.new ≡ mem_starved self.old }
-        ensures calls { mem_calls self.new ≡ mem_calls self.old }
-        ensures counts { DiskFailed (mem_counts self.old) (mem_counts self.new) }
-        ensures once { DiskFailsOnce (mem_counts self.old) (mem_counts self.new) }
+        ensures { MemFails DiskFailsOnce DiskFailed self.old self.new }
     {
         self.disk_faults = self.disk_faults.saturating_add(1);
         DiskFault
     }
 
     fn fail_pipe(&mut self) -> PipeFault
-        ensures same { TellsTheSame self.old self.new }
-        ensures starved { mem_starved self.new ≡ mem_starved self.old }
-        ensures calls { mem_calls self.new ≡ mem_calls self.old }
-        ensures counts { PipeFailed (mem_counts self.old) (mem_counts self.new) }
-        ensures once { PipeFailsOnce (mem_counts self.old) (mem_counts self.new) }
+        ensures { MemFails PipeFailsOnce PipeFailed self.old self.new }
     {
         self.pipe_faults = self.pipe_faults.saturating_add(1);
         PipeFault
@@ -361,14 +350,7 @@ impl MemMachine {
 
     // A call of the disk that found no memory for its words.
     fn starve_disk(&mut self) -> DiskFault
-        ensures state { mem_state self.new ≡ mem_state self.old }
-        ensures next { IsNextCall self.old self.new }
-        ensures starved { IsStarved self.old self.new }
-        ensures moments { Elapses mem_time mem_state self.old self.new }
-        ensures counts { DiskFailed (mem_counts self.old) (mem_counts self.new) }
-        ensures once { DiskFailsOnce (mem_counts self.old) (mem_counts self.new) }
-        ensures records { RecordsCall self.old self.new }
-        ensures reads { mem_reads self.new ≡ mem_reads self.old }
+        ensures { StarvesCall DiskFailsOnce DiskFailed self.old self.new }
     {
         self.next_call();
         self.starve();
@@ -377,14 +359,7 @@ impl MemMachine {
 
     // A call of a pipe that found no memory for its words.
     fn starve_pipe(&mut self) -> PipeFault
-        ensures state { mem_state self.new ≡ mem_state self.old }
-        ensures next { IsNextCall self.old self.new }
-        ensures starved { IsStarved self.old self.new }
-        ensures moments { Elapses mem_time mem_state self.old self.new }
-        ensures counts { PipeFailed (mem_counts self.old) (mem_counts self.new) }
-        ensures once { PipeFailsOnce (mem_counts self.old) (mem_counts self.new) }
-        ensures records { RecordsCall self.old self.new }
-        ensures reads { mem_reads self.new ≡ mem_reads self.old }
+        ensures { StarvesCall PipeFailsOnce PipeFailed self.old self.new }
     {
         self.next_call();
         self.starve();
@@ -397,12 +372,7 @@ impl MemMachine {
         ensures state { ((mem_state self.new ≡ after_append path [] (mem_state self.old))
             × (mem_starved self.new ≡ mem_starved self.old))
             ⊎ ((mem_state self.new ≡ mem_state self.old) × IsStarved self.old self.new) }
-        ensures plan { mem_plan self.new ≡ mem_plan self.old }
-        ensures moments { Elapses mem_time mem_state self.old self.new }
-        ensures records { RecordsCall self.old self.new }
-        ensures counts { mem_counts self.new ≡ mem_counts self.old }
-        ensures reads { mem_reads self.new ≡ mem_reads self.old }
-        ensures calls { mem_calls self.new ≡ mem_calls self.old }
+        ensures skips { SkipsCall self.old self.new }
     {
         let nothing = Vec::new(self.alloc);
         let _ = self.note(Event::Append(path, nothing));
@@ -411,12 +381,7 @@ impl MemMachine {
     // Does what the event says, unless the call is to fail before.
     fn run_disk(&mut self, event: Event) -> Result<(), DiskFault>
         ensures row { DoneOrNot (mem_state self.old) (step event (mem_state self.old)) (mem_state self.new) result }
-        ensures told { AsTold self.old self.new (mem_state self.old) (step event (mem_state self.old)) result }
-        ensures moments { Elapses mem_time mem_state self.old self.new }
-        ensures counts { CountsDisk result (mem_counts self.old) (mem_counts self.new) }
-        ensures once { OnErr result (DiskFailsOnce (mem_counts self.old) (mem_counts self.new)) }
-        ensures records { RecordsCall self.old self.new }
-        ensures reads { mem_reads self.new ≡ mem_reads self.old }
+        ensures call { MemCall disk_call TakesNone KeepsNone no_effect (step event) self.old self.new result }
     {
         let mode = self.next_call();
         if mode == Some(FailMode::Before) {
@@ -437,13 +402,8 @@ impl MemMachine {
     fn run_append(&mut self, path: Text, bytes: Vec<u8>) -> Result<(), DiskFault>
         requires { has (mem_state self.old).files path ≡ true }
         ensures row { AppendRow (mem_state self.old) (mem_state self.new) path bytes.items result }
-        ensures told { AsTold self.old self.new
-            (after_append path [] (mem_state self.old)) (after_append path bytes.items (mem_state self.old)) result }
-        ensures moments { Elapses mem_time mem_state self.old self.new }
-        ensures counts { CountsDisk result (mem_counts self.old) (mem_counts self.new) }
-        ensures once { OnErr result (DiskFailsOnce (mem_counts self.old) (mem_counts self.new)) }
-        ensures records { RecordsCall self.old self.new }
-        ensures reads { mem_reads self.new ≡ mem_reads self.old }
+        ensures call { MemCall disk_call TakesNone KeepsNone (after_append path []) (after_append path bytes.items)
+            self.old self.new result }
     {
         let mode = self.next_call();
         if mode == Some(FailMode::Before) {
@@ -462,12 +422,7 @@ impl MemMachine {
     // The same of a print.
     fn run_print(&mut self, text: Vec<Printed>) -> Result<(), PipeFault>
         ensures row { DoneOrNot (mem_state self.old) (say text.items (mem_state self.old)) (mem_state self.new) result }
-        ensures told { AsTold self.old self.new (mem_state self.old) (say text.items (mem_state self.old)) result }
-        ensures moments { Elapses mem_time mem_state self.old self.new }
-        ensures counts { CountsPipe result (mem_counts self.old) (mem_counts self.new) }
-        ensures once { OnErr result (PipeFailsOnce (mem_counts self.old) (mem_counts self.new)) }
-        ensures records { RecordsCall self.old self.new }
-        ensures reads { mem_reads self.new ≡ mem_reads self.old }
+        ensures call { MemCall pipe_call TakesNone KeepsNone no_effect (say text.items) self.old self.new result }
     {
         let mode = self.next_call();
         if mode == Some(FailMode::Before) {
@@ -487,12 +442,7 @@ impl MemMachine {
     fn run_sync(&mut self, event: Event) -> Result<(), DiskFault>
         ensures ok { OnOk result (mem_state self.new ≡ step event (mem_state self.old)) }
         ensures err { OnErr result (mem_state self.new ≡ mem_state self.old) }
-        ensures told { AsTold self.old self.new (mem_state self.old) (mem_state self.old) result }
-        ensures moments { Elapses mem_time mem_state self.old self.new }
-        ensures counts { CountsDisk result (mem_counts self.old) (mem_counts self.new) }
-        ensures once { OnErr result (DiskFailsOnce (mem_counts self.old) (mem_counts self.new)) }
-        ensures records { RecordsCall self.old self.new }
-        ensures reads { mem_reads self.new ≡ mem_reads self.old }
+        ensures call { MemCall disk_call TakesNone KeepsNone no_effect no_effect self.old self.new result }
     {
         if self.next_call().is_some() {
             drop(event);
@@ -509,12 +459,7 @@ impl MemMachine {
     fn run_input(&mut self) -> Result<(), PipeFault>
         ensures state { mem_state self.new ≡ mem_state self.old }
         ensures noted { OnOk result (TellsOneMore look self.old self.new) }
-        ensures told { AsTold self.old self.new (mem_state self.old) (mem_state self.old) result }
-        ensures moments { Elapses mem_time mem_state self.old self.new }
-        ensures counts { CountsPipe result (mem_counts self.old) (mem_counts self.new) }
-        ensures once { OnErr result (PipeFailsOnce (mem_counts self.old) (mem_counts self.new)) }
-        ensures records { RecordsCall self.old self.new }
-        ensures reads { mem_reads self.new ≡ mem_reads self.old }
+        ensures call { MemCall pipe_call TakesNone KeepsNone no_effect no_effect self.old self.new result }
     {
         if self.next_call().is_some() {
             self.skip();
@@ -528,14 +473,11 @@ impl MemMachine {
 }
 
 impl Machine for MemMachine {
-    ghost use Rattle.memory_machine.specs.Memory.{mem_start, mem_events, mem_input, mem_state, mem_time, mem_counts, mem_reads, mem_taken, KeepsRead, mem_starved, mem_calls, mem_plan, next_mode, TellsTheSame, TellsOneMore, IsNextCall, IsStarved, RecordsCall, AsTold, NamesAsTold};
+    ghost use Rattle.memory_machine.specs.Memory.{mem_start, mem_events, mem_input, mem_state, mem_time, mem_counts, mem_taken, KeepsRead};
+    ghost use Rattle.memory_machine.specs.Calls.{KeepsNone, MemCall, disk_call, names_call, pipe_call, no_effect};
     ghost use Rattle.memory_machine.specs.proofs.EventLaws.{now_counts, now_only, sound_held, sound-input, image-input, image_input};
-    ghost use Rattle.memory_machine.specs.Events.{step};
-    ghost use Rattle.boot_machine.specs.Moments.{Elapses};
-    ghost use Rattle.boot_machine.specs.Rows.{DoneOrNot, SizeRow, ReadRow, NamesRow, CreateRow, AppendRow, SyncFileRow, RenameRow, UnlinkRow, SyncNamesRow, PrintRow, InputRow, after_create, after_append, after_sync_file, after_rename, after_unlink, after_sync_names, with_printed, after_input};
-    ghost use Rattle.boot_machine.specs.Prelude.{CountsDisk, CountsPipe, DiskFailsOnce, PipeFailsOnce, TakesNone};
-    ghost use Rattle.boot_machine.specs.Counts.{CountsNames};
-    ghost use Rattle.boot_machine.specs.Taken.{TakesRead};
+    ghost use Rattle.boot_machine.specs.Rows.{SizeRow, ReadRow, NamesRow, CreateRow, AppendRow, SyncFileRow, RenameRow, UnlinkRow, SyncNamesRow, PrintRow, InputRow, after_create, after_append, after_rename, after_unlink, with_printed};
+    ghost use Rattle.boot_machine.specs.Taken.{TakesNone, TakesRead};
 
     ghost tells = { true };
 
@@ -558,13 +500,7 @@ impl Machine for MemMachine {
 
     fn size(&mut self, path: &BootPath) -> Result<Option<u64>, DiskFault>
         ensures row { SizeRow (mem_state self.old) (mem_state self.new) path.now result }
-        ensures told { AsTold self.old self.new (mem_state self.old) (mem_state self.old) result }
-        ensures moments { Elapses mem_time mem_state self.old self.new }
-        ensures counts { CountsDisk result (mem_counts self.old) (mem_counts self.new) }
-        ensures once { OnErr result (DiskFailsOnce (mem_counts self.old) (mem_counts self.new)) }
-        ensures records { RecordsCall self.old self.new }
-        ensures taken { TakesNone (mem_taken self.old) (mem_taken self.new) }
-        ensures reads { mem_reads self.new ≡ mem_reads self.old }
+        ensures call { MemCall disk_call TakesNone KeepsNone no_effect no_effect self.old self.new result }
     {
         let answer = self.files.size(path.as_str());
         self.run_sync(Event::Look)?;
@@ -574,13 +510,8 @@ impl Machine for MemMachine {
     fn read_at(&mut self, path: &BootPath, at: u64, into: &mut [u8]) -> Result<usize, DiskFault>
         ensures row { ReadRow (mem_state self.old) (mem_state self.new) path.now at into.new result }
         ensures within { IfOk result (λ n. n ≤ length into.new) }
-        ensures told { AsTold self.old self.new (mem_state self.old) (mem_state self.old) result }
-        ensures moments { Elapses mem_time mem_state self.old self.new }
-        ensures counts { CountsDisk result (mem_counts self.old) (mem_counts self.new) }
-        ensures once { OnErr result (DiskFailsOnce (mem_counts self.old) (mem_counts self.new)) }
-        ensures records { RecordsCall self.old self.new }
-        ensures taken { TakesRead result (mem_taken self.old) (mem_taken self.new) }
-        ensures reads { KeepsRead path.now at result (mem_reads self.old) (mem_reads self.new) }
+        ensures call { MemCall disk_call (TakesRead result) (KeepsRead path.now at result) no_effect no_effect
+            self.old self.new result }
     {
         let count = self.files.read(path.as_str(), at as usize, into);
         self.run_sync(Event::Look)?;
@@ -593,13 +524,7 @@ impl Machine for MemMachine {
 
     fn names(&mut self, alloc: Global, folder: &BootPath) -> Result<Vec<FileName>, NamesFault>
         ensures row { NamesRow (mem_state self.old) (mem_state self.new) folder.now result }
-        ensures told { NamesAsTold self.old self.new result }
-        ensures moments { Elapses mem_time mem_state self.old self.new }
-        ensures counts { CountsNames result (mem_counts self.old) (mem_counts self.new) }
-        ensures once { IsErrOf result NamesFault.Disk → DiskFailsOnce (mem_counts self.old) (mem_counts self.new) }
-        ensures records { RecordsCall self.old self.new }
-        ensures taken { TakesNone (mem_taken self.old) (mem_taken self.new) }
-        ensures reads { mem_reads self.new ≡ mem_reads self.old }
+        ensures call { MemCall names_call TakesNone KeepsNone no_effect no_effect self.old self.new result }
     {
         if self.run_sync(Event::Look).is_err() {
             return Err(NamesFault::Disk);
@@ -612,14 +537,8 @@ impl Machine for MemMachine {
 
     fn create(&mut self, path: &TempPath) -> Result<(), DiskFault>
         ensures row { CreateRow (mem_state self.old) (mem_state self.new) path.now result }
-        ensures told { AsTold self.old self.new (mem_state self.old) (after_create path.now (mem_state self.old))
-            result }
-        ensures moments { Elapses mem_time mem_state self.old self.new }
-        ensures counts { CountsDisk result (mem_counts self.old) (mem_counts self.new) }
-        ensures once { OnErr result (DiskFailsOnce (mem_counts self.old) (mem_counts self.new)) }
-        ensures records { RecordsCall self.old self.new }
-        ensures taken { TakesNone (mem_taken self.old) (mem_taken self.new) }
-        ensures reads { mem_reads self.new ≡ mem_reads self.old }
+        ensures call { MemCall disk_call TakesNone KeepsNone no_effect (after_create path.now)
+            self.old self.new result }
     {
         match Text::of(self.alloc, path.as_str()) {
             Ok(path) => self.run_disk(Event::Create(path)),
@@ -630,15 +549,8 @@ impl Machine for MemMachine {
     fn append(&mut self, path: &TempPath, bytes: &[u8]) -> Result<(), DiskFault>
         requires { has (mem_state self.old).files path.now ≡ true }
         ensures row { AppendRow (mem_state self.old) (mem_state self.new) path.now bytes.now result }
-        ensures told { AsTold self.old self.new
-            (after_append path.now [] (mem_state self.old)) (after_append path.now bytes.now (mem_state self.old))
-            result }
-        ensures moments { Elapses mem_time mem_state self.old self.new }
-        ensures counts { CountsDisk result (mem_counts self.old) (mem_counts self.new) }
-        ensures once { OnErr result (DiskFailsOnce (mem_counts self.old) (mem_counts self.new)) }
-        ensures records { RecordsCall self.old self.new }
-        ensures taken { TakesNone (mem_taken self.old) (mem_taken self.new) }
-        ensures reads { mem_reads self.new ≡ mem_reads self.old }
+        ensures call { MemCall disk_call TakesNone KeepsNone (after_append path.now [])
+            (after_append path.now bytes.now) self.old self.new result }
     {
         match path_and_bytes(self.alloc, path.as_str(), bytes) {
             Ok((path, bytes)) => self.run_append(path, bytes),
@@ -648,13 +560,7 @@ impl Machine for MemMachine {
 
     fn sync_file(&mut self, path: &TempPath) -> Result<(), DiskFault>
         ensures row { SyncFileRow (mem_state self.old) (mem_state self.new) path.now result }
-        ensures told { AsTold self.old self.new (mem_state self.old) (mem_state self.old) result }
-        ensures moments { Elapses mem_time mem_state self.old self.new }
-        ensures counts { CountsDisk result (mem_counts self.old) (mem_counts self.new) }
-        ensures once { OnErr result (DiskFailsOnce (mem_counts self.old) (mem_counts self.new)) }
-        ensures records { RecordsCall self.old self.new }
-        ensures taken { TakesNone (mem_taken self.old) (mem_taken self.new) }
-        ensures reads { mem_reads self.new ≡ mem_reads self.old }
+        ensures call { MemCall disk_call TakesNone KeepsNone no_effect no_effect self.old self.new result }
     {
         match Text::of(self.alloc, path.as_str()) {
             Ok(path) => self.run_sync(Event::SyncFile(path)),
@@ -666,14 +572,8 @@ impl Machine for MemMachine {
         requires there { has (mem_state self.old).files from.now ≡ true }
         requires differ { from.now ≢ to.now }
         ensures row { RenameRow (mem_state self.old) (mem_state self.new) from.now to.now result }
-        ensures told { AsTold self.old self.new (mem_state self.old)
-            (after_rename from.now to.now (mem_state self.old)) result }
-        ensures moments { Elapses mem_time mem_state self.old self.new }
-        ensures counts { CountsDisk result (mem_counts self.old) (mem_counts self.new) }
-        ensures once { OnErr result (DiskFailsOnce (mem_counts self.old) (mem_counts self.new)) }
-        ensures records { RecordsCall self.old self.new }
-        ensures taken { TakesNone (mem_taken self.old) (mem_taken self.new) }
-        ensures reads { mem_reads self.new ≡ mem_reads self.old }
+        ensures call { MemCall disk_call TakesNone KeepsNone no_effect (after_rename from.now to.now)
+            self.old self.new result }
     {
         match two_paths(self.alloc, from.as_str(), to.as_str()) {
             Ok((from, to)) => self.run_disk(Event::Rename(from, to)),
@@ -685,14 +585,8 @@ impl Machine for MemMachine {
         requires there { has (mem_state self.old).files from.now ≡ true }
         requires differ { from.now ≢ to.now }
         ensures row { RenameRow (mem_state self.old) (mem_state self.new) from.now to.now result }
-        ensures told { AsTold self.old self.new (mem_state self.old)
-            (after_rename from.now to.now (mem_state self.old)) result }
-        ensures moments { Elapses mem_time mem_state self.old self.new }
-        ensures counts { CountsDisk result (mem_counts self.old) (mem_counts self.new) }
-        ensures once { OnErr result (DiskFailsOnce (mem_counts self.old) (mem_counts self.new)) }
-        ensures records { RecordsCall self.old self.new }
-        ensures taken { TakesNone (mem_taken self.old) (mem_taken self.new) }
-        ensures reads { mem_reads self.new ≡ mem_reads self.old }
+        ensures call { MemCall disk_call TakesNone KeepsNone no_effect (after_rename from.now to.now)
+            self.old self.new result }
     {
         match two_paths(self.alloc, from.as_str(), to.as_str()) {
             Ok((from, to)) => self.run_disk(Event::Rename(from, to)),
@@ -702,14 +596,8 @@ impl Machine for MemMachine {
 
     fn unlink(&mut self, path: &BootPath) -> Result<(), DiskFault>
         ensures row { UnlinkRow (mem_state self.old) (mem_state self.new) path.now result }
-        ensures told { AsTold self.old self.new (mem_state self.old) (after_unlink path.now (mem_state self.old))
-            result }
-        ensures moments { Elapses mem_time mem_state self.old self.new }
-        ensures counts { CountsDisk result (mem_counts self.old) (mem_counts self.new) }
-        ensures once { OnErr result (DiskFailsOnce (mem_counts self.old) (mem_counts self.new)) }
-        ensures records { RecordsCall self.old self.new }
-        ensures taken { TakesNone (mem_taken self.old) (mem_taken self.new) }
-        ensures reads { mem_reads self.new ≡ mem_reads self.old }
+        ensures call { MemCall disk_call TakesNone KeepsNone no_effect (after_unlink path.now)
+            self.old self.new result }
     {
         match Text::of(self.alloc, path.as_str()) {
             Ok(path) => self.run_disk(Event::Unlink(path)),
@@ -719,14 +607,8 @@ impl Machine for MemMachine {
 
     fn unlink_temp(&mut self, path: &TempPath) -> Result<(), DiskFault>
         ensures row { UnlinkRow (mem_state self.old) (mem_state self.new) path.now result }
-        ensures told { AsTold self.old self.new (mem_state self.old) (after_unlink path.now (mem_state self.old))
-            result }
-        ensures moments { Elapses mem_time mem_state self.old self.new }
-        ensures counts { CountsDisk result (mem_counts self.old) (mem_counts self.new) }
-        ensures once { OnErr result (DiskFailsOnce (mem_counts self.old) (mem_counts self.new)) }
-        ensures records { RecordsCall self.old self.new }
-        ensures taken { TakesNone (mem_taken self.old) (mem_taken self.new) }
-        ensures reads { mem_reads self.new ≡ mem_reads self.old }
+        ensures call { MemCall disk_call TakesNone KeepsNone no_effect (after_unlink path.now)
+            self.old self.new result }
     {
         match Text::of(self.alloc, path.as_str()) {
             Ok(path) => self.run_disk(Event::Unlink(path)),
@@ -736,27 +618,15 @@ impl Machine for MemMachine {
 
     fn sync_names(&mut self) -> Result<(), DiskFault>
         ensures row { SyncNamesRow (mem_state self.old) (mem_state self.new) result }
-        ensures told { AsTold self.old self.new (mem_state self.old) (mem_state self.old) result }
-        ensures moments { Elapses mem_time mem_state self.old self.new }
-        ensures counts { CountsDisk result (mem_counts self.old) (mem_counts self.new) }
-        ensures once { OnErr result (DiskFailsOnce (mem_counts self.old) (mem_counts self.new)) }
-        ensures records { RecordsCall self.old self.new }
-        ensures taken { TakesNone (mem_taken self.old) (mem_taken self.new) }
-        ensures reads { mem_reads self.new ≡ mem_reads self.old }
+        ensures call { MemCall disk_call TakesNone KeepsNone no_effect no_effect self.old self.new result }
     {
         self.run_sync(Event::SyncNames)
     }
 
     fn print(&mut self, to: Channel, bytes: &[u8]) -> Result<(), PipeFault>
         ensures row { PrintRow (mem_state self.old) (mem_state self.new) to bytes.now result }
-        ensures told { AsTold self.old self.new (mem_state self.old)
-            (with_printed to bytes.now (mem_state self.old)) result }
-        ensures moments { Elapses mem_time mem_state self.old self.new }
-        ensures counts { CountsPipe result (mem_counts self.old) (mem_counts self.new) }
-        ensures once { OnErr result (PipeFailsOnce (mem_counts self.old) (mem_counts self.new)) }
-        ensures records { RecordsCall self.old self.new }
-        ensures taken { TakesNone (mem_taken self.old) (mem_taken self.new) }
-        ensures reads { mem_reads self.new ≡ mem_reads self.old }
+        ensures call { MemCall pipe_call TakesNone KeepsNone no_effect (with_printed to bytes.now)
+            self.old self.new result }
     {
         match on_channel(self.alloc, to, bytes) {
             Ok(text) => self.run_print(text),
@@ -767,13 +637,7 @@ impl Machine for MemMachine {
     fn input(&mut self, into: &mut [u8]) -> Result<usize, PipeFault>
         ensures row { InputRow (mem_state self.old) (mem_state self.new) into.new result }
         ensures within { IfOk result (λ n. n ≤ length into.new) }
-        ensures told { AsTold self.old self.new (mem_state self.old) (mem_state self.old) result }
-        ensures moments { Elapses mem_time mem_state self.old self.new }
-        ensures counts { CountsPipe result (mem_counts self.old) (mem_counts self.new) }
-        ensures once { OnErr result (PipeFailsOnce (mem_counts self.old) (mem_counts self.new)) }
-        ensures records { RecordsCall self.old self.new }
-        ensures taken { TakesNone (mem_taken self.old) (mem_taken self.new) }
-        ensures reads { mem_reads self.new ≡ mem_reads self.old }
+        ensures call { MemCall pipe_call TakesNone KeepsNone no_effect no_effect self.old self.new result }
     {
         self.run_input()?;
         let count = copy_some(&self.given, self.taken, into);
