@@ -1,6 +1,6 @@
 -- What an installation and a cleanup stand for spares every good entry: a payload's name has no suffix, and what is
 -- entered is an entry.
-use Rattle.std.proofs.Common.{◌≡◌, ◌≢◌, inl, inr, ℕ, Bool, true, false, List, [], ◌∷◌, ◌++◌, map, Some, None, refl, sym, ap, ◌∙◌, subst, Result, Ok, Err}
+use Rattle.std.proofs.Common.{◌≡◌, ◌≢◌, inl, inr, ℕ, true, List, [], ◌∷◌, ◌++◌, map, Some, None, refl, sym, ap, ◌∙◌, subst, Result, Ok, Err}
 use Rattle.std.specs.Prelude.{All, bytes_eq, nat_le, not, ◌&&◌, length}
 use Rattle.std.specs.List.{list_any}
 use Rattle.std.specs.FinMap as map_of

@@ -13,7 +13,7 @@ use Rattle.command_plans.specs.declared.outcome.Outcome.{Outcome}
 use Rattle.command_plans.specs.declared.outcome.Stop.{Stop}
 use Rattle.command_plans.specs.declared.plan.Plan.{Plan}
 use Rattle.command_plans.proofs.Performed.{after_reads}
-use Rattle.boot_commands.specs.Commands.{LeavesTidied, TidiesTo}
+use Rattle.boot_commands.specs.Commands.{TidiesTo}
 use Rattle.tool_words.specs.declared.command.Command.{Command}
 
 module _ {D : Type 0} (time : Timeline D) (state : D → State) (old mid new : D) (plan : Plan) (answer : Answer) (result : Result Outcome Stop) where

@@ -1,5 +1,5 @@
 -- No command's reply is empty.
-use Rattle.std.proofs.Common.{ℕ, ◌<◌, ◌&&◌, ◌∷◌, ◌++◌, [], codes, Bool, true, false, cond, List, length, map, arith, Option, Some, None, Result, Ok, Err}
+use Rattle.std.proofs.Common.{ℕ, ◌<◌, ◌&&◌, ◌∷◌, [], codes, Bool, true, false, cond, List, length, map, arith, Option, Some, None, Result, Ok, Err}
 use Rattle.std.specs.FinMap.{get, insert}
 use Rattle.boot_base.specs.Paths.{Path}
 use Rattle.boot_base.specs.declared.refusal.Refusal.{Refusal}

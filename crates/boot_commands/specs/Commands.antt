@@ -1,11 +1,13 @@
 -- What each command that is a step of a run comes to on a view, and what it does to a machine. `script` is none: it is
 -- the lines of standard input.
-use Rattle.std.specs.Prelude.{codes, ◌≢◌, Option, Some, Result, MatchResult}
+use Rattle.std.specs.Prelude.{codes, ◌≡◌, ◌≢◌, Bool, IsTrue, Option, Some, Result, MatchResult}
+use Rattle.boot_machine.specs.Counts.{Counts}
 use Rattle.boot_machine.specs.Disk.{Files, State}
 use Rattle.tool_words.specs.declared.command.Command.{Command}
 use Rattle.tool_words.specs.declared.command.Command.TheVariants as command
 use Rattle.command_plans.specs.Answers.{Answer, answer_of_read}
 use Rattle.command_plans.specs.Deeds.{Deed, deed_of_answer}
+use Rattle.command_plans.specs.Performs.{CountsStop, LeavesNoTemp}
 use Rattle.command_plans.specs.declared.outcome.Stop.{Stop}
 use Rattle.command_plans.specs.declared.outcome.Stop.TheVariants as stops
 use Rattle.entry_commands.specs.Keeping.{keep_answer, keep_result}
@@ -48,3 +50,11 @@ stop_tidies stops.Memory c old new = Unit {0}
 -- that tells
 abbrev pub TidiesTo : {T : Type 0} → Result T Stop → Command → State → State → Type 0
 TidiesTo result c old new = MatchResult result (λ _. LeavesTidied c new.files) (λ stop. stop_tidies stop c old new)
+
+-- How a command behaves, however it ends: it takes no input, it leaves no new temporary file unless the disk failed, and a
+-- fault has its cause.
+pub record Behaves {D T : Type 0} (tells : Bool) (state : D → State) (counts : D → Counts) (old new : D)
+    (result : Result T Stop) : Type 0 where
+  pub input : IsTrue tells → (state new).input ≡ (state old).input
+  pub temps : IsTrue tells → LeavesNoTemp result (state old) (state new)
+  pub counted : CountsStop result (counts old) (counts new)

@@ -1,9 +1,9 @@
 //! A plan is carried out.
 ghost use Rattle.std.specs.Prelude.{◌≡◌, IsTrue};
 ghost use Rattle.boot_machine.specs.Prelude.{Files, IsFirm, IsRested, seen};
-ghost use Rattle.boot_commands.specs.Commands.{LeavesTidied, TidiesTo};
+ghost use Rattle.boot_commands.specs.Commands.{Behaves, LeavesTidied, TidiesTo};
 ghost use Rattle.command_plans.specs.Deeds.{deed_of_answer};
-ghost use Rattle.command_plans.specs.Prelude.{CanMake, CountsStop, Drops, IsMakeable, LeavesNoTemp, LeavesRested, Performs, answer_of_plan, end_of};
+ghost use Rattle.command_plans.specs.Prelude.{CanMake, Drops, LeavesRested, Performs, answer_of_plan, end_of};
 ghost use Rattle.tool_words.specs.declared.command.Command.{Command};
 
 use boot_machine::Machine;
@@ -12,7 +12,6 @@ use command_plans::{Outcome, Plan, Stop, perform};
 /// Carries out a plan, as `perform` does it.
 pub(crate) fn carry_out<M: Machine>(plan: Plan, machine: &mut M) -> Result<Outcome, Stop>
     requires rested { IsTrue M.tells → IsRested (M.state machine.old) }
-    requires makeable { IsMakeable plan.change }
     requires there { IsTrue M.tells → CanMake (M.state machine.old) plan.change }
     ensures performs { IsTrue M.tells → IsFirm (M.state machine.old)
         → Performs M.time M.state end_of machine.old machine.new
@@ -20,10 +19,8 @@ pub(crate) fn carry_out<M: Machine>(plan: Plan, machine: &mut M) -> Result<Outco
     ensures tidies { IsTrue M.tells → (c : Command)
         → ((files : Files) → Drops plan.change (M.state machine.old).files files → LeavesTidied c files)
         → TidiesTo result c (M.state machine.old) (M.state machine.new) }
-    ensures input { IsTrue M.tells → (M.state machine.new).input ≡ (M.state machine.old).input }
     ensures rests { IsTrue M.tells → LeavesRested result (M.state machine.new) }
-    ensures temps { IsTrue M.tells → LeavesNoTemp result (M.state machine.old) (M.state machine.new) }
-    ensures counts { CountsStop result (M.counts machine.old) (M.counts machine.new) }
+    ensures behaves { Behaves M.tells M.state M.counts machine.old machine.new result }
 {
     let result = perform(&plan, machine);
     drop(plan);

@@ -4,7 +4,7 @@ ghost use Rattle.std.specs.Char.{is_ascii_digit};
 ghost use Rattle.std.specs.List.{list_all};
 ghost use Rattle.boot_base.specs.Paths.{path_of};
 ghost use Rattle.boot_machine.specs.Prelude.{Counts, State, seen, view};
-ghost use Rattle.command_plans.specs.Prelude.{CountsStop, CountsUnsaid, IsMakeable, Means, Plans, Says, answer_of_read};
+ghost use Rattle.command_plans.specs.Prelude.{CountsStop, CountsUnsaid, Means, Plans, Says, answer_of_read};
 ghost use Rattle.memory_machine.specs.Memory.{mem_state};
 ghost use Rattle.boot_commands.specs.DemoImages.{demo_image};
 ghost use Rattle.boot_commands.specs.Demonstration.{demo_esp, demo_files, demo_result, demo_start, demo_text, demo_turns, count_lines, end_lines, is_long_number, list_digest, long_number, number_up_to, run_line};
@@ -198,7 +198,6 @@ fn demo_result(alloc: Global, seed: &str, count: &str) -> Result<Vec<u8>, Unsaid
 pub fn plan_demo(alloc: Global, seed: &str, count: &str) -> Result<Plan, Stop>
     ensures plans { IfOk result (λ plan. (s : State)
         → Plans s plan (answer_of_read (seen s) (demo_result seed.now count.now))) }
-    ensures makeable { IfOk result (λ plan. IsMakeable plan.change) }
     ensures counts { (counts : Counts) → CountsStop result counts counts }
 {
     let text = demo_result(alloc, seed, count);

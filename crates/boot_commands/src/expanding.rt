@@ -1,9 +1,9 @@
 //! The commands that a command stands for.
 ghost use Rattle.std.specs.Prelude.{◌≡◌, true, All, IfOk, IsTrue, List, Result, codes};
 ghost use Rattle.boot_base.specs.declared.refusal.Refusal.{Refusal};
-ghost use Rattle.boot_machine.specs.Prelude.{Counts, OnlyReads, State, seen};
+ghost use Rattle.boot_machine.specs.Prelude.{Counts, Looks, State, seen};
 ghost use Rattle.boot_commands.specs.Plain.{answer_or_none, is_step};
-ghost use Rattle.command_plans.specs.Prelude.{CountsStop, CountsUnsaid, IsMakeable, Plans, Says, done_answer, refusal};
+ghost use Rattle.command_plans.specs.Prelude.{CountsStop, CountsUnsaid, Plans, Says, done_answer, refusal};
 ghost use Rattle.command_plans.specs.declared.plan.Change.TheVariants.{Nothing};
 ghost use Rattle.tool_words.specs.declared.command.Command.{Command};
 ghost use Rattle.boot_commands.specs.Expansions.{expands, expansion, ok_commands, own_answer, refused_answer};
@@ -38,8 +38,7 @@ pub fn expand<M: Machine>(
     ensures commands { IfOk result (λ commands. IsTrue M.tells
         → commands.items ≡ expansion (seen (M.state machine.old)) command.now) }
     ensures steps { IfOk result (λ commands. All (λ c. is_step c ≡ true) commands.items) }
-    ensures reads { IsTrue M.tells → OnlyReads M.time M.state machine.old machine.new }
-    ensures counts { CountsStop result (M.counts machine.old) (M.counts machine.new) }
+    ensures looks { Looks M.tells M.time M.state M.counts (CountsStop result) machine.old machine.new }
 {
     match command {
         Command::Type1Install(words) => {
@@ -84,7 +83,6 @@ fn commands_or_none(
 /// The plan of a command that would stand for others: no line of a run is such a one.
 pub(crate) fn plan_unreadable(alloc: Global) -> Result<Plan, Stop>
     ensures plans { IfOk result (λ plan. (s : State) → Plans s plan (refusal (seen s) (Refusal.BadScript 0))) }
-    ensures makeable { IfOk result (λ plan. IsMakeable plan.change) }
     ensures idle { IfOk result (λ plan. plan.change ≡ Nothing) }
     ensures counts { (counts : Counts) → CountsStop result counts counts }
 {
@@ -99,7 +97,6 @@ pub(crate) fn plan_refused(
     ensures plans { IfOk result (λ plan. (s : State) (meant : Result (List Command) Refusal)
         → Says (λ commands. commands.items) commands meant
         → Plans s plan (answer_or_none (seen s) (refused_answer (seen s) meant))) }
-    ensures makeable { IfOk result (λ plan. IsMakeable plan.change) }
     ensures idle { IfOk result (λ plan. plan.change ≡ Nothing) }
     ensures counts { (old new : Counts) → CountsUnsaid commands old new → CountsStop result old new }
 {
@@ -115,7 +112,6 @@ pub(crate) fn plan_refused(
 fn plan_idle(alloc: Global) -> Result<Plan, Stop>
     ensures plans { IfOk result (λ plan. (s : State)
         → Plans s plan (done_answer (seen s) (codes "nothing to clean\n"))) }
-    ensures makeable { IfOk result (λ plan. IsMakeable plan.change) }
     ensures idle { IfOk result (λ plan. plan.change ≡ Nothing) }
     ensures counts { (counts : Counts) → CountsStop result counts counts }
 {
@@ -135,7 +131,6 @@ pub(crate) fn plan_idle_or_refused(
     ensures plans { IfOk result (λ plan. (s : State) (meant : Result (List Command) Refusal)
         → Says (λ commands. commands.items) commands meant
         → Plans s plan (answer_or_none (seen s) (own_answer (seen s) (codes "nothing to clean\n") meant))) }
-    ensures makeable { IfOk result (λ plan. IsMakeable plan.change) }
     ensures idle { IfOk result (λ plan. plan.change ≡ Nothing) }
     ensures counts { (old new : Counts) → CountsUnsaid commands old new → CountsStop result old new }
 {

@@ -3,7 +3,7 @@ ghost use Rattle.std.specs.Prelude.{◌≡◌, ◌||◌, All, IfOk, List, Result
 ghost use Rattle.boot_base.specs.Paths.{IsFree, Path};
 ghost use Rattle.boot_base.specs.declared.refusal.Refusal.{Refusal};
 ghost use Rattle.boot_machine.specs.Prelude.{Counts, State, seen};
-ghost use Rattle.command_plans.specs.Prelude.{CountsStop, CountsUnsaid, IsMakeable, Plans, Says};
+ghost use Rattle.command_plans.specs.Prelude.{CountsStop, CountsUnsaid, Plans, Says};
 ghost use Rattle.command_plans.specs.declared.plan.Change.TheVariants.{Nothing};
 ghost use Rattle.entry_commands.specs.Keeping.{found_removals, keep_answer};
 ghost use Rattle.type1_install.specs.Shown.{HasFreePath};
@@ -55,7 +55,6 @@ pub(crate) fn plan_keep(
     ensures plans { IfOk result (λ plan. (s : State) (meant : Result (List Path) Refusal)
         → Says (λ paths. paths.items) paths meant
         → Plans s plan (answer_or_none (seen s) (keep_answer (seen s) dry_run meant))) }
-    ensures makeable { IfOk result (λ plan. IsMakeable plan.change) }
     ensures idle { IfOk result (λ plan. plan.change ≡ Nothing) }
     ensures counts { (old new : Counts) → CountsUnsaid paths old new → CountsStop result old new }
 {

@@ -1,9 +1,9 @@
 //! One command that runs no other, from its reads to the end of its reply.
 ghost use Rattle.std.specs.Prelude.{◌≡◌, true, IfOk, IsTrue};
-ghost use Rattle.boot_machine.specs.Prelude.{Files, IsFirm, IsRested, OnlyReads, seen};
-ghost use Rattle.boot_commands.specs.Commands.{LeavesTidied, TidiesTo, deed_of, step_reply};
+ghost use Rattle.boot_machine.specs.Prelude.{Files, IsFirm, IsRested, Looks, seen};
+ghost use Rattle.boot_commands.specs.Commands.{Behaves, LeavesTidied, TidiesTo, deed_of, step_reply};
 ghost use Rattle.boot_commands.specs.Plain.{is_plain, is_step};
-ghost use Rattle.command_plans.specs.Prelude.{CountsStop, Drops, IsMakeable, LeavesNoTemp, LeavesRested, Performs, Plans, end_of};
+ghost use Rattle.command_plans.specs.Prelude.{CountsStop, Drops, LeavesRested, Performs, Plans, end_of};
 
 use crate::carrying::carry_out;
 use boot_machine::Machine;
@@ -27,11 +27,9 @@ pub fn plan_plain<M: Machine>(
     requires step { is_step command.now ≡ true }
     ensures plans { IfOk result (λ plan. IsTrue M.tells
         → Plans (M.state machine.old) plan (step_reply (seen (M.state machine.old)) command.now)) }
-    ensures makeable { IfOk result (λ plan. IsMakeable plan.change) }
     ensures tidies { IfOk result (λ plan. IsTrue M.tells
         → (files : Files) → Drops plan.change (M.state machine.old).files files → LeavesTidied command.now files) }
-    ensures reads { IsTrue M.tells → OnlyReads M.time M.state machine.old machine.new }
-    ensures counts { CountsStop result (M.counts machine.old) (M.counts machine.new) }
+    ensures looks { Looks M.tells M.time M.state M.counts (CountsStop result) machine.old machine.new }
 {
     match command {
         Command::Build(words) => plan_build(alloc, words, machine),
@@ -111,10 +109,8 @@ pub fn plain_step<M: Machine>(
         (deed_of (seen (M.state machine.old)) command.now) result }
     ensures tidies { IsTrue M.tells
         → TidiesTo result command.now (M.state machine.old) (M.state machine.new) }
-    ensures input { IsTrue M.tells → (M.state machine.new).input ≡ (M.state machine.old).input }
     ensures rests { IsTrue M.tells → LeavesRested result (M.state machine.new) }
-    ensures temps { IsTrue M.tells → LeavesNoTemp result (M.state machine.old) (M.state machine.new) }
-    ensures counts { CountsStop result (M.counts machine.old) (M.counts machine.new) }
+    ensures behaves { Behaves M.tells M.state M.counts machine.old machine.new result }
 {
     let plan = plan_plain(alloc, command, machine)?;
     carry_out(plan, machine)

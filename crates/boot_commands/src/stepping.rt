@@ -1,9 +1,9 @@
 //! One command that is a step of a run, from its reads to the end of its reply.
 ghost use Rattle.std.specs.Prelude.{◌≡◌, true, IfOk, IsTrue};
-ghost use Rattle.boot_machine.specs.Prelude.{Files, IsFirm, IsRested, OnlyReads, seen};
-ghost use Rattle.boot_commands.specs.Commands.{LeavesTidied, TidiesTo, deed_of, step_reply};
+ghost use Rattle.boot_machine.specs.Prelude.{Files, IsFirm, IsRested, Looks, seen};
+ghost use Rattle.boot_commands.specs.Commands.{Behaves, LeavesTidied, TidiesTo, deed_of, step_reply};
 ghost use Rattle.boot_commands.specs.Plain.{is_step};
-ghost use Rattle.command_plans.specs.Prelude.{CountsStop, Drops, IsMakeable, LeavesNoTemp, LeavesRested, Performs, Plans, end_of};
+ghost use Rattle.command_plans.specs.Prelude.{CountsStop, Drops, LeavesRested, Performs, Plans, end_of};
 
 use crate::carrying::carry_out;
 use crate::demo::plan_demo;
@@ -23,11 +23,9 @@ fn plan_of<M: Machine>(alloc: Global, command: &Command, machine: &mut M) -> Res
     requires step { is_step command.now ≡ true }
     ensures plans { IfOk result (λ plan. IsTrue M.tells
         → Plans (M.state machine.old) plan (step_reply (seen (M.state machine.old)) command.now)) }
-    ensures makeable { IfOk result (λ plan. IsMakeable plan.change) }
     ensures tidies { IfOk result (λ plan. IsTrue M.tells
         → (files : Files) → Drops plan.change (M.state machine.old).files files → LeavesTidied command.now files) }
-    ensures reads { IsTrue M.tells → OnlyReads M.time M.state machine.old machine.new }
-    ensures counts { CountsStop result (M.counts machine.old) (M.counts machine.new) }
+    ensures looks { Looks M.tells M.time M.state M.counts (CountsStop result) machine.old machine.new }
 {
     match command {
         Command::Demo { seed, count } => plan_demo(alloc, seed.as_str(), count.as_str()),
@@ -65,10 +63,8 @@ pub fn step<M: Machine>(alloc: Global, command: &Command, machine: &mut M) -> Re
         (deed_of (seen (M.state machine.old)) command.now) result }
     ensures tidies { IsTrue M.tells
         → TidiesTo result command.now (M.state machine.old) (M.state machine.new) }
-    ensures input { IsTrue M.tells → (M.state machine.new).input ≡ (M.state machine.old).input }
     ensures rests { IsTrue M.tells → LeavesRested result (M.state machine.new) }
-    ensures temps { IsTrue M.tells → LeavesNoTemp result (M.state machine.old) (M.state machine.new) }
-    ensures counts { CountsStop result (M.counts machine.old) (M.counts machine.new) }
+    ensures behaves { Behaves M.tells M.state M.counts machine.old machine.new result }
 {
     let plan = plan_of(alloc, command, machine)?;
     carry_out(plan, machine)

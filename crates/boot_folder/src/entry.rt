@@ -8,7 +8,7 @@ ghost use Rattle.boot_folder.specs.Entries.{entry_at, entry_if, own_path};
 ghost use Rattle.boot_folder.specs.Items.{CountsItem, GivesItem};
 ghost use Rattle.boot_folder.specs.Records.{Unfit, value_if_ok, type1_entry, type1_item};
 ghost use Rattle.boot_folder.specs.Scanning.{CountsRead, read_limit, size_within};
-ghost use Rattle.boot_machine.specs.Prelude.{Counts, CountsDisk, OnlyReads, TakesAtMost, contents};
+ghost use Rattle.boot_machine.specs.Prelude.{Counts, CountsDisk, Looks, TakesAtMost, contents};
 ghost use Rattle.menu_order.specs.declared.item.MenuItem.{MenuItem};
 
 use crate::fault::{ItemFault, ReadFault};
@@ -29,8 +29,7 @@ fn size_within<M: Machine>(
     ensures size { IfOk result (λ size. IsTrue M.tells
         → size ≡ size_within limit (get (M.state machine.old).files path.now)) }
     ensures limit { IfOk result (λ size. IfSome size (λ n. n ≤ limit)) }
-    ensures reads { IsTrue M.tells → OnlyReads M.time M.state machine.old machine.new }
-    ensures counts { CountsDisk result (M.counts machine.old) (M.counts machine.new) }
+    ensures looks { Looks M.tells M.time M.state M.counts (CountsDisk result) machine.old machine.new }
     ensures taken { IsTrue M.tells → M.taken machine.new ≡ M.taken machine.old }
 {
     match machine.size(path)? {
@@ -50,8 +49,7 @@ fn file_bytes<M: Machine>(
     ensures bytes { IfOk result (λ bytes. IsTrue M.tells
         → size ≡ length (contents (M.state machine.old).files path.now)
         → bytes.items ≡ contents (M.state machine.old).files path.now) }
-    ensures reads { IsTrue M.tells → OnlyReads M.time M.state machine.old machine.new }
-    ensures counts { CountsRead result (M.counts machine.old) (M.counts machine.new) }
+    ensures looks { Looks M.tells M.time M.state M.counts (CountsRead result) machine.old machine.new }
     ensures taken { IsTrue M.tells → TakesAtMost 65536 (M.taken machine.old) (M.taken machine.new) }
 {
     let mut bytes = zeros(alloc, size as usize)?;
@@ -98,8 +96,7 @@ fn text_at<M: Machine>(
     path: BootPath,
 ) -> Result<Option<MenuItem>, ReadFault>
     ensures exact { IfOk result (λ item. IsTrue M.tells → item ≡ entry_at Conf (M.state machine.old).files path) }
-    ensures reads { IsTrue M.tells → OnlyReads M.time M.state machine.old machine.new }
-    ensures counts { CountsRead result (M.counts machine.old) (M.counts machine.new) }
+    ensures looks { Looks M.tells M.time M.state M.counts (CountsRead result) machine.old machine.new }
     ensures taken { IsTrue M.tells → TakesAtMost 65536 (M.taken machine.old) (M.taken machine.new) }
 {
     let Some(size) = size_within(machine, &path, TEXT_LIMIT)? else {
@@ -131,15 +128,14 @@ fn image_at<M: Machine>(
 ) -> Result<Option<MenuItem>, ReadFault>
     requires { has_suffix Efi (file_name_of path) ≡ true }
     ensures exact { IfOk result (λ item. IsTrue M.tells → item ≡ entry_at Efi (M.state machine.old).files path) }
-    ensures reads { IsTrue M.tells → OnlyReads M.time M.state machine.old machine.new }
-    ensures counts { CountsRead result (M.counts machine.old) (M.counts machine.new) }
+    ensures looks { Looks M.tells M.time M.state M.counts (CountsRead result) machine.old machine.new }
     ensures taken { IsTrue M.tells → TakesAtMost 134999 (M.taken machine.old) (M.taken machine.new) }
 {
-    if size_within(machine, &path, FILE_LIMIT)?.is_none() {
+    let Some(size) = size_within(machine, &path, FILE_LIMIT)? else {
         return Ok(None);
-    }
+    };
     let file = path.copy(alloc)?;
-    keep_entry(uki_item(alloc, machine, &file, path))
+    keep_entry(uki_item(alloc, machine, &file, size, path))
 }
 
 // The path of a file of that name directly in a folder, None where it is no path of a boot file.
@@ -170,8 +166,7 @@ pub(crate) fn entry_named<M: Machine>(
     requires { has_suffix suffix name.now ≡ true }
     ensures exact { IfOk result (λ item. IsTrue M.tells
         → item ≡ entry_if suffix (M.state machine.old).files (under folder.now name.now)) }
-    ensures reads { IsTrue M.tells → OnlyReads M.time M.state machine.old machine.new }
-    ensures counts { CountsRead result (M.counts machine.old) (M.counts machine.new) }
+    ensures looks { Looks M.tells M.time M.state M.counts (CountsRead result) machine.old machine.new }
     ensures taken { IsTrue M.tells → TakesAtMost (read_limit suffix) (M.taken machine.old) (M.taken machine.new) }
 {
     let Some(path) = path_of_name(alloc, folder, name)? else {

@@ -5,7 +5,7 @@ ghost use Rattle.menu_order.specs.Splits.{has_suffix};
 ghost use Rattle.menu_order.specs.declared.counted.Suffix.TheVariants.{Conf, Efi};
 ghost use Rattle.boot_folder.specs.Entries.{entry_count};
 ghost use Rattle.boot_folder.specs.Scanning.{AreEntryNames, CountsRead, CountsScan, FindsFolders, fault_many};
-ghost use Rattle.boot_machine.specs.Prelude.{OnlyReads};
+ghost use Rattle.boot_machine.specs.Prelude.{Looks};
 
 use crate::fault::{ReadFault, ScanFault};
 use crate::folders::Folders;
@@ -45,8 +45,7 @@ fn names_with<M: Machine>(
         → AreEntryNames (M.state machine.old).files folder.now suffix names.items) }
     ensures suffix { IfOk result (λ names. All (λ name. has_suffix suffix name ≡ true) names.items) }
     ensures distinct { IfOk result (λ names. IsDistinct bytes_eq names.items) }
-    ensures reads { IsTrue M.tells → OnlyReads M.time M.state machine.old machine.new }
-    ensures counts { CountsRead result (M.counts machine.old) (M.counts machine.new) }
+    ensures looks { Looks M.tells M.time M.state M.counts (CountsRead result) machine.old machine.new }
     ensures taken { IsTrue M.tells → M.taken machine.new ≡ M.taken machine.old }
 {
     let mut names = machine.names(alloc, folder)?;
@@ -73,8 +72,7 @@ pub(crate) fn entry_names<M: Machine>(
     ensures many { IfErr result (λ fault. fault_many fault (λ count.
         (4096 < count) × (IsTrue M.tells → entry_count (M.state machine.old).files folders.now ≡ count))) }
     ensures folders { FindsFolders result (Some folders.now) }
-    ensures reads { IsTrue M.tells → OnlyReads M.time M.state machine.old machine.new }
-    ensures counts { CountsScan result (M.counts machine.old) (M.counts machine.new) }
+    ensures looks { Looks M.tells M.time M.state M.counts (CountsScan result) machine.old machine.new }
     ensures taken { IsTrue M.tells → M.taken machine.new ≡ M.taken machine.old }
 {
     let texts = names_with(alloc, machine, &folders.entries, Suffix::Conf)?;

@@ -5,7 +5,7 @@ ghost use Rattle.menu_order.specs.Splits.{has_suffix};
 ghost use Rattle.menu_order.specs.declared.counted.Suffix.TheVariants.{Conf, Efi};
 ghost use Rattle.boot_folder.specs.Entries.{IsEntry, boot_menu, entry_count, entry_if, esp_folders};
 ghost use Rattle.boot_folder.specs.Scanning.{AreEntryNames, CountsRead, CountsScan, FindsFolders, entries_named, fault_many, read_limit, scan_limit};
-ghost use Rattle.boot_machine.specs.Prelude.{OnlyReads, TakesAtMost, seen};
+ghost use Rattle.boot_machine.specs.Prelude.{Looks, TakesAtMost, seen};
 ghost use Rattle.menu_order.specs.Menu.{HaveOwnPaths, IsMenu};
 ghost use Rattle.menu_order.specs.declared.item.MenuItem.{MenuItem};
 
@@ -45,8 +45,7 @@ pub fn scan<M: Machine>(
     ensures own_paths { IfOk result (λ menu. HaveOwnPaths menu.items) }
     ensures unread { IfErr result (λ fault. fault_many fault (λ _. IsTrue M.tells
         → M.taken machine.new ≡ M.taken machine.old)) }
-    ensures reads { IsTrue M.tells → OnlyReads M.time M.state machine.old machine.new }
-    ensures counts { CountsScan result (M.counts machine.old) (M.counts machine.new) }
+    ensures looks { Looks M.tells M.time M.state M.counts (CountsScan result) machine.old machine.new }
     ensures taken { IsTrue M.tells → TakesAtMost
         (scan_limit (M.state machine.old).files (esp_folders esp.now)) (M.taken machine.old) (M.taken machine.new) }
 {
@@ -75,8 +74,7 @@ pub fn scan_folders<M: Machine>(
     ensures own_paths { IfOk result (λ menu. HaveOwnPaths menu.items) }
     ensures unread { IfErr result (λ fault. fault_many fault (λ _. IsTrue M.tells
         → M.taken machine.new ≡ M.taken machine.old)) }
-    ensures reads { IsTrue M.tells → OnlyReads M.time M.state machine.old machine.new }
-    ensures counts { CountsScan result (M.counts machine.old) (M.counts machine.new) }
+    ensures looks { Looks M.tells M.time M.state M.counts (CountsScan result) machine.old machine.new }
     ensures taken { IsTrue M.tells → TakesAtMost
         (scan_limit (M.state machine.old).files (Some folders.now)) (M.taken machine.old) (M.taken machine.new) }
 {
@@ -98,8 +96,7 @@ fn entries<M: Machine>(
         → AreEntryNames (M.state machine.old).files folders.now.entries Conf names.now.texts.items
         → AreEntryNames (M.state machine.old).files folders.now.images Efi names.now.images.items
         → (item : MenuItem) → Contains items.items item ↔ IsEntry (M.state machine.old).files folders.now item) }
-    ensures reads { IsTrue M.tells → OnlyReads M.time M.state machine.old machine.new }
-    ensures counts { CountsRead result (M.counts machine.old) (M.counts machine.new) }
+    ensures looks { Looks M.tells M.time M.state M.counts (CountsRead result) machine.old machine.new }
     ensures taken { IsTrue M.tells
         → AreEntryNames (M.state machine.old).files folders.now.entries Conf names.now.texts.items
         → AreEntryNames (M.state machine.old).files folders.now.images Efi names.now.images.items
@@ -139,8 +136,7 @@ fn append_entries<M: Machine>(
     requires { All (λ name. has_suffix suffix name ≡ true) names.now }
     ensures entries { OnOk result (IsTrue M.tells
         → items.new.items ≡ items.old.items ++ entries_named suffix (M.state machine.old).files folder.now names.now) }
-    ensures reads { IsTrue M.tells → OnlyReads M.time M.state machine.old machine.new }
-    ensures counts { CountsRead result (M.counts machine.old) (M.counts machine.new) }
+    ensures looks { Looks M.tells M.time M.state M.counts (CountsRead result) machine.old machine.new }
     ensures taken { IsTrue M.tells
         → TakesAtMost (read_limit suffix * length names.now) (M.taken machine.old) (M.taken machine.new) }
 {
@@ -162,8 +158,7 @@ fn append_entry<M: Machine>(
     requires { has_suffix suffix name.now ≡ true }
     ensures entry { OnOk result (IsTrue M.tells → items.new.items
         ≡ items.old.items ++ option_to_list (entry_if suffix (M.state machine.old).files (under folder.now name.now))) }
-    ensures reads { IsTrue M.tells → OnlyReads M.time M.state machine.old machine.new }
-    ensures counts { CountsRead result (M.counts machine.old) (M.counts machine.new) }
+    ensures looks { Looks M.tells M.time M.state M.counts (CountsRead result) machine.old machine.new }
     ensures taken { IsTrue M.tells → TakesAtMost (read_limit suffix) (M.taken machine.old) (M.taken machine.new) }
 {
     let item = entry_named(alloc, machine, folder, suffix, name)?;

@@ -1,7 +1,8 @@
 //! Entries of unified kernel images.
 ghost use Rattle.std.specs.Prelude.{◌≡◌, ◌≤◌, ◌<◌, ◌+◌, ◌^◌, ℕ, List, IfOk, IfErr, IsTrue, Ok, true, drop, length, replicate, option_copied};
+ghost use Rattle.boot_base.specs.Limits.{file_limit};
 ghost use Rattle.boot_base.specs.Paths.{file_name_of};
-ghost use Rattle.boot_machine.specs.Prelude.{Counts, OnlyReads, TakesAtMost, contents, has};
+ghost use Rattle.boot_machine.specs.Prelude.{Counts, Looks, TakesAtMost, contents};
 ghost use Rattle.menu_order.specs.Splits.{has_suffix};
 ghost use Rattle.boot_folder.specs.Records.{titled_item, type2_item, uki_of};
 ghost use Rattle.pe_reader.specs.LoadedBytes.{bytes_in};
@@ -19,8 +20,8 @@ use menu_order::{MenuItem, Suffix};
 use pe_reader::{LoadedRange, Pe};
 use std::alloc::{AllocError, Global};
 
-/// The entry of a machine's file of type 2, as if the file stood at `path`. It reads the file's headers and its
-/// os-release text: at most 134,999 bytes. Nothing is changed.
+/// The entry of a machine's file of type 2 of `size` bytes, as if the file stood at `path`. It reads the file's headers
+/// and its os-release text: at most 134,999 bytes. Nothing is changed.
 ///
 /// # Errors
 ///
@@ -31,17 +32,17 @@ pub fn uki_item<M: Machine>(
     alloc: Global,
     machine: &mut M,
     file: &BootPath,
+    size: u64,
     path: BootPath,
 ) -> Result<MenuItem, ItemFault>
-    requires there { IsTrue M.tells → has (M.state machine.old).files file.now ≡ true }
-    requires small { IsTrue M.tells → length (contents (M.state machine.old).files file.now) ≤ 268435456 }
+    requires small { size ≤ file_limit }
+    requires size { IsTrue M.tells → size ≡ length (contents (M.state machine.old).files file.now) }
     requires name { has_suffix Suffix.Efi (file_name_of path) ≡ true }
     ensures exact { IsTrue M.tells → GivesItem result (uki_of path (contents (M.state machine.old).files file.now)) }
-    ensures reads { IsTrue M.tells → OnlyReads M.time M.state machine.old machine.new }
-    ensures counts { CountsItem result (M.counts machine.old) (M.counts machine.new) }
+    ensures looks { Looks M.tells M.time M.state M.counts (CountsItem result) machine.old machine.new }
     ensures taken { IsTrue M.tells → TakesAtMost 134999 (M.taken machine.old) (M.taken machine.new) }
 {
-    let head = Pe::read_head(alloc, machine, file)?;
+    let head = Pe::read_head_of_size(alloc, machine, file, size)?;
     let range = osrel_range(&head)?;
     let text = range_bytes(alloc, machine, file, range)?;
     let release = OsRelease::read(alloc, &text)?;
@@ -145,8 +146,7 @@ pub(crate) fn range_bytes<M: Machine>(
         → range.length ≤ length (drop range.place (contents (M.state machine.old).files file.now))
         → bytes.items ≡ bytes_in (contents (M.state machine.old).files file.now) range) }
     ensures unread { IfErr result IsUnread }
-    ensures reads { IsTrue M.tells → OnlyReads M.time M.state machine.old machine.new }
-    ensures counts { CountsItem result (M.counts machine.old) (M.counts machine.new) }
+    ensures looks { Looks M.tells M.time M.state M.counts (CountsItem result) machine.old machine.new }
     ensures taken { IsTrue M.tells → TakesAtMost 65536 (M.taken machine.old) (M.taken machine.new) }
 {
     let mut bytes = zeros(alloc, range.length as usize)?;

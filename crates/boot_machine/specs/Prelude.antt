@@ -4,7 +4,7 @@ pub use Rattle.boot_machine.specs.Disk.{Files, State, HasOneCandidate, IsRested,
 pub use Rattle.boot_machine.specs.Images.{IsFirm, IsImage, IsSettled}
 pub use Rattle.boot_machine.specs.Listed.{is_listed}
 pub use Rattle.boot_machine.specs.Moments.{EachSince}
-pub use Rattle.boot_machine.specs.Reading.{OnlyReads, TakesAtMost, bytes_between, fill_with_zeros}
+pub use Rattle.boot_machine.specs.Reading.{Looks, OnlyReads, TakesAtMost, bytes_between, fill_with_zeros}
 pub use Rattle.boot_machine.specs.Rows.{contents, move_in, on_channel}
 pub use Rattle.boot_machine.specs.Sent.{recovered_now, recovered_views, seen}
 pub use Rattle.boot_machine.specs.Taken.{TakesNone}

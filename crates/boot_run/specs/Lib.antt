@@ -5,3 +5,4 @@ pub mod Lines
 pub mod RunBy
 pub mod RunsTo
 pub mod Step
+pub mod CommandRuns

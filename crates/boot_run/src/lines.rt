@@ -5,8 +5,8 @@ ghost use Rattle.boot_machine.specs.Prelude.{CountsPipe, EachSince, IsFirm, IsRe
 ghost use Rattle.boot_machine.specs.Rows.{with_printed};
 ghost use Rattle.boot_machine.specs.Sent.{PrintsPart};
 ghost use Rattle.boot_machine.specs.declared.machine.Channel.TheVariants.{Err, Out};
-ghost use Rattle.command_plans.specs.Prelude.{CountsStop, LeavesNoTemp, LeavesRested, Performs, end_of, is_refusal};
-ghost use Rattle.boot_commands.specs.Commands.{LeavesTidied, deed_of};
+ghost use Rattle.command_plans.specs.Prelude.{CountsStop, LeavesRested, Performs, end_of, is_refusal};
+ghost use Rattle.boot_commands.specs.Commands.{Behaves, LeavesTidied, deed_of};
 ghost use Rattle.boot_commands.specs.Plain.{is_step};
 ghost use Rattle.boot_run.specs.Endings.{AllTidied, ended_by};
 ghost use Rattle.boot_run.specs.Lines.{IsStep, Prints, TidiedBy, with_acknowledgement, acknowledgement, acknowledgement_in, has_command, is_unread, line_deed, no_command_text, too_long_text, unread_deed};
@@ -96,10 +96,8 @@ fn run_numbered<M: Machine>(
         (with_acknowledgement number (deed_of (seen (M.state machine.old)) command.now)) result }
     ensures tidies { IsTrue M.tells → WherePrinted result (M.state machine.old) (M.state machine.new)
         (LeavesTidied command.now (M.state machine.new).files) }
-    ensures input { IsTrue M.tells → (M.state machine.new).input ≡ (M.state machine.old).input }
     ensures rests { IsTrue M.tells → LeavesRested result (M.state machine.new) }
-    ensures temps { IsTrue M.tells → LeavesNoTemp result (M.state machine.old) (M.state machine.new) }
-    ensures counts { CountsStop result (M.counts machine.old) (M.counts machine.new) }
+    ensures behaves { Behaves M.tells M.state M.counts machine.old machine.new result }
 {
     let texts = Acknowledgements::of(alloc, number)?;
     let outcome = step(alloc, command, machine)?;
@@ -168,10 +166,8 @@ fn run_line<M: Machine>(alloc: Global, line: &Line, machine: &mut M) -> Result<O
         (line_deed (recovered_now (M.state machine.old)) line.now).sent }
     ensures tidies { IsTrue M.tells → WherePrinted result (M.state machine.old) (M.state machine.new)
         (TidiedBy (M.state machine.new).files line.now) }
-    ensures input { IsTrue M.tells → (M.state machine.new).input ≡ (M.state machine.old).input }
     ensures rests { IsTrue M.tells → IsRested (M.state machine.old) → LeavesRested result (M.state machine.new) }
-    ensures temps { IsTrue M.tells → LeavesNoTemp result (M.state machine.old) (M.state machine.new) }
-    ensures counts { CountsStop result (M.counts machine.old) (M.counts machine.new) }
+    ensures behaves { Behaves M.tells M.state M.counts machine.old machine.new result }
 {
     match line {
         Line::Plain(command) => step(alloc, command, machine),
@@ -193,11 +189,9 @@ fn first_command<M: Machine>(alloc: Global, line: &Line, machine: &mut M) -> Res
         (line_deed (recovered_now (M.state machine.old)) line.now) result }
     ensures tidies { IsTrue M.tells → WherePrinted result (M.state machine.old) (M.state machine.new)
         (TidiedBy (M.state machine.new).files line.now) }
-    ensures input { IsTrue M.tells → (M.state machine.new).input ≡ (M.state machine.old).input }
     ensures rests { IsTrue M.tells → WherePrinted result (M.state machine.old) (M.state machine.new)
         (IsRested (M.state machine.new)) }
-    ensures temps { IsTrue M.tells → LeavesNoTemp result (M.state machine.old) (M.state machine.new) }
-    ensures counts { CountsStop result (M.counts machine.old) (M.counts machine.new) }
+    ensures behaves { Behaves M.tells M.state M.counts machine.old machine.new result }
 {
     recover_rename(alloc, machine)?;
     run_line(alloc, line, machine)
@@ -223,12 +217,10 @@ fn next_line<M: Machine>(
         (line_deed (recovered_now (M.state machine.old)) line.now) result }
     ensures tidies { IsTrue M.tells → WherePrinted result (M.state machine.old) (M.state machine.new)
         (TidiedBy (M.state machine.new).files line.now) }
-    ensures input { IsTrue M.tells → (M.state machine.new).input ≡ (M.state machine.old).input }
     ensures rests { IsTrue M.tells → WherePrinted result (M.state machine.old) (M.state machine.new)
         ((rested || not (is_unread line.now)) ≡ true → IsRested (M.state machine.new)) }
     ensures still { IsTrue M.tells → rested ≡ true → LeavesRested result (M.state machine.new) }
-    ensures temps { IsTrue M.tells → LeavesNoTemp result (M.state machine.old) (M.state machine.new) }
-    ensures counts { CountsStop result (M.counts machine.old) (M.counts machine.new) }
+    ensures behaves { Behaves M.tells M.state M.counts machine.old machine.new result }
 {
     if rested || line.is_unread() {
         return run_line(alloc, line, machine);
@@ -262,12 +254,10 @@ pub fn run_lines<M: Machine>(alloc: Global, lines: &[Line], machine: &mut M) -> 
     ensures synced { IsTrue M.tells → IsFirm (M.state machine.old)
         → IsSyncedBy M.time M.state machine.old machine.new lines.now }
     ensures tidies { OnOk result (IsTrue M.tells → AllTidied lines.now (M.state machine.new)) }
-    ensures input { IsTrue M.tells → (M.state machine.new).input ≡ (M.state machine.old).input }
     ensures rests { OnOk result (IsTrue M.tells → has_command lines.now ≡ true → IsRested (M.state machine.new)) }
     ensures behind { IsTrue M.tells → IsFirm (M.state machine.old)
         → CleanBehind (M.state machine.old) (M.state machine.new) lines.now (ended_by result) }
-    ensures temps { IsTrue M.tells → LeavesNoTemp result (M.state machine.old) (M.state machine.new) }
-    ensures counts { CountsStop result (M.counts machine.old) (M.counts machine.new) }
+    ensures behaves { Behaves M.tells M.state M.counts machine.old machine.new result }
 {
     let mut refused = false;
     let mut rested = false;

@@ -1,18 +1,18 @@
 //! The top call.
 ghost use Rattle.std.specs.Prelude.{◌≡◌, ◌≤◌, ◌++◌, true, false, ℕ, List, [], ◌∷◌, All, IfOk, IsErrOf, IsTrue, OnOk, Ok, Err, drop, take, ◌+◌, map, string_bytes};
-ghost use Rattle.boot_machine.specs.Prelude.{EachSince, IsFirm, IsImage, IsRested, IsSettled, State, on_channel, recovered_now, recovered_view, recovered_views};
+ghost use Rattle.boot_machine.specs.Prelude.{EachSince, IsFirm, IsImage, IsRested, IsSettled, on_channel, recovered_now, recovered_view, recovered_views};
 ghost use Rattle.boot_machine.specs.Sent.{Adds, SameButInput};
 ghost use Rattle.boot_machine.specs.declared.machine.Channel.TheVariants.{Err as ErrChannel};
 ghost use Rattle.install_steps.specs.Steps.{NoNewTemp};
 ghost use Rattle.command_plans.specs.Deeds.{Stopped};
-ghost use Rattle.command_plans.specs.Prelude.{CountsStop, LeavesNoTemp};
+ghost use Rattle.command_plans.specs.Prelude.{CountsStop};
 ghost use Rattle.tool_words.specs.Meaning.{meaning};
 ghost use Rattle.tool_words.specs.declared.fault.UsageReason.{UsageReason};
-ghost use Rattle.boot_run.specs.AskedLines.{asked_lines_of, lines_at, lines_in, usage_line};
-ghost use Rattle.boot_run.specs.Endings.{AllTidied, AnswersRefusals, AnswersUsage, AtEnd, FitsWords, HasCause, TakesInput, UnlessDisk, end_at, ended_by, ended_of, status_of};
+ghost use Rattle.boot_run.specs.CommandRuns.{RunsCommand};
+ghost use Rattle.boot_run.specs.AskedLines.{asked_lines_of, lines_in, usage_line};
+ghost use Rattle.boot_run.specs.Endings.{AllTidied, AnswersRefusals, AnswersUsage, AtEnd, FitsWords, HasCause, TakesInput, UnlessDisk, end_at, ended_of, status_of};
 ghost use Rattle.boot_run.specs.Lines.{IsStep, has_command, script_limit};
 ghost use Rattle.boot_run.specs.RunBy.{AllPrinted, CleanBehind, LeavesFromSync, RunsBy, RunsUsage};
-ghost use Rattle.boot_run.specs.RunsTo.{IsSyncedBy, RunsTo};
 ghost use Rattle.boot_commands.specs.Plain.{is_script, is_wordless};
 ghost use Rattle.boot_run.specs.Step.{Leads, Leaves, SeesBegun, some_refused};
 ghost use Rattle.boot_run.specs.declared.line.Line.{Line};
@@ -53,23 +53,7 @@ fn read_script<M: Machine>(alloc: Global, machine: &mut M) -> Result<Vec<Line>, 
 fn run_alone<M: Machine>(alloc: Global, command: Command, machine: &mut M) -> Result<bool, Stop>
     requires alone { is_script command ≡ false }
     requires worded { is_wordless command ≡ false }
-    ensures runs { IsTrue M.tells → IsFirm (M.state machine.old)
-        → RunsTo M.time M.state machine.old machine.new
-        (lines_at (M.state machine.old) command) result }
-    ensures synced { IsTrue M.tells → IsFirm (M.state machine.old)
-        → IsSyncedBy M.time M.state machine.old machine.new
-        (lines_at (M.state machine.old) command) }
-    ensures tidies { OnOk result (IsTrue M.tells
-        → AllTidied (lines_at (M.state machine.old) command) (M.state machine.new)) }
-    ensures rests { OnOk result (IsTrue M.tells → has_command (lines_at (M.state machine.old) command) ≡ true
-        → IsRested (M.state machine.new)) }
-    ensures behind { IsTrue M.tells → IsFirm (M.state machine.old)
-        → CleanBehind (M.state machine.old) (M.state machine.new)
-        (lines_at (M.state machine.old) command) (ended_by result) }
-    ensures input { IsTrue M.tells
-        → TakesInput (Ok command) (ended_by result) (M.state machine.old).input (M.state machine.new).input }
-    ensures temps { IsTrue M.tells → LeavesNoTemp result (M.state machine.old) (M.state machine.new) }
-    ensures counts { CountsStop result (M.counts machine.old) (M.counts machine.new) }
+    ensures { RunsCommand M.tells M.time M.state M.counts machine.old machine.new command result }
 {
     if !expands(&command) {
         return run_lines(alloc, &[Line::Plain(command)], machine);
@@ -89,23 +73,7 @@ fn run_alone<M: Machine>(alloc: Global, command: Command, machine: &mut M) -> Re
 // What a command comes to: its own line, those that it stands for, or those of the script.
 fn run_command<M: Machine>(alloc: Global, command: Command, machine: &mut M) -> Result<bool, Stop>
     requires worded { is_wordless command ≡ false }
-    ensures runs { IsTrue M.tells → IsFirm (M.state machine.old)
-        → RunsTo M.time M.state machine.old machine.new
-        (lines_at (M.state machine.old) command) result }
-    ensures synced { IsTrue M.tells → IsFirm (M.state machine.old)
-        → IsSyncedBy M.time M.state machine.old machine.new
-        (lines_at (M.state machine.old) command) }
-    ensures tidies { OnOk result (IsTrue M.tells
-        → AllTidied (lines_at (M.state machine.old) command) (M.state machine.new)) }
-    ensures rests { OnOk result (IsTrue M.tells → has_command (lines_at (M.state machine.old) command) ≡ true
-        → IsRested (M.state machine.new)) }
-    ensures behind { IsTrue M.tells → IsFirm (M.state machine.old)
-        → CleanBehind (M.state machine.old) (M.state machine.new)
-        (lines_at (M.state machine.old) command) (ended_by result) }
-    ensures input { IsTrue M.tells
-        → TakesInput (Ok command) (ended_by result) (M.state machine.old).input (M.state machine.new).input }
-    ensures temps { IsTrue M.tells → LeavesNoTemp result (M.state machine.old) (M.state machine.new) }
-    ensures counts { CountsStop result (M.counts machine.old) (M.counts machine.new) }
+    ensures { RunsCommand M.tells M.time M.state M.counts machine.old machine.new command result }
 {
     if !is_script(&command) {
         return run_alone(alloc, command, machine);

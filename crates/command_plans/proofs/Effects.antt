@@ -14,7 +14,7 @@ use Rattle.install_steps.specs.Steps.{after_copy, after_move}
 use Rattle.install_steps.proofs.RefusedLemmas.{moved_there}
 use Rattle.command_plans.specs.Plans.{CanMake, with_copy, effect, view_with_image}
 use Rattle.command_plans.specs.declared.plan.Change.{Change}
-use Rattle.command_plans.specs.declared.plan.Change.TheVariants.{Copy, Leftovers, Move, Remove}
+use Rattle.command_plans.specs.declared.plan.Change.TheVariants.{Leftovers, Move, Remove}
 use Rattle.command_plans.specs.declared.plan.RefusalLine.{RefusalLine}
 
 clash : {x : _} → x ≡ true → x ≡ false → ⊥

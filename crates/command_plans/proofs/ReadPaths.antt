@@ -4,7 +4,6 @@ use Rattle.std.specs.Prelude.{◌==◌, bytes_eq, if◌then◌else◌}
 use Rattle.std.specs.List.{list_any}
 use Rattle.std.proofs.lemmas.Bool.{and_parts, not-true, or_parts}
 use Rattle.boot_base.specs.Paths.{Path, components, intent, is_form, is_normal, is_path, is_path_text, is_refused, normal_of, path_of}
-use Rattle.boot_base.specs.declared.refusal.Refusal.TheVariants as refusals
 use Rattle.boot_base.proofs.Normal.{normal_from, path-some}
 use Rattle.command_plans.specs.Declining.{path_or}
 

@@ -5,9 +5,11 @@ pub mod Choices
 pub mod Answers
 pub mod Changes
 pub mod Deeds
+pub mod Makeable
 pub mod Performs
 pub mod Plans
 pub mod Folders
 pub mod Menus
 pub mod Refusing
 pub mod Prelude
+pub mod proofs

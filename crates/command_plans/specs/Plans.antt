@@ -1,12 +1,9 @@
 -- A plan: the change that a command is going to make, and its whole reply.
-use Rattle.std.specs.Prelude.{◌≡◌, ◌≤◌, ℕ, true, false, All, Result, Ok, MatchResult, bytes_eq, length}
-use Rattle.std.specs.List.{IsDistinct}
+use Rattle.std.specs.Prelude.{◌≡◌, ◌≤◌, ℕ, true, false, All, Result, Ok, MatchResult, length}
 use Rattle.std.specs.FinMap.{insert, remove}
 use Rattle.boot_base.specs.Limits.{file_limit}
-use Rattle.boot_base.specs.Paths.{Path, IsFree}
-use Rattle.boot_base.specs.Refusals.{line_of, number_of}
+use Rattle.boot_base.specs.Paths.{Path}
 use Rattle.boot_base.specs.declared.refusal.Refusal.{Refusal}
-use Rattle.boot_base.specs.declared.refusal.Refusal.TheVariants as refusals
 use Rattle.boot_machine.specs.Disk.{Files, State, has}
 use Rattle.boot_machine.specs.Rows.{contents, move_in}
 use Rattle.boot_machine.specs.Sent.{seen}
@@ -14,17 +11,15 @@ use Rattle.pe_builder.specs.declared.plan.Plan.{Plan as ImagePlan}
 use Rattle.image_writer.specs.declared.sources.Sources.{Sources}
 use Rattle.image_writer.specs.Sourced.{IsSourced, planned_image}
 use Rattle.image_writer.specs.Taken.{writing_length}
-use Rattle.install_steps.specs.Steps.{IsIntentOf, Lacks}
-use Rattle.command_plans.specs.Declining.{printed_path}
+use Rattle.install_steps.specs.Steps.{Lacks}
 use Rattle.command_plans.specs.Unsaying.{UnsaidFor}
 use Rattle.command_plans.specs.declared.unsaid.Unsaid.{Unsaid}
-use Rattle.command_plans.specs.Answers.{Answer, is_refusal}
+use Rattle.command_plans.specs.Answers.{Answer}
 use Rattle.command_plans.specs.declared.outcome.MachineFault.{MachineFault}
 use Rattle.command_plans.specs.declared.outcome.MachineFault.TheVariants as faults
 use Rattle.command_plans.specs.declared.plan.Change.{Change}
 use Rattle.command_plans.specs.declared.plan.Change.TheVariants.{Nothing, Remove, Leftovers, Write, Put, Copy, Move}
 use Rattle.command_plans.specs.declared.plan.Plan.{Plan}
-use Rattle.command_plans.specs.declared.plan.RefusalLine.{RefusalLine}
 
 -- the view with the finished image by a plan of these sources at a path
 abbrev pub view_with_image : ImagePlan → Sources → Path → Files → Files
@@ -43,30 +38,6 @@ effect view (Write image sources target) = view_with_image image sources target.
 effect view (Put target bytes) = insert view target.path bytes
 effect view (Copy from target gone) = with_copy from target.path view
 effect view (Move from to intent gone exists) = move_in from to view
-
--- what is printed is this refusal
-abbrev pub IsLineOf : Refusal → RefusalLine → Type 0
-IsLineOf why refusal = (refusal.number ≡ number_of why) × (refusal.line ≡ line_of why)
-
--- what is printed where a machine has no file at the path any more, though it has told of one
-abbrev pub TellsGone : Path → RefusalLine → Type 0
-TellsGone path = IsLineOf (refusals.NotFound (printed_path path))
-
--- what is printed where a machine has a file at the path, though it has told of none
-abbrev pub TellsThere : Path → RefusalLine → Type 0
-TellsThere path = IsLineOf (refusals.TargetExists (printed_path path))
-
--- The change can be made on any machine: it names the intent in no other way than a move does, the temporary files to
--- be dropped differ, and a machine that has changed its mind about a file gets the refusal of that file's path.
-abbrev pub IsMakeable : Change → Type 0
-IsMakeable Nothing = Unit {0}
-IsMakeable (Remove path gone) = IsFree path × TellsGone path gone
-IsMakeable (Leftovers temps) = IsDistinct bytes_eq temps.items
-IsMakeable (Write image sources target) = IsFree target.path
-IsMakeable (Put target bytes) = IsFree target.path
-IsMakeable (Copy from target gone) = IsFree target.path × TellsGone from gone
-IsMakeable (Move from to intent gone exists) =
-    IsFree from × IsFree to × IsIntentOf from to intent × TellsGone from gone × TellsThere to exists
 
 -- the file is there, and has no more bytes than are read
 abbrev pub CanCopy : State → Path → Type 0
@@ -113,10 +84,6 @@ fault_drops faults.Pipe change old new = Drops change old new
 abbrev pub DropsBy : {T : Type 0} → Result T MachineFault → Change → Files → Files → Type 0
 DropsBy result change old new =
     MatchResult result (λ _. Drops change old new) (λ fault. fault_drops fault change old new)
-
--- a refused command changes nothing, and leaves temporary files where they are
-abbrev pub IsIdleIfRefused : Plan → Type 0
-IsIdleIfRefused plan = is_refusal plan.outcome ≡ true → plan.change ≡ Nothing
 
 -- what a plan comes to
 abbrev pub answer_of_plan : Files → Plan → Answer

@@ -3,12 +3,13 @@ ghost use Rattle.std.specs.Prelude.{◌≡◌, length, IfOk, IsTrue, Some, ℕ};
 ghost use Rattle.std.specs.Option.{option_map};
 ghost use Rattle.std.specs.FinMap.{get, insert};
 ghost use Rattle.boot_base.specs.Paths.{IsFree};
-ghost use Rattle.boot_machine.specs.Prelude.{OnlyReads, State, TakesAtMost, contents, seen};
+ghost use Rattle.boot_machine.specs.Prelude.{Looks, State, TakesAtMost, contents, seen};
 ghost use Rattle.command_plans.specs.Answers.{done_answer, refusal};
 ghost use Rattle.command_plans.specs.Changes.{IsCopy, installed_text, unlink_answer, unlinked_text};
 ghost use Rattle.command_plans.specs.Declining.{printed_path};
 ghost use Rattle.command_plans.specs.Performs.{CountsStop};
-ghost use Rattle.command_plans.specs.Plans.{CanCopy, IsIdleIfRefused, IsLineOf, IsMakeable, Plans, TellsGone};
+ghost use Rattle.command_plans.specs.Makeable.{IsLineOf, TellsGone};
+ghost use Rattle.command_plans.specs.Plans.{CanCopy, Plans};
 
 use crate::declined::not_there;
 use crate::outcome::{Outcome, Stop};
@@ -60,10 +61,8 @@ pub fn plan_copy(
     text: Bytes,
 ) -> Result<Plan, AllocError>
     requires { IsFree target }
-    ensures plans { IfOk result (λ plan. (s : State) → CanCopy s from
+    ensures { IfOk result (λ plan. (s : State) → CanCopy s from
         → Plans s plan (done_answer (insert (seen s) target (contents (seen s) from)) text)) }
-    ensures makeable { IfOk result (λ plan. IsMakeable plan.change) }
-    ensures idle { IfOk result IsIdleIfRefused }
 {
     let change = copy_of(alloc, from, target)?;
     Ok(Plan {
@@ -84,10 +83,8 @@ fn unlinked_text(alloc: Global, path: &BootPath) -> Result<Bytes, AllocError>
 // The plan of a removal, of a file that is there.
 fn removal_there(alloc: Global, path: BootPath) -> Result<Plan, AllocError>
     requires free { IsFree path }
-    ensures plans { IfOk result (λ plan. (s : State) (size : ℕ) → option_map length (get (seen s) path) ≡ Some size
+    ensures { IfOk result (λ plan. (s : State) (size : ℕ) → option_map length (get (seen s) path) ≡ Some size
         → Plans s plan (unlink_answer (seen s) path)) }
-    ensures makeable { IfOk result (λ plan. IsMakeable plan.change) }
-    ensures idle { IfOk result IsIdleIfRefused }
 {
     let text = unlinked_text(alloc, &path)?;
     let gone = gone_line(alloc, &path)?;
@@ -102,7 +99,6 @@ fn removal_there(alloc: Global, path: BootPath) -> Result<Plan, AllocError>
 fn removal_missing(alloc: Global, path: &BootPath) -> Result<Plan, AllocError>
     ensures plans { IfOk result (λ plan. (s : State)
         → Plans s plan (refusal (seen s) (Refusal.NotFound (printed_path path.now)))) }
-    ensures makeable { IfOk result (λ plan. IsMakeable plan.change) }
     ensures idle { IfOk result (λ plan. plan.change ≡ Change.Nothing) }
 {
     let why = not_there(alloc, path)?;
@@ -114,10 +110,8 @@ fn removal_missing(alloc: Global, path: &BootPath) -> Result<Plan, AllocError>
 // The plan for the file at a path, by its length.
 fn removal(alloc: Global, path: BootPath, size: Option<u64>) -> Result<Plan, AllocError>
     requires free { IsFree path }
-    ensures plans { IfOk result (λ plan. (s : State) → option_map length (get (seen s) path) ≡ size
+    ensures { IfOk result (λ plan. (s : State) → option_map length (get (seen s) path) ≡ size
         → Plans s plan (unlink_answer (seen s) path)) }
-    ensures makeable { IfOk result (λ plan. IsMakeable plan.change) }
-    ensures idle { IfOk result IsIdleIfRefused }
 {
     match size {
         None => removal_missing(alloc, &path),
@@ -134,10 +128,7 @@ pub fn plan_removal<M: Machine>(
     requires free { IsFree path }
     ensures plans { IfOk result (λ plan. IsTrue M.tells → Plans (M.state machine.old) plan
         (unlink_answer (seen (M.state machine.old)) path)) }
-    ensures makeable { IfOk result (λ plan. IsMakeable plan.change) }
-    ensures idle { IfOk result IsIdleIfRefused }
-    ensures reads { IsTrue M.tells → OnlyReads M.time M.state machine.old machine.new }
-    ensures counts { CountsStop result (M.counts machine.old) (M.counts machine.new) }
+    ensures looks { Looks M.tells M.time M.state M.counts (CountsStop result) machine.old machine.new }
     ensures taken { IsTrue M.tells → TakesAtMost 0 (M.taken machine.old) (M.taken machine.new) }
 {
     let size = seen_size(&path, machine)?;

@@ -1,6 +1,6 @@
 //! Files that a command names.
 ghost use Rattle.std.specs.Prelude.{◌≡◌, ◌≤◌, ◌<◌, ◌+◌, ◌^◌, IfOk, IsTrue, OnOk, Ok, Result, drop, length, true};
-ghost use Rattle.boot_machine.specs.Prelude.{Counts, OnlyReads, TakesAtMost, contents, fill_with_zeros, has, seen};
+ghost use Rattle.boot_machine.specs.Prelude.{Counts, Looks, TakesAtMost, contents, fill_with_zeros, has, seen};
 ghost use Rattle.pe_reader.specs.Grammar.{Headers, pe_of};
 ghost use Rattle.pe_reader.specs.Reads.{CountsHead, FailsFrom, GivesFrom, ReadFrom, head_counts, headers_of};
 ghost use Rattle.pe_reader.specs.Reasons.{pe_reason_text};
@@ -41,8 +41,7 @@ pub fn readable_size<M: Machine>(
     ensures limit { IfOk result (λ size. size ≤ file_limit) }
     ensures held { OnOk result (IsTrue M.tells
         → contents (seen (M.state machine.old)) path.now ≡ contents (M.state machine.old).files path.now) }
-    ensures reads { IsTrue M.tells → OnlyReads M.time M.state machine.old machine.new }
-    ensures counts { CountsUnsaid result (M.counts machine.old) (M.counts machine.new) }
+    ensures looks { Looks M.tells M.time M.state M.counts (CountsUnsaid result) machine.old machine.new }
     ensures taken { IsTrue M.tells → TakesAtMost 0 (M.taken machine.old) (M.taken machine.new) }
 {
     path.know();
@@ -83,12 +82,11 @@ pub fn image_head<M: Machine>(alloc: Global, path: &BootPath, machine: &mut M) -
         (image_at (seen (M.state machine.old)) path.now) }
     ensures head { IfOk result (λ head. IsTrue M.tells
         → pe_of (contents (M.state machine.old).files path.now) ≡ Ok (headers_of head)) }
-    ensures reads { IsTrue M.tells → OnlyReads M.time M.state machine.old machine.new }
-    ensures counts { CountsUnsaid result (M.counts machine.old) (M.counts machine.new) }
+    ensures looks { Looks M.tells M.time M.state M.counts (CountsUnsaid result) machine.old machine.new }
     ensures taken { IsTrue M.tells → TakesAtMost 69463 (M.taken machine.old) (M.taken machine.new) }
 {
-    readable_size(alloc, path, machine)?;
-    match Pe::read_head(alloc, machine, path) {
+    let size = readable_size(alloc, path, machine)?;
+    match Pe::read_head_of_size(alloc, machine, path, size) {
         Ok(head) => Ok(head),
         Err(fault) => Err(head_unsaid(alloc, fault)),
     }
@@ -106,8 +104,7 @@ pub fn head_of_size<M: Machine>(
     ensures exact { IsTrue M.tells → GivesFrom headers_of result
         (pe_of (contents (seen (M.state machine.old)) path.now)) }
     ensures read { IfOk result (λ head. ReadFrom head size) }
-    ensures reads { IsTrue M.tells → OnlyReads M.time M.state machine.old machine.new }
-    ensures counts { CountsHead result (M.counts machine.old) (M.counts machine.new) }
+    ensures looks { Looks M.tells M.time M.state M.counts (CountsHead result) machine.old machine.new }
     ensures taken { IsTrue M.tells → TakesAtMost 69463 (M.taken machine.old) (M.taken machine.new) }
 {
     path.know();
@@ -128,8 +125,7 @@ pub fn sized_head<M: Machine>(
     ensures head { IfOk result (λ head. IsTrue M.tells
         → pe_of (contents (seen (M.state machine.old)) path.now) ≡ Ok (headers_of head)) }
     ensures read { IfOk result (λ head. ReadFrom head size) }
-    ensures reads { IsTrue M.tells → OnlyReads M.time M.state machine.old machine.new }
-    ensures counts { CountsUnsaid result (M.counts machine.old) (M.counts machine.new) }
+    ensures looks { Looks M.tells M.time M.state M.counts (CountsUnsaid result) machine.old machine.new }
     ensures taken { IsTrue M.tells → TakesAtMost 69463 (M.taken machine.old) (M.taken machine.new) }
 {
     match head_of_size(alloc, path, size, machine) {
@@ -149,8 +145,7 @@ pub fn file_part<M: Machine>(
     requires { place + count < 2 ^ 64 }
     ensures says { IsTrue M.tells → Says (λ bytes. bytes.items) result
         (Ok (fill_with_zeros (drop place (contents (seen (M.state machine.old)) path.now)) count)) }
-    ensures reads { IsTrue M.tells → OnlyReads M.time M.state machine.old machine.new }
-    ensures counts { CountsUnsaid result (M.counts machine.old) (M.counts machine.new) }
+    ensures looks { Looks M.tells M.time M.state M.counts (CountsUnsaid result) machine.old machine.new }
     ensures taken { IsTrue M.tells → TakesAtMost count (M.taken machine.old) (M.taken machine.new) }
 {
     path.know();
@@ -167,8 +162,7 @@ pub fn file_bytes<M: Machine>(
 ) -> Result<Vec<u8>, Unsaid>
     ensures says { IsTrue M.tells → Says (λ bytes. bytes.items) result
         (bytes_at (seen (M.state machine.old)) path.now) }
-    ensures reads { IsTrue M.tells → OnlyReads M.time M.state machine.old machine.new }
-    ensures counts { CountsUnsaid result (M.counts machine.old) (M.counts machine.new) }
+    ensures looks { Looks M.tells M.time M.state M.counts (CountsUnsaid result) machine.old machine.new }
     ensures taken { IsTrue M.tells
         → TakesAtMost (length (contents (seen (M.state machine.old)) path.now)) (M.taken machine.old)
         (M.taken machine.new) }

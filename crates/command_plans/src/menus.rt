@@ -3,7 +3,7 @@ ghost use Rattle.std.specs.Prelude.{◌≡◌, ◌≢◌, IfOk, IsTrue, Some};
 ghost use Rattle.boot_folder.specs.Entries.{IsEntry};
 ghost use Rattle.boot_folder.specs.Scanning.{scan_limit};
 ghost use Rattle.boot_folder.specs.declared.fault.ScanFault.TheVariants as scans;
-ghost use Rattle.boot_machine.specs.Prelude.{OnlyReads, TakesAtMost, seen};
+ghost use Rattle.boot_machine.specs.Prelude.{Looks, TakesAtMost, seen};
 ghost use Rattle.command_plans.specs.Unsaying.{CountsUnsaid, Says};
 ghost use Rattle.command_plans.specs.Declining.{Means};
 ghost use Rattle.command_plans.specs.Folders.{folders_of};
@@ -51,8 +51,7 @@ pub fn menu_at<M: Machine>(
         → Says (λ menu. menu.items) result (menu_at (seen (M.state machine.old)) folders.now) }
     ensures menu { IfOk result (λ menu. IsTrue M.tells
         → IsMenu (IsEntry (M.state machine.old).files folders.now) menu.items) }
-    ensures reads { IsTrue M.tells → OnlyReads M.time M.state machine.old machine.new }
-    ensures counts { CountsUnsaid result (M.counts machine.old) (M.counts machine.new) }
+    ensures looks { Looks M.tells M.time M.state M.counts (CountsUnsaid result) machine.old machine.new }
     ensures taken { IsTrue M.tells → TakesAtMost
         (scan_limit (M.state machine.old).files (Some folders.now)) (M.taken machine.old) (M.taken machine.new) }
 {

@@ -3,16 +3,17 @@ ghost use Rattle.std.specs.Prelude.{◌≡◌, ◌≤◌, ℕ, true, length, tak
 ghost use Rattle.std.specs.FinMap.{insert};
 ghost use Rattle.boot_base.specs.Limits.{file_limit};
 ghost use Rattle.boot_base.specs.Paths.{IsFree};
-ghost use Rattle.boot_machine.specs.Prelude.{CountsDisk, EachSince, HasOneCandidate, IsFirm, IsRested, TakesAtMost, TakesNone, contents, has, on_channel, seen};
+ghost use Rattle.boot_machine.specs.Prelude.{CountsDisk, EachSince, IsFirm, IsRested, TakesAtMost, TakesNone, contents, has, on_channel, seen};
 ghost use Rattle.boot_machine.specs.Rows.{with_printed};
 ghost use Rattle.boot_machine.specs.Sent.{PrintsPart};
 ghost use Rattle.image_writer.specs.Sourced.{IsSourced};
 ghost use Rattle.image_writer.specs.Taken.{writing_length};
-ghost use Rattle.install_steps.specs.Steps.{CountsStep, IsDone, Keeps, NoNewTemp, RestsUnless, StepsTo};
+ghost use Rattle.install_steps.specs.Steps.{CanStep, CountsStep, IsDone, LeavesAlone, LeavesReady, ReadyUnless, StepsTo};
 ghost use Rattle.command_plans.specs.Answers.{channel_of};
 ghost use Rattle.command_plans.specs.Deeds.{deed_of_answer};
 ghost use Rattle.command_plans.specs.Performs.{CountsFault, LeavesNoTempBy, LeavesRestedBy, Performs, end_by};
-ghost use Rattle.command_plans.specs.Plans.{CanMake, Drops, DropsBy, IsMakeable, with_copy, effect, making_length, answer_of_plan, view_with_image};
+ghost use Rattle.command_plans.specs.Makeable.{IsMakeable};
+ghost use Rattle.command_plans.specs.Plans.{CanMake, Drops, DropsBy, with_copy, effect, making_length, answer_of_plan, view_with_image};
 
 use crate::outcome::{MachineFault, Outcome};
 use crate::plan::{Change, Plan, RefusalLine};
@@ -33,18 +34,15 @@ fn write<M: Machine>(
     machine: &mut M,
 ) -> Result<(), DiskFault>
     requires free { IsFree target.now.path }
-    requires one { IsTrue M.tells → HasOneCandidate (M.state machine.old) }
-    requires rested { IsTrue M.tells → IsRested (M.state machine.old) }
+    requires ready { IsTrue M.tells → CanStep (M.state machine.old) }
     requires sourced { IsTrue M.tells → IsSourced image.now sources.now (seen (M.state machine.old)) }
     ensures done { OnOk result (IsTrue M.tells → IsFirm (M.state machine.old)
         → IsDone (M.state machine.new)
         (view_with_image image.now sources.now target.now.path (seen (M.state machine.old)))) }
     ensures step { IsTrue M.tells → IsFirm (M.state machine.old) → StepsTo M.time M.state
         (view_with_image image.now sources.now target.now.path (seen (M.state machine.old))) machine.old machine.new }
-    ensures keeps { IsTrue M.tells → Keeps (M.state machine.old) (M.state machine.new) }
-    ensures rests { OnOk result (IsTrue M.tells → IsRested (M.state machine.new)) }
-    ensures temps { OnOk result (IsTrue M.tells → NoNewTemp (M.state machine.old) (M.state machine.new)) }
-    ensures counts { CountsDisk result (M.counts machine.old) (M.counts machine.new) }
+    ensures ready { OnOk result (IsTrue M.tells → LeavesReady (M.state machine.old) (M.state machine.new)) }
+    ensures alone { LeavesAlone M.tells M.time M.state M.counts (CountsDisk result) machine.old machine.new }
     ensures taken { IsTrue M.tells → TakesAtMost (writing_length image.now sources.now)
         (M.taken machine.old) (M.taken machine.new) }
 {
@@ -55,16 +53,13 @@ fn write<M: Machine>(
 // Writes these bytes at the target.
 fn put<M: Machine>(bytes: &[u8], target: &Target, machine: &mut M) -> Result<(), DiskFault>
     requires free { IsFree target.now.path }
-    requires one { IsTrue M.tells → HasOneCandidate (M.state machine.old) }
-    requires rested { IsTrue M.tells → IsRested (M.state machine.old) }
+    requires ready { IsTrue M.tells → CanStep (M.state machine.old) }
     ensures done { OnOk result (IsTrue M.tells → IsFirm (M.state machine.old)
         → IsDone (M.state machine.new) (insert (seen (M.state machine.old)) target.now.path bytes.now)) }
     ensures step { IsTrue M.tells → IsFirm (M.state machine.old) → StepsTo M.time M.state
         (insert (seen (M.state machine.old)) target.now.path bytes.now) machine.old machine.new }
-    ensures keeps { IsTrue M.tells → Keeps (M.state machine.old) (M.state machine.new) }
-    ensures rests { OnOk result (IsTrue M.tells → IsRested (M.state machine.new)) }
-    ensures temps { OnOk result (IsTrue M.tells → NoNewTemp (M.state machine.old) (M.state machine.new)) }
-    ensures counts { CountsDisk result (M.counts machine.old) (M.counts machine.new) }
+    ensures ready { OnOk result (IsTrue M.tells → LeavesReady (M.state machine.old) (M.state machine.new)) }
+    ensures alone { LeavesAlone M.tells M.time M.state M.counts (CountsDisk result) machine.old machine.new }
     ensures taken { IsTrue M.tells → TakesNone (M.taken machine.old) (M.taken machine.new) }
 {
     write_bytes(machine, target, bytes)
@@ -74,8 +69,7 @@ fn put<M: Machine>(bytes: &[u8], target: &Target, machine: &mut M) -> Result<(),
 #[inline(never)]
 fn copy<M: Machine>(from: &BootPath, target: &Target, machine: &mut M) -> Result<(), StepFault>
     requires free { IsFree target.now.path }
-    requires one { IsTrue M.tells → HasOneCandidate (M.state machine.old) }
-    requires rested { IsTrue M.tells → IsRested (M.state machine.old) }
+    requires ready { IsTrue M.tells → CanStep (M.state machine.old) }
     requires there { IsTrue M.tells → has (seen (M.state machine.old)) from.now ≡ true }
     requires small { IsTrue M.tells → length (contents (seen (M.state machine.old)) from.now) ≤ file_limit }
     ensures done { OnOk result (IsTrue M.tells → IsFirm (M.state machine.old)
@@ -83,10 +77,8 @@ fn copy<M: Machine>(from: &BootPath, target: &Target, machine: &mut M) -> Result
     ensures step { IsTrue M.tells → IsFirm (M.state machine.old) → StepsTo M.time M.state
         (with_copy from.now target.now.path (seen (M.state machine.old))) machine.old machine.new }
     ensures found { IsErrOf result StepFault.NotFound → IsTrue M.tells → ⊥ }
-    ensures keeps { IsTrue M.tells → Keeps (M.state machine.old) (M.state machine.new) }
-    ensures rests { IsTrue M.tells → RestsUnless StepFault.Disk result (M.state machine.new) }
-    ensures temps { OnOk result (IsTrue M.tells → NoNewTemp (M.state machine.old) (M.state machine.new)) }
-    ensures counts { CountsStep result (M.counts machine.old) (M.counts machine.new) }
+    ensures ready { IsTrue M.tells → ReadyUnless StepFault.Disk result (M.state machine.old) (M.state machine.new) }
+    ensures alone { LeavesAlone M.tells M.time M.state M.counts (CountsStep result) machine.old machine.new }
     ensures taken { IsTrue M.tells → TakesAtMost (length (contents (seen (M.state machine.old)) from.now))
         (M.taken machine.old) (M.taken machine.new) }
 {
@@ -107,8 +99,7 @@ enum Applied<'a> {
 // is to be moved, which no machine comes to that tells its files, it gives the refusal to print, and nothing is
 // changed.
 fn apply<'a, M: Machine>(change: &'a Change, machine: &mut M) -> Result<Applied<'a>, DiskFault>
-    requires one { IsTrue M.tells → HasOneCandidate (M.state machine.old) }
-    requires rested { IsTrue M.tells → IsRested (M.state machine.old) }
+    requires ready { IsTrue M.tells → CanStep (M.state machine.old) }
     requires makeable { IsMakeable change.now }
     requires there { IsTrue M.tells → CanMake (M.state machine.old) change.now }
     ensures done { OnOk result (IsTrue M.tells → IsFirm (M.state machine.old)
@@ -118,10 +109,8 @@ fn apply<'a, M: Machine>(change: &'a Change, machine: &mut M) -> Result<Applied<
         (effect (seen (M.state machine.old)) change.now) machine.old machine.new }
     ensures drops { OnOk result (IsTrue M.tells
         → Drops change.now (M.state machine.old).files (M.state machine.new).files) }
-    ensures keeps { IsTrue M.tells → Keeps (M.state machine.old) (M.state machine.new) }
-    ensures rests { OnOk result (IsTrue M.tells → IsRested (M.state machine.new)) }
-    ensures temps { OnOk result (IsTrue M.tells → NoNewTemp (M.state machine.old) (M.state machine.new)) }
-    ensures counts { CountsDisk result (M.counts machine.old) (M.counts machine.new) }
+    ensures ready { OnOk result (IsTrue M.tells → LeavesReady (M.state machine.old) (M.state machine.new)) }
+    ensures alone { LeavesAlone M.tells M.time M.state M.counts (CountsDisk result) machine.old machine.new }
     ensures taken { IsTrue M.tells → TakesAtMost (making_length (seen (M.state machine.old)) change.now)
         (M.taken machine.old) (M.taken machine.new) }
 {
@@ -191,7 +180,6 @@ fn reply<M: Machine>(
 /// Settles the machine, makes the change of a plan and prints its reply. It takes no memory.
 pub fn perform<M: Machine>(plan: &Plan, machine: &mut M) -> Result<Outcome, MachineFault>
     requires rested { IsTrue M.tells → IsRested (M.state machine.old) }
-    requires makeable { IsMakeable plan.now.change }
     requires there { IsTrue M.tells → CanMake (M.state machine.old) plan.now.change }
     ensures performs { IsTrue M.tells → IsFirm (M.state machine.old)
         → Performs M.time M.state end_by machine.old machine.new

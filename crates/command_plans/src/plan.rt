@@ -1,4 +1,7 @@
 //! What a command is going to do, and say.
+ghost use Rattle.std.proofs.Props.{props};
+ghost use Rattle.command_plans.specs.Makeable.{IsIdleIfRefused, IsMakeable};
+ghost use Rattle.command_plans.specs.proofs.Facts.{is_makeable_prop};
 
 use crate::outcome::Outcome;
 use boot_base::{BootPath, Bytes, Target, TempPath};
@@ -65,4 +68,8 @@ pub struct Plan {
     pub outcome: Outcome,
     /// The whole reply.
     pub text: Bytes,
+    /// The change can be made on any machine.
+    pub ghost makeable: { IsMakeable change } by { is_makeable_prop change },
+    /// A refused command changes nothing.
+    pub ghost idle: { IsIdleIfRefused outcome change } by { Prim.hlevel props },
 }

@@ -2,7 +2,7 @@
 ghost use Rattle.std.specs.Prelude.{◌≡◌, length, IfOk, IsTrue};
 ghost use Rattle.std.specs.Option.{option_map};
 ghost use Rattle.std.specs.FinMap.{get};
-ghost use Rattle.boot_machine.specs.Prelude.{CountsDisk, OnlyReads, TakesAtMost, seen};
+ghost use Rattle.boot_machine.specs.Prelude.{CountsDisk, Looks, TakesAtMost, seen};
 
 use boot_base::BootPath;
 use boot_machine::{DiskFault, Machine};
@@ -11,8 +11,7 @@ use boot_machine::{DiskFault, Machine};
 pub fn seen_size<M: Machine>(path: &BootPath, machine: &mut M) -> Result<Option<u64>, DiskFault>
     ensures size { IfOk result (λ size. IsTrue M.tells
         → option_map length (get (seen (M.state machine.old)) path.now) ≡ size) }
-    ensures reads { IsTrue M.tells → OnlyReads M.time M.state machine.old machine.new }
-    ensures counts { CountsDisk result (M.counts machine.old) (M.counts machine.new) }
+    ensures looks { Looks M.tells M.time M.state M.counts (CountsDisk result) machine.old machine.new }
     ensures taken { IsTrue M.tells → TakesAtMost 0 (M.taken machine.old) (M.taken machine.new) }
 {
     path.know();

@@ -3,7 +3,7 @@ ghost use Rattle.std.specs.Prelude.{◌≡◌, IfOk};
 ghost use Rattle.boot_base.specs.Refusals.{line_of, number_of};
 ghost use Rattle.boot_machine.specs.Prelude.{State, seen};
 ghost use Rattle.command_plans.specs.Answers.{refusal};
-ghost use Rattle.command_plans.specs.Plans.{IsMakeable, Plans};
+ghost use Rattle.command_plans.specs.Plans.{Plans};
 ghost use Rattle.command_plans.specs.Refusing.{PlansDeclined};
 
 use crate::declined::Declined;
@@ -36,7 +36,6 @@ impl RefusalLine {
 /// The plan of a refusal: nothing is changed, and its line is the reply.
 pub fn refusal_plan(alloc: Global, why: &Refusal) -> Result<Plan, AllocError>
     ensures plans { IfOk result (λ plan. (s : State) → Plans s plan (refusal (seen s) why.now)) }
-    ensures makeable { IfOk result (λ plan. IsMakeable plan.change) }
     ensures idle { IfOk result (λ plan. plan.change ≡ Change.Nothing) }
 {
     let text = refusal_line(alloc, why)?;
@@ -52,7 +51,6 @@ pub fn refusal_plan(alloc: Global, why: &Refusal) -> Result<Plan, AllocError>
 /// The plan of a refusal that nothing else is to be told of.
 pub(crate) fn plan_to_refuse(alloc: Global, why: Refusal) -> Result<Plan, AllocError>
     ensures plans { IfOk result (λ plan. (s : State) → Plans s plan (refusal (seen s) why)) }
-    ensures makeable { IfOk result (λ plan. IsMakeable plan.change) }
     ensures idle { IfOk result (λ plan. plan.change ≡ Change.Nothing) }
 {
     let plan = refusal_plan(alloc, &why);
@@ -63,7 +61,6 @@ pub(crate) fn plan_to_refuse(alloc: Global, why: Refusal) -> Result<Plan, AllocE
 /// The plan of the refusal of a command's words.
 pub fn plan_declined(alloc: Global, declined: Declined) -> Result<Plan, AllocError>
     ensures plans { IfOk result (PlansDeclined declined) }
-    ensures makeable { IfOk result (λ plan. IsMakeable plan.change) }
     ensures idle { IfOk result (λ plan. plan.change ≡ Change.Nothing) }
 {
     match declined {

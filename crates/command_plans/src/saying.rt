@@ -5,7 +5,7 @@ ghost use Rattle.boot_machine.specs.Prelude.{Counts, State, seen};
 ghost use Rattle.command_plans.specs.Unsaying.{CountsUnsaid, Says, unsaid_counts};
 ghost use Rattle.command_plans.specs.Answers.{Answer, answer_of_read, answer_or_refusal};
 ghost use Rattle.command_plans.specs.Performs.{CountsStop};
-ghost use Rattle.command_plans.specs.Plans.{IsIdleIfRefused, IsMakeable, Plans, PlansAs};
+ghost use Rattle.command_plans.specs.Plans.{Plans, PlansAs};
 ghost use Rattle.command_plans.specs.Refusing.{PlansUnsaid};
 
 use crate::outcome::{Outcome, Stop};
@@ -18,7 +18,6 @@ use std::alloc::Global;
 /// The plan of the refusal, or why there is none.
 pub fn plan_unsaid(alloc: Global, unsaid: Unsaid) -> Result<Plan, Stop>
     ensures plans { IfOk result (PlansUnsaid unsaid) }
-    ensures makeable { IfOk result (λ plan. IsMakeable plan.change) }
     ensures idle { IfOk result (λ plan. plan.change ≡ Change.Nothing) }
     ensures counts { (old new : Counts) → unsaid_counts unsaid old new → CountsStop result old new }
 {
@@ -33,7 +32,6 @@ pub fn plan_unsaid(alloc: Global, unsaid: Unsaid) -> Result<Plan, Stop>
 pub fn text_or_refusal(alloc: Global, text: Result<Vec<u8>, Unsaid>) -> Result<Plan, Stop>
     ensures plans { IfOk result (λ plan. (s : State) (meant : Result (List ℕ) Refusal)
         → Says (λ text. text.items) text meant → Plans s plan (answer_of_read (seen s) meant)) }
-    ensures makeable { IfOk result (λ plan. IsMakeable plan.change) }
     ensures idle { IfOk result (λ plan. plan.change ≡ Change.Nothing) }
     ensures counts { (old new : Counts) → CountsUnsaid text old new → CountsStop result old new }
 {
@@ -51,8 +49,6 @@ pub fn text_or_refusal(alloc: Global, text: Result<Vec<u8>, Unsaid>) -> Result<P
 pub fn answer_or_refusal(alloc: Global, plan: Result<Plan, Unsaid>) -> Result<Plan, Stop>
     ensures plans { IfOk result (λ made. (s : State) (meant : Result Answer Refusal)
         → PlansAs s plan meant → Plans s made (answer_or_refusal (seen s) meant)) }
-    ensures makeable { IfOk plan (λ made. IsMakeable made.change) → IfOk result (λ made. IsMakeable made.change) }
-    ensures idle { IfOk plan IsIdleIfRefused → IfOk result IsIdleIfRefused }
     ensures counts { (old new : Counts) → CountsUnsaid plan old new → CountsStop result old new }
 {
     match plan {

@@ -1,5 +1,5 @@
 -- The name of an installed image's file is the last component of its path.
-use Rattle.std.proofs.Common.{◌≡◌, inl, inr, ℕ, ◌≤◌, Bool, true, false, List, [], ◌∷◌, ◌++◌, Option, Some, None, Result, Ok, Err, length, refl, sym, ap, ◌∙◌, arith, lit<, length-append, append_assoc}
+use Rattle.std.proofs.Common.{◌≡◌, inl, inr, ℕ, ◌≤◌, Bool, true, false, List, ◌∷◌, ◌++◌, Option, Some, None, Result, Ok, Err, length, refl, sym, ap, ◌∙◌, arith, lit<, length-append, append_assoc}
 use Rattle.std.specs.Prelude.{IfSome, codes, ◌==◌, if◌then◌else◌}
 use Rattle.std.specs.Fmt.{decimal}
 use Rattle.std.specs.List.{list_any}
@@ -8,7 +8,6 @@ use Rattle.boot_base.specs.Paths.{Path, components, file_name_of, is_kept, is_pa
 use Rattle.boot_base.proofs.Joined.{add_piece, is_kept-long, join_filtered, join_filtered-kept}
 use Rattle.boot_base.proofs.Normal.{path-some}
 use Rattle.boot_base.specs.declared.refusal.Refusal.{Refusal}
-use Rattle.boot_base.specs.declared.refusal.Refusal.TheVariants as refusals
 use Rattle.menu_order.specs.declared.counted.Suffix.TheVariants.{Efi}
 use Rattle.menu_order.specs.Counter.{suffix_text}
 use Rattle.menu_order.specs.Splits.{has_suffix}

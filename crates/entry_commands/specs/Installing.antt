@@ -1,5 +1,5 @@
 -- `install`: a unified kernel image comes to stand among the boot entries (profile).
-use Rattle.std.specs.Prelude.{ℕ, ◌≡◌, true, false, not, List, ◌++◌, codes, Option, Some, None, Result, Ok, Err, MatchResult, if◌then◌else◌}
+use Rattle.std.specs.Prelude.{ℕ, ◌≡◌, true, false, List, ◌++◌, codes, Option, Some, None, Result, Ok, Err, MatchResult}
 use Rattle.std.specs.FinMap.{insert}
 use Rattle.std.specs.List.{list_any}
 use Rattle.boot_base.specs.Paths.{Path, is_kept, is_slash}

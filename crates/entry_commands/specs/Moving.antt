@@ -2,7 +2,7 @@
 use Rattle.std.specs.Prelude.{◌≡◌}
 use Rattle.boot_base.specs.Paths.{Path}
 use Rattle.install_steps.specs.Steps.{IsIntentOf}
-use Rattle.command_plans.specs.Plans.{TellsGone, TellsThere}
+use Rattle.command_plans.specs.Makeable.{TellsGone, TellsThere}
 use Rattle.command_plans.specs.declared.plan.Change.{Change}
 use Rattle.command_plans.specs.declared.plan.Change.TheVariants.{Move}
 

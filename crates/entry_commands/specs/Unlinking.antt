@@ -4,7 +4,6 @@ use Rattle.std.specs.List.{ends_with}
 use Rattle.boot_base.specs.Paths.{Path, is_file_name}
 use Rattle.boot_base.specs.declared.refusal.Refusal.{Refusal}
 use Rattle.boot_base.specs.declared.refusal.Refusal.TheVariants as refusals
-use Rattle.command_plans.specs.Answers.{refusal}
 use Rattle.command_plans.specs.Declining.{◌>>=◌, path_in, path_under}
 
 -- an entry of type 1 (UAPI Boot Loader Specification)

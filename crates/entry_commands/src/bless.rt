@@ -4,8 +4,8 @@ ghost use Rattle.std.specs.Option.{option_map};
 ghost use Rattle.boot_base.specs.Paths.{IsFree, beside, file_name_of, sibling_of};
 ghost use Rattle.menu_order.specs.Bless.{choice_of, target_of};
 ghost use Rattle.menu_order.specs.Renames.{bad_name_of, good_name_of};
-ghost use Rattle.boot_machine.specs.Prelude.{Counts, CountsDisk, OnlyReads, State, TakesAtMost, has, seen};
-ghost use Rattle.command_plans.specs.Prelude.{CountsStop, CountsUnsaid, DeclinesWords, IsIdleIfRefused, IsMakeable, Means, Plans, PlansAs, RefusesWords, Says, answer_of_read, printed_path};
+ghost use Rattle.boot_machine.specs.Prelude.{Counts, CountsDisk, Looks, State, TakesAtMost, has, seen};
+ghost use Rattle.command_plans.specs.Prelude.{CountsStop, CountsUnsaid, DeclinesWords, Means, Plans, PlansAs, RefusesWords, Says, answer_of_read, printed_path};
 ghost use Rattle.entry_commands.specs.Blessing.{AreFree, bad_name_in, bless_answer, bless_entry, bless_result, blessed_by, blessed_from, blessed_text, entry_paths, good_name_in, name_or, path_at, present_at, reported_paths, status_by, status_result, verb_text};
 
 use crate::moves::{is_there, plan_move, plan_nothing};
@@ -104,8 +104,7 @@ fn reported_paths(alloc: Global, word: &str, esp: &str) -> Result<EntryPaths, De
 fn present_names<M: Machine>(paths: &EntryPaths, machine: &mut M) -> Result<Present, DiskFault>
     ensures present { IfOk result (λ present. IsTrue M.tells
         → present ≡ present_at (seen (M.state machine.old)) paths.now) }
-    ensures reads { IsTrue M.tells → OnlyReads M.time M.state machine.old machine.new }
-    ensures counts { CountsDisk result (M.counts machine.old) (M.counts machine.new) }
+    ensures looks { Looks M.tells M.time M.state M.counts (CountsDisk result) machine.old machine.new }
     ensures taken { IsTrue M.tells → TakesAtMost 0 (M.taken machine.old) (M.taken machine.new) }
 {
     let good = is_there(&paths.good, machine)?;
@@ -157,10 +156,8 @@ fn bless_from(
 ) -> Result<Plan, AllocError>
     requires free_from { IsFree from.now }
     requires free_target { IsFree target.now }
-    ensures plans { IfOk result (λ plan. (s : State) → has (seen s) from.now ≡ true → has (seen s) target.now ≡ false
+    ensures { IfOk result (λ plan. (s : State) → has (seen s) from.now ≡ true → has (seen s) target.now ≡ false
         → Plans s plan (blessed_from (seen s) verb target.now from.now)) }
-    ensures makeable { IfOk result (λ plan. IsMakeable plan.change) }
-    ensures idle { IfOk result IsIdleIfRefused }
 {
     let text = blessed_text(alloc, verb, target, "\n")?;
     plan_move(alloc, from, target, text)
@@ -176,8 +173,6 @@ fn bless_entry(
     requires { AreFree paths.now }
     ensures plans { (s : State) → present ≡ present_at (seen s) paths.now
         → PlansAs s result (bless_entry (seen s) verb paths.now) }
-    ensures makeable { IfOk result (λ plan. IsMakeable plan.change) }
-    ensures idle { IfOk result IsIdleIfRefused }
     ensures counts { (counts : Counts) → CountsUnsaid result counts counts }
 {
     let target = target_of(paths, verb);
@@ -209,10 +204,7 @@ fn bless<M: Machine>(
 ) -> Result<Plan, Unsaid>
     ensures plans { IsTrue M.tells → PlansAs (M.state machine.old) result
         (bless_result (seen (M.state machine.old)) verb word.now esp.now) }
-    ensures makeable { IfOk result (λ plan. IsMakeable plan.change) }
-    ensures idle { IfOk result IsIdleIfRefused }
-    ensures reads { IsTrue M.tells → OnlyReads M.time M.state machine.old machine.new }
-    ensures counts { CountsUnsaid result (M.counts machine.old) (M.counts machine.new) }
+    ensures looks { Looks M.tells M.time M.state M.counts (CountsUnsaid result) machine.old machine.new }
     ensures taken { IsTrue M.tells → TakesAtMost 0 (M.taken machine.old) (M.taken machine.new) }
     ensures words { DeclinesWords (reported_paths word.now esp.now) result }
 {
@@ -246,8 +238,7 @@ fn status<M: Machine>(
 ) -> Result<Vec<u8>, Unsaid>
     ensures says { IsTrue M.tells → Says (λ text. text.items) result
         (status_result (seen (M.state machine.old)) word.now esp.now) }
-    ensures reads { IsTrue M.tells → OnlyReads M.time M.state machine.old machine.new }
-    ensures counts { CountsUnsaid result (M.counts machine.old) (M.counts machine.new) }
+    ensures looks { Looks M.tells M.time M.state M.counts (CountsUnsaid result) machine.old machine.new }
     ensures taken { IsTrue M.tells → TakesAtMost 0 (M.taken machine.old) (M.taken machine.new) }
     ensures words { DeclinesWords (reported_paths word.now esp.now) result }
 {
@@ -267,10 +258,7 @@ pub fn plan_bless<M: Machine>(
 ) -> Result<Plan, Stop>
     ensures plans { IfOk result (λ plan. IsTrue M.tells → Plans (M.state machine.old) plan
         (bless_answer (seen (M.state machine.old)) verb word.now esp.now)) }
-    ensures makeable { IfOk result (λ plan. IsMakeable plan.change) }
-    ensures idle { IfOk result IsIdleIfRefused }
-    ensures reads { IsTrue M.tells → OnlyReads M.time M.state machine.old machine.new }
-    ensures counts { CountsStop result (M.counts machine.old) (M.counts machine.new) }
+    ensures looks { Looks M.tells M.time M.state M.counts (CountsStop result) machine.old machine.new }
     ensures taken { IsTrue M.tells → TakesAtMost 0 (M.taken machine.old) (M.taken machine.new) }
     ensures words { RefusesWords (reported_paths word.now esp.now) result }
 {

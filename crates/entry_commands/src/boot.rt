@@ -3,8 +3,8 @@ ghost use Rattle.std.specs.Prelude.{◌≡◌, ◌∷◌, true, [], Ok, IfOk, Is
 ghost use Rattle.std.specs.Option.{option_map};
 ghost use Rattle.boot_base.specs.Paths.{IsFree, path_of};
 ghost use Rattle.boot_folder.specs.Entries.{IsEntry, folder_of};
-ghost use Rattle.boot_machine.specs.Prelude.{OnlyReads, TakesAtMost, has, seen};
-ghost use Rattle.command_plans.specs.Prelude.{CountsStop, CountsUnsaid, DeclinesWords, IsIdleIfRefused, IsMakeable, Plans, PlansAs, RefusesWords, folders_of, menu_limit};
+ghost use Rattle.boot_machine.specs.Prelude.{Looks, TakesAtMost, has, seen};
+ghost use Rattle.command_plans.specs.Prelude.{CountsStop, CountsUnsaid, DeclinesWords, Plans, PlansAs, RefusesWords, folders_of, menu_limit};
 ghost use Rattle.entry_commands.specs.Booting.{boot_answer, boot_entry, boot_result, booted_entry, booted_text, renamed_entry};
 
 use crate::moves::{already_there, is_there, plan_move, plan_nothing};
@@ -46,10 +46,7 @@ fn rename_entry<M: Machine>(
     requires read { IsTrue M.tells → path_of from.now ≡ Some from.now }
     ensures plans { IsTrue M.tells
         → PlansAs (M.state machine.old) result (renamed_entry (seen (M.state machine.old)) from.now to) }
-    ensures makeable { IfOk result (λ plan. IsMakeable plan.change) }
-    ensures idle { IfOk result IsIdleIfRefused }
-    ensures reads { IsTrue M.tells → OnlyReads M.time M.state machine.old machine.new }
-    ensures counts { CountsUnsaid result (M.counts machine.old) (M.counts machine.new) }
+    ensures looks { Looks M.tells M.time M.state M.counts (CountsUnsaid result) machine.old machine.new }
     ensures taken { IsTrue M.tells → TakesAtMost 0 (M.taken machine.old) (M.taken machine.new) }
 {
     if is_there(&to, machine)? {
@@ -72,10 +69,7 @@ fn boot_named<M: Machine>(
     requires read { IsTrue M.tells → path_of path.now ≡ Some path.now }
     ensures plans { IsTrue M.tells → PlansAs (M.state machine.old) result
         (booted_entry (seen (M.state machine.old)) folder.now path.now (option_map string_bytes name)) }
-    ensures makeable { IfOk result (λ plan. IsMakeable plan.change) }
-    ensures idle { IfOk result IsIdleIfRefused }
-    ensures reads { IsTrue M.tells → OnlyReads M.time M.state machine.old machine.new }
-    ensures counts { CountsUnsaid result (M.counts machine.old) (M.counts machine.new) }
+    ensures looks { Looks M.tells M.time M.state M.counts (CountsUnsaid result) machine.old machine.new }
     ensures taken { IsTrue M.tells → TakesAtMost 0 (M.taken machine.old) (M.taken machine.new) }
 {
     let Some(name) = name else {
@@ -96,10 +90,7 @@ fn boot_entry<M: Machine>(
     requires read { IsTrue M.tells → path_of item.now.path ≡ Some item.now.path }
     ensures plans { IsTrue M.tells → PlansAs (M.state machine.old) result
         (boot_entry (seen (M.state machine.old)) folders.now item.now) }
-    ensures makeable { IfOk result (λ plan. IsMakeable plan.change) }
-    ensures idle { IfOk result IsIdleIfRefused }
-    ensures reads { IsTrue M.tells → OnlyReads M.time M.state machine.old machine.new }
-    ensures counts { CountsUnsaid result (M.counts machine.old) (M.counts machine.new) }
+    ensures looks { Looks M.tells M.time M.state M.counts (CountsUnsaid result) machine.old machine.new }
     ensures taken { IsTrue M.tells → TakesAtMost 0 (M.taken machine.old) (M.taken machine.new) }
 {
     let name = Counted::booted_name(alloc, item.path.file_name())?;
@@ -110,10 +101,7 @@ fn boot_entry<M: Machine>(
 fn boot<M: Machine>(alloc: Global, esp: &str, machine: &mut M) -> Result<Plan, Unsaid>
     ensures plans { IsTrue M.tells
         → PlansAs (M.state machine.old) result (boot_result (seen (M.state machine.old)) esp.now) }
-    ensures makeable { IfOk result (λ plan. IsMakeable plan.change) }
-    ensures idle { IfOk result IsIdleIfRefused }
-    ensures reads { IsTrue M.tells → OnlyReads M.time M.state machine.old machine.new }
-    ensures counts { CountsUnsaid result (M.counts machine.old) (M.counts machine.new) }
+    ensures looks { Looks M.tells M.time M.state M.counts (CountsUnsaid result) machine.old machine.new }
     ensures taken { IsTrue M.tells
         → TakesAtMost (menu_limit (M.state machine.old).files (folders_of esp.now)) (M.taken machine.old)
         (M.taken machine.new) }
@@ -131,10 +119,7 @@ fn boot<M: Machine>(alloc: Global, esp: &str, machine: &mut M) -> Result<Plan, U
 pub fn plan_boot<M: Machine>(alloc: Global, esp: &str, machine: &mut M) -> Result<Plan, Stop>
     ensures plans { IfOk result (λ plan. IsTrue M.tells
         → Plans (M.state machine.old) plan (boot_answer (seen (M.state machine.old)) esp.now)) }
-    ensures makeable { IfOk result (λ plan. IsMakeable plan.change) }
-    ensures idle { IfOk result IsIdleIfRefused }
-    ensures reads { IsTrue M.tells → OnlyReads M.time M.state machine.old machine.new }
-    ensures counts { CountsStop result (M.counts machine.old) (M.counts machine.new) }
+    ensures looks { Looks M.tells M.time M.state M.counts (CountsStop result) machine.old machine.new }
     ensures taken { IsTrue M.tells
         → TakesAtMost (menu_limit (M.state machine.old).files (folders_of esp.now)) (M.taken machine.old)
         (M.taken machine.new) }

@@ -1,14 +1,15 @@
 //! `install`.
 ghost use Rattle.std.specs.Prelude.{◌≡◌, ◌≤◌, ◌<◌, length, true, IfOk, IfSome, IsTrue, OnOk, Result, string_bytes};
 ghost use Rattle.std.specs.Option.{option_map};
+ghost use Rattle.boot_base.specs.Limits.{file_limit};
 ghost use Rattle.boot_base.specs.Paths.{IsFree, file_name_of};
 ghost use Rattle.menu_order.specs.Splits.{has_suffix};
 ghost use Rattle.menu_order.specs.declared.counted.Suffix.TheVariants.{Efi};
 ghost use Rattle.boot_folder.specs.Items.{FailsAs, item_counts};
 ghost use Rattle.boot_folder.specs.Missing.{missing_text};
 ghost use Rattle.boot_folder.specs.Records.{Unfit, uki_of};
-ghost use Rattle.boot_machine.specs.Prelude.{Counts, OnlyReads, State, TakesAtMost, contents, has, seen};
-ghost use Rattle.command_plans.specs.Prelude.{CanCopy, CountsStop, CountsUnsaid, DeclinesWords, IsIdleIfRefused, IsMakeable, Means, Plans, PlansAs, RefusesWords, Says, UnsaidFor, if_given, unsaid_counts};
+ghost use Rattle.boot_machine.specs.Prelude.{Counts, Looks, State, TakesAtMost, contents, seen};
+ghost use Rattle.command_plans.specs.Prelude.{CanCopy, CountsStop, CountsUnsaid, DeclinesWords, Means, Plans, PlansAs, RefusesWords, Says, UnsaidFor, if_given, unsaid_counts};
 ghost use Rattle.entry_commands.specs.Counts.{count_in};
 ghost use Rattle.entry_commands.specs.Installing.{IsImageName, ShowsEntry, entry_or, image_name, image_name_in, image_path, install_answer, install_result, installation_of, installed_entry, installed_image};
 ghost use Rattle.menu_order.specs.declared.item.MenuItem.{MenuItem};
@@ -117,23 +118,23 @@ fn unfit_unsaid(alloc: Global, fault: ItemFault) -> Unsaid
     }
 }
 
-// Whether the menu would show the file where it comes to stand. The entry itself isn't kept.
+// Whether the menu would show the file of `size` bytes where it comes to stand. The entry itself isn't kept.
 fn check_entry<M: Machine>(
     alloc: Global,
     words: &Installation,
+    size: u64,
     machine: &mut M,
 ) -> Result<(), Unsaid>
-    requires there { IsTrue M.tells → has (M.state machine.old).files words.now.from ≡ true }
-    requires small { IsTrue M.tells → length (contents (M.state machine.old).files words.now.from) ≤ 268435456 }
+    requires small { size ≤ file_limit }
+    requires size { IsTrue M.tells → size ≡ length (contents (M.state machine.old).files words.now.from) }
     requires image { has_suffix Efi (file_name_of words.now.target) ≡ true }
     ensures says { IsTrue M.tells → ShowsEntry result
         (entry_or (uki_of words.now.target (contents (M.state machine.old).files words.now.from))) }
-    ensures reads { IsTrue M.tells → OnlyReads M.time M.state machine.old machine.new }
-    ensures counts { CountsUnsaid result (M.counts machine.old) (M.counts machine.new) }
+    ensures looks { Looks M.tells M.time M.state M.counts (CountsUnsaid result) machine.old machine.new }
     ensures taken { IsTrue M.tells → TakesAtMost 134999 (M.taken machine.old) (M.taken machine.new) }
 {
     let target = words.target.copy(alloc)?;
-    match uki_item(alloc, machine, &words.from, target) {
+    match uki_item(alloc, machine, &words.from, size, target) {
         Ok(entry) => {
             drop(entry);
             Ok(())
@@ -152,21 +153,18 @@ fn check_image<M: Machine>(
     ensures says { IsTrue M.tells → Says (λ _. contents (seen (M.state machine.old)) words.now.from) result
         (installed_image (seen (M.state machine.old)) words.now) }
     ensures can { OnOk result (IsTrue M.tells → CanCopy (M.state machine.old) words.now.from) }
-    ensures reads { IsTrue M.tells → OnlyReads M.time M.state machine.old machine.new }
-    ensures counts { CountsUnsaid result (M.counts machine.old) (M.counts machine.new) }
+    ensures looks { Looks M.tells M.time M.state M.counts (CountsUnsaid result) machine.old machine.new }
     ensures taken { IsTrue M.tells → TakesAtMost 134999 (M.taken machine.old) (M.taken machine.new) }
 {
-    readable_size(alloc, &words.from, machine)?;
-    check_entry(alloc, words, machine)
+    let size = readable_size(alloc, &words.from, machine)?;
+    check_entry(alloc, words, size, machine)
 }
 
 // The plan of an installation.
 fn plan_words(alloc: Global, words: Installation) -> Result<Plan, AllocError>
     requires { IsFree words.target }
-    ensures plans { IfOk result (λ plan. (s : State) → CanCopy s words.from
+    ensures { IfOk result (λ plan. (s : State) → CanCopy s words.from
         → Plans s plan (installed_entry (seen s) words (contents (seen s) words.from))) }
-    ensures makeable { IfOk result (λ plan. IsMakeable plan.change) }
-    ensures idle { IfOk result IsIdleIfRefused }
 {
     let Installation { from, target } = words;
     let text = installed_text(alloc, &target)?;
@@ -184,10 +182,7 @@ fn install<M: Machine>(
     ensures plans { IsTrue M.tells → PlansAs (M.state machine.old) result
         (install_result (seen (M.state machine.old)) file.now name.now
         (option_map (λ text. text.now) tries.entry) esp.now) }
-    ensures makeable { IfOk result (λ plan. IsMakeable plan.change) }
-    ensures idle { IfOk result IsIdleIfRefused }
-    ensures reads { IsTrue M.tells → OnlyReads M.time M.state machine.old machine.new }
-    ensures counts { CountsUnsaid result (M.counts machine.old) (M.counts machine.new) }
+    ensures looks { Looks M.tells M.time M.state M.counts (CountsUnsaid result) machine.old machine.new }
     ensures taken { IsTrue M.tells → TakesAtMost 134999 (M.taken machine.old) (M.taken machine.new) }
     ensures words { DeclinesWords
         (installation_of file.now name.now (option_map (λ text. text.now) tries.entry) esp.now) result }
@@ -211,10 +206,7 @@ pub fn plan_install<M: Machine>(
     ensures plans { IfOk result (λ plan. IsTrue M.tells → Plans (M.state machine.old) plan
         (install_answer (seen (M.state machine.old)) file.now name.now
         (option_map (λ text. text.now) tries.entry) esp.now)) }
-    ensures makeable { IfOk result (λ plan. IsMakeable plan.change) }
-    ensures idle { IfOk result IsIdleIfRefused }
-    ensures reads { IsTrue M.tells → OnlyReads M.time M.state machine.old machine.new }
-    ensures counts { CountsStop result (M.counts machine.old) (M.counts machine.new) }
+    ensures looks { Looks M.tells M.time M.state M.counts (CountsStop result) machine.old machine.new }
     ensures taken { IsTrue M.tells → TakesAtMost 134999 (M.taken machine.old) (M.taken machine.new) }
     ensures words { RefusesWords
         (installation_of file.now name.now (option_map (λ text. text.now) tries.entry) esp.now) result }

@@ -1,7 +1,7 @@
 //! `keep`.
 ghost use Rattle.std.specs.Prelude.{◌≡◌, ◌++◌, All, IfOk, IsTrue, OnOk};
 ghost use Rattle.boot_base.specs.Paths.{IsFree};
-ghost use Rattle.boot_machine.specs.Prelude.{Counts, OnlyReads, TakesAtMost, seen};
+ghost use Rattle.boot_machine.specs.Prelude.{Counts, Looks, TakesAtMost, seen};
 ghost use Rattle.command_plans.specs.Prelude.{CountsUnsaid, Means, Says, each, folders_of, menu_limit, path_in};
 ghost use Rattle.entry_commands.specs.Keeping.{keep_result, menu_paths, would_line, would_text};
 
@@ -56,8 +56,7 @@ pub fn keep_paths<M: Machine>(
     ensures says { IsTrue M.tells
         → Says (λ paths. paths.items) result (keep_result (seen (M.state machine.old)) words.now) }
     ensures free { IfOk result (λ paths. All IsFree paths.items) }
-    ensures reads { IsTrue M.tells → OnlyReads M.time M.state machine.old machine.new }
-    ensures counts { CountsUnsaid result (M.counts machine.old) (M.counts machine.new) }
+    ensures looks { Looks M.tells M.time M.state M.counts (CountsUnsaid result) machine.old machine.new }
     ensures taken { IsTrue M.tells
         → TakesAtMost (menu_limit (M.state machine.old).files (folders_of words.now.esp)) (M.taken machine.old)
         (M.taken machine.new) }

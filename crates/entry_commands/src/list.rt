@@ -1,7 +1,7 @@
 //! `bootctl list`.
 ghost use Rattle.std.specs.Prelude.{◌≡◌, IfOk, IsTrue};
-ghost use Rattle.boot_machine.specs.Prelude.{Counts, OnlyReads, TakesAtMost, seen};
-ghost use Rattle.command_plans.specs.Prelude.{CountsStop, CountsUnsaid, DeclinesWords, IsMakeable, Plans, RefusesWords, Says, answer_of_read, folders_of, menu_limit, printed_path};
+ghost use Rattle.boot_machine.specs.Prelude.{Counts, Looks, TakesAtMost, seen};
+ghost use Rattle.command_plans.specs.Prelude.{CountsStop, CountsUnsaid, DeclinesWords, Plans, RefusesWords, Says, answer_of_read, folders_of, menu_limit, printed_path};
 ghost use Rattle.command_plans.specs.declared.plan.Change.TheVariants.{Nothing};
 ghost use Rattle.entry_commands.specs.Listing.{json_result, list_result, menu_result};
 
@@ -59,8 +59,7 @@ fn list_result<M: Machine>(
 ) -> Result<Vec<u8>, Unsaid>
     ensures says { IsTrue M.tells
         → Says (λ text. text.items) result (list_result (seen (M.state machine.old)) esp.now json) }
-    ensures reads { IsTrue M.tells → OnlyReads M.time M.state machine.old machine.new }
-    ensures counts { CountsUnsaid result (M.counts machine.old) (M.counts machine.new) }
+    ensures looks { Looks M.tells M.time M.state M.counts (CountsUnsaid result) machine.old machine.new }
     ensures taken { IsTrue M.tells
         → TakesAtMost (menu_limit (M.state machine.old).files (folders_of esp.now)) (M.taken machine.old)
         (M.taken machine.new) }
@@ -81,10 +80,8 @@ pub fn plan_list<M: Machine>(
 ) -> Result<Plan, Stop>
     ensures plans { IfOk result (λ plan. IsTrue M.tells → Plans (M.state machine.old) plan
         (answer_of_read (seen (M.state machine.old)) (list_result (seen (M.state machine.old)) esp.now json))) }
-    ensures makeable { IfOk result (λ plan. IsMakeable plan.change) }
     ensures idle { IfOk result (λ plan. plan.change ≡ Nothing) }
-    ensures reads { IsTrue M.tells → OnlyReads M.time M.state machine.old machine.new }
-    ensures counts { CountsStop result (M.counts machine.old) (M.counts machine.new) }
+    ensures looks { Looks M.tells M.time M.state M.counts (CountsStop result) machine.old machine.new }
     ensures taken { IsTrue M.tells
         → TakesAtMost (menu_limit (M.state machine.old).files (folders_of esp.now)) (M.taken machine.old)
         (M.taken machine.new) }

@@ -1,8 +1,8 @@
 //! Boot files that get another name.
 ghost use Rattle.std.specs.Prelude.{◌≡◌, true, false, IfOk, IsTrue, string_bytes};
 ghost use Rattle.boot_base.specs.Paths.{IsFree};
-ghost use Rattle.boot_machine.specs.Prelude.{CountsDisk, OnlyReads, State, TakesAtMost, has, move_in, seen};
-ghost use Rattle.command_plans.specs.Prelude.{IsIdleIfRefused, IsMakeable, Plans, done_answer, printed_path};
+ghost use Rattle.boot_machine.specs.Prelude.{CountsDisk, Looks, State, TakesAtMost, has, move_in, seen};
+ghost use Rattle.command_plans.specs.Prelude.{Plans, done_answer, printed_path};
 ghost use Rattle.entry_commands.specs.Moving.{IsMove};
 
 use boot_base::{BootPath, Bytes, Refusal};
@@ -14,8 +14,7 @@ use std::alloc::{AllocError, Global};
 /// Whether a boot file stands at a path.
 pub(crate) fn is_there<M: Machine>(path: &BootPath, machine: &mut M) -> Result<bool, DiskFault>
     ensures there { IfOk result (λ is. IsTrue M.tells → is ≡ has (seen (M.state machine.old)) path.now) }
-    ensures reads { IsTrue M.tells → OnlyReads M.time M.state machine.old machine.new }
-    ensures counts { CountsDisk result (M.counts machine.old) (M.counts machine.new) }
+    ensures looks { Looks M.tells M.time M.state M.counts (CountsDisk result) machine.old machine.new }
     ensures taken { IsTrue M.tells → TakesAtMost 0 (M.taken machine.old) (M.taken machine.new) }
 {
     let size = seen_size(path, machine)?;
@@ -55,10 +54,8 @@ pub(crate) fn plan_move(
 ) -> Result<Plan, AllocError>
     requires free_from { IsFree from.now }
     requires free_to { IsFree to.now }
-    ensures plans { IfOk result (λ plan. (s : State) → has (seen s) from.now ≡ true → has (seen s) to.now ≡ false
+    ensures { IfOk result (λ plan. (s : State) → has (seen s) from.now ≡ true → has (seen s) to.now ≡ false
         → Plans s plan (done_answer (move_in from.now to.now (seen s)) (string_bytes text))) }
-    ensures makeable { IfOk result (λ plan. IsMakeable plan.change) }
-    ensures idle { IfOk result IsIdleIfRefused }
 {
     Ok(Plan {
         change: move_of(alloc, from, to)?,
@@ -69,9 +66,7 @@ pub(crate) fn plan_move(
 
 /// The plan of a command that has nothing to change, and is told by this text.
 pub(crate) fn plan_nothing(text: String) -> Plan
-    ensures plans { (s : State) → Plans s result (done_answer (seen s) (string_bytes text)) }
-    ensures makeable { IsMakeable result.change }
-    ensures idle { IsIdleIfRefused result }
+    ensures { (s : State) → Plans s result (done_answer (seen s) (string_bytes text)) }
 {
     Plan {
         change: Change::Nothing,

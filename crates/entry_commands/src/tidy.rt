@@ -2,8 +2,8 @@
 ghost use Rattle.std.specs.Prelude.{◌≡◌, All, Contains, IfOk, IsTrue, bytes_eq, codes, true};
 ghost use Rattle.std.specs.List.{IsDistinct};
 ghost use Rattle.boot_base.specs.Paths.{Path};
-ghost use Rattle.boot_machine.specs.Prelude.{Files, OnlyReads, State, TakesAtMost, has, seen};
-ghost use Rattle.command_plans.specs.Prelude.{CountsStop, Drops, IsIdleIfRefused, IsMakeable, Plans, RefusesWords, folders_of, unless_refused};
+ghost use Rattle.boot_machine.specs.Prelude.{Files, Looks, State, TakesAtMost, has, seen};
+ghost use Rattle.command_plans.specs.Prelude.{CountsStop, Drops, Plans, RefusesWords, folders_of, unless_refused};
 ghost use Rattle.entry_commands.specs.Tidying.{AreClean, HasLeftovers, IsTidied, leftovers_among, tidy_answer};
 
 use boot_base::{BootPath, Bytes, FileName, TempPath};
@@ -39,8 +39,7 @@ fn leftovers_in<M: Machine>(
         → All (λ temp. has (M.state machine.old).files temp ≡ true) temps.items) }
     ensures all { IfOk result (λ temps. IsTrue M.tells
         → HasLeftovers (M.state machine.old).files folder.now temps.items) }
-    ensures reads { IsTrue M.tells → OnlyReads M.time M.state machine.old machine.new }
-    ensures counts { CountsStop result (M.counts machine.old) (M.counts machine.new) }
+    ensures looks { Looks M.tells M.time M.state M.counts (CountsStop result) machine.old machine.new }
     ensures taken { IsTrue M.tells → TakesAtMost 0 (M.taken machine.old) (M.taken machine.new) }
 {
     let names = machine.names(alloc, folder)?;
@@ -71,8 +70,7 @@ fn leftovers<M: Machine>(
         → HasLeftovers (M.state machine.old).files folders.now.entries temps.items) }
     ensures images { IfOk result (λ temps. IsTrue M.tells
         → HasLeftovers (M.state machine.old).files folders.now.images temps.items) }
-    ensures reads { IsTrue M.tells → OnlyReads M.time M.state machine.old machine.new }
-    ensures counts { CountsStop result (M.counts machine.old) (M.counts machine.new) }
+    ensures looks { Looks M.tells M.time M.state M.counts (CountsStop result) machine.old machine.new }
     ensures taken { IsTrue M.tells → TakesAtMost 0 (M.taken machine.old) (M.taken machine.new) }
 {
     let mut temps = leftovers_in(alloc, &folders.entries, machine)?;
@@ -82,6 +80,7 @@ fn leftovers<M: Machine>(
 }
 
 fn tidy_plan(alloc: Global, temps: Vec<TempPath>) -> Result<Plan, AllocError>
+    requires distinct { IsDistinct bytes_eq temps.items }
     ensures { IfOk result (λ plan. (plan.change ≡ Change.Leftovers temps) × (plan.outcome ≡ Outcome.Done)
         × (plan.text ≡ codes "cleaned\n")) }
 {
@@ -97,12 +96,9 @@ fn tidy_plan(alloc: Global, temps: Vec<TempPath>) -> Result<Plan, AllocError>
 fn tidy<M: Machine>(alloc: Global, folders: &Folders, machine: &mut M) -> Result<Plan, Stop>
     ensures plans { IfOk result (λ plan. IsTrue M.tells → Plans (M.state machine.old) plan
         (tidy_answer (seen (M.state machine.old)) folders.now)) }
-    ensures makeable { IfOk result (λ plan. IsMakeable plan.change) }
-    ensures idle { IfOk result IsIdleIfRefused }
     ensures tidies { IfOk result (λ plan. IsTrue M.tells
         → (files : Files) → Drops plan.change (M.state machine.old).files files → AreClean files folders.now) }
-    ensures reads { IsTrue M.tells → OnlyReads M.time M.state machine.old machine.new }
-    ensures counts { CountsStop result (M.counts machine.old) (M.counts machine.new) }
+    ensures looks { Looks M.tells M.time M.state M.counts (CountsStop result) machine.old machine.new }
     ensures taken { IsTrue M.tells → TakesAtMost 0 (M.taken machine.old) (M.taken machine.new) }
 {
     let temps = leftovers(alloc, folders, machine)?;
@@ -113,12 +109,9 @@ fn tidy<M: Machine>(alloc: Global, folders: &Folders, machine: &mut M) -> Result
 pub fn plan_tidy<M: Machine>(alloc: Global, esp: &str, machine: &mut M) -> Result<Plan, Stop>
     ensures plans { IfOk result (λ plan. IsTrue M.tells → Plans (M.state machine.old) plan
         (unless_refused (seen (M.state machine.old)) (folders_of esp.now) (tidy_answer (seen (M.state machine.old))))) }
-    ensures makeable { IfOk result (λ plan. IsMakeable plan.change) }
-    ensures idle { IfOk result IsIdleIfRefused }
     ensures tidies { IfOk result (λ plan. IsTrue M.tells → (files : Files)
         → Drops plan.change (M.state machine.old).files files → IsTidied esp.now files) }
-    ensures reads { IsTrue M.tells → OnlyReads M.time M.state machine.old machine.new }
-    ensures counts { CountsStop result (M.counts machine.old) (M.counts machine.new) }
+    ensures looks { Looks M.tells M.time M.state M.counts (CountsStop result) machine.old machine.new }
     ensures taken { IsTrue M.tells → TakesAtMost 0 (M.taken machine.old) (M.taken machine.new) }
     ensures words { RefusesWords (folders_of esp.now) result }
 {

@@ -1,7 +1,7 @@
 //! `bootctl unlink`.
 ghost use Rattle.std.specs.Prelude.{◌≡◌, string_bytes, IfOk, IsTrue};
-ghost use Rattle.boot_machine.specs.Prelude.{OnlyReads, TakesAtMost, seen};
-ghost use Rattle.command_plans.specs.Prelude.{CountsStop, IsIdleIfRefused, IsMakeable, Means, Plans, RefusesWords, unless_refused, unlink_answer};
+ghost use Rattle.boot_machine.specs.Prelude.{Looks, TakesAtMost, seen};
+ghost use Rattle.command_plans.specs.Prelude.{CountsStop, Means, Plans, RefusesWords, unless_refused, unlink_answer};
 ghost use Rattle.entry_commands.specs.Unlinking.{entry_below, entry_path, entry_under, is_entry_name, is_type1_name};
 
 use boot_base::{BootPath, FileName, PathFault, Refusal, Text};
@@ -63,10 +63,7 @@ pub fn plan_unlink<M: Machine>(
     ensures plans { IfOk result (λ plan. IsTrue M.tells → Plans (M.state machine.old) plan
         (unless_refused (seen (M.state machine.old)) (entry_path name.now esp.now)
         (unlink_answer (seen (M.state machine.old))))) }
-    ensures makeable { IfOk result (λ plan. IsMakeable plan.change) }
-    ensures idle { IfOk result IsIdleIfRefused }
-    ensures reads { IsTrue M.tells → OnlyReads M.time M.state machine.old machine.new }
-    ensures counts { CountsStop result (M.counts machine.old) (M.counts machine.new) }
+    ensures looks { Looks M.tells M.time M.state M.counts (CountsStop result) machine.old machine.new }
     ensures taken { IsTrue M.tells → TakesAtMost 0 (M.taken machine.old) (M.taken machine.new) }
     ensures words { RefusesWords (entry_path name.now esp.now) result }
 {

@@ -3,8 +3,8 @@ ghost use Rattle.std.specs.Prelude.{◌≡◌, ◌≤◌, length, Bool, Err, IfE
 ghost use Rattle.std.specs.List.{flat_map};
 ghost use Rattle.boot_base.specs.Paths.{IsFree, Path};
 ghost use Rattle.boot_base.specs.declared.refusal.Refusal.{Refusal};
-ghost use Rattle.boot_machine.specs.Prelude.{Counts, Files, OnlyReads, State, TakesAtMost, contents, seen};
-ghost use Rattle.command_plans.specs.Prelude.{CountsStop, CountsUnsaid, IsIdleIfRefused, IsMakeable, Plans, Says, UnsaidFor, making_length, printed_path};
+ghost use Rattle.boot_machine.specs.Prelude.{Counts, Files, Looks, State, TakesAtMost, contents, seen};
+ghost use Rattle.command_plans.specs.Prelude.{CountsStop, CountsUnsaid, Plans, Says, UnsaidFor, making_length, printed_path};
 ghost use Rattle.command_plans.specs.Refusing.{PlansDeclined};
 ghost use Rattle.image_writer.specs.Sourced.{IsSourced, planned_image};
 ghost use Rattle.boot_base.specs.Names.{shown_byte};
@@ -109,8 +109,7 @@ fn planned_build<M: Machine>(
         (build_named (seen (M.state machine.old)) (named_as sources)) }
     ensures planned { IfOk result (λ plan. IsTrue M.tells → IsPlannedOn (seen (M.state machine.old)) plan) }
     ensures free { IfOk result (λ plan. IsFree plan.output) }
-    ensures reads { IsTrue M.tells → OnlyReads M.time M.state machine.old machine.new }
-    ensures counts { CountsUnsaid result (M.counts machine.old) (M.counts machine.new) }
+    ensures looks { Looks M.tells M.time M.state M.counts (CountsUnsaid result) machine.old machine.new }
     ensures taken { IsTrue M.tells → TakesAtMost
         (reading_length (contents (seen (M.state machine.old))) (named_as sources))
         (M.taken machine.old) (M.taken machine.new) }
@@ -136,8 +135,7 @@ fn reply<M: Machine>(
     ensures says { IsTrue M.tells → IsPlannedOn (seen (M.state machine.old)) build.now
         → Says (λ text. text.items) result
         (Ok (built_text measure (built_as (seen (M.state machine.old)) build.now))) }
-    ensures reads { IsTrue M.tells → OnlyReads M.time M.state machine.old machine.new }
-    ensures counts { CountsUnsaid result (M.counts machine.old) (M.counts machine.new) }
+    ensures looks { Looks M.tells M.time M.state M.counts (CountsUnsaid result) machine.old machine.new }
     ensures taken { IsTrue M.tells → IsPlannedOn (seen (M.state machine.old)) build.now → TakesAtMost
         (measuring_length measure (planned_image build.now.image.plan build.now.image.sources
         (seen (M.state machine.old))))
@@ -159,10 +157,8 @@ fn writing_plan(alloc: Global, build: PlannedBuild, text: Vec<u8>) -> Result<Pla
         → IsSourced build.image.plan build.image.sources (seen s)
         → text.items ≡ built_text measure (built_as (seen s) build)
         → Plans s plan (built_answer (seen s) measure (Ok (built_as (seen s) build)))) }
-    ensures makeable { IfOk result (λ plan. IsMakeable plan.change) }
     ensures writes { IfOk result (λ plan. (view : Files) → IsSourced build.image.plan build.image.sources view
         → making_length view plan.change ≤ length (planned_image build.image.plan build.image.sources view)) }
-    ensures idle { IfOk result IsIdleIfRefused }
 {
     let PlannedBuild { image, output, .. } = build;
     Ok(Plan {
@@ -189,12 +185,9 @@ fn plan_or_unsaid<M: Machine>(
         (build_answer (seen (M.state machine.old)) words.now)) }
     ensures unsaid { IfErr result (λ unsaid. IsTrue M.tells
         → UnsaidFor unsaid (build_named (seen (M.state machine.old)) (named_as sources))) }
-    ensures makeable { IfOk result (λ plan. IsMakeable plan.change) }
     ensures writes { IfOk result (λ plan. IsTrue M.tells → making_length (seen (M.state machine.old)) plan.change
         ≤ built_length (build_of (seen (M.state machine.old)) words.now)) }
-    ensures idle { IfOk result IsIdleIfRefused }
-    ensures reads { IsTrue M.tells → OnlyReads M.time M.state machine.old machine.new }
-    ensures counts { CountsUnsaid result (M.counts machine.old) (M.counts machine.new) }
+    ensures looks { Looks M.tells M.time M.state M.counts (CountsUnsaid result) machine.old machine.new }
     ensures taken { IsTrue M.tells → TakesAtMost
         (planning_length (seen (M.state machine.old)) words.now.measure (Ok (named_as sources)))
         (M.taken machine.old) (M.taken machine.new) }
@@ -215,12 +208,9 @@ fn plan_sources<M: Machine>(
     requires free { IsFree sources.output }
     ensures plans { IfOk result (λ plan. IsTrue M.tells → Plans (M.state machine.old) plan
         (build_answer (seen (M.state machine.old)) words.now)) }
-    ensures makeable { IfOk result (λ plan. IsMakeable plan.change) }
     ensures writes { IfOk result (λ plan. IsTrue M.tells → making_length (seen (M.state machine.old)) plan.change
         ≤ built_length (build_of (seen (M.state machine.old)) words.now)) }
-    ensures idle { IfOk result IsIdleIfRefused }
-    ensures reads { IsTrue M.tells → OnlyReads M.time M.state machine.old machine.new }
-    ensures counts { CountsStop result (M.counts machine.old) (M.counts machine.new) }
+    ensures looks { Looks M.tells M.time M.state M.counts (CountsStop result) machine.old machine.new }
     ensures taken { IsTrue M.tells → TakesAtMost
         (planning_length (seen (M.state machine.old)) words.now.measure (Ok (named_as sources)))
         (M.taken machine.old) (M.taken machine.new) }
@@ -244,12 +234,9 @@ pub fn plan_build<M: Machine>(
         (build_answer (seen (M.state machine.old)) words.now)) }
     ensures declined { (why : Refusal) → named_files words.now ≡ Err why
         → IfOk result (PlansDeclined (declines.Refused why)) }
-    ensures makeable { IfOk result (λ plan. IsMakeable plan.change) }
     ensures writes { IfOk result (λ plan. IsTrue M.tells → making_length (seen (M.state machine.old)) plan.change
         ≤ built_length (build_of (seen (M.state machine.old)) words.now)) }
-    ensures idle { IfOk result IsIdleIfRefused }
-    ensures reads { IsTrue M.tells → OnlyReads M.time M.state machine.old machine.new }
-    ensures counts { CountsStop result (M.counts machine.old) (M.counts machine.new) }
+    ensures looks { Looks M.tells M.time M.state M.counts (CountsStop result) machine.old machine.new }
     ensures taken { IsTrue M.tells → TakesAtMost
         (planning_length (seen (M.state machine.old)) words.now.measure (named_files words.now))
         (M.taken machine.old) (M.taken machine.new) }

@@ -1,7 +1,7 @@
 //! What a build reads of the machine, before the image is planned.
 ghost use Rattle.std.specs.Prelude.{◌≡◌, ◌≤◌, ◌<◌, ◌+◌, ◌-◌, ◌^◌, ◌++◌, ◌∷◌, [], All, IfOk, IsTrue, List, Ok, OnOk, drop, length, map, min, sum_by, ℕ};
 ghost use Rattle.std.specs.List.{AllZip};
-ghost use Rattle.boot_machine.specs.Prelude.{OnlyReads, TakesAtMost, contents, seen};
+ghost use Rattle.boot_machine.specs.Prelude.{Looks, TakesAtMost, contents, seen};
 ghost use Rattle.pe_builder.specs.Replaced.{sbat_name};
 ghost use Rattle.pe_reader.specs.Grammar.{pe_of};
 ghost use Rattle.pe_reader.specs.Fields.{part};
@@ -63,8 +63,7 @@ fn source_piece<M: Machine>(alloc: Global, source: Source, machine: &mut M) -> R
     ensures size { IfOk result (λ piece. IsTrue M.tells
         → length (piece_bytes (contents (seen (M.state machine.old))) piece) ≡ piece_length piece) }
     ensures limit { IfOk result (λ piece. piece_length piece ≤ source_limit source) }
-    ensures reads { IsTrue M.tells → OnlyReads M.time M.state machine.old machine.new }
-    ensures counts { CountsUnsaid result (M.counts machine.old) (M.counts machine.new) }
+    ensures looks { Looks M.tells M.time M.state M.counts (CountsUnsaid result) machine.old machine.new }
     ensures taken { IsTrue M.tells → TakesAtMost 0 (M.taken machine.old) (M.taken machine.new) }
 {
     match source {
@@ -89,8 +88,7 @@ fn source_pieces<M: Machine>(
         → HasSizes (contents (seen (M.state machine.old))) pieces.items) }
     ensures limit { IfOk result (λ pieces. total_length pieces.items ≤ sum_by source_limit sources.items) }
     ensures count { IfOk result (λ pieces. length pieces.items ≡ length sources.items) }
-    ensures reads { IsTrue M.tells → OnlyReads M.time M.state machine.old machine.new }
-    ensures counts { CountsUnsaid result (M.counts machine.old) (M.counts machine.new) }
+    ensures looks { Looks M.tells M.time M.state M.counts (CountsUnsaid result) machine.old machine.new }
     ensures taken { IsTrue M.tells → TakesAtMost 0 (M.taken machine.old) (M.taken machine.new) }
 {
     let mut pieces = Vec::new(alloc);
@@ -111,8 +109,7 @@ fn part_of_sources<M: Machine>(
         (part_bytes (seen (M.state machine.old)) (part_named sources)) }
     ensures sizes { IfOk result (λ part. IsTrue M.tells → PartHasSizes (contents (seen (M.state machine.old))) part) }
     ensures from { IfOk result (PartFrom sources) }
-    ensures reads { IsTrue M.tells → OnlyReads M.time M.state machine.old machine.new }
-    ensures counts { CountsUnsaid result (M.counts machine.old) (M.counts machine.new) }
+    ensures looks { Looks M.tells M.time M.state M.counts (CountsUnsaid result) machine.old machine.new }
     ensures taken { IsTrue M.tells → TakesAtMost 0 (M.taken machine.old) (M.taken machine.new) }
 {
     let PartSources {
@@ -144,8 +141,7 @@ fn parts_of_sources<M: Machine>(
     ensures sizes { IfOk result (λ parts. IsTrue M.tells
         → All (PartHasSizes (contents (seen (M.state machine.old)))) parts.items) }
     ensures from { IfOk result (λ parts. AllZip PartFrom sources.items parts.items) }
-    ensures reads { IsTrue M.tells → OnlyReads M.time M.state machine.old machine.new }
-    ensures counts { CountsUnsaid result (M.counts machine.old) (M.counts machine.new) }
+    ensures looks { Looks M.tells M.time M.state M.counts (CountsUnsaid result) machine.old machine.new }
     ensures taken { IsTrue M.tells → TakesAtMost 0 (M.taken machine.old) (M.taken machine.new) }
 {
     let mut parts = Vec::new(alloc);
@@ -169,8 +165,7 @@ fn raw_bytes<M: Machine>(
         ≤ length (drop range.place (contents (seen (M.state machine.old)) path.now))
         → Says (λ content. content.items) result
         (Ok (part (contents (seen (M.state machine.old)) path.now) range.place range.length)) }
-    ensures reads { IsTrue M.tells → OnlyReads M.time M.state machine.old machine.new }
-    ensures counts { CountsUnsaid result (M.counts machine.old) (M.counts machine.new) }
+    ensures looks { Looks M.tells M.time M.state M.counts (CountsUnsaid result) machine.old machine.new }
     ensures taken { IsTrue M.tells → TakesAtMost range.length (M.taken machine.old) (M.taken machine.new) }
 {
     file_part(alloc, path, range.place, range.length, machine)
@@ -187,8 +182,7 @@ fn loaded_sbat<M: Machine>(
     requires { IsTrue M.tells → pe_of (contents (seen (M.state machine.old)) path.now) ≡ Ok (headers_of head.now) }
     ensures says { IsTrue M.tells → Says (λ content. sbat_entries content.items) result
         (Ok (sbat_entries (loaded_bytes (contents (seen (M.state machine.old)) path.now) sbat_name))) }
-    ensures reads { IsTrue M.tells → OnlyReads M.time M.state machine.old machine.new }
-    ensures counts { CountsUnsaid result (M.counts machine.old) (M.counts machine.new) }
+    ensures looks { Looks M.tells M.time M.state M.counts (CountsUnsaid result) machine.old machine.new }
     ensures taken { IsTrue M.tells → TakesAtMost
         (loaded_sbat_length (contents (seen (M.state machine.old))) path.now)
         (M.taken machine.old) (M.taken machine.new) }
@@ -210,8 +204,7 @@ fn kernel_sbat<M: Machine>(
     requires size { IsTrue M.tells → size ≡ length (contents (seen (M.state machine.old)) path.now) }
     ensures says { IsTrue M.tells → Says (λ content. sbat_entries content.items) result
         (Ok (sbat_entries (loaded_bytes (contents (seen (M.state machine.old)) path.now) sbat_name))) }
-    ensures reads { IsTrue M.tells → OnlyReads M.time M.state machine.old machine.new }
-    ensures counts { CountsUnsaid result (M.counts machine.old) (M.counts machine.new) }
+    ensures looks { Looks M.tells M.time M.state M.counts (CountsUnsaid result) machine.old machine.new }
     ensures taken { IsTrue M.tells → TakesAtMost
         (69463 + loaded_sbat_length (contents (seen (M.state machine.old))) path.now)
         (M.taken machine.old) (M.taken machine.new) }
@@ -231,8 +224,7 @@ fn given_sbat<M: Machine>(
     machine: &mut M,
 ) -> Result<Vec<u8>, Unsaid>
     ensures says { IsTrue M.tells → Says (λ text. text.items) result (given_sbat (seen (M.state machine.old)) source) }
-    ensures reads { IsTrue M.tells → OnlyReads M.time M.state machine.old machine.new }
-    ensures counts { CountsUnsaid result (M.counts machine.old) (M.counts machine.new) }
+    ensures looks { Looks M.tells M.time M.state M.counts (CountsUnsaid result) machine.old machine.new }
     ensures taken { IsTrue M.tells → TakesAtMost
         (source_file_length (contents (seen (M.state machine.old))) source)
         (M.taken machine.old) (M.taken machine.new) }
@@ -255,8 +247,7 @@ fn build_files<M: Machine>(
     ensures sizes { IfOk result (λ found. IsTrue M.tells
         → FilesHaveSizes (contents (seen (M.state machine.old))) found) }
     ensures from { IfOk result (FilesFrom sources) }
-    ensures reads { IsTrue M.tells → OnlyReads M.time M.state machine.old machine.new }
-    ensures counts { CountsUnsaid result (M.counts machine.old) (M.counts machine.new) }
+    ensures looks { Looks M.tells M.time M.state M.counts (CountsUnsaid result) machine.old machine.new }
     ensures taken { IsTrue M.tells → TakesAtMost
         (source_file_length (contents (seen (M.state machine.old))) sources.sbat)
         (M.taken machine.old) (M.taken machine.new) }
@@ -297,8 +288,7 @@ fn image_sbat<M: Machine>(
         ≡ Ok (headers_of head.now) }
     ensures says { IsTrue M.tells → Says (λ text. text.items) result
         (Ok (sbat_of (contents_as (contents (seen (M.state machine.old))) found.now))) }
-    ensures reads { IsTrue M.tells → OnlyReads M.time M.state machine.old machine.new }
-    ensures counts { CountsUnsaid result (M.counts machine.old) (M.counts machine.new) }
+    ensures looks { Looks M.tells M.time M.state M.counts (CountsUnsaid result) machine.old machine.new }
     ensures taken { IsTrue M.tells → TakesAtMost
         (loaded_sbat_length (contents (seen (M.state machine.old))) found.now.stub
         + (69463 + loaded_sbat_length (contents (seen (M.state machine.old))) found.now.linux))
@@ -344,8 +334,7 @@ pub fn read_build<M: Machine>(
     ensures sizes { IfOk result (λ built. IsTrue M.tells
         → BuiltHasSizes (contents (seen (M.state machine.old))) built) }
     ensures from { IfOk result (BuiltFrom sources) }
-    ensures reads { IsTrue M.tells → OnlyReads M.time M.state machine.old machine.new }
-    ensures counts { CountsUnsaid result (M.counts machine.old) (M.counts machine.new) }
+    ensures looks { Looks M.tells M.time M.state M.counts (CountsUnsaid result) machine.old machine.new }
     ensures taken { IsTrue M.tells → TakesAtMost
         (reading_length (contents (seen (M.state machine.old))) (named_as sources))
         (M.taken machine.old) (M.taken machine.new) }

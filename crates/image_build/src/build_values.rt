@@ -2,7 +2,7 @@
 ghost use Rattle.std.specs.Prelude.{◌≡◌, ◌≤◌, All, IfOk, IfSome, IsTrue, Ok, bytes_eq, map};
 ghost use Rattle.std.specs.List.{find};
 ghost use Rattle.std.specs.Option.{option_copied};
-ghost use Rattle.boot_machine.specs.Prelude.{Files, OnlyReads, TakesAtMost, contents, seen};
+ghost use Rattle.boot_machine.specs.Prelude.{Files, Looks, TakesAtMost, contents, seen};
 ghost use Rattle.pcr_values.specs.ValueLines.{value_lines};
 ghost use Rattle.pcr_values.specs.Phases.{default_phase_paths};
 ghost use Rattle.image_writer.specs.Sourced.{planned_image};
@@ -105,8 +105,7 @@ fn registers<M: Machine>(
         (Ok (map (fold_pcr
         (measured_list (planned_image plan.now.image.plan plan.now.image.sources (seen (M.state machine.old)))))
         banks.now)) }
-    ensures reads { IsTrue M.tells → OnlyReads M.time M.state machine.old machine.new }
-    ensures counts { CountsUnsaid result (M.counts machine.old) (M.counts machine.new) }
+    ensures looks { Looks M.tells M.time M.state M.counts (CountsUnsaid result) machine.old machine.new }
     ensures taken { IsTrue M.tells → IsPlannedOn (seen (M.state machine.old)) plan.now → TakesAtMost
         (measured_length (planned_image plan.now.image.plan plan.now.image.sources (seen (M.state machine.old))))
         (M.taken machine.old) (M.taken machine.new) }
@@ -131,8 +130,7 @@ pub(crate) fn planned_values<M: Machine>(
         (Ok (value_lines
         (stub_pcr (planned_image plan.now.image.plan plan.now.image.sources (seen (M.state machine.old))))
         all_banks default_phase_paths)) }
-    ensures reads { IsTrue M.tells → OnlyReads M.time M.state machine.old machine.new }
-    ensures counts { CountsUnsaid result (M.counts machine.old) (M.counts machine.new) }
+    ensures looks { Looks M.tells M.time M.state M.counts (CountsUnsaid result) machine.old machine.new }
     ensures taken { IsTrue M.tells → IsPlannedOn (seen (M.state machine.old)) plan.now → TakesAtMost
         (measured_length (planned_image plan.now.image.plan plan.now.image.sources (seen (M.state machine.old))))
         (M.taken machine.old) (M.taken machine.new) }

@@ -11,7 +11,7 @@ use Rattle.pe_reader.specs.declared.section.Section.{Section}
 use Rattle.pe_reader.specs.declared.section.LoadedRange.{LoadedRange}
 use Rattle.pe_reader.specs.Grammar.{Headers, pe_of}
 use Rattle.boot_base.specs.Names.{short_name}
-use Rattle.pe_reader.specs.LoadedBytes.{bytes_in, loaded_by, no_section, range_of}
+use Rattle.pe_reader.specs.LoadedBytes.{bytes_in, no_section, range_of}
 use Rattle.pe_reader.proofs.Ranges.{length-bytes_in, range_inside}
 use Rattle.list_json.specs.Sections.{SectionFacts, facts_of}
 use Rattle.list_json.specs.declared.inspection.Inspected.{Inspected}

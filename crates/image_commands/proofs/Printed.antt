@@ -1,6 +1,5 @@
 -- Printed values are a stub's.
-use Rattle.std.proofs.Common.{◌≡◌, ◌++◌, ℕ, List, [], ◌∷◌, Ok, refl, ap, ◌∙◌}
-use Rattle.std.specs.List.{flat_map}
+use Rattle.std.proofs.Common.{◌≡◌, ℕ, List, Ok, ap, ◌∙◌}
 use Rattle.boot_base.specs.Paths.{Path}
 use Rattle.boot_machine.specs.Disk.{Files}
 use Rattle.image_commands.specs.Told.{told_values}
@@ -10,7 +9,7 @@ use Rattle.command_plans.specs.Declining.{path_in}
 use Rattle.command_plans.specs.Choices.{banks_of, paths_of}
 use Rattle.pcr_values.specs.declared.bank.Bank.{Bank}
 use Rattle.stub_replay.specs.Ordered.{part_of, present_parts}
-use Rattle.stub_replay.specs.Measured.{Shows, predicted_pcr, stub_pcr}
+use Rattle.stub_replay.specs.Measured.{Shows, stub_pcr}
 use Rattle.stub_replay.proofs.Predicting.{predicted_is_replayed}
 use Rattle.tool_words.specs.declared.command.CalculateWords.{CalculateWords}
 use Rattle.image_commands.specs.Calculating.{calculate_result, part_words, under_name}

@@ -1,13 +1,13 @@
 //! `measure calculate`.
 ghost use Rattle.std.specs.Prelude.{◌≡◌, ◌≤◌, ◌++◌, List, ℕ, All, IfOk, IsTrue, Ok, length, map, sum_by};
 ghost use Rattle.std.specs.Option.{option_copied};
-ghost use Rattle.boot_machine.specs.Prelude.{OnlyReads, TakesAtMost, contents, seen};
+ghost use Rattle.boot_machine.specs.Prelude.{Looks, TakesAtMost, contents, seen};
 ghost use Rattle.uki_parts.specs.Pieces.{Reading, piece_bytes, piece_length};
 ghost use Rattle.pcr_values.specs.Banks.{fold_pcr};
 ghost use Rattle.pcr_values.specs.Values.{pcr_bank, pcr_value};
 ghost use Rattle.stub_replay.specs.Ordered.{present_parts};
 ghost use Rattle.stub_replay.specs.Parts.{HaveSizes, IsPlaced, items_of, named_bytes};
-ghost use Rattle.command_plans.specs.Prelude.{CountsStop, CountsUnsaid, DeclinesWords, IsMakeable, Means, Plans, RefusesWords, Says, answer_of_read, bytes_at, each, path_in};
+ghost use Rattle.command_plans.specs.Prelude.{CountsStop, CountsUnsaid, DeclinesWords, Means, Plans, RefusesWords, Says, answer_of_read, bytes_at, each, path_in};
 ghost use Rattle.command_plans.specs.declared.plan.Change.TheVariants.{Nothing};
 ghost use Rattle.image_commands.specs.Calculating.{calculate_result, given_words, under_name};
 ghost use Rattle.image_commands.specs.Parts.{HasItsSize, named_file, named_path, named_word};
@@ -86,8 +86,7 @@ fn part_file<M: Machine>(alloc: Global, path: BootPath, machine: &mut M) -> Resu
         (bytes_at (seen (M.state machine.old)) path) }
     ensures size { IfOk result (λ file. IsTrue M.tells
         → length (piece_bytes (contents (seen (M.state machine.old))) file) ≡ piece_length file) }
-    ensures reads { IsTrue M.tells → OnlyReads M.time M.state machine.old machine.new }
-    ensures counts { CountsUnsaid result (M.counts machine.old) (M.counts machine.new) }
+    ensures looks { Looks M.tells M.time M.state M.counts (CountsUnsaid result) machine.old machine.new }
     ensures taken { IsTrue M.tells → TakesAtMost 0 (M.taken machine.old) (M.taken machine.new) }
 {
     let size = readable_size(alloc, &path, machine)?;
@@ -105,8 +104,7 @@ fn part_files<M: Machine>(
         (each (under_name (bytes_at (seen (M.state machine.old)))) (map named_path paths.entry.items)) }
     ensures sizes { IfOk result (λ files. IsTrue M.tells
         → All (HasItsSize (contents (seen (M.state machine.old)))) files.items) }
-    ensures reads { IsTrue M.tells → OnlyReads M.time M.state machine.old machine.new }
-    ensures counts { CountsUnsaid result (M.counts machine.old) (M.counts machine.new) }
+    ensures looks { Looks M.tells M.time M.state M.counts (CountsUnsaid result) machine.old machine.new }
     ensures taken { IsTrue M.tells → TakesAtMost 0 (M.taken machine.old) (M.taken machine.new) }
 {
     let mut files = Vec::new(alloc);
@@ -148,8 +146,7 @@ fn registers<M: Machine>(
         → Says (λ registers. map pcr_value registers.items) result
         (Ok (map (fold_pcr (items_of (map (named_file (contents (seen (M.state machine.old)))) files.now)))
         banks.now)) }
-    ensures reads { IsTrue M.tells → OnlyReads M.time M.state machine.old machine.new }
-    ensures counts { CountsUnsaid result (M.counts machine.old) (M.counts machine.new) }
+    ensures looks { Looks M.tells M.time M.state M.counts (CountsUnsaid result) machine.old machine.new }
     ensures taken { IsTrue M.tells → All (HasItsSize (contents (seen (M.state machine.old)))) files.now
         → TakesAtMost (sum_by (λ part. length part.1)
         (map (named_file (contents (seen (M.state machine.old)))) files.now))
@@ -172,8 +169,7 @@ fn calculate_result<M: Machine>(
 ) -> Result<Vec<u8>, Unsaid>
     ensures says { IsTrue M.tells → Says (λ text. text.items) result
         (calculate_result (seen (M.state machine.old)) words.now) }
-    ensures reads { IsTrue M.tells → OnlyReads M.time M.state machine.old machine.new }
-    ensures counts { CountsUnsaid result (M.counts machine.old) (M.counts machine.new) }
+    ensures looks { Looks M.tells M.time M.state M.counts (CountsUnsaid result) machine.old machine.new }
     ensures words { DeclinesWords (each (under_name path_in) (given_words words.now)) result }
     ensures taken { IsTrue M.tells
         → TakesAtMost (named_length (seen (M.state machine.old)) words.now)
@@ -196,10 +192,8 @@ pub fn plan_calculate<M: Machine>(
 ) -> Result<Plan, Stop>
     ensures plans { IfOk result (λ plan. IsTrue M.tells → Plans (M.state machine.old) plan
         (answer_of_read (seen (M.state machine.old)) (calculate_result (seen (M.state machine.old)) words.now))) }
-    ensures makeable { IfOk result (λ plan. IsMakeable plan.change) }
     ensures idle { IfOk result (λ plan. plan.change ≡ Nothing) }
-    ensures reads { IsTrue M.tells → OnlyReads M.time M.state machine.old machine.new }
-    ensures counts { CountsStop result (M.counts machine.old) (M.counts machine.new) }
+    ensures looks { Looks M.tells M.time M.state M.counts (CountsStop result) machine.old machine.new }
     ensures words { RefusesWords (each (under_name path_in) (given_words words.now)) result }
     ensures taken { IsTrue M.tells
         → TakesAtMost (named_length (seen (M.state machine.old)) words.now)

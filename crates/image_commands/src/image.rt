@@ -1,12 +1,12 @@
 //! `measure image`: the value of PCR 11 that an image's stub comes to.
 ghost use Rattle.std.specs.Prelude.{◌≡◌, ◌+◌, IfOk, IsTrue, Ok, map};
-ghost use Rattle.boot_machine.specs.Prelude.{OnlyReads, TakesAtMost, contents, seen};
+ghost use Rattle.boot_machine.specs.Prelude.{Looks, TakesAtMost, contents, seen};
 ghost use Rattle.pcr_values.specs.Banks.{fold_pcr};
 ghost use Rattle.pcr_values.specs.Values.{pcr_bank, pcr_value};
 ghost use Rattle.pe_reader.specs.Grammar.{pe_of};
 ghost use Rattle.pe_reader.specs.Reads.{headers_of};
 ghost use Rattle.stub_replay.specs.Measured.{measured_raw_length, measured_list};
-ghost use Rattle.command_plans.specs.Prelude.{CountsStop, CountsUnsaid, DeclinesWords, IsMakeable, Plans, RefusesWords, Says, answer_of_read, bytes_at, path_in};
+ghost use Rattle.command_plans.specs.Prelude.{CountsStop, CountsUnsaid, DeclinesWords, Plans, RefusesWords, Says, answer_of_read, bytes_at, path_in};
 ghost use Rattle.command_plans.specs.declared.plan.Change.TheVariants.{Nothing};
 ghost use Rattle.image_commands.specs.Said.{measure_result, values_at};
 ghost use Rattle.image_commands.specs.Taking.{found_bytes, named_content};
@@ -32,8 +32,7 @@ fn registers<M: Machine>(
     ensures banks { IfOk result (λ registers. map pcr_bank registers.items ≡ banks.now) }
     ensures says { IsTrue M.tells → Says (λ registers. map pcr_value registers.items) result
         (Ok (map (fold_pcr (measured_list (contents (M.state machine.old).files path.now))) banks.now)) }
-    ensures reads { IsTrue M.tells → OnlyReads M.time M.state machine.old machine.new }
-    ensures counts { CountsUnsaid result (M.counts machine.old) (M.counts machine.new) }
+    ensures looks { Looks M.tells M.time M.state M.counts (CountsUnsaid result) machine.old machine.new }
     ensures taken { IsTrue M.tells
         → TakesAtMost (measured_raw_length (contents (M.state machine.old).files path.now))
         (M.taken machine.old) (M.taken machine.new) }
@@ -57,8 +56,7 @@ fn values<M: Machine>(
 ) -> Result<Vec<u8>, Unsaid>
     ensures says { IsTrue M.tells → Says (λ text. text.items) result
         (values_at (seen (M.state machine.old)) banks.now phases.now json path.now) }
-    ensures reads { IsTrue M.tells → OnlyReads M.time M.state machine.old machine.new }
-    ensures counts { CountsUnsaid result (M.counts machine.old) (M.counts machine.new) }
+    ensures looks { Looks M.tells M.time M.state M.counts (CountsUnsaid result) machine.old machine.new }
     ensures taken { IsTrue M.tells → TakesAtMost
         (69463 + measured_raw_length (found_bytes (bytes_at (seen (M.state machine.old)) path.now)))
         (M.taken machine.old) (M.taken machine.new) }
@@ -81,8 +79,7 @@ fn measure_result<M: Machine>(
 ) -> Result<Vec<u8>, Unsaid>
     ensures says { IsTrue M.tells → Says (λ text. text.items) result
         (measure_result (seen (M.state machine.old)) file.now banks.now phases.now json) }
-    ensures reads { IsTrue M.tells → OnlyReads M.time M.state machine.old machine.new }
-    ensures counts { CountsUnsaid result (M.counts machine.old) (M.counts machine.new) }
+    ensures looks { Looks M.tells M.time M.state M.counts (CountsUnsaid result) machine.old machine.new }
     ensures words { DeclinesWords (path_in file.now) result }
     ensures taken { IsTrue M.tells → TakesAtMost
         (69463 + measured_raw_length (named_content (seen (M.state machine.old)) file.now))
@@ -106,10 +103,8 @@ pub fn plan_image<M: Machine>(
     ensures plans { IfOk result (λ plan. IsTrue M.tells → Plans (M.state machine.old) plan
         (answer_of_read (seen (M.state machine.old))
         (measure_result (seen (M.state machine.old)) file.now banks.now phases.now json))) }
-    ensures makeable { IfOk result (λ plan. IsMakeable plan.change) }
     ensures idle { IfOk result (λ plan. plan.change ≡ Nothing) }
-    ensures reads { IsTrue M.tells → OnlyReads M.time M.state machine.old machine.new }
-    ensures counts { CountsStop result (M.counts machine.old) (M.counts machine.new) }
+    ensures looks { Looks M.tells M.time M.state M.counts (CountsStop result) machine.old machine.new }
     ensures words { RefusesWords (path_in file.now) result }
     ensures taken { IsTrue M.tells → TakesAtMost
         (69463 + measured_raw_length (named_content (seen (M.state machine.old)) file.now))

@@ -1,13 +1,13 @@
 //! `ukify inspect`: the sections of an image.
 ghost use Rattle.std.specs.Prelude.{◌≡◌, ◌<◌, ◌≤◌, ◌+◌, All, IfOk, IsTrue, Ok, drop, length, map, sum_by};
-ghost use Rattle.boot_machine.specs.Prelude.{OnlyReads, TakesAtMost, contents, seen};
+ghost use Rattle.boot_machine.specs.Prelude.{Looks, TakesAtMost, contents, seen};
 ghost use Rattle.pcr_values.specs.Values.{bank_of};
 ghost use Rattle.pcr_values.specs.declared.bank.Bank.TheVariants as banks;
 ghost use Rattle.pe_reader.specs.Grammar.{pe_of};
 ghost use Rattle.pe_reader.specs.LoadedBytes.{range_of};
 ghost use Rattle.pe_reader.specs.Reads.{headers_of};
 ghost use Rattle.list_json.specs.Sections.{facts_of};
-ghost use Rattle.command_plans.specs.Prelude.{CountsStop, CountsUnsaid, DeclinesWords, IsMakeable, Plans, RefusesWords, Says, answer_of_read, bytes_at, path_in};
+ghost use Rattle.command_plans.specs.Prelude.{CountsStop, CountsUnsaid, DeclinesWords, Plans, RefusesWords, Says, answer_of_read, bytes_at, path_in};
 ghost use Rattle.command_plans.specs.declared.plan.Change.TheVariants.{Nothing};
 ghost use Rattle.image_commands.specs.Said.{inspect_result, inspection_at, section_facts};
 ghost use Rattle.stub_replay.specs.Measured.{raw_length};
@@ -38,8 +38,7 @@ fn inspected_section<M: Machine>(
         → (range_of section.now).length
         ≤ length (drop (range_of section.now).place (contents (M.state machine.old).files path.now))
         → Says facts_of result (Ok (section_facts (contents (M.state machine.old).files path.now) section.now)) }
-    ensures reads { IsTrue M.tells → OnlyReads M.time M.state machine.old machine.new }
-    ensures counts { CountsUnsaid result (M.counts machine.old) (M.counts machine.new) }
+    ensures looks { Looks M.tells M.time M.state M.counts (CountsUnsaid result) machine.old machine.new }
     ensures taken { IsTrue M.tells → TakesAtMost (raw_length section.now) (M.taken machine.old) (M.taken machine.new) }
 {
     let range = section.loaded_range();
@@ -65,8 +64,7 @@ fn inspected_sections<M: Machine>(
     ensures sha256 { IfOk result (λ found. All (λ section. bank_of section.digest ≡ banks.Sha256) found.items) }
     ensures says { IsTrue M.tells → Says (λ found. map facts_of found.items) result
         (Ok (map (section_facts (contents (M.state machine.old).files path.now)) (headers_of head.now).sections)) }
-    ensures reads { IsTrue M.tells → OnlyReads M.time M.state machine.old machine.new }
-    ensures counts { CountsUnsaid result (M.counts machine.old) (M.counts machine.new) }
+    ensures looks { Looks M.tells M.time M.state M.counts (CountsUnsaid result) machine.old machine.new }
     ensures taken { IsTrue M.tells
         → TakesAtMost (sum_by raw_length (headers_of head.now).sections) (M.taken machine.old) (M.taken machine.new) }
 {
@@ -87,8 +85,7 @@ fn inspection<M: Machine>(
 ) -> Result<Vec<u8>, Unsaid>
     ensures says { IsTrue M.tells → Says (λ text. text.items) result
         (inspection_at (seen (M.state machine.old)) json path.now) }
-    ensures reads { IsTrue M.tells → OnlyReads M.time M.state machine.old machine.new }
-    ensures counts { CountsUnsaid result (M.counts machine.old) (M.counts machine.new) }
+    ensures looks { Looks M.tells M.time M.state M.counts (CountsUnsaid result) machine.old machine.new }
     ensures taken { IsTrue M.tells → TakesAtMost
         (69463 + all_raw_length (pe_of (found_bytes (bytes_at (seen (M.state machine.old)) path.now))))
         (M.taken machine.old) (M.taken machine.new) }
@@ -108,8 +105,7 @@ fn inspect_result<M: Machine>(
 ) -> Result<Vec<u8>, Unsaid>
     ensures says { IsTrue M.tells → Says (λ text. text.items) result
         (inspect_result (seen (M.state machine.old)) file.now json) }
-    ensures reads { IsTrue M.tells → OnlyReads M.time M.state machine.old machine.new }
-    ensures counts { CountsUnsaid result (M.counts machine.old) (M.counts machine.new) }
+    ensures looks { Looks M.tells M.time M.state M.counts (CountsUnsaid result) machine.old machine.new }
     ensures words { DeclinesWords (path_in file.now) result }
     ensures taken { IsTrue M.tells → TakesAtMost
         (69463 + all_raw_length (pe_of (named_content (seen (M.state machine.old)) file.now)))
@@ -130,10 +126,8 @@ pub fn plan_inspect<M: Machine>(
 ) -> Result<Plan, Stop>
     ensures plans { IfOk result (λ plan. IsTrue M.tells → Plans (M.state machine.old) plan
         (answer_of_read (seen (M.state machine.old)) (inspect_result (seen (M.state machine.old)) file.now json))) }
-    ensures makeable { IfOk result (λ plan. IsMakeable plan.change) }
     ensures idle { IfOk result (λ plan. plan.change ≡ Nothing) }
-    ensures reads { IsTrue M.tells → OnlyReads M.time M.state machine.old machine.new }
-    ensures counts { CountsStop result (M.counts machine.old) (M.counts machine.new) }
+    ensures looks { Looks M.tells M.time M.state M.counts (CountsStop result) machine.old machine.new }
     ensures words { RefusesWords (path_in file.now) result }
     ensures taken { IsTrue M.tells → TakesAtMost
         (69463 + all_raw_length (pe_of (named_content (seen (M.state machine.old)) file.now)))

@@ -3,8 +3,8 @@
 ghost use Rattle.std.specs.Prelude.{◌≡◌, ℕ, List, IsTrue, OnOk};
 ghost use Rattle.std.specs.FinMap as map;
 ghost use Rattle.boot_base.specs.Paths.{IsFree};
-ghost use Rattle.boot_machine.specs.Prelude.{CountsDisk, HasOneCandidate, IsFirm, IsRested, TakesAtMost, recovered_view, view};
-ghost use Rattle.install_steps.specs.Steps.{Keeps, StepsTo, IsDone, NoNewTemp, PrintsNothing};
+ghost use Rattle.boot_machine.specs.Prelude.{CountsDisk, IsFirm, TakesAtMost, recovered_view, view};
+ghost use Rattle.install_steps.specs.Steps.{CanStep, IsDone, LeavesAlone, LeavesReady, StepsTo};
 ghost use Rattle.image_writer.specs.Sourced.{IsSourced, IsPlannedImage};
 ghost use Rattle.image_writer.specs.Taken.{writing_length};
 
@@ -28,8 +28,7 @@ pub fn write_planned<M: Machine>(
     buffer: &mut Piece,
 ) -> Result<(), DiskFault>
     requires free { IsFree target.now.path }
-    requires one { IsTrue M.tells → HasOneCandidate (M.state machine.old) }
-    requires rested { IsTrue M.tells → IsRested (M.state machine.old) }
+    requires ready { IsTrue M.tells → CanStep (M.state machine.old) }
     requires sourced { IsTrue M.tells → IsSourced plan.now sources.now (view (M.state machine.old).files) }
     ensures done { OnOk result (IsTrue M.tells → IsFirm (M.state machine.old)
         → (image : List ℕ) → IsPlannedImage plan.now sources.now (view (M.state machine.old).files) image
@@ -39,11 +38,8 @@ pub fn write_planned<M: Machine>(
         → (image : List ℕ) → IsPlannedImage plan.now sources.now (view (M.state machine.old).files) image
         → StepsTo M.time M.state
         (map.insert (recovered_view (M.state machine.old).files) target.now.path image) machine.old machine.new }
-    ensures keeps { IsTrue M.tells → Keeps (M.state machine.old) (M.state machine.new) }
-    ensures quiet { IsTrue M.tells → PrintsNothing M.time M.state machine.old machine.new }
-    ensures rests { OnOk result (IsTrue M.tells → IsRested (M.state machine.new)) }
-    ensures temps { OnOk result (IsTrue M.tells → NoNewTemp (M.state machine.old) (M.state machine.new)) }
-    ensures counts { CountsDisk result (M.counts machine.old) (M.counts machine.new) }
+    ensures ready { OnOk result (IsTrue M.tells → LeavesReady (M.state machine.old) (M.state machine.new)) }
+    ensures alone { LeavesAlone M.tells M.time M.state M.counts (CountsDisk result) machine.old machine.new }
     ensures taken { IsTrue M.tells → TakesAtMost (writing_length plan.now sources.now)
         (M.taken machine.old) (M.taken machine.new) }
 {

@@ -1,5 +1,5 @@
 -- What the steps of an installation do to what boot sees.
-use Rattle.std.specs.Prelude.{if◌then◌else◌, None, ◌≡◌, ◌≢◌, ◌⊎◌, ◌&&◌, not, true, false, List, Some, Result, MatchResult}
+use Rattle.std.specs.Prelude.{if◌then◌else◌, None, ◌≡◌, ◌≢◌, ◌⊎◌, ◌&&◌, not, Bool, true, false, IsTrue, List, Some, Result, MatchResult}
 use Rattle.std.specs.FinMap as map
 use Rattle.boot_base.specs.Paths.{Path, intent, intent_bytes, is_temp}
 use Rattle.boot_machine.specs.Disk.{Files, State, HasOneCandidate, IsRested, has, intent_names, is_same_path, recovered_view}
@@ -52,13 +52,32 @@ after_move from to files = if has files from && not (has files to) then move_in 
 abbrev pub PrintsNothing : {D : Type 0} → Timeline D → (D → State) → D → D → Type 0
 PrintsNothing time state old new = EachSince time old new (λ m o. o ≡ (state old).printed)
 
--- the machine is rested after every answer but this fault
-abbrev pub RestsUnless : {T E : Type 0} → E → Result T E → State → Type 0
-RestsUnless fault result new = MatchResult result (λ _. IsRested new) (λ other. other ≢ fault → IsRested new)
-
 -- no temporary file is there that wasn't
 abbrev pub NoNewTemp : State → State → Type 0
 NoNewTemp old new = (q : Path) → is_temp q ≡ true → has new.files q ≡ true → has old.files q ≡ true
+
+-- a step may begin: no change of names is left that a stop undoes, and no intent
+pub record CanStep (s : State) : Type 0 where
+  pub one : HasOneCandidate s
+  pub rested : IsRested s
+
+-- what a step that was made leaves: the next one may begin, and no temporary file is there that wasn't
+pub record LeavesReady (old new : State) : Type 0 where
+  pub next : CanStep new
+  pub temps : NoNewTemp old new
+
+-- the same, after every answer but this fault
+abbrev pub ReadyUnless : {T E : Type 0} → E → Result T E → State → State → Type 0
+ReadyUnless fault result old new =
+    MatchResult result (λ _. LeavesReady old new) (λ other. other ≢ fault → LeavesReady old new)
+
+-- What a step leaves alone, whatever its answer: what is printed, at every moment too, and the input. The counts of
+-- faults are as its answer says.
+pub record LeavesAlone {D : Type 0} (tells : Bool) (time : Timeline D) (state : D → State) (counts : D → Counts)
+    (causes : Counts → Counts → Type 0) (old new : D) : Type 0 where
+  pub keeps : IsTrue tells → Keeps (state old) (state new)
+  pub quiet : IsTrue tells → PrintsNothing time state old new
+  pub counted : causes (counts old) (counts new)
 
 -- the disk failed, or the counts stay
 abbrev pub move_fault : MoveFault → Counts → Counts → Type 0

@@ -1,9 +1,9 @@
 //! Moving a file under an intent, which says at a stop which of its two names counts.
 ghost use Rattle.std.specs.Prelude.{◌≡◌, ◌≢◌, true, false, IfOk, IsTrue, OnOk, IsErrOf, Some};
 ghost use Rattle.boot_base.specs.Paths.{IsFree, intent_bytes};
-ghost use Rattle.boot_machine.specs.Prelude.{CountsDisk, HasOneCandidate, IsFirm, IsRested, OnlyReads, TakesNone, has, move_in, recovered_view};
+ghost use Rattle.boot_machine.specs.Prelude.{CountsDisk, HasOneCandidate, IsFirm, Looks, TakesNone, has, move_in, recovered_view};
 ghost use Rattle.boot_machine.specs.Disk.{intent_names};
-ghost use Rattle.install_steps.specs.Steps.{Keeps, StepsTo, IsDone, NoNewTemp, Intends, IsIntentOf, PrintsNothing, RestsUnless, CountsMove, after_move};
+ghost use Rattle.install_steps.specs.Steps.{CanStep, CountsMove, Intends, IsDone, IsIntentOf, LeavesAlone, LeavesReady, NoNewTemp, ReadyUnless, StepsTo, after_move};
 
 use crate::MoveFault;
 use crate::appends::append;
@@ -53,8 +53,7 @@ fn put_intent<M: Machine>(
     requires free_from { IsFree from.now }
     requires free_to { IsFree to.now }
     requires differ { IsTrue M.tells → from.now ≢ to.now }
-    requires one { IsTrue M.tells → HasOneCandidate (M.state machine.old) }
-    requires rested { IsTrue M.tells → IsRested (M.state machine.old) }
+    requires ready { IsTrue M.tells → CanStep (M.state machine.old) }
     requires none { IsTrue M.tells → has (M.state machine.old).files to.now ≡ false }
     ensures step { IsTrue M.tells → IsFirm (M.state machine.old) → StepsTo M.time M.state
         (recovered_view (M.state machine.old).files) machine.old machine.new }
@@ -62,9 +61,7 @@ fn put_intent<M: Machine>(
         → Intends from.now to.now (M.state machine.old).files (M.state machine.new).files) }
     ensures one { OnOk result (IsTrue M.tells → HasOneCandidate (M.state machine.new)) }
     ensures temps { OnOk result (IsTrue M.tells → NoNewTemp (M.state machine.old) (M.state machine.new)) }
-    ensures keeps { IsTrue M.tells → Keeps (M.state machine.old) (M.state machine.new) }
-    ensures quiet { IsTrue M.tells → PrintsNothing M.time M.state machine.old machine.new }
-    ensures counts { CountsDisk result (M.counts machine.old) (M.counts machine.new) }
+    ensures alone { LeavesAlone M.tells M.time M.state M.counts (CountsDisk result) machine.old machine.new }
     ensures taken { IsTrue M.tells → TakesNone (M.taken machine.old) (M.taken machine.new) }
 {
     from.know_normal();
@@ -89,9 +86,7 @@ fn rename_synced<M: Machine>(
     ensures files { OnOk result (IsTrue M.tells
         → (M.state machine.new).files ≡ move_in from.now to.now (M.state machine.old).files) }
     ensures one { OnOk result (IsTrue M.tells → HasOneCandidate (M.state machine.new)) }
-    ensures keeps { IsTrue M.tells → Keeps (M.state machine.old) (M.state machine.new) }
-    ensures quiet { IsTrue M.tells → PrintsNothing M.time M.state machine.old machine.new }
-    ensures counts { CountsDisk result (M.counts machine.old) (M.counts machine.new) }
+    ensures alone { LeavesAlone M.tells M.time M.state M.counts (CountsDisk result) machine.old machine.new }
     ensures taken { IsTrue M.tells → TakesNone (M.taken machine.old) (M.taken machine.new) }
 {
     from.know();
@@ -109,19 +104,15 @@ fn move_intended<M: Machine>(
     requires intent { IsIntentOf from.now to.now intent.now }
     requires free_from { IsFree from.now }
     requires free_to { IsFree to.now }
-    requires one { IsTrue M.tells → HasOneCandidate (M.state machine.old) }
-    requires rested { IsTrue M.tells → IsRested (M.state machine.old) }
+    requires ready { IsTrue M.tells → CanStep (M.state machine.old) }
     requires there { IsTrue M.tells → has (M.state machine.old).files from.now ≡ true }
     requires none { IsTrue M.tells → has (M.state machine.old).files to.now ≡ false }
     ensures done { OnOk result (IsTrue M.tells → IsFirm (M.state machine.old)
         → IsDone (M.state machine.new) (move_in from.now to.now (recovered_view (M.state machine.old).files))) }
     ensures step { IsTrue M.tells → IsFirm (M.state machine.old) → StepsTo M.time M.state
         (move_in from.now to.now (recovered_view (M.state machine.old).files)) machine.old machine.new }
-    ensures keeps { IsTrue M.tells → Keeps (M.state machine.old) (M.state machine.new) }
-    ensures quiet { IsTrue M.tells → PrintsNothing M.time M.state machine.old machine.new }
-    ensures rests { OnOk result (IsTrue M.tells → IsRested (M.state machine.new)) }
-    ensures temps { OnOk result (IsTrue M.tells → NoNewTemp (M.state machine.old) (M.state machine.new)) }
-    ensures counts { CountsDisk result (M.counts machine.old) (M.counts machine.new) }
+    ensures ready { OnOk result (IsTrue M.tells → LeavesReady (M.state machine.old) (M.state machine.new)) }
+    ensures alone { LeavesAlone M.tells M.time M.state M.counts (CountsDisk result) machine.old machine.new }
     ensures taken { IsTrue M.tells → TakesNone (M.taken machine.old) (M.taken machine.new) }
 {
     from.know();
@@ -139,8 +130,7 @@ fn allow_move<M: Machine>(machine: &mut M, from: &BootPath, to: &BootPath) -> Re
         → has (M.state machine.old).files from.now ≡ false }
     ensures exists { IsErrOf result MoveFault.TargetExists → IsTrue M.tells
         → (has (M.state machine.old).files from.now ≡ true) × (has (M.state machine.old).files to.now ≡ true) }
-    ensures reads { IsTrue M.tells → OnlyReads M.time M.state machine.old machine.new }
-    ensures counts { CountsMove result (M.counts machine.old) (M.counts machine.new) }
+    ensures looks { Looks M.tells M.time M.state M.counts (CountsMove result) machine.old machine.new }
     ensures taken { IsTrue M.tells → TakesNone (M.taken machine.old) (M.taken machine.new) }
 {
     if machine.size(from)?.is_none() {
@@ -165,8 +155,7 @@ pub fn move_name<M: Machine>(
     requires intent { IsIntentOf from.now to.now intent.now }
     requires free_from { IsFree from.now }
     requires free_to { IsFree to.now }
-    requires one { IsTrue M.tells → HasOneCandidate (M.state machine.old) }
-    requires rested { IsTrue M.tells → IsRested (M.state machine.old) }
+    requires ready { IsTrue M.tells → CanStep (M.state machine.old) }
     ensures done { OnOk result (IsTrue M.tells → IsFirm (M.state machine.old)
         → IsDone (M.state machine.new) (after_move from.now to.now (recovered_view (M.state machine.old).files))) }
     ensures step { IsTrue M.tells → IsFirm (M.state machine.old) → StepsTo M.time M.state
@@ -180,11 +169,8 @@ pub fn move_name<M: Machine>(
         → (has (recovered_view (M.state machine.old).files) from.now ≡ true)
         × (has (recovered_view (M.state machine.old).files) to.now ≡ true)
         × (M.state machine.new ≡ M.state machine.old) }
-    ensures keeps { IsTrue M.tells → Keeps (M.state machine.old) (M.state machine.new) }
-    ensures quiet { IsTrue M.tells → PrintsNothing M.time M.state machine.old machine.new }
-    ensures rests { IsTrue M.tells → RestsUnless MoveFault.Disk result (M.state machine.new) }
-    ensures temps { OnOk result (IsTrue M.tells → NoNewTemp (M.state machine.old) (M.state machine.new)) }
-    ensures counts { CountsMove result (M.counts machine.old) (M.counts machine.new) }
+    ensures ready { IsTrue M.tells → ReadyUnless MoveFault.Disk result (M.state machine.old) (M.state machine.new) }
+    ensures alone { LeavesAlone M.tells M.time M.state M.counts (CountsMove result) machine.old machine.new }
     ensures taken { IsTrue M.tells → TakesNone (M.taken machine.old) (M.taken machine.new) }
 {
     from.know();

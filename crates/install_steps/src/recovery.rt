@@ -3,10 +3,10 @@ ghost use Rattle.std.specs.Prelude.{◌≡◌, ◌⊎◌, true, false, length, I
 ghost use Rattle.std.specs.Option.{option_map};
 ghost use Rattle.boot_base.specs.Intents.{names_of};
 ghost use Rattle.boot_base.specs.Paths.{intent as intent_path};
-ghost use Rattle.boot_machine.specs.Prelude.{CountsDisk, EachSince, HasOneCandidate, IsFirm, IsRested, IsSettled, OnlyReads, TakesAtMost, TakesNone, contents, has, recovered_view};
+ghost use Rattle.boot_machine.specs.Prelude.{CountsDisk, EachSince, HasOneCandidate, IsFirm, IsSettled, Looks, TakesAtMost, TakesNone, contents, has, recovered_view};
 ghost use Rattle.boot_machine.specs.Disk.{HasNoHalfRename, intent_names};
 ghost use Rattle.install_steps.specs.Recovery.{RecoversTo, SameFrom, SeesSame};
-ghost use Rattle.install_steps.specs.Steps.{Keeps, StepsTo, NoNewTemp, PrintsNothing, CountsRecover};
+ghost use Rattle.install_steps.specs.Steps.{CanStep, CountsRecover, LeavesAlone, NoNewTemp, StepsTo};
 
 use crate::RecoverFault;
 use crate::steps::{settle, unlink_synced};
@@ -26,8 +26,7 @@ fn left_names<M: Machine>(
     requires size { IsTrue M.tells → size ≡ length (contents (M.state machine.old).files intent_path) }
     ensures names { IfOk result (λ found. IsTrue M.tells
         → option_map names_of found ≡ intent_names (M.state machine.old).files) }
-    ensures reads { IsTrue M.tells → OnlyReads M.time M.state machine.old machine.new }
-    ensures counts { CountsRecover result (M.counts machine.old) (M.counts machine.new) }
+    ensures looks { Looks M.tells M.time M.state M.counts (CountsRecover result) machine.old machine.new }
     ensures taken { IsTrue M.tells → TakesAtMost 2050 (M.taken machine.old) (M.taken machine.new) }
 {
     if size > INTENT_LIMIT {
@@ -47,10 +46,8 @@ fn drop_left<M: Machine>(machine: &mut M, names: &IntentNames) -> Result<(), Dis
     ensures whole { OnOk result (IsTrue M.tells → HasNoHalfRename (M.state machine.new).files) }
     ensures there { OnOk result (IsTrue M.tells → has (M.state machine.new).files intent_path ≡ true) }
     ensures one { OnOk result (IsTrue M.tells → HasOneCandidate (M.state machine.new)) }
-    ensures keeps { IsTrue M.tells → Keeps (M.state machine.old) (M.state machine.new) }
-    ensures quiet { IsTrue M.tells → PrintsNothing M.time M.state machine.old machine.new }
     ensures temps { IsTrue M.tells → NoNewTemp (M.state machine.old) (M.state machine.new) }
-    ensures counts { CountsDisk result (M.counts machine.old) (M.counts machine.new) }
+    ensures alone { LeavesAlone M.tells M.time M.state M.counts (CountsDisk result) machine.old machine.new }
     ensures taken { IsTrue M.tells → TakesNone (M.taken machine.old) (M.taken machine.new) }
 {
     if machine.size(&names.from)?.is_none() {
@@ -70,12 +67,9 @@ fn drop_intent<M: Machine>(machine: &mut M, intent: &Target) -> Result<(), DiskF
     requires one { IsTrue M.tells → HasOneCandidate (M.state machine.old) }
     ensures step { IsTrue M.tells → IsFirm (M.state machine.old) → StepsTo M.time M.state
         (recovered_view (M.state machine.old).files) machine.old machine.new }
-    ensures rests { OnOk result (IsTrue M.tells → IsRested (M.state machine.new)) }
-    ensures one { OnOk result (IsTrue M.tells → HasOneCandidate (M.state machine.new)) }
-    ensures keeps { IsTrue M.tells → Keeps (M.state machine.old) (M.state machine.new) }
-    ensures quiet { IsTrue M.tells → PrintsNothing M.time M.state machine.old machine.new }
+    ensures ready { OnOk result (IsTrue M.tells → CanStep (M.state machine.new)) }
     ensures temps { IsTrue M.tells → NoNewTemp (M.state machine.old) (M.state machine.new) }
-    ensures counts { CountsDisk result (M.counts machine.old) (M.counts machine.new) }
+    ensures alone { LeavesAlone M.tells M.time M.state M.counts (CountsDisk result) machine.old machine.new }
     ensures taken { IsTrue M.tells → TakesNone (M.taken machine.old) (M.taken machine.new) }
 {
     unlink_synced(machine, &intent.path)
@@ -91,12 +85,9 @@ fn finish_left<M: Machine>(
     requires one { IsTrue M.tells → HasOneCandidate (M.state machine.old) }
     ensures step { IsTrue M.tells → IsFirm (M.state machine.old) → StepsTo M.time M.state
         (recovered_view (M.state machine.old).files) machine.old machine.new }
-    ensures rests { OnOk result (IsTrue M.tells → IsRested (M.state machine.new)) }
-    ensures one { OnOk result (IsTrue M.tells → HasOneCandidate (M.state machine.new)) }
-    ensures keeps { IsTrue M.tells → Keeps (M.state machine.old) (M.state machine.new) }
-    ensures quiet { IsTrue M.tells → PrintsNothing M.time M.state machine.old machine.new }
+    ensures ready { OnOk result (IsTrue M.tells → CanStep (M.state machine.new)) }
     ensures temps { IsTrue M.tells → NoNewTemp (M.state machine.old) (M.state machine.new) }
-    ensures counts { CountsRecover result (M.counts machine.old) (M.counts machine.new) }
+    ensures alone { LeavesAlone M.tells M.time M.state M.counts (CountsRecover result) machine.old machine.new }
     ensures taken { IsTrue M.tells → TakesAtMost 2050 (M.taken machine.old) (M.taken machine.new) }
 {
     let Some(size) = machine.size(&intent.path)? else {
@@ -127,12 +118,9 @@ pub fn recover<M: Machine>(
     ensures synced { OnOk result (IsTrue M.tells → IsFirm (M.state machine.old)
         → SameFrom M.time M.state machine.old machine.new) }
     ensures settled { OnOk result (IsTrue M.tells → IsFirm (M.state machine.old) → IsSettled (M.state machine.new)) }
-    ensures one { OnOk result (IsTrue M.tells → HasOneCandidate (M.state machine.new)) }
-    ensures rests { OnOk result (IsTrue M.tells → IsRested (M.state machine.new)) }
-    ensures keeps { IsTrue M.tells → Keeps (M.state machine.old) (M.state machine.new) }
-    ensures quiet { IsTrue M.tells → PrintsNothing M.time M.state machine.old machine.new }
+    ensures ready { OnOk result (IsTrue M.tells → CanStep (M.state machine.new)) }
     ensures temps { IsTrue M.tells → NoNewTemp (M.state machine.old) (M.state machine.new) }
-    ensures counts { CountsRecover result (M.counts machine.old) (M.counts machine.new) }
+    ensures alone { LeavesAlone M.tells M.time M.state M.counts (CountsRecover result) machine.old machine.new }
     ensures taken { IsTrue M.tells → TakesAtMost 2050 (M.taken machine.old) (M.taken machine.new) }
 {
     settle(machine)?;

@@ -3,8 +3,8 @@ ghost use Rattle.std.specs.Prelude.{◌≡◌, ◌≢◌, true, false, IsTrue, O
 ghost use Rattle.std.specs.List.{IsDistinct};
 ghost use Rattle.std.specs.FinMap as map;
 ghost use Rattle.boot_base.specs.Paths.{IsFree};
-ghost use Rattle.boot_machine.specs.Prelude.{CountsDisk, EachSince, HasOneCandidate, IsFirm, IsImage, IsRested, IsSettled, TakesNone, has, recovered_view};
-ghost use Rattle.install_steps.specs.Steps.{Keeps, StepsTo, IsDone, NoNewTemp, Lacks, PrintsNothing, RestsUnless, CountsStep};
+ghost use Rattle.boot_machine.specs.Prelude.{CountsDisk, EachSince, HasOneCandidate, IsFirm, IsImage, IsSettled, TakesNone, has, recovered_view};
+ghost use Rattle.install_steps.specs.Steps.{CanStep, CountsStep, IsDone, Lacks, LeavesAlone, LeavesReady, NoNewTemp, ReadyUnless, StepsTo};
 
 use crate::StepFault;
 use boot_base::{BootPath, TempPath};
@@ -19,10 +19,9 @@ pub fn settle<M: Machine>(machine: &mut M) -> Result<(), DiskFault>
     ensures firm { IsTrue M.tells → IsFirm (M.state machine.old) → IsFirm (M.state machine.new) }
     ensures files { IsTrue M.tells → (M.state machine.new).files ≡ (M.state machine.old).files }
     ensures same { OnErr result (IsTrue M.tells → M.state machine.new ≡ M.state machine.old) }
-    ensures keeps { IsTrue M.tells → Keeps (M.state machine.old) (M.state machine.new) }
     ensures moments { IsTrue M.tells → EachSince M.time machine.old machine.new
         (λ m o. IsImage (M.state machine.old) m × (o ≡ (M.state machine.old).printed)) }
-    ensures counts { CountsDisk result (M.counts machine.old) (M.counts machine.new) }
+    ensures alone { LeavesAlone M.tells M.time M.state M.counts (CountsDisk result) machine.old machine.new }
     ensures taken { IsTrue M.tells → TakesNone (M.taken machine.old) (M.taken machine.new) }
 {
     machine.sync_names()
@@ -33,8 +32,7 @@ pub fn settle<M: Machine>(machine: &mut M) -> Result<(), DiskFault>
 /// disk the file may be there or not.
 pub fn drop_name<M: Machine>(machine: &mut M, path: &BootPath) -> Result<(), StepFault>
     requires free { IsFree path.now }
-    requires one { IsTrue M.tells → HasOneCandidate (M.state machine.old) }
-    requires rested { IsTrue M.tells → IsRested (M.state machine.old) }
+    requires ready { IsTrue M.tells → CanStep (M.state machine.old) }
     ensures done { OnOk result (IsTrue M.tells → IsFirm (M.state machine.old)
         → IsDone (M.state machine.new) (map.remove (recovered_view (M.state machine.old).files) path.now)) }
     ensures step { IsTrue M.tells → IsFirm (M.state machine.old) → StepsTo M.time M.state
@@ -43,11 +41,8 @@ pub fn drop_name<M: Machine>(machine: &mut M, path: &BootPath) -> Result<(), Ste
     ensures not_found { IsErrOf result StepFault.NotFound → IsTrue M.tells
         → (has (recovered_view (M.state machine.old).files) path.now ≡ false)
         × (M.state machine.new ≡ M.state machine.old) }
-    ensures keeps { IsTrue M.tells → Keeps (M.state machine.old) (M.state machine.new) }
-    ensures quiet { IsTrue M.tells → PrintsNothing M.time M.state machine.old machine.new }
-    ensures rests { IsTrue M.tells → RestsUnless StepFault.Disk result (M.state machine.new) }
-    ensures temps { OnOk result (IsTrue M.tells → NoNewTemp (M.state machine.old) (M.state machine.new)) }
-    ensures counts { CountsStep result (M.counts machine.old) (M.counts machine.new) }
+    ensures ready { IsTrue M.tells → ReadyUnless StepFault.Disk result (M.state machine.old) (M.state machine.new) }
+    ensures alone { LeavesAlone M.tells M.time M.state M.counts (CountsStep result) machine.old machine.new }
     ensures taken { IsTrue M.tells → TakesNone (M.taken machine.old) (M.taken machine.new) }
 {
     path.know();
@@ -61,8 +56,7 @@ pub fn drop_name<M: Machine>(machine: &mut M, path: &BootPath) -> Result<(), Ste
 /// Takes these temporary files away, which differ and are there, and then syncs the names once. Boot sees
 /// the same all the while. After a fault of the disk some of them may be left.
 pub fn drop_leftovers<M: Machine>(machine: &mut M, paths: &[TempPath]) -> Result<(), DiskFault>
-    requires one { IsTrue M.tells → HasOneCandidate (M.state machine.old) }
-    requires rested { IsTrue M.tells → IsRested (M.state machine.old) }
+    requires ready { IsTrue M.tells → CanStep (M.state machine.old) }
     requires distinct { IsDistinct bytes_eq paths.now }
     requires there { IsTrue M.tells → All (λ path. has (M.state machine.old).files path ≡ true) paths.now }
     ensures done { OnOk result (IsTrue M.tells → IsFirm (M.state machine.old)
@@ -71,11 +65,8 @@ pub fn drop_leftovers<M: Machine>(machine: &mut M, paths: &[TempPath]) -> Result
         (recovered_view (M.state machine.old).files) machine.old machine.new }
     ensures gone { OnOk result (IsTrue M.tells
         → Lacks paths.now (M.state machine.old).files (M.state machine.new).files) }
-    ensures keeps { IsTrue M.tells → Keeps (M.state machine.old) (M.state machine.new) }
-    ensures quiet { IsTrue M.tells → PrintsNothing M.time M.state machine.old machine.new }
-    ensures rests { OnOk result (IsTrue M.tells → IsRested (M.state machine.new)) }
-    ensures temps { OnOk result (IsTrue M.tells → NoNewTemp (M.state machine.old) (M.state machine.new)) }
-    ensures counts { CountsDisk result (M.counts machine.old) (M.counts machine.new) }
+    ensures ready { OnOk result (IsTrue M.tells → LeavesReady (M.state machine.old) (M.state machine.new)) }
+    ensures alone { LeavesAlone M.tells M.time M.state M.counts (CountsDisk result) machine.old machine.new }
     ensures taken { IsTrue M.tells → TakesNone (M.taken machine.old) (M.taken machine.new) }
 {
     for path in paths {
@@ -95,10 +86,8 @@ pub(crate) fn unlink_synced<M: Machine>(machine: &mut M, path: &BootPath) -> Res
     ensures files { OnOk result (IsTrue M.tells
         → (M.state machine.new).files ≡ map.remove (M.state machine.old).files path.now) }
     ensures one { OnOk result (IsTrue M.tells → HasOneCandidate (M.state machine.new)) }
-    ensures keeps { IsTrue M.tells → Keeps (M.state machine.old) (M.state machine.new) }
-    ensures quiet { IsTrue M.tells → PrintsNothing M.time M.state machine.old machine.new }
     ensures temps { IsTrue M.tells → NoNewTemp (M.state machine.old) (M.state machine.new) }
-    ensures counts { CountsDisk result (M.counts machine.old) (M.counts machine.new) }
+    ensures alone { LeavesAlone M.tells M.time M.state M.counts (CountsDisk result) machine.old machine.new }
     ensures taken { IsTrue M.tells → TakesNone (M.taken machine.old) (M.taken machine.new) }
 {
     machine.unlink(path)?;

@@ -1,9 +1,9 @@
 //! Writes files: bytes at hand, and copies of whole files.
 ghost use Rattle.std.specs.Prelude.{◌≡◌, ◌≤◌, ℕ, List, true, false, length, IsTrue, OnOk, IsErrOf};
 ghost use Rattle.std.specs.FinMap as map;
-ghost use Rattle.boot_machine.specs.Prelude.{CountsDisk, HasOneCandidate, IsFirm, IsRested, IsSettled, TakesAtMost, TakesNone, contents, has, move_in, recovered_view, view};
+ghost use Rattle.boot_machine.specs.Prelude.{CountsDisk, HasOneCandidate, IsFirm, IsSettled, TakesAtMost, TakesNone, contents, has, move_in, recovered_view};
 ghost use Rattle.boot_base.specs.Paths.{IsFree};
-ghost use Rattle.install_steps.specs.Steps.{Keeps, StepsTo, IsDone, NoNewTemp, PrintsNothing, RestsUnless, CountsStep, after_copy};
+ghost use Rattle.install_steps.specs.Steps.{CanStep, CountsStep, IsDone, LeavesAlone, LeavesReady, ReadyUnless, StepsTo, after_copy};
 
 use crate::StepFault;
 use crate::appends::copy_part;
@@ -19,18 +19,14 @@ pub fn write_bytes<M: Machine>(
     bytes: &[u8],
 ) -> Result<(), DiskFault>
     requires free { IsFree target.now.path }
-    requires one { IsTrue M.tells → HasOneCandidate (M.state machine.old) }
-    requires rested { IsTrue M.tells → IsRested (M.state machine.old) }
+    requires ready { IsTrue M.tells → CanStep (M.state machine.old) }
     ensures done { OnOk result (IsTrue M.tells → IsFirm (M.state machine.old)
         → IsDone (M.state machine.new)
         (map.insert (recovered_view (M.state machine.old).files) target.now.path bytes.now)) }
     ensures step { IsTrue M.tells → IsFirm (M.state machine.old) → StepsTo M.time M.state
         (map.insert (recovered_view (M.state machine.old).files) target.now.path bytes.now) machine.old machine.new }
-    ensures keeps { IsTrue M.tells → Keeps (M.state machine.old) (M.state machine.new) }
-    ensures quiet { IsTrue M.tells → PrintsNothing M.time M.state machine.old machine.new }
-    ensures rests { OnOk result (IsTrue M.tells → IsRested (M.state machine.new)) }
-    ensures temps { OnOk result (IsTrue M.tells → NoNewTemp (M.state machine.old) (M.state machine.new)) }
-    ensures counts { CountsDisk result (M.counts machine.old) (M.counts machine.new) }
+    ensures ready { OnOk result (IsTrue M.tells → LeavesReady (M.state machine.old) (M.state machine.new)) }
+    ensures alone { LeavesAlone M.tells M.time M.state M.counts (CountsDisk result) machine.old machine.new }
     ensures taken { IsTrue M.tells → TakesNone (M.taken machine.old) (M.taken machine.new) }
 {
     target.path.know();
@@ -52,8 +48,7 @@ pub fn write_whole<M: Machine>(
     buffer: &mut Piece,
 ) -> Result<(), StepFault>
     requires free { IsFree target.now.path }
-    requires one { IsTrue M.tells → HasOneCandidate (M.state machine.old) }
-    requires rested { IsTrue M.tells → IsRested (M.state machine.old) }
+    requires ready { IsTrue M.tells → CanStep (M.state machine.old) }
     requires small { IsTrue M.tells
         → length (contents (recovered_view (M.state machine.old).files) from.now) ≤ 268435456 }
     ensures done { OnOk result (IsTrue M.tells → IsFirm (M.state machine.old)
@@ -65,11 +60,8 @@ pub fn write_whole<M: Machine>(
     ensures not_found { IsErrOf result StepFault.NotFound → IsTrue M.tells
         → (has (recovered_view (M.state machine.old).files) from.now ≡ false)
         × (M.state machine.new ≡ M.state machine.old) }
-    ensures keeps { IsTrue M.tells → Keeps (M.state machine.old) (M.state machine.new) }
-    ensures quiet { IsTrue M.tells → PrintsNothing M.time M.state machine.old machine.new }
-    ensures rests { IsTrue M.tells → RestsUnless StepFault.Disk result (M.state machine.new) }
-    ensures temps { OnOk result (IsTrue M.tells → NoNewTemp (M.state machine.old) (M.state machine.new)) }
-    ensures counts { CountsStep result (M.counts machine.old) (M.counts machine.new) }
+    ensures ready { IsTrue M.tells → ReadyUnless StepFault.Disk result (M.state machine.old) (M.state machine.new) }
+    ensures alone { LeavesAlone M.tells M.time M.state M.counts (CountsStep result) machine.old machine.new }
     ensures taken { IsTrue M.tells → TakesAtMost (length (contents (M.state machine.old).files from.now))
         (M.taken machine.old) (M.taken machine.new) }
 {
@@ -100,9 +92,7 @@ pub fn put_in_place<M: Machine>(machine: &mut M, target: &Target) -> Result<(), 
     ensures files { OnOk result (IsTrue M.tells
         → (M.state machine.new).files ≡ move_in target.now.temp target.now.path (M.state machine.old).files) }
     ensures one { OnOk result (IsTrue M.tells → HasOneCandidate (M.state machine.new)) }
-    ensures keeps { IsTrue M.tells → Keeps (M.state machine.old) (M.state machine.new) }
-    ensures quiet { IsTrue M.tells → PrintsNothing M.time M.state machine.old machine.new }
-    ensures counts { CountsDisk result (M.counts machine.old) (M.counts machine.new) }
+    ensures alone { LeavesAlone M.tells M.time M.state M.counts (CountsDisk result) machine.old machine.new }
     ensures taken { IsTrue M.tells → TakesNone (M.taken machine.old) (M.taken machine.new) }
 {
     target.path.know();

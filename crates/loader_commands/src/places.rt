@@ -2,7 +2,7 @@
 ghost use Rattle.std.specs.Prelude.{◌≡◌, IfOk, IsTrue};
 ghost use Rattle.boot_base.specs.Limits.{text_limit};
 ghost use Rattle.boot_base.specs.Paths.{IsFree};
-ghost use Rattle.boot_machine.specs.Prelude.{OnlyReads, TakesAtMost, seen};
+ghost use Rattle.boot_machine.specs.Prelude.{Looks, TakesAtMost, seen};
 ghost use Rattle.command_plans.specs.Prelude.{CountsUnsaid, Means, Says, printed_path};
 ghost use Rattle.loader_commands.specs.Places.{conf_bytes, conf_path, loader_paths};
 
@@ -58,8 +58,7 @@ pub(crate) fn conf_bytes<M: Machine>(
 ) -> Result<Vec<u8>, Unsaid>
     ensures says { IsTrue M.tells → Says (λ bytes. bytes.items) result
         (conf_bytes (seen (M.state machine.old)) path.now) }
-    ensures reads { IsTrue M.tells → OnlyReads M.time M.state machine.old machine.new }
-    ensures counts { CountsUnsaid result (M.counts machine.old) (M.counts machine.new) }
+    ensures looks { Looks M.tells M.time M.state M.counts (CountsUnsaid result) machine.old machine.new }
     ensures taken { IsTrue M.tells → TakesAtMost text_limit (M.taken machine.old) (M.taken machine.new) }
 {
     match seen_size(path, machine)? {

@@ -2,8 +2,8 @@
 ghost use Rattle.std.specs.Prelude.{◌≡◌, IfOk, IsTrue, OnOk};
 ghost use Rattle.boot_base.specs.Limits.{text_limit};
 ghost use Rattle.boot_base.specs.Paths.{IsFree};
-ghost use Rattle.boot_machine.specs.Prelude.{Counts, OnlyReads, TakesAtMost, seen};
-ghost use Rattle.command_plans.specs.Prelude.{CountsStop, CountsUnsaid, DeclinesWords, IsIdleIfRefused, IsMakeable, Means, Plans, PlansAs, RefusesWords, Says};
+ghost use Rattle.boot_machine.specs.Prelude.{Counts, Looks, TakesAtMost, seen};
+ghost use Rattle.command_plans.specs.Prelude.{CountsStop, CountsUnsaid, DeclinesWords, Means, Plans, PlansAs, RefusesWords, Says};
 ghost use Rattle.loader_commands.specs.Places.{within_limit};
 ghost use Rattle.loader_commands.specs.Setting.{bad_value, conf_update, conf_words, set_answer, set_result, set_text, changed_text, value_in};
 ghost use Rattle.boot_texts.specs.Conf.{IsConfValue, conf_key_name};
@@ -69,8 +69,7 @@ fn changed_text<M: Machine>(
     requires { IsConfValue key value.now }
     ensures says { IsTrue M.tells
         → Says (λ text. text.items) result (changed_text (seen (M.state machine.old)) key value.now path.now) }
-    ensures reads { IsTrue M.tells → OnlyReads M.time M.state machine.old machine.new }
-    ensures counts { CountsUnsaid result (M.counts machine.old) (M.counts machine.new) }
+    ensures looks { Looks M.tells M.time M.state M.counts (CountsUnsaid result) machine.old machine.new }
     ensures taken { IsTrue M.tells → TakesAtMost text_limit (M.taken machine.old) (M.taken machine.new) }
 {
     let bytes = conf_bytes(alloc, path, machine)?;
@@ -117,8 +116,7 @@ fn conf_update<M: Machine>(
         (conf_update (seen (M.state machine.old)) key value.now esp.now) }
     ensures free { IfOk result (λ change. IsFree change.target.path) }
     ensures text { IfOk result (λ change. change.text ≡ set_text key value.now) }
-    ensures reads { IsTrue M.tells → OnlyReads M.time M.state machine.old machine.new }
-    ensures counts { CountsUnsaid result (M.counts machine.old) (M.counts machine.new) }
+    ensures looks { Looks M.tells M.time M.state M.counts (CountsUnsaid result) machine.old machine.new }
     ensures taken { IsTrue M.tells → TakesAtMost text_limit (M.taken machine.old) (M.taken machine.new) }
     ensures words { DeclinesWords (conf_words key value.now esp.now) result }
 {
@@ -130,6 +128,7 @@ fn conf_update<M: Machine>(
 
 // The plan that writes the change.
 fn plan_of(change: ConfChange) -> Plan
+    requires { IsFree change.target.path }
     ensures change { result.change ≡ Change.Put change.target change.bytes }
     ensures outcome { result.outcome ≡ Outcome.Done }
     ensures text { result.text ≡ change.text }
@@ -154,10 +153,7 @@ fn set_plan<M: Machine>(
 ) -> Result<Plan, Unsaid>
     ensures plans { IsTrue M.tells → PlansAs (M.state machine.old) result
         (set_result (seen (M.state machine.old)) key value.now esp.now) }
-    ensures makeable { IfOk result (λ plan. IsMakeable plan.change) }
-    ensures idle { IfOk result IsIdleIfRefused }
-    ensures reads { IsTrue M.tells → OnlyReads M.time M.state machine.old machine.new }
-    ensures counts { CountsUnsaid result (M.counts machine.old) (M.counts machine.new) }
+    ensures looks { Looks M.tells M.time M.state M.counts (CountsUnsaid result) machine.old machine.new }
     ensures taken { IsTrue M.tells → TakesAtMost text_limit (M.taken machine.old) (M.taken machine.new) }
     ensures words { DeclinesWords (conf_words key value.now esp.now) result }
 {
@@ -175,10 +171,7 @@ pub fn plan_default<M: Machine>(
 ) -> Result<Plan, Stop>
     ensures plans { IfOk result (λ plan. IsTrue M.tells → Plans (M.state machine.old) plan
         (set_answer (seen (M.state machine.old)) keys.Default pattern.now esp.now)) }
-    ensures makeable { IfOk result (λ plan. IsMakeable plan.change) }
-    ensures idle { IfOk result IsIdleIfRefused }
-    ensures reads { IsTrue M.tells → OnlyReads M.time M.state machine.old machine.new }
-    ensures counts { CountsStop result (M.counts machine.old) (M.counts machine.new) }
+    ensures looks { Looks M.tells M.time M.state M.counts (CountsStop result) machine.old machine.new }
     ensures taken { IsTrue M.tells → TakesAtMost text_limit (M.taken machine.old) (M.taken machine.new) }
     ensures words { RefusesWords (conf_words keys.Default pattern.now esp.now) result }
 {
@@ -195,10 +188,7 @@ pub fn plan_timeout<M: Machine>(
 ) -> Result<Plan, Stop>
     ensures plans { IfOk result (λ plan. IsTrue M.tells → Plans (M.state machine.old) plan
         (set_answer (seen (M.state machine.old)) keys.Timeout value.now esp.now)) }
-    ensures makeable { IfOk result (λ plan. IsMakeable plan.change) }
-    ensures idle { IfOk result IsIdleIfRefused }
-    ensures reads { IsTrue M.tells → OnlyReads M.time M.state machine.old machine.new }
-    ensures counts { CountsStop result (M.counts machine.old) (M.counts machine.new) }
+    ensures looks { Looks M.tells M.time M.state M.counts (CountsStop result) machine.old machine.new }
     ensures taken { IsTrue M.tells → TakesAtMost text_limit (M.taken machine.old) (M.taken machine.new) }
     ensures words { RefusesWords (conf_words keys.Timeout value.now esp.now) result }
 {

@@ -1,7 +1,7 @@
 //! `loader show`.
 ghost use Rattle.std.specs.Prelude.{◌≡◌, IfOk, IsTrue, option_copied};
-ghost use Rattle.boot_machine.specs.Prelude.{Counts, OnlyReads, TakesAtMost, seen};
-ghost use Rattle.command_plans.specs.Prelude.{CountsStop, CountsUnsaid, DeclinesWords, IsMakeable, Plans, RefusesWords, Says};
+ghost use Rattle.boot_machine.specs.Prelude.{Counts, Looks, TakesAtMost, seen};
+ghost use Rattle.command_plans.specs.Prelude.{CountsStop, CountsUnsaid, DeclinesWords, Plans, RefusesWords, Says};
 ghost use Rattle.command_plans.specs.declared.plan.Change.TheVariants.{Nothing};
 ghost use Rattle.loader_commands.specs.Places.{loader_paths};
 ghost use Rattle.loader_commands.specs.Taking.{show_limit};
@@ -69,8 +69,7 @@ fn menu_shown(alloc: Global, bytes: &[u8], menu: &[MenuItem]) -> Result<Vec<u8>,
 fn show_result<M: Machine>(alloc: Global, esp: &str, machine: &mut M) -> Result<Vec<u8>, Unsaid>
     ensures says { IsTrue M.tells
         → Says (λ text. text.items) result (show_result (seen (M.state machine.old)) esp.now) }
-    ensures reads { IsTrue M.tells → OnlyReads M.time M.state machine.old machine.new }
-    ensures counts { CountsUnsaid result (M.counts machine.old) (M.counts machine.new) }
+    ensures looks { Looks M.tells M.time M.state M.counts (CountsUnsaid result) machine.old machine.new }
     ensures taken { IsTrue M.tells
         → TakesAtMost (show_limit (M.state machine.old).files (loader_paths esp.now)) (M.taken machine.old)
         (M.taken machine.new) }
@@ -87,10 +86,8 @@ fn show_result<M: Machine>(alloc: Global, esp: &str, machine: &mut M) -> Result<
 pub fn plan_show<M: Machine>(alloc: Global, esp: &str, machine: &mut M) -> Result<Plan, Stop>
     ensures plans { IfOk result (λ plan. IsTrue M.tells → Plans (M.state machine.old) plan
         (show_answer (seen (M.state machine.old)) esp.now)) }
-    ensures makeable { IfOk result (λ plan. IsMakeable plan.change) }
     ensures idle { IfOk result (λ plan. plan.change ≡ Nothing) }
-    ensures reads { IsTrue M.tells → OnlyReads M.time M.state machine.old machine.new }
-    ensures counts { CountsStop result (M.counts machine.old) (M.counts machine.new) }
+    ensures looks { Looks M.tells M.time M.state M.counts (CountsStop result) machine.old machine.new }
     ensures taken { IsTrue M.tells
         → TakesAtMost (show_limit (M.state machine.old).files (loader_paths esp.now)) (M.taken machine.old)
         (M.taken machine.new) }

@@ -2,7 +2,7 @@
 
 ghost use Rattle.std.specs.Prelude.{◌≡◌, ◌+◌, ◌*◌, ◌≤◌, ◌<◌, [], length, IfOk, IsTrue};
 ghost use Rattle.boot_base.specs.Limits.{file_limit};
-ghost use Rattle.boot_machine.specs.Prelude.{CountsDisk, OnlyReads, TakesAtMost, contents};
+ghost use Rattle.boot_machine.specs.Prelude.{CountsDisk, Looks, TakesAtMost, contents};
 ghost use Rattle.pe_reader.specs.Fields.{part};
 ghost use Rattle.pe_reader.specs.Grammar.{head_of, pe_place_of, coff_of, optional_of, sections_of};
 ghost use Rattle.pe_reader.specs.Reads.{FromBytes, GivesFrom, CountsHead, HeadFrom};
@@ -21,8 +21,7 @@ pub fn known_size<M: Machine>(machine: &mut M, path: &BootPath) -> Result<u64, D
         → length (contents (M.state machine.old).files path.now) ≤ file_limit
         → size ≡ length (contents (M.state machine.old).files path.now)) }
     ensures small { IfOk result (λ size. size ≤ file_limit) }
-    ensures reads { IsTrue M.tells → OnlyReads M.time M.state machine.old machine.new }
-    ensures counts { CountsDisk result (M.counts machine.old) (M.counts machine.new) }
+    ensures looks { Looks M.tells M.time M.state M.counts (CountsDisk result) machine.old machine.new }
     ensures taken { IsTrue M.tells → TakesAtMost 0 (M.taken machine.old) (M.taken machine.new) }
 {
     let size = machine.size(path)?;
@@ -43,8 +42,7 @@ pub fn head_in<M: Machine>(
     ensures read { IfOk result (λ head. HeadFrom head size) }
     ensures inside { IfOk result (λ head. head.table_place + 40 * head.section_count ≤ size) }
     ensures few { IfOk result (λ head. head.section_count ≤ 96) }
-    ensures reads { IsTrue M.tells → OnlyReads M.time M.state machine.old machine.new }
-    ensures counts { CountsHead result (M.counts machine.old) (M.counts machine.new) }
+    ensures looks { Looks M.tells M.time M.state M.counts (CountsHead result) machine.old machine.new }
     ensures taken { IsTrue M.tells → TakesAtMost (64 + 24 + 65535) (M.taken machine.old) (M.taken machine.new) }
 {
     let place = place_in(machine, path, size)?;
@@ -58,8 +56,7 @@ fn place_in<M: Machine>(machine: &mut M, path: &BootPath, size: u64) -> Result<u
         → GivesFrom (λ place. place) result (pe_place_of size
         (part (contents (M.state machine.old).files path.now) 0 64)) }
     ensures read { IfOk result (FromBytes 64 (pe_place_of size)) }
-    ensures reads { IsTrue M.tells → OnlyReads M.time M.state machine.old machine.new }
-    ensures counts { CountsHead result (M.counts machine.old) (M.counts machine.new) }
+    ensures looks { Looks M.tells M.time M.state M.counts (CountsHead result) machine.old machine.new }
     ensures taken { IsTrue M.tells → TakesAtMost 64 (M.taken machine.old) (M.taken machine.new) }
 {
     let mut front = [0; 64];
@@ -81,8 +78,7 @@ fn coff_in<M: Machine>(
     ensures long { IfOk result (λ coff. 112 ≤ coff.optional_size) }
     ensures inside { IfOk result (λ coff. place + 24 + coff.optional_size ≤ size) }
     ensures few { IfOk result (λ coff. coff.section_count ≤ 96) }
-    ensures reads { IsTrue M.tells → OnlyReads M.time M.state machine.old machine.new }
-    ensures counts { CountsHead result (M.counts machine.old) (M.counts machine.new) }
+    ensures looks { Looks M.tells M.time M.state M.counts (CountsHead result) machine.old machine.new }
     ensures taken { IsTrue M.tells → TakesAtMost 24 (M.taken machine.old) (M.taken machine.new) }
 {
     let mut header = [0; 24];
@@ -108,8 +104,7 @@ fn optional_in<M: Machine>(
     ensures read { IfOk result (FromBytes coff.optional_size (optional_of size place coff)) }
     ensures inside { IfOk result (λ head. head.table_place + 40 * head.section_count ≤ size) }
     ensures count { IfOk result (λ head. head.section_count ≡ coff.section_count) }
-    ensures reads { IsTrue M.tells → OnlyReads M.time M.state machine.old machine.new }
-    ensures counts { CountsHead result (M.counts machine.old) (M.counts machine.new) }
+    ensures looks { Looks M.tells M.time M.state M.counts (CountsHead result) machine.old machine.new }
     ensures taken { IsTrue M.tells → TakesAtMost coff.optional_size (M.taken machine.old) (M.taken machine.new) }
 {
     let mut optional = zeros(alloc, coff.optional_size as usize)?;
@@ -133,8 +128,7 @@ pub fn sections_in<M: Machine>(
         (part (contents (M.state machine.old).files path.now) head.now.table_place (40 * head.now.section_count))) }
     ensures read { IfOk result (λ sections. FromBytes (40 * head.now.section_count)
         (sections_of size head.now.header_size head.now.section_count head.now.table_place []) sections.items) }
-    ensures reads { IsTrue M.tells → OnlyReads M.time M.state machine.old machine.new }
-    ensures counts { CountsHead result (M.counts machine.old) (M.counts machine.new) }
+    ensures looks { Looks M.tells M.time M.state M.counts (CountsHead result) machine.old machine.new }
     ensures taken { IsTrue M.tells → TakesAtMost (40 * head.now.section_count) (M.taken machine.old)
         (M.taken machine.new) }
 {

@@ -1,6 +1,6 @@
 //! What a stub measures of the image in a machine's file, read in pieces.
 ghost use Rattle.std.specs.Prelude.{◌≡◌, ◌+◌, ◌<◌, ◌≤◌, ◌^◌, Ok, length, drop, map, IfOk, IsTrue, OnOk};
-ghost use Rattle.boot_machine.specs.Prelude.{CountsDisk, OnlyReads, TakesAtMost, contents};
+ghost use Rattle.boot_machine.specs.Prelude.{CountsDisk, Looks, TakesAtMost, contents};
 ghost use Rattle.pe_reader.specs.Grammar.{pe_of};
 ghost use Rattle.pe_reader.specs.LoadedBytes.{loaded_bytes, bytes_in};
 ghost use Rattle.pe_reader.specs.Reads.{headers_of};
@@ -41,8 +41,7 @@ pub fn replay<M: Machine>(
     ensures bank { IfOk result (λ pcr. pcr_bank pcr ≡ bank) }
     ensures value { IfOk result (λ pcr. IsTrue M.tells
         → pcr_bytes pcr ≡ fold_of bank (measured_list (contents (M.state machine.old).files path.now))) }
-    ensures reads { IsTrue M.tells → OnlyReads M.time M.state machine.old machine.new }
-    ensures counts { CountsDisk result (M.counts machine.old) (M.counts machine.new) }
+    ensures looks { Looks M.tells M.time M.state M.counts (CountsDisk result) machine.old machine.new }
     ensures taken { IsTrue M.tells
         → TakesAtMost (measured_raw_length (contents (M.state machine.old).files path.now)) (M.taken machine.old)
         (M.taken machine.new) }
@@ -73,8 +72,7 @@ pub fn replay_all<M: Machine>(
     ensures value { IfOk result (λ pcrs. IsTrue M.tells
         → map pcr_value pcrs.items
         ≡ map (fold_pcr (measured_list (contents (M.state machine.old).files path.now))) banks.now) }
-    ensures reads { IsTrue M.tells → OnlyReads M.time M.state machine.old machine.new }
-    ensures counts { CountsPredict result (M.counts machine.old) (M.counts machine.new) }
+    ensures looks { Looks M.tells M.time M.state M.counts (CountsPredict result) machine.old machine.new }
     ensures taken { IsTrue M.tells
         → TakesAtMost (measured_raw_length (contents (M.state machine.old).files path.now)) (M.taken machine.old)
         (M.taken machine.new) }
@@ -99,8 +97,7 @@ fn measure_sections<M: Machine>(
     ensures length { length buffer.new ≡ length buffer.old }
     ensures value { OnOk result (ExtendsWhere (IsTrue M.tells)
         (measured_list (contents (M.state machine.old).files path.now)) registers.old registers.new) }
-    ensures reads { IsTrue M.tells → OnlyReads M.time M.state machine.old machine.new }
-    ensures counts { CountsDisk result (M.counts machine.old) (M.counts machine.new) }
+    ensures looks { Looks M.tells M.time M.state M.counts (CountsDisk result) machine.old machine.new }
     ensures taken { IsTrue M.tells
         → TakesAtMost (measured_raw_length (contents (M.state machine.old).files path.now)) (M.taken machine.old)
         (M.taken machine.new) }
@@ -127,8 +124,7 @@ fn measure_section<M: Machine>(
     ensures value { OnOk result (ExtendsWhere (IsTrue M.tells)
         (section_items name.now (loaded_bytes (contents (M.state machine.old).files path.now) name.now)) registers.old
         registers.new) }
-    ensures reads { IsTrue M.tells → OnlyReads M.time M.state machine.old machine.new }
-    ensures counts { CountsDisk result (M.counts machine.old) (M.counts machine.new) }
+    ensures looks { Looks M.tells M.time M.state M.counts (CountsDisk result) machine.old machine.new }
     ensures taken { IsTrue M.tells → TakesAtMost
         (named_raw_length name.now (pe_of (contents (M.state machine.old).files path.now))) (M.taken machine.old)
         (M.taken machine.new) }
@@ -166,8 +162,7 @@ pub fn range_digest<M: Machine>(
     ensures value { IfOk result (λ digest. IsTrue M.tells
         → range.length ≤ length (drop range.place (contents (M.state machine.old).files path.now))
         → bytes_of_digest digest ≡ digest_of bank (bytes_in (contents (M.state machine.old).files path.now) range)) }
-    ensures reads { IsTrue M.tells → OnlyReads M.time M.state machine.old machine.new }
-    ensures counts { CountsDisk result (M.counts machine.old) (M.counts machine.new) }
+    ensures looks { Looks M.tells M.time M.state M.counts (CountsDisk result) machine.old machine.new }
     ensures taken { IsTrue M.tells → TakesAtMost range.length (M.taken machine.old) (M.taken machine.new) }
 {
     path.know();

@@ -1,7 +1,7 @@
 //! The bytes of contents, taken into the hashes of registers.
 ghost use Rattle.std.specs.Prelude.{◌≡◌, ◌<◌, ◌≤◌, ◌+◌, ◌^◌, length, take, drop, replicate, sum_by, IfOk, OnOk, IsTrue};
 ghost use Rattle.std.specs.List.{AllZip};
-ghost use Rattle.boot_machine.specs.Prelude.{CountsDisk, OnlyReads, TakesAtMost, contents, seen};
+ghost use Rattle.boot_machine.specs.Prelude.{CountsDisk, Looks, TakesAtMost, contents, seen};
 ghost use Rattle.pe_reader.specs.LoadedBytes.{bytes_in};
 ghost use Rattle.uki_parts.specs.Pieces.{HasSizes, bytes_of, file_length, piece_bytes, piece_length};
 ghost use Rattle.stub_replay.specs.Parts.{IsPlaced, IsWhole, content_bytes, read_length};
@@ -29,8 +29,7 @@ pub(crate) fn take_content<M: Machine>(
     ensures data { OnOk result
         (TakesWhere (IsTrue M.tells × IsWhole (contents (seen (M.state machine.old))) content.now)
         (content_bytes (contents (seen (M.state machine.old))) content.now) registers.old registers.new) }
-    ensures reads { IsTrue M.tells → OnlyReads M.time M.state machine.old machine.new }
-    ensures counts { CountsDisk result (M.counts machine.old) (M.counts machine.new) }
+    ensures looks { Looks M.tells M.time M.state M.counts (CountsDisk result) machine.old machine.new }
     ensures taken { IsTrue M.tells → TakesAtMost (read_length content.now) (M.taken machine.old) (M.taken machine.new) }
 {
     match *content {
@@ -55,8 +54,7 @@ fn take_pieces<M: Machine>(
     ensures data { OnOk result
         (TakesWhere (IsTrue M.tells × HasSizes (contents (seen (M.state machine.old))) pieces.now)
         (bytes_of (contents (seen (M.state machine.old))) pieces.now) registers.old registers.new) }
-    ensures reads { IsTrue M.tells → OnlyReads M.time M.state machine.old machine.new }
-    ensures counts { CountsDisk result (M.counts machine.old) (M.counts machine.new) }
+    ensures looks { Looks M.tells M.time M.state M.counts (CountsDisk result) machine.old machine.new }
     ensures taken { IsTrue M.tells → TakesAtMost (sum_by file_length pieces.now) (M.taken machine.old)
         (M.taken machine.new) }
 {
@@ -78,8 +76,7 @@ fn take_piece<M: Machine>(
     ensures data { OnOk result (TakesWhere (IsTrue M.tells
         × (length (piece_bytes (contents (seen (M.state machine.old))) piece.now) ≡ piece_length piece.now))
         (piece_bytes (contents (seen (M.state machine.old))) piece.now) registers.old registers.new) }
-    ensures reads { IsTrue M.tells → OnlyReads M.time M.state machine.old machine.new }
-    ensures counts { CountsDisk result (M.counts machine.old) (M.counts machine.new) }
+    ensures looks { Looks M.tells M.time M.state M.counts (CountsDisk result) machine.old machine.new }
     ensures taken { IsTrue M.tells → TakesAtMost (file_length piece.now) (M.taken machine.old) (M.taken machine.new) }
 {
     match piece {
@@ -136,8 +133,7 @@ pub(crate) fn take_loaded<M: Machine>(
     ensures data { OnOk result (TakesWhere
         (IsTrue M.tells × (range.length ≤ length (drop range.place (contents (seen (M.state machine.old)) path.now))))
         (bytes_in (contents (seen (M.state machine.old)) path.now) range) registers.old registers.new) }
-    ensures reads { IsTrue M.tells → OnlyReads M.time M.state machine.old machine.new }
-    ensures counts { CountsDisk result (M.counts machine.old) (M.counts machine.new) }
+    ensures looks { Looks M.tells M.time M.state M.counts (CountsDisk result) machine.old machine.new }
     ensures taken { IsTrue M.tells → TakesAtMost range.length (M.taken machine.old) (M.taken machine.new) }
 {
     take_range(registers, machine, path, range.place, range.length, buffer)?;
@@ -160,8 +156,7 @@ fn take_range<M: Machine>(
     ensures data { OnOk result (TakesWhere
         (IsTrue M.tells × (count ≤ length (drop at (contents (seen (M.state machine.old)) path.now))))
         (take count (drop at (contents (seen (M.state machine.old)) path.now))) registers.old registers.new) }
-    ensures reads { IsTrue M.tells → OnlyReads M.time M.state machine.old machine.new }
-    ensures counts { CountsDisk result (M.counts machine.old) (M.counts machine.new) }
+    ensures looks { Looks M.tells M.time M.state M.counts (CountsDisk result) machine.old machine.new }
     ensures taken { IsTrue M.tells → TakesAtMost count (M.taken machine.old) (M.taken machine.new) }
 {
     path.know();

@@ -1,6 +1,6 @@
 //! The values that registers come to.
 ghost use Rattle.std.specs.Prelude.{◌≡◌, ◌<◌, length, map, All, IfOk, OnOk, IsTrue};
-ghost use Rattle.boot_machine.specs.Prelude.{CountsDisk, OnlyReads, TakesAtMost, contents, seen};
+ghost use Rattle.boot_machine.specs.Prelude.{CountsDisk, Looks, TakesAtMost, contents, seen};
 ghost use Rattle.pcr_values.specs.Banks.{fold_pcr};
 ghost use Rattle.pcr_values.specs.Values.{pcr_bank, pcr_value};
 ghost use Rattle.stub_replay.specs.Measured.{section_items};
@@ -39,8 +39,7 @@ pub fn predict<M: Machine>(
     ensures value { IfOk result (λ pcrs. IsTrue M.tells → HaveSizes (contents (seen (M.state machine.old))) parts.now
         → map pcr_value pcrs.items
         ≡ map (fold_pcr (items_of (map (named_bytes (contents (seen (M.state machine.old)))) parts.now))) banks.now) }
-    ensures reads { IsTrue M.tells → OnlyReads M.time M.state machine.old machine.new }
-    ensures counts { CountsPredict result (M.counts machine.old) (M.counts machine.new) }
+    ensures looks { Looks M.tells M.time M.state M.counts (CountsPredict result) machine.old machine.new }
     ensures taken { IsTrue M.tells → TakesAtMost (files_length parts.now) (M.taken machine.old) (M.taken machine.new) }
 {
     let mut registers = begin_all(alloc, banks)?;
@@ -62,8 +61,7 @@ fn measure_all<M: Machine>(
     ensures value { OnOk result (ExtendsWhere
         (IsTrue M.tells × HaveSizes (contents (seen (M.state machine.old))) parts.now)
         (items_of (map (named_bytes (contents (seen (M.state machine.old)))) parts.now)) registers.old registers.new) }
-    ensures reads { IsTrue M.tells → OnlyReads M.time M.state machine.old machine.new }
-    ensures counts { CountsDisk result (M.counts machine.old) (M.counts machine.new) }
+    ensures looks { Looks M.tells M.time M.state M.counts (CountsDisk result) machine.old machine.new }
     ensures taken { IsTrue M.tells → TakesAtMost (files_length parts.now) (M.taken machine.old) (M.taken machine.new) }
 {
     for part in parts {
@@ -87,8 +85,7 @@ pub(crate) fn measure_part<M: Machine>(
         (IsTrue M.tells × IsWhole (contents (seen (M.state machine.old))) part.now.content)
         (section_items part.now.name.now (content_bytes (contents (seen (M.state machine.old))) part.now.content))
         registers.old registers.new) }
-    ensures reads { IsTrue M.tells → OnlyReads M.time M.state machine.old machine.new }
-    ensures counts { CountsDisk result (M.counts machine.old) (M.counts machine.new) }
+    ensures looks { Looks M.tells M.time M.state M.counts (CountsDisk result) machine.old machine.new }
     ensures taken { IsTrue M.tells → TakesAtMost (read_length part.now.content) (M.taken machine.old)
         (M.taken machine.new) }
 {

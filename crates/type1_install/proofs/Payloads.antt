@@ -1,5 +1,5 @@
 -- The payloads that files are.
-use Rattle.std.proofs.Common.{◌≡◌, ◌≤◌, ◌<◌, ℕ, suc, true, List, [], ◌∷◌, ◌++◌, Result, Ok, Err, eqb, length, take, drop, get_or, refl, sym, ap, ◌∙◌, subst, arith, append-nil}
+use Rattle.std.proofs.Common.{◌≡◌, ◌≤◌, ◌<◌, ℕ, suc, true, List, [], ◌∷◌, ◌++◌, Result, Ok, eqb, length, take, drop, get_or, refl, sym, ap, ◌∙◌, subst, arith, append-nil}
 use Rattle.std.specs.List.{list_all}
 use Rattle.std.proofs.lemmas.Bool.{and_from}
 use Rattle.std.proofs.lemmas.List.{take_all}
@@ -22,8 +22,7 @@ use Rattle.command_plans.proofs.Declining.{done_next}
 use Rattle.command_plans.proofs.Each.{each_refused}
 use Rattle.std.proofs.lemmas.List.{drop_more, take-append-drop}
 use Rattle.type1_install.specs.Payloads.{payload_name}
-use Rattle.type1_install.specs.Shown.{payload_at, payload_of}
-use Rattle.type1_install.specs.declared.payload.Payload.{Payload}
+use Rattle.type1_install.specs.Shown.{payload_at}
 use Rattle.type1_install.proofs.PayloadNames.{AreSmall, hex_digits, hex_length}
 
 -- ---- the digest of a whole file

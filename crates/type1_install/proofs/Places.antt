@@ -1,17 +1,17 @@
 -- Payloads have paths where the longest of them has one.
-use Rattle.std.proofs.Common.{◌≡◌, ◌≢◌, ◌≤◌, ◌<◌, ◌+◌, ℕ, zero, suc, Bool, true, false, not, ◌&&◌, ◌||◌, inl, inr, List, [], ◌∷◌, ◌++◌, Option, Some, None, Ok, eqb, length, refl, sym, ap, ◌∙◌, subst, arith, append_assoc, length-append}
+use Rattle.std.proofs.Common.{◌≡◌, ◌≢◌, ◌≤◌, ◌<◌, ◌+◌, ℕ, zero, suc, true, false, not, ◌&&◌, ◌||◌, inl, inr, List, [], ◌∷◌, ◌++◌, Option, Some, None, Ok, eqb, length, refl, sym, ap, ◌∙◌, arith, append_assoc, length-append}
 use Rattle.std.specs.Prelude.{bytes_eq, codes, nat_le, nat_lt, replicate}
 use Rattle.std.specs.List.{list_all, list_any}
-use Rattle.std.proofs.lemmas.Bool.{and_from, and_parts, eqb-true, eqb-false, le-leb, le-ltb, leb-true, ne_eqb, not-true, or_cases, or_from, or_parts}
-use Rattle.boot_base.specs.Paths.{IsFree, Path, components, intent, is_component, is_file_name, is_form, is_kept, is_normal, is_path, is_refused, is_slash, is_temp, normal_of, path_below, path_of, under}
+use Rattle.std.proofs.lemmas.Bool.{and_from, and_parts, eqb-true, le-leb, le-ltb, leb-true, ne_eqb, not-true, or_cases, or_from, or_parts}
+use Rattle.boot_base.specs.Paths.{IsFree, Path, components, intent, is_component, is_file_name, is_form, is_kept, is_normal, is_slash, is_temp, normal_of, path_below, path_of, under}
 use Rattle.boot_base.proofs.Beside.{MayEnd, end_free, end_shown, kept_from_long, path_of_child, unlike_short}
-use Rattle.boot_base.proofs.Normal.{normal-short, path-some}
+use Rattle.boot_base.proofs.Normal.{normal-short}
 use Rattle.boot_texts.specs.EntryText.{is_hex_lower, is_payload_name}
 use Rattle.command_plans.specs.Declining.{path_under}
 use Rattle.command_plans.proofs.ReadPaths.{read_if, read_normal, read_of}
 use Rattle.type1_install.specs.Installing.{payload_probe}
 use Rattle.type1_install.specs.Payloads.{payload_folder}
-use Rattle.type1_install.proofs.Installing.{IsNormal, child_normal, under_is, under_normal}
+use Rattle.type1_install.proofs.Installing.{child_normal, under_is, under_normal}
 use Rattle.type1_install.proofs.PayloadsKept.{payload_slash}
 use Rattle.type1_install.proofs.Planned.{normal_is}
 

@@ -11,7 +11,6 @@ use Rattle.boot_base.specs.Paths.{Path, is_form, is_kept, is_normal, is_slash, i
 use Rattle.boot_base.specs.declared.refusal.Refusal.TheVariants as refusals
 use Rattle.boot_machine.specs.Disk.{Files}
 use Rattle.boot_machine.specs.Rows.{contents}
-use Rattle.boot_texts.specs.BootEntries.{type1_of}
 use Rattle.menu_order.specs.Counter.{suffix_text}
 use Rattle.menu_order.specs.Splits.{has_suffix}
 use Rattle.menu_order.proofs.Splitting.{suffix_there}
@@ -24,7 +23,7 @@ use Rattle.command_plans.proofs.InstallNames.{taken_is, taken_slash}
 use Rattle.command_plans.proofs.ReadPaths.{read_normal, read_of}
 use Rattle.boot_base.proofs.Beside.{kept_from_long}
 use Rattle.command_plans.proofs.Steps.{done_by, err_ok, ok_is}
-use Rattle.boot_texts.specs.EntryText.{IsFieldIf, IsPayloadValue, ReadsBack, entry_text, is_field}
+use Rattle.boot_texts.specs.EntryText.{IsFieldIf, IsPayloadValue, ReadsBack, is_field}
 use Rattle.tool_words.specs.declared.command.EntryTexts.{EntryTexts}
 use Rattle.type1_install.specs.Installing.{EntryPlace, SourceFiles, Type1Plan, entry_file, field_text, fields_of, files_in, initrds_in, install_plan, payload_probe, place_in, install_source, texts_in, value_of_file}
 use Rattle.type1_install.specs.Shown.{AreFields}

@@ -1,5 +1,5 @@
 -- Two files with the same bytes, piece by piece, and a copy over a file that has these bytes already.
-use Rattle.std.proofs.Common.{◌≡◌, ◌+◌, ℕ, Bool, true, false, List, ◌++◌, Option, Some, None, Result, Ok, Err, drop, inl, inr, refl, sym, ap, ◌∙◌}
+use Rattle.std.proofs.Common.{◌≡◌, ◌+◌, ℕ, Bool, true, false, List, ◌++◌, Option, Some, None, Result, Ok, Err, drop, inl, inr, sym, ap, ◌∙◌}
 use Rattle.std.specs.Prelude.{length, nat_lt, if◌then◌else◌}
 use Rattle.std.specs.FinMap as map
 use Rattle.std.specs.Cmp.Lexicographic.{nat_list_cmp_total}

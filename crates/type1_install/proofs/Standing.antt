@@ -1,5 +1,5 @@
 -- The unnamed payloads of a view are those among the names of the folder.
-use Rattle.std.proofs.Common.{◌≡◌, inl, inr, ⊎_elim, ℕ, Bool, true, false, T, not, ◌&&◌, ◌||◌, cond, List, [], ◌∷◌, None, Some, is_some, filter, map, refl, sym, ap, ◌∙◌, subst, arith}
+use Rattle.std.proofs.Common.{◌≡◌, inl, inr, ⊎_elim, ℕ, Bool, true, false, T, not, ◌&&◌, ◌||◌, cond, List, [], ◌∷◌, None, is_some, filter, map, refl, sym, ap, ◌∙◌, subst, arith}
 use Rattle.std.specs.Prelude.{Contains, bytes_eq}
 use Rattle.std.specs.FinMap as map_of
 use Rattle.std.specs.List.{AllByRecursion, list_any}
@@ -12,7 +12,7 @@ use Rattle.std.specs.declared.cmp.Ordering.TheVariants.{Less, Equal, Greater}
 use Rattle.std.proofs.lemmas.Bool.{and_from, and_parts, cond-true, or_right}
 use Rattle.menu_order.proofs.Lists.{Contains-cases, Contains-head, Contains-later}
 use Rattle.std.proofs.lemmas.Slice.Eq.{bytes_eq-Decides}
-use Rattle.boot_base.specs.Paths.{Path, file_name_of, is_file_name, is_temp, under}
+use Rattle.boot_base.specs.Paths.{Path, file_name_of, is_temp, under}
 use Rattle.boot_base.proofs.Beside.{file_name_under}
 use Rattle.boot_machine.specs.Disk.{Files, has, is_same_path, is_shown, path_cmp, view}
 use Rattle.boot_machine.specs.proofs.Maps.{cases_same, get-retain, same_self}

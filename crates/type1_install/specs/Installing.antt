@@ -1,5 +1,5 @@
 -- The commands that `type1 install` stands for on a view, or what it is refused for (profile).
-use Rattle.std.specs.Prelude.{ℕ, List, [], ◌∷◌, ◌++◌, bytes_eq, codes, length, map, nat_lt, replicate, Option, Some, None, Result, Ok, Err, if◌then◌else◌}
+use Rattle.std.specs.Prelude.{ℕ, List, [], ◌∷◌, ◌++◌, bytes_eq, codes, length, map, nat_lt, replicate, Some, None, Result, Ok, Err, if◌then◌else◌}
 use Rattle.std.specs.Option.{option_to_list}
 use Rattle.boot_base.specs.Paths.{Path, file_name_of, under}
 use Rattle.boot_base.specs.declared.refusal.Refusal.{Refusal}

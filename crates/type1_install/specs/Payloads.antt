@@ -1,6 +1,6 @@
 -- Payloads: kernels and initrds that stand in an EFI system partition under their digests, where entries name them
 -- (profile).
-use Rattle.std.specs.Prelude.{◌≡◌, ℕ, ◌&&◌, Bool, true, false, List, [], ◌∷◌, ◌++◌, bytes_eq, codes, if◌then◌else◌, Option, Some, None, Contains}
+use Rattle.std.specs.Prelude.{◌≡◌, ℕ, ◌&&◌, Bool, true, false, List, ◌++◌, bytes_eq, codes, if◌then◌else◌, Option, Some, None, Contains}
 use Rattle.std.specs.FinMap as map
 use Rattle.std.specs.List.{list_any}
 use Rattle.std.specs.Option.{option_to_list}

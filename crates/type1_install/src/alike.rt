@@ -1,7 +1,7 @@
 //! Whether two files have the same bytes.
 ghost use Rattle.std.specs.Prelude.{◌≡◌, ◌<◌, ◌≤◌, ◌+◌, ◌^◌, drop, length, true, IfOk, IsTrue};
 ghost use Rattle.boot_base.specs.Limits.{file_limit};
-ghost use Rattle.boot_machine.specs.Prelude.{CountsDisk, OnlyReads, contents, fill_with_zeros};
+ghost use Rattle.boot_machine.specs.Prelude.{CountsDisk, Looks, contents, fill_with_zeros};
 
 use boot_base::{BootPath, PIECE_SIZE, Piece};
 use boot_machine::{DiskFault, Machine, read_piece};
@@ -26,8 +26,7 @@ fn same_piece<M: Machine>(
     ensures same { IfOk result (λ count. IsTrue M.tells
         → fill_with_zeros (drop at (contents (M.state machine.old).files first.now)) count
         ≡ fill_with_zeros (drop at (contents (M.state machine.old).files second.now)) count) }
-    ensures reads { IsTrue M.tells → OnlyReads M.time M.state machine.old machine.new }
-    ensures counts { CountsDisk result (M.counts machine.old) (M.counts machine.new) }
+    ensures looks { Looks M.tells M.time M.state M.counts (CountsDisk result) machine.old machine.new }
 {
     let count = read_piece(machine, first, at, left, one)?;
     let again = read_piece(machine, second, at, left, other)?;
@@ -51,8 +50,7 @@ pub(crate) fn are_alike<M: Machine>(
         → length (contents (M.state machine.old).files second.now) ≡ size
         → alike ≡ true
         → contents (M.state machine.old).files first.now ≡ contents (M.state machine.old).files second.now) }
-    ensures reads { IsTrue M.tells → OnlyReads M.time M.state machine.old machine.new }
-    ensures counts { CountsDisk result (M.counts machine.old) (M.counts machine.new) }
+    ensures looks { Looks M.tells M.time M.state M.counts (CountsDisk result) machine.old machine.new }
 {
     let mut one: Piece = [0; PIECE_SIZE];
     let mut other: Piece = [0; PIECE_SIZE];

@@ -1,7 +1,7 @@
 //! The commands that `type1 cleanup` stands for.
 ghost use Rattle.std.specs.Prelude.{◌≡◌, ◌≤◌, ◌+◌, All, IfErr, IfOk, IsTrue, length, map};
 ghost use Rattle.boot_base.specs.Paths.{IsFree};
-ghost use Rattle.boot_machine.specs.Prelude.{OnlyReads, seen};
+ghost use Rattle.boot_machine.specs.Prelude.{Looks, seen};
 ghost use Rattle.boot_machine.specs.Rows.{IsNamesOf};
 ghost use Rattle.tool_words.specs.declared.command.Command.TheVariants.{Remove};
 ghost use Rattle.command_plans.specs.Prelude.{CountsUnsaid, Says};
@@ -28,8 +28,7 @@ fn names_in<M: Machine>(
     ensures names { IfOk result (λ names. IsTrue M.tells
         → IsNamesOf (M.state machine.old).files folder.now names.items) }
     ensures faults { IfErr result IsNoRefusal }
-    ensures reads { IsTrue M.tells → OnlyReads M.time M.state machine.old machine.new }
-    ensures counts { CountsUnsaid result (M.counts machine.old) (M.counts machine.new) }
+    ensures looks { Looks M.tells M.time M.state M.counts (CountsUnsaid result) machine.old machine.new }
 {
     match machine.names(alloc, folder) {
         Ok(names) => Ok(names),
@@ -52,8 +51,7 @@ fn unnamed_payloads<M: Machine>(
         → unnamed_payloads (seen (M.state machine.old)) esp.now items.now ≡ paths.items) }
     ensures faults { IfErr result IsNoRefusal }
     ensures free { IfOk result (λ paths. All IsFree paths.items) }
-    ensures reads { IsTrue M.tells → OnlyReads M.time M.state machine.old machine.new }
-    ensures counts { CountsUnsaid result (M.counts machine.old) (M.counts machine.new) }
+    ensures looks { Looks M.tells M.time M.state M.counts (CountsUnsaid result) machine.old machine.new }
 {
     let names = names_in(alloc, folder, machine)?;
     Ok(unnamed(alloc, esp, folder, items, &names)?)
@@ -83,8 +81,7 @@ pub fn cleanup_expansion<M: Machine>(
     ensures says { IsTrue M.tells → Says (λ commands. commands.items) result
         (cleanup_expansion (seen (M.state machine.old)) esp.now) }
     ensures free { IfOk result (λ commands. All HasFreePath commands.items) }
-    ensures reads { IsTrue M.tells → OnlyReads M.time M.state machine.old machine.new }
-    ensures counts { CountsUnsaid result (M.counts machine.old) (M.counts machine.new) }
+    ensures looks { Looks M.tells M.time M.state M.counts (CountsUnsaid result) machine.old machine.new }
 {
     let folders = folders_in(alloc, esp)?;
     let esp = path_in(alloc, esp)?;

@@ -2,7 +2,7 @@
 ghost use Rattle.std.specs.Prelude.{◌≡◌, ◌≤◌, ◌+◌, ◌++◌, ◌∷◌, [], All, IfOk, IsTrue, OnOk, length, map};
 ghost use Rattle.std.specs.Option.{option_to_list};
 ghost use Rattle.boot_base.specs.Paths.{IsFree};
-ghost use Rattle.boot_machine.specs.Prelude.{OnlyReads, seen};
+ghost use Rattle.boot_machine.specs.Prelude.{Looks, seen};
 ghost use Rattle.boot_texts.specs.EntryText.{entry_text};
 ghost use Rattle.tool_words.specs.declared.command.Command.TheVariants.{Enter};
 ghost use Rattle.command_plans.specs.Prelude.{CountsUnsaid, Says};
@@ -174,8 +174,7 @@ pub fn install_expansion<M: Machine>(
     ensures says { IsTrue M.tells → Says (λ commands. commands.items) result
         (install_expansion (seen (M.state machine.old)) words.now) }
     ensures free { IfOk result (λ commands. All HasFreePath commands.items) }
-    ensures reads { IsTrue M.tells → OnlyReads M.time M.state machine.old machine.new }
-    ensures counts { CountsUnsaid result (M.counts machine.old) (M.counts machine.new) }
+    ensures looks { Looks M.tells M.time M.state M.counts (CountsUnsaid result) machine.old machine.new }
 {
     let plan = install_plan(alloc, words)?;
     let mut buffer = [0; PIECE_SIZE];

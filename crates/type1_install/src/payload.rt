@@ -2,7 +2,7 @@
 ghost use Rattle.std.specs.Prelude.{◌≡◌, ◌<◌, ◌≤◌, true, length, All, IfOk, IsTrue};
 ghost use Rattle.hex.specs.Hex.{encode_lower};
 ghost use Rattle.boot_base.specs.Limits.{file_limit};
-ghost use Rattle.boot_machine.specs.Prelude.{CountsDisk, OnlyReads, contents, seen};
+ghost use Rattle.boot_machine.specs.Prelude.{CountsDisk, Looks, contents, seen};
 ghost use Rattle.boot_texts.specs.EntryText.{is_payload_name};
 ghost use Rattle.pcr_values.specs.Banks.{digest_of};
 ghost use Rattle.pcr_values.specs.Values.{bank_of, bytes_of_digest};
@@ -39,8 +39,7 @@ fn file_digest<M: Machine>(
     ensures value { IfOk result (λ digest. IsTrue M.tells
         → length (contents (M.state machine.old).files path.now) ≡ size
         → bytes_of_digest digest ≡ digest_of Sha256 (contents (M.state machine.old).files path.now)) }
-    ensures reads { IsTrue M.tells → OnlyReads M.time M.state machine.old machine.new }
-    ensures counts { CountsDisk result (M.counts machine.old) (M.counts machine.new) }
+    ensures looks { Looks M.tells M.time M.state M.counts (CountsDisk result) machine.old machine.new }
 {
     let range = LoadedRange {
         place: 0,
@@ -79,8 +78,7 @@ pub(crate) fn payload_at<M: Machine>(
     ensures says { IsTrue M.tells
         → Says (λ payload. payload) result (payload_at (seen (M.state machine.old)) file.now) }
     ensures name { IfOk result HasPayloadName }
-    ensures reads { IsTrue M.tells → OnlyReads M.time M.state machine.old machine.new }
-    ensures counts { CountsUnsaid result (M.counts machine.old) (M.counts machine.new) }
+    ensures looks { Looks M.tells M.time M.state M.counts (CountsUnsaid result) machine.old machine.new }
 {
     let size = readable_size(alloc, file, machine)?;
     let digest = file_digest(file, size, machine, buffer)?;
@@ -102,8 +100,7 @@ pub(crate) fn payloads_at<M: Machine>(
         (each (payload_at (seen (M.state machine.old))) files.now) }
     ensures names { IfOk result (λ payloads. All HasPayloadName payloads.items) }
     ensures count { IfOk result (λ payloads. length payloads.items ≡ length files.now) }
-    ensures reads { IsTrue M.tells → OnlyReads M.time M.state machine.old machine.new }
-    ensures counts { CountsUnsaid result (M.counts machine.old) (M.counts machine.new) }
+    ensures looks { Looks M.tells M.time M.state M.counts (CountsUnsaid result) machine.old machine.new }
 {
     let mut payloads = Vec::new(alloc);
     for file in files {

@@ -3,8 +3,8 @@ ghost use Rattle.std.specs.Prelude.{◌≡◌, ◌≤◌, ℕ, length, true, Lis
 ghost use Rattle.std.specs.FinMap.{get, insert};
 ghost use Rattle.boot_base.specs.Limits.{file_limit};
 ghost use Rattle.boot_base.specs.Paths.{IsFree};
-ghost use Rattle.boot_machine.specs.Prelude.{OnlyReads, State, TakesAtMost, contents, seen};
-ghost use Rattle.command_plans.specs.Prelude.{CanCopy, CountsStop, CountsUnsaid, IsIdleIfRefused, IsMakeable, Plans, PlansAs, done_answer, unlink_answer};
+ghost use Rattle.boot_machine.specs.Prelude.{Looks, State, TakesAtMost, contents, seen};
+ghost use Rattle.command_plans.specs.Prelude.{CanCopy, CountsStop, CountsUnsaid, Plans, PlansAs, done_answer, unlink_answer};
 ghost use Rattle.type1_install.specs.Unnamed.{IsNoRefusal};
 ghost use Rattle.type1_install.specs.Placing.{enter_answer, payload_text, put_answer, put_result};
 
@@ -28,10 +28,8 @@ fn payload_text(alloc: Global, target: &BootPath) -> Result<Bytes, AllocError>
 // The plan of a payload's copy.
 fn put_plan(alloc: Global, file: &BootPath, target: &BootPath) -> Result<Plan, AllocError>
     requires free { IsFree target.now }
-    ensures plans { IfOk result (λ plan. (s : State) → CanCopy s file.now → Plans s plan
+    ensures { IfOk result (λ plan. (s : State) → CanCopy s file.now → Plans s plan
         (done_answer (insert (seen s) target.now (contents (seen s) file.now)) (payload_text target.now))) }
-    ensures makeable { IfOk result (λ plan. IsMakeable plan.change) }
-    ensures idle { IfOk result IsIdleIfRefused }
 {
     let text = payload_text(alloc, target)?;
     let file = file.copy(alloc)?;
@@ -42,10 +40,8 @@ fn put_plan(alloc: Global, file: &BootPath, target: &BootPath) -> Result<Plan, A
 // The plan of a payload that stands at its place already: nothing is changed, so that no cut can harm a file that
 // entries name.
 fn standing_plan(alloc: Global, target: &BootPath) -> Result<Plan, AllocError>
-    ensures plans { IfOk result (λ plan. (s : State) (bytes : List ℕ) → get (seen s) target.now ≡ Some bytes
+    ensures { IfOk result (λ plan. (s : State) (bytes : List ℕ) → get (seen s) target.now ≡ Some bytes
         → Plans s plan (done_answer (insert (seen s) target.now bytes) (payload_text target.now))) }
-    ensures makeable { IfOk result (λ plan. IsMakeable plan.change) }
-    ensures idle { IfOk result IsIdleIfRefused }
 {
     Ok(Plan {
         change: Change::Nothing,
@@ -67,8 +63,7 @@ fn is_copied<M: Machine>(
         → length (contents (M.state machine.old).files file.now) ≡ size → copied ≡ true
         → get (seen (M.state machine.old)) target.now ≡ Some (contents (M.state machine.old).files file.now)) }
     ensures faults { IfErr result IsNoRefusal }
-    ensures reads { IsTrue M.tells → OnlyReads M.time M.state machine.old machine.new }
-    ensures counts { CountsUnsaid result (M.counts machine.old) (M.counts machine.new) }
+    ensures looks { Looks M.tells M.time M.state M.counts (CountsUnsaid result) machine.old machine.new }
 {
     match readable_size(alloc, target, machine) {
         Ok(length) if length == size => Ok(are_alike(file, target, size, machine)?),
@@ -91,10 +86,7 @@ fn put<M: Machine>(
     requires free { IsFree target.now }
     ensures plans { IsTrue M.tells → PlansAs (M.state machine.old) result
         (put_result (seen (M.state machine.old)) file.now target.now) }
-    ensures makeable { IfOk result (λ plan. IsMakeable plan.change) }
-    ensures idle { IfOk result IsIdleIfRefused }
-    ensures reads { IsTrue M.tells → OnlyReads M.time M.state machine.old machine.new }
-    ensures counts { CountsUnsaid result (M.counts machine.old) (M.counts machine.new) }
+    ensures looks { Looks M.tells M.time M.state M.counts (CountsUnsaid result) machine.old machine.new }
 {
     let size = readable_size(alloc, file, machine)?;
     if is_copied(alloc, file, size, target, machine)? {
@@ -114,10 +106,7 @@ pub fn plan_put<M: Machine>(
     requires free { IsFree target.now }
     ensures plans { IfOk result (λ plan. IsTrue M.tells → Plans (M.state machine.old) plan
         (put_answer (seen (M.state machine.old)) file.now target.now)) }
-    ensures makeable { IfOk result (λ plan. IsMakeable plan.change) }
-    ensures idle { IfOk result IsIdleIfRefused }
-    ensures reads { IsTrue M.tells → OnlyReads M.time M.state machine.old machine.new }
-    ensures counts { CountsStop result (M.counts machine.old) (M.counts machine.new) }
+    ensures looks { Looks M.tells M.time M.state M.counts (CountsStop result) machine.old machine.new }
 {
     let plan = put(alloc, file, target, machine);
     answer_or_refusal(alloc, plan)
@@ -126,9 +115,7 @@ pub fn plan_put<M: Machine>(
 /// What the entering of an entry's text is going to do.
 pub fn plan_enter(alloc: Global, path: &BootPath, text: &Bytes) -> Result<Plan, AllocError>
     requires free { IsFree path.now }
-    ensures plans { IfOk result (λ plan. (s : State) → Plans s plan (enter_answer (seen s) path.now text.now)) }
-    ensures makeable { IfOk result (λ plan. IsMakeable plan.change) }
-    ensures idle { IfOk result IsIdleIfRefused }
+    ensures { IfOk result (λ plan. (s : State) → Plans s plan (enter_answer (seen s) path.now text.now)) }
 {
     let told = installed_text(alloc, path)?;
     let bytes = Bytes::of(alloc, text.as_slice())?;
@@ -149,10 +136,7 @@ pub fn plan_remove<M: Machine>(
     requires free { IsFree path.now }
     ensures plans { IfOk result (λ plan. IsTrue M.tells → Plans (M.state machine.old) plan
         (unlink_answer (seen (M.state machine.old)) path.now)) }
-    ensures makeable { IfOk result (λ plan. IsMakeable plan.change) }
-    ensures idle { IfOk result IsIdleIfRefused }
-    ensures reads { IsTrue M.tells → OnlyReads M.time M.state machine.old machine.new }
-    ensures counts { CountsStop result (M.counts machine.old) (M.counts machine.new) }
+    ensures looks { Looks M.tells M.time M.state M.counts (CountsStop result) machine.old machine.new }
     ensures taken { IsTrue M.tells → TakesAtMost 0 (M.taken machine.old) (M.taken machine.new) }
 {
     let path = path.copy(alloc)?;

@@ -2,7 +2,7 @@ use Rattle.std.proofs.Common.{◌≡◌, ◌∙◌, true, List, refl, sym, subst
 use Rattle.std.specs.Prelude.{All}
 use Rattle.std.proofs.lemmas.List.Elements.{All-nil}
 use Rattle.boot_machine.specs.Sent.{seen}
-use Rattle.boot_machine.proofs.Reading.{reads_none}
+use Rattle.boot_machine.proofs.Reading.{looks_none}
 use Rattle.tool_words.specs.declared.command.Command.{Command}
 use Rattle.boot_commands.specs.Plain.{is_step}
 use Rattle.boot_commands.proofs.Expanded.{no_expansion, stands_alone}
@@ -16,9 +16,5 @@ returns-in_default g c =
     record {
       commands = λ told. c.new.ensures.items ∙ sym (no_expansion (seen (g.M.Machine.state c.args.machine.now)) command alone);
       steps = subst steps (sym c.new.ensures.items) (All-nil (λ one. is_step one ≡ true));
-      reads =
-          λ told.
-          reads_none g.M.Machine.time g.M.Machine.state c.args.machine.now
-          (λ m o left. g.met.M.Machine.only_now c.args.machine.now m o told left);
-      counts = refl;
+      looks = looks_none (g.met.M.Machine.only_now c.args.machine.now) refl;
     }

@@ -3,7 +3,7 @@ use Rattle.boot_machine.specs.Disk.{Files, State}
 use Rattle.boot_machine.specs.Sent.{seen}
 use Rattle.boot_machine.proofs.Seeing.{sees}
 use Rattle.boot_commands.specs.Commands.{LeavesTidied, deed_of, step_reply}
-use Rattle.command_plans.specs.Plans.{CanMake, Drops}
+use Rattle.command_plans.specs.Plans.{Drops}
 use Rattle.command_plans.proofs.Performed.{plan_failed}
 use Rattle.boot_commands.proofs.Reading.{performs_after, tidies_after}
 use Rattle.boot_commands.proofs.Tidies.{tidies_unplanned}
@@ -13,21 +13,21 @@ pub returns-in_err-plan-clause-performs : goal.returns-in_err-plan-clause-perfor
 returns-in_err-plan-clause-performs g c told firm =
     let old = c.args.machine.now in
     plan_failed g.M.Machine.time g.M.Machine.state old (deed_of (seen (g.M.Machine.state old)) c.args.command.now) c.plan_plain.new.machine c.in_err-plan.field-0.0
-    c.from_residual.result c.from_residual.ensures.0 c.from_residual.ensures.1 (λ m image. sees (g.M.Machine.state old) (g.met.M.Machine.sound old told) firm m image) firm (c.plan_plain.ensures.reads told)
+    c.from_residual.result c.from_residual.ensures.0 c.from_residual.ensures.1 (λ m image. sees (g.M.Machine.state old) (g.met.M.Machine.sound old told) firm m image) firm (c.plan_plain.ensures.looks.reads told)
 
 pub returns-in_err-plan-clause-tidies : goal.returns-in_err-plan-clause-tidies
 returns-in_err-plan-clause-tidies g c told =
     tidies_unplanned c.from_residual.result c.in_err-plan.field-0.0 c.args.command.now (g.M.Machine.state c.args.machine.now) (g.M.Machine.state c.plan_plain.new.machine) c.from_residual.ensures.0 c.from_residual.ensures.1
-    (c.plan_plain.ensures.reads told).same
+    (c.plan_plain.ensures.looks.reads told).same
 
 pub returns-clause-performs : goal.returns-clause-performs
 returns-clause-performs g c told firm =
     let old = c.args.machine.now in
     performs_after g.M.Machine.time g.M.Machine.state old c.plan_plain.new.machine c.carry_out.new.machine c.in_ok-plan.plan (step_reply (seen (g.M.Machine.state old)) c.args.command.now) c.carry_out.result
-    (λ m image. sees (g.M.Machine.state old) (g.met.M.Machine.sound old told) firm m image) (c.plan_plain.ensures.reads told) (c.in_ok-plan.ensures.plans told).answer_is firm (c.carry_out.ensures.performs told)
+    (λ m image. sees (g.M.Machine.state old) (g.met.M.Machine.sound old told) firm m image) (c.plan_plain.ensures.looks.reads told) (c.in_ok-plan.ensures.plans told).answer_is firm (c.carry_out.ensures.performs told)
 
 pub returns-clause-tidies : goal.returns-clause-tidies
 returns-clause-tidies g c told =
-    let reads = c.plan_plain.ensures.reads told in
+    let reads = c.plan_plain.ensures.looks.reads told in
     tidies_after c.carry_out.result c.args.command.now (g.M.Machine.state c.args.machine.now) (g.M.Machine.state c.plan_plain.new.machine) (g.M.Machine.state c.carry_out.new.machine) reads.same
     (c.carry_out.ensures.tidies told c.args.command.now (subst (λ (s : State). (files : Files) → Drops c.in_ok-plan.plan.change s.files files → LeavesTidied c.args.command.now files) (sym reads.same) (c.in_ok-plan.ensures.tidies told)))

@@ -1,19 +1,17 @@
 -- Nothing is read of a file without a path.
-use Rattle.std.proofs.Common.{◌≡◌, sym, ap, ◌∙◌, subst, IfSome}
+use Rattle.std.proofs.Common.{◌≡◌, sym, ap, ◌∙◌, subst, IfSome, rules}
 use Rattle.boot_base.specs.Paths.{file_name_of}
 use Rattle.menu_order.specs.Splits.{has_suffix}
 use Rattle.menu_order.specs.declared.counted.Suffix.{Suffix}
 use Rattle.menu_order.specs.declared.counted.Suffix.TheVariants.{Efi}
-use Rattle.boot_machine.proofs.Reading.{reads_none}
+use Rattle.boot_machine.proofs.Reading.{looks_none}
 use Rattle.boot_folder.proofs.entry.entry_named.Goals as goal
 
-pub returns-in_err-path-clause-reads : goal.returns-in_err-path-clause-reads
-returns-in_err-path-clause-reads g c told =
-    reads_none g.M.Machine.time g.M.Machine.state c.args.machine.now (λ m o left. g.met.M.Machine.only_now c.args.machine.now m o told left)
+pub returns-in_err-path-clause-looks : goal.returns-in_err-path-clause-looks
+returns-in_err-path-clause-looks g c = looks_none (g.met.M.Machine.only_now c.args.machine.now) (search rules)
 
-pub returns-in_default-clause-reads : goal.returns-in_default-clause-reads
-returns-in_default-clause-reads g c told =
-    reads_none g.M.Machine.time g.M.Machine.state c.args.machine.now (λ m o left. g.met.M.Machine.only_now c.args.machine.now m o told left)
+pub returns-in_default-clause-looks : goal.returns-in_default-clause-looks
+returns-in_default-clause-looks g c = looks_none (g.met.M.Machine.only_now c.args.machine.now) (search rules)
 
 pub image_at-requires : goal.image_at-requires
 image_at-requires g c =

@@ -4,26 +4,20 @@ use Rattle.std.specs.Prelude.{All}
 use Rattle.std.proofs.lemmas.Fn.{filter_same}
 use Rattle.std.proofs.lemmas.List.Elements.{filter_passes}
 use Rattle.menu_order.specs.Splits.{has_suffix}
-use Rattle.boot_machine.proofs.Reading.{reads_once}
+use Rattle.boot_machine.proofs.Reading.{looks_once}
 use Rattle.boot_folder.specs.Scanning.{AreEntryNames}
 use Rattle.boot_folder.proofs.Finding.{suffix_names}
 use Rattle.boot_folder.proofs.OnceNames.{still_all, still_names}
 use Rattle.boot_folder.proofs.names.names_with.Goals as goal
 
-pub returns-in_err-names-clause-reads : goal.returns-in_err-names-clause-reads
-returns-in_err-names-clause-reads g c told =
-    reads_once g.M.Machine.time g.M.Machine.state c.args.machine.now c.names.new.self
-    (λ m o left. g.met.M.Machine.only_now c.args.machine.now m o told left) (c.names.ensures.moments told) (c.names.ensures.row told).same
+pub returns-in_err-names-clause-looks : goal.returns-in_err-names-clause-looks
+returns-in_err-names-clause-looks g c = looks_once (g.met.M.Machine.only_now c.args.machine.now) c.names.ensures.moments (λ told. (c.names.ensures.row told).same) (search rules)
 
-pub returns-in_err-once-clause-reads : goal.returns-in_err-once-clause-reads
-returns-in_err-once-clause-reads g c told =
-    reads_once g.M.Machine.time g.M.Machine.state c.args.machine.now c.names.new.self
-    (λ m o left. g.met.M.Machine.only_now c.args.machine.now m o told left) (c.names.ensures.moments told) (c.names.ensures.row told).same
+pub returns-in_err-once-clause-looks : goal.returns-in_err-once-clause-looks
+returns-in_err-once-clause-looks g c = looks_once (g.met.M.Machine.only_now c.args.machine.now) c.names.ensures.moments (λ told. (c.names.ensures.row told).same) (search rules)
 
-pub returns-clause-reads : goal.returns-clause-reads
-returns-clause-reads g c told =
-    reads_once g.M.Machine.time g.M.Machine.state c.args.machine.now c.names.new.self
-    (λ m o left. g.met.M.Machine.only_now c.args.machine.now m o told left) (c.names.ensures.moments told) (c.names.ensures.row told).same
+pub returns-clause-looks : goal.returns-clause-looks
+returns-clause-looks g c = looks_once (g.met.M.Machine.only_now c.args.machine.now) c.names.ensures.moments (λ told. (c.names.ensures.row told).same) (search rules)
 
 pub returns-clause-names : goal.returns-clause-names
 returns-clause-names g c told =

@@ -1,5 +1,5 @@
 -- One file more.
-use Rattle.std.proofs.Common.{◌++◌, ℕ, List, refl, sym, ap, ◌∙◌, arith, append-nil}
+use Rattle.std.proofs.Common.{◌++◌, ℕ, List, refl, sym, ap, ◌∙◌, arith, append-nil, rules}
 use Rattle.std.specs.Prelude.{option_to_list}
 use Rattle.boot_base.specs.Paths.{under}
 use Rattle.boot_machine.proofs.Reading.{reads_none, reads_on}
@@ -27,11 +27,13 @@ loop-name-preserved g c =
           chosen_more (λ (name : List ℕ). entry_if c.args.suffix files (under c.args.folder.now name)) c.args.items.now.items c.loop-name.items.items c.append_entry.new.items.items c.args.names.now c.loop-name.name-index c.name-item.result c.loop-name-test.true c.name-item.is
           (before.entries told)
           (one.entry told ∙ ap (λ (s : State). c.loop-name.items.items ++ option_to_list (entry_if c.args.suffix s.files (under c.args.folder.now c.name-item.result))) (before.reads told).same);
-      reads = λ told. reads_on g.M.Machine.time g.M.Machine.state _ _ _ (before.reads told) (c.append_entry.ensures.reads told);
-      counts = one.counts ∙ before.counts;
+      reads = λ told. reads_on g.M.Machine.time g.M.Machine.state _ _ _ (before.reads told) (c.append_entry.ensures.looks.reads told);
+      counts = one.looks.counted ∙ before.counts;
       taken = λ told. taken_more (read_limit c.args.suffix) c.loop-name.name-index _ _ _ (before.taken told) (one.taken told);
     }
 
-pub returns-in_err-append_entry-clause-reads : goal.returns-in_err-append_entry-clause-reads
-returns-in_err-append_entry-clause-reads g c told =
-    reads_on g.M.Machine.time g.M.Machine.state _ _ _ (c.loop-name.invariant.reads told) (c.append_entry.ensures.reads told)
+pub returns-in_err-append_entry-clause-looks : goal.returns-in_err-append_entry-clause-looks
+returns-in_err-append_entry-clause-looks g c = record {
+  reads = λ told. reads_on g.M.Machine.time g.M.Machine.state _ _ _ (c.loop-name.invariant.reads told) (c.append_entry.ensures.looks.reads told);
+  counted = search rules;
+}

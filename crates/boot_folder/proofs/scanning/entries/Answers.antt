@@ -1,8 +1,8 @@
 -- The files of both types are read one after the other.
-use Rattle.std.proofs.Common.{◌≡◌, ◌++◌, ◌↔◌, ◌*◌, ℕ, List, length, ap, sym, ◌∙◌, subst}
+use Rattle.std.proofs.Common.{◌≡◌, ◌++◌, ◌↔◌, ◌*◌, ℕ, List, length, ap, sym, ◌∙◌, subst, rules}
 use Rattle.std.specs.Prelude.{Contains}
 use Rattle.menu_order.specs.declared.counted.Suffix.TheVariants.{Conf, Efi}
-use Rattle.boot_machine.proofs.Reading.{reads_on}
+use Rattle.boot_machine.proofs.Reading.{looks_on}
 use Rattle.boot_machine.specs.Disk.{State}
 use Rattle.boot_machine.specs.Reading.{TakesAtMost}
 use Rattle.menu_order.specs.declared.item.MenuItem.{MenuItem}
@@ -11,13 +11,11 @@ use Rattle.boot_folder.specs.Scanning.{entries_named}
 use Rattle.boot_folder.proofs.EntryFiles.{found_entries, taken_of_both, taken_of_texts}
 use Rattle.boot_folder.proofs.scanning.entries.Goals as goal
 
-pub returns-in_err-append_entries-2-clause-reads : goal.returns-in_err-append_entries-2-clause-reads
-returns-in_err-append_entries-2-clause-reads g c told =
-    reads_on g.M.Machine.time g.M.Machine.state _ _ _ (c.append_entries.ensures.reads told) (c.append_entries-2.ensures.reads told)
+pub returns-in_err-append_entries-2-clause-looks : goal.returns-in_err-append_entries-2-clause-looks
+returns-in_err-append_entries-2-clause-looks g c = looks_on c.append_entries.ensures.looks c.append_entries-2.ensures.looks (search rules)
 
-pub returns-clause-reads : goal.returns-clause-reads
-returns-clause-reads g c told =
-    reads_on g.M.Machine.time g.M.Machine.state _ _ _ (c.append_entries.ensures.reads told) (c.append_entries-2.ensures.reads told)
+pub returns-clause-looks : goal.returns-clause-looks
+returns-clause-looks g c = looks_on c.append_entries.ensures.looks c.append_entries-2.ensures.looks (search rules)
 
 pub returns-in_err-append_entries-clause-taken : goal.returns-in_err-append_entries-clause-taken
 returns-in_err-append_entries-clause-taken g c told are_texts are_images =
@@ -52,7 +50,7 @@ returns-clause-entries g c told are_texts are_images item =
     let items : c.append_entries-2.new.items.items ≡ entries_named Conf files folders.entries texts ++ entries_named Efi files folders.images images =
     c.in_ok-append_entries-2.ensures.entries told
     ∙ ap (λ (l : List MenuItem). l ++ entries_named Efi (g.M.Machine.state c.append_entries.new.machine).files folders.images c.as_slice-images.result.now) first
-    ∙ ap (λ (s : State). entries_named Conf files folders.entries texts ++ entries_named Efi s.files folders.images c.as_slice-images.result.now) (c.append_entries.ensures.reads told).same
+    ∙ ap (λ (s : State). entries_named Conf files folders.entries texts ++ entries_named Efi s.files folders.images c.as_slice-images.result.now) (c.append_entries.ensures.looks.reads told).same
     ∙ ap (λ (l : List (List ℕ)). entries_named Conf files folders.entries texts ++ entries_named Efi files folders.images l) c.as_slice-images.ensures.value in
     subst (λ (l : List MenuItem). Contains l item ↔ IsEntry files folders item) (sym items)
     (found_entries files folders texts images are_texts are_images item)

@@ -21,22 +21,22 @@ pub returns-clause-recovers : goal.returns-clause-recovers
 returns-clause-recovers g c told firm =
     let recovers = c.recover_rename.ensures.recovers told firm in
     recovers_more g.M.Machine.time g.M.Machine.state c.args.machine.now c.recover_rename.new.machine c.expand.new.machine recovers
-    (g.met.M.Machine.sound c.recover_rename.new.machine told) (c.in_ok-recover_rename.ensures.one told) (c.recover_rename.ensures.keeps told).printed (c.expand.ensures.reads told)
+    (g.met.M.Machine.sound c.recover_rename.new.machine told) (c.in_ok-recover_rename.ensures.one told) (c.recover_rename.ensures.keeps told).printed (c.expand.ensures.looks.reads told)
 
 pub returns-clause-synced : goal.returns-clause-synced
 returns-clause-synced g c =
     on_ok_any c.expand.result _ (λ told firm.
     let recovers = c.recover_rename.ensures.recovers told firm in
     same_more g.M.Machine.time g.M.Machine.state c.args.machine.now c.recover_rename.new.machine c.expand.new.machine recovers
-    (g.met.M.Machine.sound c.recover_rename.new.machine told) (c.in_ok-recover_rename.ensures.one told) (c.recover_rename.ensures.keeps told).printed (c.expand.ensures.reads told)
+    (g.met.M.Machine.sound c.recover_rename.new.machine told) (c.in_ok-recover_rename.ensures.one told) (c.recover_rename.ensures.keeps told).printed (c.expand.ensures.looks.reads told)
     (c.in_ok-recover_rename.ensures.synced told firm))
 
 pub returns-clause-one : goal.returns-clause-one
 returns-clause-one g c =
-    on_ok_any c.expand.result _ (λ told. subst HasOneCandidate (sym (c.expand.ensures.reads told).same) (c.in_ok-recover_rename.ensures.one told))
+    on_ok_any c.expand.result _ (λ told. subst HasOneCandidate (sym (c.expand.ensures.looks.reads told).same) (c.in_ok-recover_rename.ensures.one told))
 
 pub returns-clause-keeps : goal.returns-clause-keeps
-returns-clause-keeps g c told = subst (Keeps (g.M.Machine.state c.args.machine.now)) (sym (c.expand.ensures.reads told).same) (c.recover_rename.ensures.keeps told)
+returns-clause-keeps g c told = subst (Keeps (g.M.Machine.state c.args.machine.now)) (sym (c.expand.ensures.looks.reads told).same) (c.recover_rename.ensures.keeps told)
 
 pub returns-clause-temps : goal.returns-clause-temps
-returns-clause-temps g c told = subst (NoNewTemp (g.M.Machine.state c.args.machine.now)) (sym (c.expand.ensures.reads told).same) (c.recover_rename.ensures.temps told)
+returns-clause-temps g c told = subst (NoNewTemp (g.M.Machine.state c.args.machine.now)) (sym (c.expand.ensures.looks.reads told).same) (c.recover_rename.ensures.temps told)

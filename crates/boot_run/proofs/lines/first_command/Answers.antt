@@ -1,4 +1,4 @@
-use Rattle.std.proofs.Common.{◌∙◌, subst}
+use Rattle.std.proofs.Common.{◌∙◌, subst, rules}
 use Rattle.boot_machine.specs.Disk.{Files, IsRested}
 use Rattle.boot_machine.specs.Sent.{recovered_now}
 use Rattle.command_plans.specs.Performs.{Performs, end_of}
@@ -18,11 +18,12 @@ returns-in_err-recover_rename-clause-syncs g c told firm =
     synced_failed g.M.Machine.time g.M.Machine.state c.args.machine.now c.recover_rename.new.machine (line_deed (recovered_now (g.M.Machine.state c.args.machine.now)) c.args.line.now) c.from_residual.result c.from_residual.ensures.0
     (c.recover_rename.ensures.recovers told firm)
 
-pub returns-in_err-recover_rename-clause-temps : goal.returns-in_err-recover_rename-clause-temps
-returns-in_err-recover_rename-clause-temps g c told = leaves_none c.from_residual.result (g.M.Machine.state c.args.machine.now) (g.M.Machine.state c.recover_rename.new.machine) (c.recover_rename.ensures.temps told)
-
-pub returns-in_err-recover_rename-clause-input : goal.returns-in_err-recover_rename-clause-input
-returns-in_err-recover_rename-clause-input g c told = (c.recover_rename.ensures.keeps told).input
+pub returns-in_err-recover_rename-clause-behaves : goal.returns-in_err-recover_rename-clause-behaves
+returns-in_err-recover_rename-clause-behaves g c = record {
+  input = λ told. (c.recover_rename.ensures.keeps told).input;
+  temps = λ told. leaves_none c.from_residual.result (g.M.Machine.state c.args.machine.now) (g.M.Machine.state c.recover_rename.new.machine) (c.recover_rename.ensures.temps told);
+  counted = search rules;
+}
 
 pub returns-clause-performs : goal.returns-clause-performs
 returns-clause-performs g c told firm =
@@ -43,12 +44,12 @@ returns-clause-syncs g c told firm =
     (g.met.M.Machine.sound old told) firm recovers (c.in_ok-recover_rename.ensures.one told) (c.recover_rename.ensures.keeps told).printed c.run_line.result
     (c.in_ok-recover_rename.ensures.synced told firm) performs.moments
 
-pub returns-clause-temps : goal.returns-clause-temps
-returns-clause-temps g c told =
-    leaves_more c.run_line.result (g.M.Machine.state c.args.machine.now) (g.M.Machine.state c.recover_rename.new.machine) (g.M.Machine.state c.run_line.new.machine) (c.recover_rename.ensures.temps told) (c.run_line.ensures.temps told)
-
-pub returns-clause-input : goal.returns-clause-input
-returns-clause-input g c told = c.run_line.ensures.input told ∙ (c.recover_rename.ensures.keeps told).input
+pub returns-clause-behaves : goal.returns-clause-behaves
+returns-clause-behaves g c = record {
+  input = λ told. c.run_line.ensures.behaves.input told ∙ (c.recover_rename.ensures.keeps told).input;
+  temps = λ told. leaves_more c.run_line.result (g.M.Machine.state c.args.machine.now) (g.M.Machine.state c.recover_rename.new.machine) (g.M.Machine.state c.run_line.new.machine) (c.recover_rename.ensures.temps told) (c.run_line.ensures.behaves.temps told);
+  counted = search rules;
+}
 
 pub returns-in_err-recover_rename-clause-tidies : goal.returns-in_err-recover_rename-clause-tidies
 returns-in_err-recover_rename-clause-tidies g c told = where_none c.from_residual.result (g.M.Machine.state c.args.machine.now) (g.M.Machine.state c.recover_rename.new.machine) _ c.from_residual.ensures.0 (c.recover_rename.ensures.keeps told).printed

@@ -1,4 +1,4 @@
-use Rattle.std.proofs.Common.{ap, sym, subst, ◌∙◌}
+use Rattle.std.proofs.Common.{ap, sym, subst, ◌∙◌, rules}
 use Rattle.boot_machine.specs.Sent.{recovered_now, seen}
 use Rattle.boot_run.specs.Lines.{TidiedBy, is_unread, line_deed}
 use Rattle.boot_run.specs.RunsTo.{OnlyPrints, WherePrinted}
@@ -33,20 +33,22 @@ returns-in-TooLong-clause-only_prints g c told firm is =
     subst (λ line. OnlyPrints g.M.Machine.time g.M.Machine.state c.args.machine.now c.too_long.new.machine (line_deed (recovered_now (g.M.Machine.state c.args.machine.now)) line).sent) (sym c.in-TooLong.is)
     (record { same = c.too_long.ensures.stays told; moments = c.too_long.ensures.moments told })
 
-pub returns-in-Unread-clause-input : goal.returns-in-Unread-clause-input
-returns-in-Unread-clause-input g c told = input_stays _ _ (c.unread_line.ensures.stays told)
-
-pub returns-in-Unread-clause-temps : goal.returns-in-Unread-clause-temps
-returns-in-Unread-clause-temps g c told = leaves_none c.unread_line.result (g.M.Machine.state c.args.machine.now) (g.M.Machine.state c.unread_line.new.machine) (temps_stay (g.M.Machine.state c.args.machine.now) (g.M.Machine.state c.unread_line.new.machine) (files_stay _ _ (c.unread_line.ensures.stays told)))
+pub returns-in-Unread-clause-behaves : goal.returns-in-Unread-clause-behaves
+returns-in-Unread-clause-behaves g c = record {
+  input = λ told. input_stays _ _ (c.unread_line.ensures.stays told);
+  temps = λ told. leaves_none c.unread_line.result (g.M.Machine.state c.args.machine.now) (g.M.Machine.state c.unread_line.new.machine) (temps_stay (g.M.Machine.state c.args.machine.now) (g.M.Machine.state c.unread_line.new.machine) (files_stay _ _ (c.unread_line.ensures.stays told)));
+  counted = search rules;
+}
 
 pub returns-in-Unread-clause-rests : goal.returns-in-Unread-clause-rests
 returns-in-Unread-clause-rests g c told rested = leaves_rested c.unread_line.result (g.M.Machine.state c.unread_line.new.machine) (rested_stays (g.M.Machine.state c.args.machine.now) (g.M.Machine.state c.unread_line.new.machine) (files_stay _ _ (c.unread_line.ensures.stays told)) rested)
 
-pub returns-in-TooLong-clause-input : goal.returns-in-TooLong-clause-input
-returns-in-TooLong-clause-input g c told = input_stays _ _ (c.too_long.ensures.stays told)
-
-pub returns-in-TooLong-clause-temps : goal.returns-in-TooLong-clause-temps
-returns-in-TooLong-clause-temps g c told = leaves_none c.too_long.result (g.M.Machine.state c.args.machine.now) (g.M.Machine.state c.too_long.new.machine) (temps_stay (g.M.Machine.state c.args.machine.now) (g.M.Machine.state c.too_long.new.machine) (files_stay _ _ (c.too_long.ensures.stays told)))
+pub returns-in-TooLong-clause-behaves : goal.returns-in-TooLong-clause-behaves
+returns-in-TooLong-clause-behaves g c = record {
+  input = λ told. input_stays _ _ (c.too_long.ensures.stays told);
+  temps = λ told. leaves_none c.too_long.result (g.M.Machine.state c.args.machine.now) (g.M.Machine.state c.too_long.new.machine) (temps_stay (g.M.Machine.state c.args.machine.now) (g.M.Machine.state c.too_long.new.machine) (files_stay _ _ (c.too_long.ensures.stays told)));
+  counted = search rules;
+}
 
 pub returns-in-TooLong-clause-rests : goal.returns-in-TooLong-clause-rests
 returns-in-TooLong-clause-rests g c told rested = leaves_rested c.too_long.result (g.M.Machine.state c.too_long.new.machine) (rested_stays (g.M.Machine.state c.args.machine.now) (g.M.Machine.state c.too_long.new.machine) (files_stay _ _ (c.too_long.ensures.stays told)) rested)

@@ -1,4 +1,4 @@
-use Rattle.std.proofs.Common.{◌≡◌, ◌≢◌, true, inl, inr, ⊎_elim, ◌+◌, ◌||◌, not, List, take, refl, sym, ap, ◌∙◌, subst}
+use Rattle.std.proofs.Common.{◌≡◌, ◌≢◌, true, inl, inr, ⊎_elim, ◌+◌, ◌||◌, not, List, take, refl, sym, ap, ◌∙◌, subst, rules}
 use Rattle.std.proofs.lemmas.Bool.{cases_Bool}
 use Rattle.std.proofs.lemmas.List.{take_more, take_all}
 use Rattle.std.proofs.lemmas.List.Elements.{All-nil, All-push}
@@ -65,11 +65,11 @@ loop-line-preserved g c = record {
       let now = g.M.Machine.state c.next_line.new.machine in
       subst (λ (lines : List Line). AllTidied lines now) (sym (take_more c.args.lines.now c.loop-line.line-index c.line-item.result c.loop-line-test.true))
       (All-push (TidiedBy now.files) (take c.loop-line.line-index c.args.lines.now) _
-      (lines_later before now (take c.loop-line.line-index c.args.lines.now) (c.in_ok-outcome.ensures.temps told) (c.loop-line.invariant.tidied told))
+      (lines_later before now (take c.loop-line.line-index c.args.lines.now) (c.in_ok-outcome.ensures.behaves.temps told) (c.loop-line.invariant.tidied told))
       (subst (TidiedBy now.files) c.line-item.is (c.in_ok-outcome.ensures.tidies told)));
-  input = λ told. c.next_line.ensures.input told ∙ c.loop-line.invariant.input told;
-  temps = λ told. no_more_temps (g.M.Machine.state c.args.machine.now) (g.M.Machine.state c.loop-line.machine) (g.M.Machine.state c.next_line.new.machine) (c.loop-line.invariant.temps told) (c.in_ok-outcome.ensures.temps told);
-  counts = c.in_ok-outcome.ensures.counts ∙ c.loop-line.invariant.counts;
+  input = λ told. c.next_line.ensures.behaves.input told ∙ c.loop-line.invariant.input told;
+  temps = λ told. no_more_temps (g.M.Machine.state c.args.machine.now) (g.M.Machine.state c.loop-line.machine) (g.M.Machine.state c.next_line.new.machine) (c.loop-line.invariant.temps told) (c.in_ok-outcome.ensures.behaves.temps told);
+  counts = c.in_ok-outcome.ensures.behaves.counted ∙ c.loop-line.invariant.counts;
 }
 
 pub returns-in_err-outcome-clause-synced : goal.returns-in_err-outcome-clause-synced
@@ -94,14 +94,14 @@ pub returns-clause-rests : goal.returns-clause-rests
 returns-clause-rests g c told is =
     c.loop-line.invariant.rests told (c.loop-line.invariant.begun ∙ ap has_command (take_all c.loop-line.line-index c.args.lines.now c.loop-line-test.false) ∙ is)
 
-pub returns-in_err-outcome-clause-input : goal.returns-in_err-outcome-clause-input
-returns-in_err-outcome-clause-input g c told = c.next_line.ensures.input told ∙ c.loop-line.invariant.input told
-
-pub returns-in_err-outcome-clause-temps : goal.returns-in_err-outcome-clause-temps
-returns-in_err-outcome-clause-temps g c told =
-    leaves_more c.from_residual.result (g.M.Machine.state c.args.machine.now) (g.M.Machine.state c.loop-line.machine) (g.M.Machine.state c.next_line.new.machine) (c.loop-line.invariant.temps told)
-    (leaves_so c.next_line.result c.from_residual.result c.in_err-outcome.field-0.0 (g.M.Machine.state c.loop-line.machine) (g.M.Machine.state c.next_line.new.machine)
-    c.in_err-outcome.was c.from_residual.ensures.0 c.from_residual.ensures.1 (c.next_line.ensures.temps told))
+pub returns-in_err-outcome-clause-behaves : goal.returns-in_err-outcome-clause-behaves
+returns-in_err-outcome-clause-behaves g c = record {
+  input = λ told. c.next_line.ensures.behaves.input told ∙ c.loop-line.invariant.input told;
+  temps = λ told. leaves_more c.from_residual.result (g.M.Machine.state c.args.machine.now) (g.M.Machine.state c.loop-line.machine) (g.M.Machine.state c.next_line.new.machine) (c.loop-line.invariant.temps told)
+      (leaves_so c.next_line.result c.from_residual.result c.in_err-outcome.field-0.0 (g.M.Machine.state c.loop-line.machine) (g.M.Machine.state c.next_line.new.machine)
+      c.in_err-outcome.was c.from_residual.ensures.0 c.from_residual.ensures.1 (c.next_line.ensures.behaves.temps told));
+  counted = search rules;
+}
 
 pub returns-clause-tidies : goal.returns-clause-tidies
 returns-clause-tidies g c told =
@@ -114,7 +114,7 @@ returns-in_err-outcome-clause-behind g c told firm =
     let now = g.M.Machine.state c.next_line.new.machine in
     let stop = c.in_err-outcome.field-0.0 in
     let done = take c.loop-line.line-index c.args.lines.now in
-    let tidied : stop ≢ Disk → AllTidied done now = λ other. lines_later before now done (temps_but_disk stop before now other (c.in_err-outcome.ensures.temps told)) (c.loop-line.invariant.tidied told) in
+    let tidied : stop ≢ Disk → AllTidied done now = λ other. lines_later before now done (temps_but_disk stop before now other (c.in_err-outcome.ensures.behaves.temps told)) (c.loop-line.invariant.tidied told) in
     clean_so (g.M.Machine.state c.args.machine.now) now c.args.lines.now c.from_residual.result stop c.from_residual.ensures.0 c.from_residual.ensures.1
     (clean_broken g.M.Machine.time g.M.Machine.state c.args.machine.now c.loop-line.machine c.next_line.new.machine c.args.lines.now c.loop-line.line-index c.loop-line.refused c.line-item.result c.loop-line-test.true (sym c.line-item.is) so_far
     stop (c.in_err-outcome.ensures.performs told so_far.firm)

@@ -1,4 +1,4 @@
-use Rattle.std.proofs.Common.{refl, sym, ◌≡◌, ℕ, List, take, ◌∙◌, ap, subst, Ok}
+use Rattle.std.proofs.Common.{refl, sym, ◌≡◌, ℕ, List, take, ◌∙◌, ap, subst, Ok, rules}
 use Rattle.boot_machine.specs.Moments.{EachSince}
 use Rattle.boot_machine.specs.Rows.{on_channel, with_printed}
 use Rattle.boot_machine.specs.declared.machine.Channel.TheVariants.{Out}
@@ -48,30 +48,37 @@ returns-clause-performs g c told firm =
     (subst (λ (bytes : List ℕ). EachSince g.M.Machine.time c.step.new.machine c.acknowledge.new.machine (PrintsPart (g.M.Machine.state c.step.new.machine) (on_channel Out bytes))) ack (c.acknowledge.ensures.moments told))
     (subst (λ (bytes : List ℕ). g.M.Machine.state c.acknowledge.new.machine ≡ with_printed Out bytes (g.M.Machine.state c.step.new.machine)) ack (c.in_ok-acknowledge.ensures.done told))
 
-pub returns-in_err-texts-clause-temps : goal.returns-in_err-texts-clause-temps
-returns-in_err-texts-clause-temps g c told = leaves_none c.from_residual.result (g.M.Machine.state c.args.machine.now) (g.M.Machine.state c.args.machine.now) (λ q temp there. there)
+pub returns-in_err-texts-clause-behaves : goal.returns-in_err-texts-clause-behaves
+returns-in_err-texts-clause-behaves g c = record {
+  input = λ told. search rules;
+  temps = λ told. leaves_none c.from_residual.result (g.M.Machine.state c.args.machine.now) (g.M.Machine.state c.args.machine.now) (λ q temp there. there);
+  counted = search rules;
+}
 
-pub returns-in_err-outcome-clause-temps : goal.returns-in_err-outcome-clause-temps
-returns-in_err-outcome-clause-temps g c told =
-    leaves_so c.step.result c.from_residual-in_err-outcome.result c.in_err-outcome.field-0.0 (g.M.Machine.state c.args.machine.now) (g.M.Machine.state c.step.new.machine)
-    c.in_err-outcome.was c.from_residual-in_err-outcome.ensures.0 c.from_residual-in_err-outcome.ensures.1 (c.step.ensures.temps told)
+pub returns-in_err-outcome-clause-behaves : goal.returns-in_err-outcome-clause-behaves
+returns-in_err-outcome-clause-behaves g c = record {
+  input = λ told. search rules;
+  temps = λ told. leaves_so c.step.result c.from_residual-in_err-outcome.result c.in_err-outcome.field-0.0 (g.M.Machine.state c.args.machine.now) (g.M.Machine.state c.step.new.machine)
+      c.in_err-outcome.was c.from_residual-in_err-outcome.ensures.0 c.from_residual-in_err-outcome.ensures.1 (c.step.ensures.behaves.temps told);
+  counted = search rules;
+}
 
-pub returns-in_err-acknowledge-clause-temps : goal.returns-in_err-acknowledge-clause-temps
-returns-in_err-acknowledge-clause-temps g c told =
-    let now = g.M.Machine.state c.acknowledge.new.machine in
-    leaves_none c.from_residual-in_err-acknowledge.result (g.M.Machine.state c.args.machine.now) now
-    (no_more_temps (g.M.Machine.state c.args.machine.now) (g.M.Machine.state c.step.new.machine) now (c.in_ok-outcome.ensures.temps told) (temps_stay (g.M.Machine.state c.step.new.machine) now (files_stay (g.M.Machine.state c.step.new.machine) now (c.acknowledge.ensures.stays told))))
+pub returns-in_err-acknowledge-clause-behaves : goal.returns-in_err-acknowledge-clause-behaves
+returns-in_err-acknowledge-clause-behaves g c = record {
+  input = λ told. input_stays _ _ (c.acknowledge.ensures.stays told) ∙ c.step.ensures.behaves.input told;
+  temps = λ told. let now = g.M.Machine.state c.acknowledge.new.machine in
+      leaves_none c.from_residual-in_err-acknowledge.result (g.M.Machine.state c.args.machine.now) now
+      (no_more_temps (g.M.Machine.state c.args.machine.now) (g.M.Machine.state c.step.new.machine) now (c.in_ok-outcome.ensures.behaves.temps told) (temps_stay (g.M.Machine.state c.step.new.machine) now (files_stay (g.M.Machine.state c.step.new.machine) now (c.acknowledge.ensures.stays told))));
+  counted = search rules;
+}
 
-pub returns-in_err-acknowledge-clause-input : goal.returns-in_err-acknowledge-clause-input
-returns-in_err-acknowledge-clause-input g c told = input_stays _ _ (c.acknowledge.ensures.stays told) ∙ c.step.ensures.input told
-
-pub returns-clause-temps : goal.returns-clause-temps
-returns-clause-temps g c told =
-    let now = g.M.Machine.state c.acknowledge.new.machine in
-    no_more_temps (g.M.Machine.state c.args.machine.now) (g.M.Machine.state c.step.new.machine) now (c.in_ok-outcome.ensures.temps told) (temps_stay (g.M.Machine.state c.step.new.machine) now (files_stay (g.M.Machine.state c.step.new.machine) now (c.acknowledge.ensures.stays told)))
-
-pub returns-clause-input : goal.returns-clause-input
-returns-clause-input g c told = input_stays _ _ (c.acknowledge.ensures.stays told) ∙ c.step.ensures.input told
+pub returns-clause-behaves : goal.returns-clause-behaves
+returns-clause-behaves g c = record {
+  input = λ told. input_stays _ _ (c.acknowledge.ensures.stays told) ∙ c.step.ensures.behaves.input told;
+  temps = λ told. let now = g.M.Machine.state c.acknowledge.new.machine in
+      no_more_temps (g.M.Machine.state c.args.machine.now) (g.M.Machine.state c.step.new.machine) now (c.in_ok-outcome.ensures.behaves.temps told) (temps_stay (g.M.Machine.state c.step.new.machine) now (files_stay (g.M.Machine.state c.step.new.machine) now (c.acknowledge.ensures.stays told)));
+  counted = search rules;
+}
 
 pub returns-clause-tidies : goal.returns-clause-tidies
 returns-clause-tidies g c told =

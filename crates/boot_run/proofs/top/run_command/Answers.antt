@@ -1,4 +1,4 @@
-use Rattle.std.proofs.Common.{◌≡◌, true, List, Err, sym, ap, ◌∙◌, subst}
+use Rattle.std.proofs.Common.{◌≡◌, true, List, Err, sym, ap, ◌∙◌, subst, rules}
 use Rattle.boot_machine.specs.Disk.{IsRested, State}
 use Rattle.boot_machine.specs.Sent.{latest_view, recovered_views}
 use Rattle.boot_machine.proofs.Seeing.{sees}
@@ -17,81 +17,75 @@ use Rattle.boot_run.proofs.Taken.{at_any, on_ok_by, takes_script}
 use Rattle.boot_run.proofs.Topping.{script_synced, script_unsynced, no_script, script_runs, same_firm}
 use Rattle.boot_run.proofs.top.run_command.Goals as goal
 
-pub returns-in_err-lines-clause-runs : goal.returns-in_err-lines-clause-runs
-returns-in_err-lines-clause-runs g c told firm =
-    let old = c.args.machine.now in
-    no_script g.M.Machine.time g.M.Machine.state old c.read_script.new.machine (lines_at (g.M.Machine.state old) c.args.command) c.in_err-lines.field-0.0
-    _ (λ is. c.in_err-lines.ensures.no_disk (ap (λ (stop : Stop). Err stop) is)) c.from_residual.ensures.0 c.from_residual.ensures.1
-    (λ m image. sees (g.M.Machine.state old) (g.met.M.Machine.sound old told) firm m image) firm (c.read_script.ensures.same told) (c.read_script.ensures.moments told)
+pub returns-in_err-lines : goal.returns-in_err-lines
+returns-in_err-lines g c = record {
+  runs = λ told firm.
+      let old = c.args.machine.now in
+      no_script g.M.Machine.time g.M.Machine.state old c.read_script.new.machine (lines_at (g.M.Machine.state old) c.args.command) c.in_err-lines.field-0.0
+      _ (λ is. c.in_err-lines.ensures.no_disk (ap (λ (stop : Stop). Err stop) is)) c.from_residual.ensures.0 c.from_residual.ensures.1
+      (λ m image. sees (g.M.Machine.state old) (g.met.M.Machine.sound old told) firm m image) firm (c.read_script.ensures.same told) (c.read_script.ensures.moments told);
+  synced = λ told firm.
+      script_unsynced g.M.Machine.time g.M.Machine.state c.args.machine.now c.read_script.new.machine
+      (lines_at (g.M.Machine.state c.args.machine.now) c.args.command) (c.read_script.ensures.moments told);
+  tidies = search rules;
+  rests = search rules;
+  behind = λ told firm.
+      clean_none (g.M.Machine.state c.args.machine.now) (g.M.Machine.state c.read_script.new.machine) (lines_at (g.M.Machine.state c.args.machine.now) c.args.command) (ended_by c.from_residual.result)
+      (ap (λ (s : State). s.printed) (c.read_script.ensures.same told));
+  input = search rules;
+  temps = search rules;
+  counted = search rules;
+}
 
-pub returns-clause-runs : goal.returns-clause-runs
-returns-clause-runs g c told firm =
-    let old = c.args.machine.now in
-    let s = g.M.Machine.state old in
-    let is : is_script c.args.command ≡ true = sym c.is_script.ensures ∙ c.if-not-is_script.false in
-    let lines = c.as_slice.ensures.value ∙ c.in_ok-lines.ensures.lines told in
-    let runs = c.run_lines.ensures.runs told (same_firm g.M.Machine.time g.M.Machine.state s (g.M.Machine.state c.read_script.new.machine) (c.read_script.ensures.same told) firm) in
-    subst (λ (l : List Line). RunsTo g.M.Machine.time g.M.Machine.state old c.run_lines.new.machine l c.run_lines.result) (sym (lines_script s.input (latest_view (recovered_views s)) c.args.command is))
-    (script_runs g.M.Machine.time g.M.Machine.state old c.read_script.new.machine c.run_lines.new.machine _ c.run_lines.result
-    (λ m image. sees (g.M.Machine.state old) (g.met.M.Machine.sound old told) firm m image) (c.read_script.ensures.same told) (c.read_script.ensures.moments told)
-    (subst (λ (l : List Line). RunsTo g.M.Machine.time g.M.Machine.state c.read_script.new.machine c.run_lines.new.machine l c.run_lines.result) lines runs))
-
-pub returns-clause-synced : goal.returns-clause-synced
-returns-clause-synced g c told firm =
-    let old = c.args.machine.now in
-    let s = g.M.Machine.state old in
-    let is : is_script c.args.command ≡ true = sym c.is_script.ensures ∙ c.if-not-is_script.false in
-    let lines = c.as_slice.ensures.value ∙ c.in_ok-lines.ensures.lines told in
-    let synced = c.run_lines.ensures.synced told (same_firm g.M.Machine.time g.M.Machine.state s (g.M.Machine.state c.read_script.new.machine) (c.read_script.ensures.same told) firm) in
-    subst (λ (l : List Line). IsSyncedBy g.M.Machine.time g.M.Machine.state old c.run_lines.new.machine l) (sym (lines_script s.input (latest_view (recovered_views s)) c.args.command is))
-    (script_synced g.M.Machine.time g.M.Machine.state old c.read_script.new.machine c.run_lines.new.machine _ (c.read_script.ensures.same told) (c.read_script.ensures.moments told)
-    (subst (λ (l : List Line). IsSyncedBy g.M.Machine.time g.M.Machine.state c.read_script.new.machine c.run_lines.new.machine l) lines synced))
-
-pub returns-clause-tidies : goal.returns-clause-tidies
-returns-clause-tidies g c =
-    let is : is_script c.args.command ≡ true = sym c.is_script.ensures ∙ c.if-not-is_script.false in
-    on_ok_by c.run_lines.result _ _
-    (λ tidies told. subst (λ (l : List Line). AllTidied l (g.M.Machine.state c.run_lines.new.machine))
-    (c.as_slice.ensures.value ∙ c.in_ok-lines.ensures.lines told ∙ sym (lines_script (g.M.Machine.state c.args.machine.now).input (latest_view (recovered_views (g.M.Machine.state c.args.machine.now))) c.args.command is)) (tidies told))
-    c.run_lines.ensures.tidies
-
-pub returns-clause-input : goal.returns-clause-input
-returns-clause-input g c told =
-    let is : is_script c.args.command ≡ true = sym c.is_script.ensures ∙ c.if-not-is_script.false in
-    let taken = c.read_script.ensures.taken told in
-    let same = c.run_lines.ensures.input told in
-    takes_script c.args.command _ _ _ is (taken.0, taken.1, same ∙ taken.2) (at_any _ _ (same ∙ c.in_ok-lines.ensures.rest told))
-
-pub returns-clause-temps : goal.returns-clause-temps
-returns-clause-temps g c told =
-    let old = g.M.Machine.state c.args.machine.now in
-    let mid = g.M.Machine.state c.read_script.new.machine in
-    leaves_more c.run_lines.result old mid (g.M.Machine.state c.run_lines.new.machine) (temps_stay old mid (ap (λ (s : State). s.files) (c.read_script.ensures.same told))) (c.run_lines.ensures.temps told)
-
-pub returns-in_err-lines-clause-synced : goal.returns-in_err-lines-clause-synced
-returns-in_err-lines-clause-synced g c told firm =
-    script_unsynced g.M.Machine.time g.M.Machine.state c.args.machine.now c.read_script.new.machine
-    (lines_at (g.M.Machine.state c.args.machine.now) c.args.command) (c.read_script.ensures.moments told)
-
-pub returns-clause-rests : goal.returns-clause-rests
-returns-clause-rests g c =
-    let is : is_script c.args.command ≡ true = sym c.is_script.ensures ∙ c.if-not-is_script.false in
-    on_ok_by c.run_lines.result _ _
-    (λ rests told. subst (λ (l : List Line). has_command l ≡ true → IsRested (g.M.Machine.state c.run_lines.new.machine))
-    (c.as_slice.ensures.value ∙ c.in_ok-lines.ensures.lines told ∙ sym (lines_script (g.M.Machine.state c.args.machine.now).input (latest_view (recovered_views (g.M.Machine.state c.args.machine.now))) c.args.command is)) (rests told))
-    c.run_lines.ensures.rests
-
-pub returns-in_err-lines-clause-behind : goal.returns-in_err-lines-clause-behind
-returns-in_err-lines-clause-behind g c told firm =
-    clean_none (g.M.Machine.state c.args.machine.now) (g.M.Machine.state c.read_script.new.machine) (lines_at (g.M.Machine.state c.args.machine.now) c.args.command) (ended_by c.from_residual.result)
-    (ap (λ (s : State). s.printed) (c.read_script.ensures.same told))
-
-pub returns-clause-behind : goal.returns-clause-behind
-returns-clause-behind g c told firm =
-    let s = g.M.Machine.state c.args.machine.now in
-    let now = g.M.Machine.state c.run_lines.new.machine in
-    let is : is_script c.args.command ≡ true = sym c.is_script.ensures ∙ c.if-not-is_script.false in
-    let lines = c.as_slice.ensures.value ∙ c.in_ok-lines.ensures.lines told ∙ sym (lines_script s.input (latest_view (recovered_views s)) c.args.command is) in
-    let behind = c.run_lines.ensures.behind told (same_firm g.M.Machine.time g.M.Machine.state s (g.M.Machine.state c.read_script.new.machine) (c.read_script.ensures.same told) firm) in
-    clean_read s (g.M.Machine.state c.read_script.new.machine) now (lines_at s c.args.command) (ended_by c.run_lines.result) (c.read_script.ensures.same told)
-    (subst (λ (l : List Line). CleanBehind (g.M.Machine.state c.read_script.new.machine) now l (ended_by c.run_lines.result)) lines behind)
+pub returns : goal.returns
+returns g c = record {
+  runs = λ told firm.
+      let old = c.args.machine.now in
+      let s = g.M.Machine.state old in
+      let is : is_script c.args.command ≡ true = sym c.is_script.ensures ∙ c.if-not-is_script.false in
+      let lines = c.as_slice.ensures.value ∙ c.in_ok-lines.ensures.lines told in
+      let runs = c.run_lines.ensures.runs told (same_firm g.M.Machine.time g.M.Machine.state s (g.M.Machine.state c.read_script.new.machine) (c.read_script.ensures.same told) firm) in
+      subst (λ (l : List Line). RunsTo g.M.Machine.time g.M.Machine.state old c.run_lines.new.machine l c.run_lines.result) (sym (lines_script s.input (latest_view (recovered_views s)) c.args.command is))
+      (script_runs g.M.Machine.time g.M.Machine.state old c.read_script.new.machine c.run_lines.new.machine _ c.run_lines.result
+      (λ m image. sees (g.M.Machine.state old) (g.met.M.Machine.sound old told) firm m image) (c.read_script.ensures.same told) (c.read_script.ensures.moments told)
+      (subst (λ (l : List Line). RunsTo g.M.Machine.time g.M.Machine.state c.read_script.new.machine c.run_lines.new.machine l c.run_lines.result) lines runs));
+  synced = λ told firm.
+      let old = c.args.machine.now in
+      let s = g.M.Machine.state old in
+      let is : is_script c.args.command ≡ true = sym c.is_script.ensures ∙ c.if-not-is_script.false in
+      let lines = c.as_slice.ensures.value ∙ c.in_ok-lines.ensures.lines told in
+      let synced = c.run_lines.ensures.synced told (same_firm g.M.Machine.time g.M.Machine.state s (g.M.Machine.state c.read_script.new.machine) (c.read_script.ensures.same told) firm) in
+      subst (λ (l : List Line). IsSyncedBy g.M.Machine.time g.M.Machine.state old c.run_lines.new.machine l) (sym (lines_script s.input (latest_view (recovered_views s)) c.args.command is))
+      (script_synced g.M.Machine.time g.M.Machine.state old c.read_script.new.machine c.run_lines.new.machine _ (c.read_script.ensures.same told) (c.read_script.ensures.moments told)
+      (subst (λ (l : List Line). IsSyncedBy g.M.Machine.time g.M.Machine.state c.read_script.new.machine c.run_lines.new.machine l) lines synced));
+  tidies =
+      let is : is_script c.args.command ≡ true = sym c.is_script.ensures ∙ c.if-not-is_script.false in
+      on_ok_by c.run_lines.result _ _
+      (λ tidies told. subst (λ (l : List Line). AllTidied l (g.M.Machine.state c.run_lines.new.machine))
+      (c.as_slice.ensures.value ∙ c.in_ok-lines.ensures.lines told ∙ sym (lines_script (g.M.Machine.state c.args.machine.now).input (latest_view (recovered_views (g.M.Machine.state c.args.machine.now))) c.args.command is)) (tidies told))
+      c.run_lines.ensures.tidies;
+  rests =
+      let is : is_script c.args.command ≡ true = sym c.is_script.ensures ∙ c.if-not-is_script.false in
+      on_ok_by c.run_lines.result _ _
+      (λ rests told. subst (λ (l : List Line). has_command l ≡ true → IsRested (g.M.Machine.state c.run_lines.new.machine))
+      (c.as_slice.ensures.value ∙ c.in_ok-lines.ensures.lines told ∙ sym (lines_script (g.M.Machine.state c.args.machine.now).input (latest_view (recovered_views (g.M.Machine.state c.args.machine.now))) c.args.command is)) (rests told))
+      c.run_lines.ensures.rests;
+  behind = λ told firm.
+      let s = g.M.Machine.state c.args.machine.now in
+      let now = g.M.Machine.state c.run_lines.new.machine in
+      let is : is_script c.args.command ≡ true = sym c.is_script.ensures ∙ c.if-not-is_script.false in
+      let lines = c.as_slice.ensures.value ∙ c.in_ok-lines.ensures.lines told ∙ sym (lines_script s.input (latest_view (recovered_views s)) c.args.command is) in
+      let behind = c.run_lines.ensures.behind told (same_firm g.M.Machine.time g.M.Machine.state s (g.M.Machine.state c.read_script.new.machine) (c.read_script.ensures.same told) firm) in
+      clean_read s (g.M.Machine.state c.read_script.new.machine) now (lines_at s c.args.command) (ended_by c.run_lines.result) (c.read_script.ensures.same told)
+      (subst (λ (l : List Line). CleanBehind (g.M.Machine.state c.read_script.new.machine) now l (ended_by c.run_lines.result)) lines behind);
+  input = λ told.
+      let is : is_script c.args.command ≡ true = sym c.is_script.ensures ∙ c.if-not-is_script.false in
+      let taken = c.read_script.ensures.taken told in
+      let same = c.run_lines.ensures.behaves.input told in
+      takes_script c.args.command _ _ _ is (taken.0, taken.1, same ∙ taken.2) (at_any _ _ (same ∙ c.in_ok-lines.ensures.rest told));
+  temps = λ told.
+      let old = g.M.Machine.state c.args.machine.now in
+      let mid = g.M.Machine.state c.read_script.new.machine in
+      leaves_more c.run_lines.result old mid (g.M.Machine.state c.run_lines.new.machine) (temps_stay old mid (ap (λ (s : State). s.files) (c.read_script.ensures.same told))) (c.run_lines.ensures.behaves.temps told);
+  counted = search rules;
+}

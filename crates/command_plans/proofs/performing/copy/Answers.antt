@@ -7,25 +7,25 @@ use Rattle.command_plans.proofs.performing.copy.Goals as goal
 
 pub write_whole-requires-clause-small : goal.write_whole-requires-clause-small
 write_whole-requires-clause-small g c told =
-    small_rested (g.M.Machine.state c.args.machine.now) c.args.from.now c.args.target.now.path (c.requires.rested told) (c.requires.small told)
+    small_rested (g.M.Machine.state c.args.machine.now) c.args.from.now c.args.target.now.path (c.requires.ready told).rested (c.requires.small told)
 
 pub returns-clause-done : goal.returns-clause-done
 returns-clause-done g c =
     let s = g.M.Machine.state c.args.machine.now in
     ok_then c.write_whole.result c.write_whole.ensures.done
     (λ done told firm.
-    subst (IsDone (g.M.Machine.state c.write_whole.new.machine)) (copied_rested s c.args.from.now c.args.target.now.path (c.requires.rested told) (c.requires.there told))
+    subst (IsDone (g.M.Machine.state c.write_whole.new.machine)) (copied_rested s c.args.from.now c.args.target.now.path (c.requires.ready told).rested (c.requires.there told))
     (done told firm))
 
 pub returns-clause-step : goal.returns-clause-step
 returns-clause-step g c told firm =
     let s = g.M.Machine.state c.args.machine.now in
-    subst (λ next. StepsTo g.M.Machine.time g.M.Machine.state next c.args.machine.now c.write_whole.new.machine) (copied_rested s c.args.from.now c.args.target.now.path (c.requires.rested told) (c.requires.there told))
+    subst (λ next. StepsTo g.M.Machine.time g.M.Machine.state next c.args.machine.now c.write_whole.new.machine) (copied_rested s c.args.from.now c.args.target.now.path (c.requires.ready told).rested (c.requires.there told))
     (c.write_whole.ensures.step told firm)
 
 pub returns-clause-found : goal.returns-clause-found
 returns-clause-found g c is told =
-    copies (g.M.Machine.state c.args.machine.now) c.args.from.now c.args.target.now.path (c.requires.rested told) (c.requires.there told) (c.write_whole.ensures.not_found is told).0
+    copies (g.M.Machine.state c.args.machine.now) c.args.from.now c.args.target.now.path (c.requires.ready told).rested (c.requires.there told) (c.write_whole.ensures.not_found is told).0
 
 pub returns-clause-taken : goal.returns-clause-taken
 returns-clause-taken g c told =

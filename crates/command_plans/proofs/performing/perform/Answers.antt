@@ -1,4 +1,4 @@
-use Rattle.std.proofs.Common.{◌≡◌, true, inr, ap, subst, ◌∙◌, arith}
+use Rattle.std.proofs.Common.{◌≡◌, true, ap, subst, ◌∙◌, arith}
 use Rattle.boot_machine.specs.Disk.{has, view}
 use Rattle.boot_machine.specs.Moments.{EachSince}
 use Rattle.boot_machine.specs.Rows.{on_channel}
@@ -28,8 +28,8 @@ returns-in_err-apply-clause-performs g c told firm =
     c.settle.new.machine c.apply.new.machine c.from_residual-in_err-apply.result c.from_residual-in_err-apply.ensures.0 c.from_residual-in_err-apply.ensures.1
     (λ m image. sees (g.M.Machine.state old) (g.met.M.Machine.sound old told) firm m image)
     (λ m image. g.met.M.Machine.counts_now c.apply.new.machine _ m told (c.apply.ensures.step told (c.settle.ensures.firm told firm)).moments.later image)
-    (c.settle.ensures.keeps told) (c.settle.ensures.files told) (c.settle.ensures.moments told)
-    (c.apply.ensures.keeps told) (c.apply.ensures.step told (c.settle.ensures.firm told firm)).firm
+    (c.settle.ensures.alone.keeps told) (c.settle.ensures.files told) (c.settle.ensures.moments told)
+    (c.apply.ensures.alone.keeps told) (c.apply.ensures.step told (c.settle.ensures.firm told firm)).firm
     (subst (λ v. EachSince g.M.Machine.time c.settle.new.machine c.apply.new.machine (Sees (g.M.Machine.state c.settle.new.machine) (effect v c.args.plan.now.change))) same_view (c.apply.ensures.step told (c.settle.ensures.firm told firm)).moments)
 
 pub returns-in_err-apply-clause-taken : goal.returns-in_err-apply-clause-taken
@@ -49,8 +49,8 @@ returns-in-Done-clause-performs g c told firm =
     replied g.M.Machine.time g.M.Machine.state old plan.outcome (effect (seen s) plan.change) to plan.text
     c.settle.new.machine c.apply.new.machine c.reply.new.machine c.reply.result
     (λ m image. sees s (g.met.M.Machine.sound old told) firm m image)
-    (c.settle.ensures.keeps told) (c.settle.ensures.files told) (c.settle.ensures.moments told)
-    (c.apply.ensures.keeps told)
+    (c.settle.ensures.alone.keeps told) (c.settle.ensures.files told) (c.settle.ensures.moments told)
+    (c.apply.ensures.alone.keeps told)
     (subst (λ v. IsDone done (effect v plan.change)) same_view (c.in_ok-apply.ensures.done told firm_then))
     (subst (λ v. EachSince g.M.Machine.time c.settle.new.machine c.apply.new.machine (Sees (g.M.Machine.state c.settle.new.machine) (effect v plan.change))) same_view (c.apply.ensures.step told firm_then).moments)
     (subst (λ bytes. EachSince g.M.Machine.time c.apply.new.machine c.reply.new.machine (PrintsPart done (on_channel to bytes))) c.as_slice.ensures (c.reply.ensures.moments told))
@@ -66,17 +66,17 @@ returns-in-Done-clause-drops g c told =
 pub returns-in-Done-clause-input : goal.returns-in-Done-clause-input
 returns-in-Done-clause-input g c told =
     replied_input _ _ _ (g.M.Machine.state c.apply.new.machine) _ c.reply.result (c.reply.ensures.printed told)
-    ∙ ((c.apply.ensures.keeps told).input ∙ (c.settle.ensures.keeps told).input)
+    ∙ ((c.apply.ensures.alone.keeps told).input ∙ (c.settle.ensures.alone.keeps told).input)
 
 pub returns-in-Done-clause-rests : goal.returns-in-Done-clause-rests
 returns-in-Done-clause-rests g c told =
-    replied_rests _ _ _ (g.M.Machine.state c.apply.new.machine) _ c.reply.result (c.reply.ensures.printed told) (c.in_ok-apply.ensures.rests told)
+    replied_rests _ _ _ (g.M.Machine.state c.apply.new.machine) _ c.reply.result (c.reply.ensures.printed told) (c.in_ok-apply.ensures.ready told).next.rested
 
 pub returns-in-Done-clause-temps : goal.returns-in-Done-clause-temps
 returns-in-Done-clause-temps g c told =
     let old = g.M.Machine.state c.args.machine.now in
     let done = g.M.Machine.state c.apply.new.machine in
-    let none : NoNewTemp old done = λ q temp there. subst (λ files. has files q ≡ true) (c.settle.ensures.files told) (c.in_ok-apply.ensures.temps told q temp there) in
+    let none : NoNewTemp old done = λ q temp there. subst (λ files. has files q ≡ true) (c.settle.ensures.files told) ((c.in_ok-apply.ensures.ready told).temps q temp there) in
     replied_temps _ _ _ done _ c.reply.result (c.reply.ensures.printed told) old none
 
 pub returns-in-Done-clause-taken : goal.returns-in-Done-clause-taken

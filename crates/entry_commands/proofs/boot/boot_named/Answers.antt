@@ -1,14 +1,12 @@
-use Rattle.boot_machine.proofs.Reading.{reads_none}
+use Rattle.std.proofs.Common.{rules}
+use Rattle.boot_machine.proofs.Reading.{looks_none}
 use Rattle.entry_commands.proofs.boot.boot_named.Goals as goal
 
-pub returns-in_err-booted_text-clause-reads : goal.returns-in_err-booted_text-clause-reads
-returns-in_err-booted_text-clause-reads g c told =
-    reads_none g.M.Machine.time g.M.Machine.state c.args.machine.now (λ m o left. g.met.M.Machine.only_now c.args.machine.now m o told left)
+pub returns-in_err-booted_text-clause-looks : goal.returns-in_err-booted_text-clause-looks
+returns-in_err-booted_text-clause-looks g c = looks_none (g.met.M.Machine.only_now c.args.machine.now) (search rules)
 
-pub returns-in_default-clause-reads : goal.returns-in_default-clause-reads
-returns-in_default-clause-reads g c told =
-    reads_none g.M.Machine.time g.M.Machine.state c.args.machine.now (λ m o left. g.met.M.Machine.only_now c.args.machine.now m o told left)
+pub returns-in_default-clause-looks : goal.returns-in_default-clause-looks
+returns-in_default-clause-looks g c = looks_none (g.met.M.Machine.only_now c.args.machine.now) (search rules)
 
-pub returns-in_err-to-clause-reads : goal.returns-in_err-to-clause-reads
-returns-in_err-to-clause-reads g c told =
-    reads_none g.M.Machine.time g.M.Machine.state c.args.machine.now (λ m o left. g.met.M.Machine.only_now c.args.machine.now m o told left)
+pub returns-in_err-to-clause-looks : goal.returns-in_err-to-clause-looks
+returns-in_err-to-clause-looks g c = looks_none (g.met.M.Machine.only_now c.args.machine.now) (search rules)

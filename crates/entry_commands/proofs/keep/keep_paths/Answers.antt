@@ -1,6 +1,6 @@
-use Rattle.std.proofs.Common.{◌≡◌, ◌∙◌, List, Ok, ap, subst, sym}
+use Rattle.std.proofs.Common.{◌≡◌, ◌∙◌, List, Ok, ap, subst, sym, rules}
 use Rattle.boot_base.specs.Paths.{Path}
-use Rattle.boot_machine.proofs.Reading.{reads_none}
+use Rattle.boot_machine.proofs.Reading.{looks_none}
 use Rattle.boot_machine.specs.Sent.{seen}
 use Rattle.command_plans.proofs.Unsaying.{says_unsaid}
 use Rattle.command_plans.specs.Declining.{path_in}
@@ -12,13 +12,11 @@ use Rattle.entry_commands.specs.Counts.{count_in}
 use Rattle.entry_commands.specs.Keeping.{menu_paths}
 use Rattle.entry_commands.proofs.keep.keep_paths.Goals as goal
 
-pub returns-in_err-n-clause-reads : goal.returns-in_err-n-clause-reads
-returns-in_err-n-clause-reads g c told =
-    reads_none g.M.Machine.time g.M.Machine.state c.args.machine.now (λ m o left. g.met.M.Machine.only_now c.args.machine.now m o told left)
+pub returns-in_err-n-clause-looks : goal.returns-in_err-n-clause-looks
+returns-in_err-n-clause-looks g c = looks_none (g.met.M.Machine.only_now c.args.machine.now) (search rules)
 
-pub returns-in_err-folders-clause-reads : goal.returns-in_err-folders-clause-reads
-returns-in_err-folders-clause-reads g c told =
-    reads_none g.M.Machine.time g.M.Machine.state c.args.machine.now (λ m o left. g.met.M.Machine.only_now c.args.machine.now m o told left)
+pub returns-in_err-folders-clause-looks : goal.returns-in_err-folders-clause-looks
+returns-in_err-folders-clause-looks g c = looks_none (g.met.M.Machine.only_now c.args.machine.now) (search rules)
 
 pub returns-in_err-read_paths-clause-says : goal.returns-in_err-read_paths-clause-says
 returns-in_err-read_paths-clause-says g c told =

@@ -1,29 +1,26 @@
-use Rattle.std.proofs.Common.{◌≡◌, List, true, sym, subst}
+use Rattle.std.proofs.Common.{◌≡◌, List, true, sym, subst, rules}
 use Rattle.std.specs.Prelude.{All, Contains}
 use Rattle.std.proofs.lemmas.List.Elements.{All-append, Contains-append_left, Contains-append_right}
 use Rattle.boot_machine.specs.Disk.{State, has}
 use Rattle.boot_base.specs.Paths.{Path}
 use Rattle.entry_commands.specs.Tidying.{HasLeftovers}
 use Rattle.entry_commands.proofs.Leftovers.{all_among, found_more}
-use Rattle.boot_machine.proofs.Reading.{reads_on}
+use Rattle.boot_machine.proofs.Reading.{looks_on}
 use Rattle.entry_commands.proofs.tidy.leftovers.Goals as goal
 
-pub returns-in_err-images-clause-reads : goal.returns-in_err-images-clause-reads
-returns-in_err-images-clause-reads g c told =
-    reads_on g.M.Machine.time g.M.Machine.state c.args.machine.now c.leftovers_in.new.machine c.leftovers_in-2.new.machine (c.leftovers_in.ensures.reads told) (c.leftovers_in-2.ensures.reads told)
+pub returns-in_err-images-clause-looks : goal.returns-in_err-images-clause-looks
+returns-in_err-images-clause-looks g c = looks_on c.leftovers_in.ensures.looks c.leftovers_in-2.ensures.looks (search rules)
 
-pub returns-in_err-append-clause-reads : goal.returns-in_err-append-clause-reads
-returns-in_err-append-clause-reads g c told =
-    reads_on g.M.Machine.time g.M.Machine.state c.args.machine.now c.leftovers_in.new.machine c.leftovers_in-2.new.machine (c.leftovers_in.ensures.reads told) (c.leftovers_in-2.ensures.reads told)
+pub returns-in_err-append-clause-looks : goal.returns-in_err-append-clause-looks
+returns-in_err-append-clause-looks g c = looks_on c.leftovers_in.ensures.looks c.leftovers_in-2.ensures.looks (search rules)
 
-pub returns-clause-reads : goal.returns-clause-reads
-returns-clause-reads g c told =
-    reads_on g.M.Machine.time g.M.Machine.state c.args.machine.now c.leftovers_in.new.machine c.leftovers_in-2.new.machine (c.leftovers_in.ensures.reads told) (c.leftovers_in-2.ensures.reads told)
+pub returns-clause-looks : goal.returns-clause-looks
+returns-clause-looks g c = looks_on c.leftovers_in.ensures.looks c.leftovers_in-2.ensures.looks (search rules)
 
 pub returns-clause-there : goal.returns-clause-there
 returns-clause-there g c told =
     let files = (g.M.Machine.state c.args.machine.now).files in
-    let images = subst (λ (s : State). All (λ temp. has s.files temp ≡ true) c.in_ok-images.images.items) (c.leftovers_in.ensures.reads told).same (c.in_ok-images.ensures.there told) in
+    let images = subst (λ (s : State). All (λ temp. has s.files temp ≡ true) c.in_ok-images.images.items) (c.leftovers_in.ensures.looks.reads told).same (c.in_ok-images.ensures.there told) in
     all_among (λ temp. has files temp ≡ true) c.each_once.result.items c.append.new.self.items c.each_once.ensures.among
     (subst (λ (l : List Path). All (λ temp. has files temp ≡ true) l) (sym c.in_ok-append.ensures.items)
     (All-append (λ temp. has files temp ≡ true) c.in_ok-temps.temps.items c.in_ok-images.images.items (c.in_ok-temps.ensures.there told) images))
@@ -40,4 +37,4 @@ returns-clause-images g c told =
     let files = (g.M.Machine.state c.args.machine.now).files in
     found_more files c.args.folders.now.images c.in_ok-images.images.items c.each_once.result.items
     (λ temp is. c.each_once.ensures.all temp (subst (λ (l : List Path). Contains l temp) (sym c.in_ok-append.ensures.items) (Contains-append_right c.in_ok-temps.temps.items c.in_ok-images.images.items temp is)))
-    (subst (λ (s : State). HasLeftovers s.files c.args.folders.now.images c.in_ok-images.images.items) (c.leftovers_in.ensures.reads told).same (c.in_ok-images.ensures.all told))
+    (subst (λ (s : State). HasLeftovers s.files c.args.folders.now.images c.in_ok-images.images.items) (c.leftovers_in.ensures.looks.reads told).same (c.in_ok-images.ensures.all told))

@@ -1,25 +1,19 @@
-use Rattle.std.proofs.Common.{◌≡◌, ℕ, List, true, sym, ap, ◌∙◌, subst}
+use Rattle.std.proofs.Common.{◌≡◌, ℕ, List, true, sym, ap, ◌∙◌, subst, rules}
 use Rattle.std.specs.Prelude.{All}
 use Rattle.boot_machine.specs.Disk.{has}
 use Rattle.entry_commands.specs.Tidying.{HasLeftovers, leftovers_among}
 use Rattle.entry_commands.proofs.Leftovers.{leftovers_there, leftovers_all}
-use Rattle.boot_machine.proofs.Reading.{reads_once}
+use Rattle.boot_machine.proofs.Reading.{looks_once}
 use Rattle.entry_commands.proofs.tidy.leftovers_in.Goals as goal
 
-pub returns-in_err-names-clause-reads : goal.returns-in_err-names-clause-reads
-returns-in_err-names-clause-reads g c told =
-    reads_once g.M.Machine.time g.M.Machine.state c.args.machine.now c.names.new.self
-    (λ m o left. g.met.M.Machine.only_now c.args.machine.now m o told left) (c.names.ensures.moments told) (c.names.ensures.row told).same
+pub returns-in_err-names-clause-looks : goal.returns-in_err-names-clause-looks
+returns-in_err-names-clause-looks g c = looks_once (g.met.M.Machine.only_now c.args.machine.now) c.names.ensures.moments (λ told. (c.names.ensures.row told).same) (search rules)
 
-pub returns-in_err-leftovers_among-clause-reads : goal.returns-in_err-leftovers_among-clause-reads
-returns-in_err-leftovers_among-clause-reads g c told =
-    reads_once g.M.Machine.time g.M.Machine.state c.args.machine.now c.names.new.self
-    (λ m o left. g.met.M.Machine.only_now c.args.machine.now m o told left) (c.names.ensures.moments told) (c.names.ensures.row told).same
+pub returns-in_err-leftovers_among-clause-looks : goal.returns-in_err-leftovers_among-clause-looks
+returns-in_err-leftovers_among-clause-looks g c = looks_once (g.met.M.Machine.only_now c.args.machine.now) c.names.ensures.moments (λ told. (c.names.ensures.row told).same) (search rules)
 
-pub returns-clause-reads : goal.returns-clause-reads
-returns-clause-reads g c told =
-    reads_once g.M.Machine.time g.M.Machine.state c.args.machine.now c.names.new.self
-    (λ m o left. g.met.M.Machine.only_now c.args.machine.now m o told left) (c.names.ensures.moments told) (c.names.ensures.row told).same
+pub returns-clause-looks : goal.returns-clause-looks
+returns-clause-looks g c = looks_once (g.met.M.Machine.only_now c.args.machine.now) c.names.ensures.moments (λ told. (c.names.ensures.row told).same) (search rules)
 
 pub returns-clause-there : goal.returns-clause-there
 returns-clause-there g c told =

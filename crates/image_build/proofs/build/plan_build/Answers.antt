@@ -1,10 +1,10 @@
-use Rattle.std.proofs.Common.{Result, subst, sym}
+use Rattle.std.proofs.Common.{Result, subst, sym, rules}
 use Rattle.boot_base.specs.declared.refusal.Refusal.{Refusal}
 use Rattle.boot_machine.specs.Reading.{TakesAtMost}
 use Rattle.boot_machine.specs.Sent.{seen}
 use Rattle.image_build.specs.Building.{NamedFiles}
 use Rattle.image_build.specs.Planning.{planning_length}
-use Rattle.boot_machine.proofs.Reading.{reads_none}
+use Rattle.boot_machine.proofs.Reading.{looks_none}
 use Rattle.image_build.proofs.Planning.{declined_as, declined_plan, not_declined}
 use Rattle.image_build.proofs.Taken.{idle_none}
 use Rattle.image_build.proofs.build.plan_build.Goals as goal
@@ -12,13 +12,11 @@ use Rattle.image_build.proofs.build.plan_build.Goals as goal
 pub returns-in-Ok-clause-declined : goal.returns-in-Ok-clause-declined
 returns-in-Ok-clause-declined g c why is = absurd (not_declined c.args.words.now c.in-Ok.sources why c.in-Ok.ensures.means is)
 
-pub returns-in_err-plan_declined-in-Err-clause-reads : goal.returns-in_err-plan_declined-in-Err-clause-reads
-returns-in_err-plan_declined-in-Err-clause-reads g c told =
-    reads_none g.M.Machine.time g.M.Machine.state c.args.machine.now (λ m o left. g.met.M.Machine.only_now c.args.machine.now m o told left)
+pub returns-in_err-plan_declined-in-Err-clause-looks : goal.returns-in_err-plan_declined-in-Err-clause-looks
+returns-in_err-plan_declined-in-Err-clause-looks g c = looks_none (g.met.M.Machine.only_now c.args.machine.now) (search rules)
 
-pub returns-in_ok-plan_declined-in-Err-clause-reads : goal.returns-in_ok-plan_declined-in-Err-clause-reads
-returns-in_ok-plan_declined-in-Err-clause-reads g c told =
-    reads_none g.M.Machine.time g.M.Machine.state c.args.machine.now (λ m o left. g.met.M.Machine.only_now c.args.machine.now m o told left)
+pub returns-in_ok-plan_declined-in-Err-clause-looks : goal.returns-in_ok-plan_declined-in-Err-clause-looks
+returns-in_ok-plan_declined-in-Err-clause-looks g c = looks_none (g.met.M.Machine.only_now c.args.machine.now) (search rules)
 
 pub returns-in_ok-plan_declined-in-Err-clause-plans : goal.returns-in_ok-plan_declined-in-Err-clause-plans
 returns-in_ok-plan_declined-in-Err-clause-plans g c told =

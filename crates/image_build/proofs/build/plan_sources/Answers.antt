@@ -9,8 +9,5 @@ returns-in-Err-clause-plans g c =
     (λ plan plans told. unsaid_plan (g.M.Machine.state c.args.machine.now) c.args.words.now c.args.sources c.in-Err.unsaid plan c.requires.named (c.in-Err.ensures.unsaid told) plans)
     c.plan_unsaid.ensures.plans
 
-pub returns-in-Err-clause-idle : goal.returns-in-Err-clause-idle
-returns-in-Err-clause-idle g c = ok_weaker c.plan_unsaid.result (λ plan idle is. idle) c.plan_unsaid.ensures.idle
-
 pub returns-in-Err-clause-writes : goal.returns-in-Err-clause-writes
 returns-in-Err-clause-writes g c = ok_weaker c.plan_unsaid.result (λ plan idle told. idle_none (seen (g.M.Machine.state c.args.machine.now)) plan.change _ idle) c.plan_unsaid.ensures.idle

@@ -2,16 +2,16 @@ use Rattle.std.proofs.Common.{Bool, rules, subst, sym}
 use Rattle.boot_machine.specs.Reading.{TakesAtMost}
 use Rattle.image_writer.specs.Sourced.{planned_image}
 use Rattle.image_build.specs.Planning.{measuring_length}
-use Rattle.boot_machine.proofs.Reading.{reads_none}
+use Rattle.boot_machine.proofs.Reading.{looks_none}
 use Rattle.boot_machine.specs.Sent.{seen}
 use Rattle.image_build.proofs.Planning.{line_said, values_behind}
 use Rattle.image_build.proofs.build.reply.Goals as goal
 
-pub returns-in_err-text-clause-reads : goal.returns-in_err-text-clause-reads
-returns-in_err-text-clause-reads g c told = reads_none g.M.Machine.time g.M.Machine.state c.args.machine.now (λ m o left. g.met.M.Machine.only_now c.args.machine.now m o told left)
+pub returns-in_err-text-clause-looks : goal.returns-in_err-text-clause-looks
+returns-in_err-text-clause-looks g c = looks_none (g.met.M.Machine.only_now c.args.machine.now) (search rules)
 
-pub returns-then-not-measure-clause-reads : goal.returns-then-not-measure-clause-reads
-returns-then-not-measure-clause-reads g c told = reads_none g.M.Machine.time g.M.Machine.state c.args.machine.now (λ m o left. g.met.M.Machine.only_now c.args.machine.now m o told left)
+pub returns-then-not-measure-clause-looks : goal.returns-then-not-measure-clause-looks
+returns-then-not-measure-clause-looks g c = looks_none (g.met.M.Machine.only_now c.args.machine.now) (search rules)
 
 pub returns-then-not-measure-clause-says : goal.returns-then-not-measure-clause-says
 returns-then-not-measure-clause-says g c told on =

@@ -1,5 +1,5 @@
-use Rattle.boot_machine.proofs.Reading.{reads_on}
-use Rattle.std.proofs.Common.{subst, ◌+◌, arith}
+use Rattle.boot_machine.proofs.Reading.{looks_on}
+use Rattle.std.proofs.Common.{subst, ◌+◌, arith, rules}
 use Rattle.boot_machine.specs.Disk.{State}
 use Rattle.boot_machine.specs.Reading.{TakesAtMost}
 use Rattle.boot_machine.specs.Rows.{contents}
@@ -7,35 +7,32 @@ use Rattle.boot_machine.specs.Sent.{seen}
 use Rattle.image_build.specs.Reads.{loaded_sbat_length}
 use Rattle.image_build.proofs.build_reads.image_sbat.Goals as goal
 
-pub returns-in_err-kernel-clause-reads : goal.returns-in_err-kernel-clause-reads
-returns-in_err-kernel-clause-reads g c told =
-    reads_on g.M.Machine.time g.M.Machine.state c.args.machine.now c.loaded_sbat.new.machine c.kernel_sbat.new.machine (c.loaded_sbat.ensures.reads told) (c.kernel_sbat.ensures.reads told)
+pub returns-in_err-kernel-clause-looks : goal.returns-in_err-kernel-clause-looks
+returns-in_err-kernel-clause-looks g c = looks_on c.loaded_sbat.ensures.looks c.kernel_sbat.ensures.looks (search rules)
 
-pub returns-in_err-merge_sbat-clause-reads : goal.returns-in_err-merge_sbat-clause-reads
-returns-in_err-merge_sbat-clause-reads g c told =
-    reads_on g.M.Machine.time g.M.Machine.state c.args.machine.now c.loaded_sbat.new.machine c.kernel_sbat.new.machine (c.loaded_sbat.ensures.reads told) (c.kernel_sbat.ensures.reads told)
+pub returns-in_err-merge_sbat-clause-looks : goal.returns-in_err-merge_sbat-clause-looks
+returns-in_err-merge_sbat-clause-looks g c = looks_on c.loaded_sbat.ensures.looks c.kernel_sbat.ensures.looks (search rules)
 
-pub returns-clause-reads : goal.returns-clause-reads
-returns-clause-reads g c told =
-    reads_on g.M.Machine.time g.M.Machine.state c.args.machine.now c.loaded_sbat.new.machine c.kernel_sbat.new.machine (c.loaded_sbat.ensures.reads told) (c.kernel_sbat.ensures.reads told)
+pub returns-clause-looks : goal.returns-clause-looks
+returns-clause-looks g c = looks_on c.loaded_sbat.ensures.looks c.kernel_sbat.ensures.looks (search rules)
 
 pub returns-in_err-kernel-clause-taken : goal.returns-in_err-kernel-clause-taken
 returns-in_err-kernel-clause-taken g c told =
     let kernel =
     subst (λ (s : State). TakesAtMost (69463 + loaded_sbat_length (contents (seen s)) c.args.found.now.linux) (g.M.Machine.taken c.loaded_sbat.new.machine) (g.M.Machine.taken c.kernel_sbat.new.machine))
-    (c.loaded_sbat.ensures.reads told).same (c.kernel_sbat.ensures.taken told) in
+    (c.loaded_sbat.ensures.looks.reads told).same (c.kernel_sbat.ensures.taken told) in
     omega (arith, c.loaded_sbat.ensures.taken told, kernel)
 
 pub returns-in_err-merge_sbat-clause-taken : goal.returns-in_err-merge_sbat-clause-taken
 returns-in_err-merge_sbat-clause-taken g c told =
     let kernel =
     subst (λ (s : State). TakesAtMost (69463 + loaded_sbat_length (contents (seen s)) c.args.found.now.linux) (g.M.Machine.taken c.loaded_sbat.new.machine) (g.M.Machine.taken c.kernel_sbat.new.machine))
-    (c.loaded_sbat.ensures.reads told).same (c.kernel_sbat.ensures.taken told) in
+    (c.loaded_sbat.ensures.looks.reads told).same (c.kernel_sbat.ensures.taken told) in
     omega (arith, c.loaded_sbat.ensures.taken told, kernel)
 
 pub returns-clause-taken : goal.returns-clause-taken
 returns-clause-taken g c told =
     let kernel =
     subst (λ (s : State). TakesAtMost (69463 + loaded_sbat_length (contents (seen s)) c.args.found.now.linux) (g.M.Machine.taken c.loaded_sbat.new.machine) (g.M.Machine.taken c.kernel_sbat.new.machine))
-    (c.loaded_sbat.ensures.reads told).same (c.kernel_sbat.ensures.taken told) in
+    (c.loaded_sbat.ensures.looks.reads told).same (c.kernel_sbat.ensures.taken told) in
     omega (arith, c.loaded_sbat.ensures.taken told, kernel)

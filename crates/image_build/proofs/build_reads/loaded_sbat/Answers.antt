@@ -1,5 +1,5 @@
-use Rattle.std.proofs.Common.{Global, List, Ok, Vec, ap, sym, ◌∙◌, ℕ}
-use Rattle.boot_machine.proofs.Reading.{reads_none}
+use Rattle.std.proofs.Common.{Global, List, Ok, Vec, ap, sym, ◌∙◌, ℕ, rules}
+use Rattle.boot_machine.proofs.Reading.{looks_none}
 use Rattle.boot_machine.specs.Rows.{contents}
 use Rattle.boot_machine.specs.Sent.{seen}
 use Rattle.pe_builder.specs.Replaced.{sbat_name}
@@ -19,9 +19,8 @@ returns-in-None-clause-says g c told =
     ap (λ (l : List ℕ). Ok (sbat_entries l))
     (loaded_bytes-none (contents (seen (g.M.Machine.state c.args.machine.now)) c.args.path.now) sbat_name (headers_of c.args.head.now) (c.requires told) (sym c.find.ensures.at ∙ c.in-None.is) ∙ sym c.new.ensures.items)
 
-pub returns-in-None-clause-reads : goal.returns-in-None-clause-reads
-returns-in-None-clause-reads g c told =
-    reads_none g.M.Machine.time g.M.Machine.state c.args.machine.now (λ m o left. g.met.M.Machine.only_now c.args.machine.now m o told left)
+pub returns-in-None-clause-looks : goal.returns-in-None-clause-looks
+returns-in-None-clause-looks g c = looks_none (g.met.M.Machine.only_now c.args.machine.now) (search rules)
 
 pub returns-in-Some-clause-says : goal.returns-in-Some-clause-says
 returns-in-Some-clause-says g c told =

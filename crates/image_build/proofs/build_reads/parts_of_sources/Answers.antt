@@ -30,9 +30,11 @@ returns-in_err-part-clause-says g c told =
     (mapped_cut part_named c.args.sources.items c.loop-source.yielded rest c.in-Some.source (before.left ∙ ap (λ l. c.loop-source.yielded ++ l) c.in-Some.ensures.steps.0))
     (before.found told) (c.in_err-part.ensures.says told) c.from_residual.ensures.0 c.from_residual.ensures.1
 
-pub returns-in_err-part-clause-reads : goal.returns-in_err-part-clause-reads
-returns-in_err-part-clause-reads g c told =
-    reads_on g.M.Machine.time g.M.Machine.state _ _ _ (c.loop-source.invariant.reads told) (c.in_err-part.ensures.reads told)
+pub returns-in_err-part-clause-looks : goal.returns-in_err-part-clause-looks
+returns-in_err-part-clause-looks g c = record {
+  reads = λ told. reads_on g.M.Machine.time g.M.Machine.state _ _ _ (c.loop-source.invariant.reads told) (c.in_err-part.ensures.looks.reads told);
+  counted = search rules;
+}
 
 pub loop-source-preserved : goal.loop-source-preserved
 loop-source-preserved g c =
@@ -47,14 +49,16 @@ loop-source-preserved g c =
       sizes = λ told.
           all_more (λ (s : State) (part : Part). PartHasSizes (contents (seen s)) part) (g.M.Machine.state c.args.machine.now) (g.M.Machine.state c.loop-source.machine)
           c.loop-source.parts.items c.push.new.self.items c.in_ok-part.part (before.reads told).same (before.sizes told) (c.in_ok-part.ensures.sizes told) c.in_ok-push.ensures.items;
-      reads = λ told. reads_on g.M.Machine.time g.M.Machine.state _ _ _ (before.reads told) (c.in_ok-part.ensures.reads told);
+      reads = λ told. reads_on g.M.Machine.time g.M.Machine.state _ _ _ (before.reads told) (c.in_ok-part.ensures.looks.reads told);
       taken = λ told. omega (arith, before.taken told, c.in_ok-part.ensures.taken told);
       counts = search rules;
     }
 
-pub returns-in_err-push-clause-reads : goal.returns-in_err-push-clause-reads
-returns-in_err-push-clause-reads g c told =
-    reads_on g.M.Machine.time g.M.Machine.state _ _ _ (c.loop-source.invariant.reads told) (c.in_ok-part.ensures.reads told)
+pub returns-in_err-push-clause-looks : goal.returns-in_err-push-clause-looks
+returns-in_err-push-clause-looks g c = record {
+  reads = λ told. reads_on g.M.Machine.time g.M.Machine.state _ _ _ (c.loop-source.invariant.reads told) (c.in_ok-part.ensures.looks.reads told);
+  counted = search rules;
+}
 
 pub returns-in_err-part-clause-taken : goal.returns-in_err-part-clause-taken
 returns-in_err-part-clause-taken g c told = omega (arith, c.loop-source.invariant.taken told, c.in_err-part.ensures.taken told)

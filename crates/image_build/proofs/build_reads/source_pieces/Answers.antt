@@ -29,9 +29,11 @@ returns-in_err-piece-clause-says g c told =
     one_refused _ (λ (s : State). source_bytes (seen s)) (g.M.Machine.state c.args.machine.now) (g.M.Machine.state c.loop-source.machine) c.args.sources.items c.loop-source.yielded c.next.new.self.rest.items _ c.in-Some.source
     c.in_err-piece.field-0.0 c.from_residual.result (before.reads told).same (before.left ∙ ap (λ l. c.loop-source.yielded ++ l) c.in-Some.ensures.steps.0) (before.found told) (c.in_err-piece.ensures.says told) c.from_residual.ensures.0 c.from_residual.ensures.1
 
-pub returns-in_err-piece-clause-reads : goal.returns-in_err-piece-clause-reads
-returns-in_err-piece-clause-reads g c told =
-    reads_on g.M.Machine.time g.M.Machine.state _ _ _ (c.loop-source.invariant.reads told) (c.in_err-piece.ensures.reads told)
+pub returns-in_err-piece-clause-looks : goal.returns-in_err-piece-clause-looks
+returns-in_err-piece-clause-looks g c = record {
+  reads = λ told. reads_on g.M.Machine.time g.M.Machine.state _ _ _ (c.loop-source.invariant.reads told) (c.in_err-piece.ensures.looks.reads told);
+  counted = search rules;
+}
 
 pub loop-source-preserved : goal.loop-source-preserved
 loop-source-preserved g c =
@@ -47,14 +49,16 @@ loop-source-preserved g c =
       sizes = λ told.
           all_more (λ (s : State) (piece : Piece). length (piece_bytes (contents (seen s)) piece) ≡ piece_length piece) (g.M.Machine.state c.args.machine.now) (g.M.Machine.state c.loop-source.machine)
           c.loop-source.pieces.items c.push.new.self.items c.in_ok-piece.piece (before.reads told).same (before.sizes told) (c.in_ok-piece.ensures.size told) c.in_ok-push.ensures.items;
-      reads = λ told. reads_on g.M.Machine.time g.M.Machine.state _ _ _ (before.reads told) (c.in_ok-piece.ensures.reads told);
+      reads = λ told. reads_on g.M.Machine.time g.M.Machine.state _ _ _ (before.reads told) (c.in_ok-piece.ensures.looks.reads told);
       taken = λ told. omega (arith, before.taken told, c.in_ok-piece.ensures.taken told);
       counts = search rules;
     }
 
-pub returns-in_err-push-clause-reads : goal.returns-in_err-push-clause-reads
-returns-in_err-push-clause-reads g c told =
-    reads_on g.M.Machine.time g.M.Machine.state _ _ _ (c.loop-source.invariant.reads told) (c.in_ok-piece.ensures.reads told)
+pub returns-in_err-push-clause-looks : goal.returns-in_err-push-clause-looks
+returns-in_err-push-clause-looks g c = record {
+  reads = λ told. reads_on g.M.Machine.time g.M.Machine.state _ _ _ (c.loop-source.invariant.reads told) (c.in_ok-piece.ensures.looks.reads told);
+  counted = search rules;
+}
 
 pub returns-in_err-piece-clause-taken : goal.returns-in_err-piece-clause-taken
 returns-in_err-piece-clause-taken g c told = omega (arith, c.loop-source.invariant.taken told, c.in_err-piece.ensures.taken told)

@@ -1,5 +1,5 @@
-use Rattle.std.proofs.Common.{ap, map, subst, sym, ◌∙◌}
-use Rattle.boot_machine.proofs.Reading.{reads_none}
+use Rattle.std.proofs.Common.{ap, map, subst, sym, ◌∙◌, rules}
+use Rattle.boot_machine.proofs.Reading.{looks_none}
 use Rattle.boot_machine.specs.Sent.{seen}
 use Rattle.pcr_values.specs.ValueLines.{HasDistinctBanks}
 use Rattle.pcr_values.proofs.Distinct.{distinct_registers}
@@ -8,11 +8,11 @@ use Rattle.image_writer.specs.Sourced.{planned_image}
 use Rattle.image_build.proofs.Values.{values_said}
 use Rattle.image_build.proofs.build_values.planned_values.Goals as goal
 
-pub returns-in_err-banks-clause-reads : goal.returns-in_err-banks-clause-reads
-returns-in_err-banks-clause-reads g c told = reads_none g.M.Machine.time g.M.Machine.state c.args.machine.now (λ m o left. g.met.M.Machine.only_now c.args.machine.now m o told left)
+pub returns-in_err-banks-clause-looks : goal.returns-in_err-banks-clause-looks
+returns-in_err-banks-clause-looks g c = looks_none (g.met.M.Machine.only_now c.args.machine.now) (search rules)
 
-pub returns-in_err-paths-clause-reads : goal.returns-in_err-paths-clause-reads
-returns-in_err-paths-clause-reads g c told = reads_none g.M.Machine.time g.M.Machine.state c.args.machine.now (λ m o left. g.met.M.Machine.only_now c.args.machine.now m o told left)
+pub returns-in_err-paths-clause-looks : goal.returns-in_err-paths-clause-looks
+returns-in_err-paths-clause-looks g c = looks_none (g.met.M.Machine.only_now c.args.machine.now) (search rules)
 
 pub result_lines-requires-clause-banks : goal.result_lines-requires-clause-banks
 result_lines-requires-clause-banks g c =

@@ -1,5 +1,5 @@
-use Rattle.std.proofs.Common.{ap, arith, map, subst, sym}
-use Rattle.boot_machine.proofs.Reading.{reads_none}
+use Rattle.std.proofs.Common.{ap, arith, map, subst, sym, rules}
+use Rattle.boot_machine.proofs.Reading.{looks_none}
 use Rattle.boot_machine.specs.Rows.{contents}
 use Rattle.boot_machine.specs.Sent.{seen}
 use Rattle.pcr_values.specs.Values.{pcr_value}
@@ -9,8 +9,8 @@ use Rattle.stub_replay.specs.Measured.{measured_list}
 use Rattle.image_build.proofs.Values.{registers_are}
 use Rattle.image_build.proofs.build_values.registers.Goals as goal
 
-pub returns-in_err-parts-clause-reads : goal.returns-in_err-parts-clause-reads
-returns-in_err-parts-clause-reads g c told = reads_none g.M.Machine.time g.M.Machine.state c.args.machine.now (λ m o left. g.met.M.Machine.only_now c.args.machine.now m o told left)
+pub returns-in_err-parts-clause-looks : goal.returns-in_err-parts-clause-looks
+returns-in_err-parts-clause-looks g c = looks_none (g.met.M.Machine.only_now c.args.machine.now) (search rules)
 
 pub returns-in-Ok-clause-says : goal.returns-in-Ok-clause-says
 returns-in-Ok-clause-says g c told on =

@@ -20,9 +20,11 @@ returns-in_err-file-clause-says g c told =
     file_refused _ (g.M.Machine.state c.args.machine.now) (g.M.Machine.state c.loop-name.machine) c.args.paths.items c.loop-name.yielded c.next.new.self.rest.items c.loop-name.files.items _ _
     c.in_err-file.field-0.0 c.from_residual.result (before.reads told).same (before.left ∙ ap (λ l. c.loop-name.yielded ++ l) c.in-Some.ensures.steps.0) (before.found told) (c.in_err-file.ensures.says told) c.from_residual.ensures.0 c.from_residual.ensures.1
 
-pub returns-in_err-file-clause-reads : goal.returns-in_err-file-clause-reads
-returns-in_err-file-clause-reads g c told =
-    reads_on g.M.Machine.time g.M.Machine.state _ _ _ (c.loop-name.invariant.reads told) (c.in_err-file.ensures.reads told)
+pub returns-in_err-file-clause-looks : goal.returns-in_err-file-clause-looks
+returns-in_err-file-clause-looks g c = record {
+  reads = λ told. reads_on g.M.Machine.time g.M.Machine.state _ _ _ (c.loop-name.invariant.reads told) (c.in_err-file.ensures.looks.reads told);
+  counted = search rules;
+}
 
 pub loop-name-preserved : goal.loop-name-preserved
 loop-name-preserved g c =
@@ -35,11 +37,13 @@ loop-name-preserved g c =
       sizes = λ told.
           size_more (g.M.Machine.state c.args.machine.now) (g.M.Machine.state c.loop-name.machine) c.loop-name.files.items c.push.new.items.items _ c.in_ok-file.file
           (before.reads told).same (before.sizes told) (c.in_ok-file.ensures.size told) c.in_ok-push.ensures;
-      reads = λ told. reads_on g.M.Machine.time g.M.Machine.state _ _ _ (before.reads told) (c.in_ok-file.ensures.reads told);
+      reads = λ told. reads_on g.M.Machine.time g.M.Machine.state _ _ _ (before.reads told) (c.in_ok-file.ensures.looks.reads told);
       counts = search rules;
       taken = λ told. omega (arith, before.taken told, c.in_ok-file.ensures.taken told);
     }
 
-pub returns-in_err-push-clause-reads : goal.returns-in_err-push-clause-reads
-returns-in_err-push-clause-reads g c told =
-    reads_on g.M.Machine.time g.M.Machine.state _ _ _ (c.loop-name.invariant.reads told) (c.in_ok-file.ensures.reads told)
+pub returns-in_err-push-clause-looks : goal.returns-in_err-push-clause-looks
+returns-in_err-push-clause-looks g c = record {
+  reads = λ told. reads_on g.M.Machine.time g.M.Machine.state _ _ _ (c.loop-name.invariant.reads told) (c.in_ok-file.ensures.looks.reads told);
+  counted = search rules;
+}

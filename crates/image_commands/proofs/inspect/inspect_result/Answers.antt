@@ -1,14 +1,13 @@
-use Rattle.std.proofs.Common.{ℕ, List, ap, arith}
+use Rattle.std.proofs.Common.{ℕ, List, ap, arith, rules}
 use Rattle.boot_machine.specs.Sent.{seen}
 use Rattle.pe_reader.specs.Grammar.{pe_of}
 use Rattle.image_commands.proofs.Taking.{named_at}
 use Rattle.image_commands.specs.Taking.{all_raw_length}
-use Rattle.boot_machine.proofs.Reading.{reads_none}
+use Rattle.boot_machine.proofs.Reading.{looks_none}
 use Rattle.image_commands.proofs.inspect.inspect_result.Goals as goal
 
-pub returns-in_err-path-clause-reads : goal.returns-in_err-path-clause-reads
-returns-in_err-path-clause-reads g c told =
-    reads_none g.M.Machine.time g.M.Machine.state c.args.machine.now (λ m o left. g.met.M.Machine.only_now c.args.machine.now m o told left)
+pub returns-in_err-path-clause-looks : goal.returns-in_err-path-clause-looks
+returns-in_err-path-clause-looks g c = looks_none (g.met.M.Machine.only_now c.args.machine.now) (search rules)
 
 pub returns-clause-taken : goal.returns-clause-taken
 returns-clause-taken g c told =

@@ -21,9 +21,11 @@ loop-section-init g c = record {
   taken = λ told. omega arith;
 }
 
-pub returns-in_err-section-clause-reads : goal.returns-in_err-section-clause-reads
-returns-in_err-section-clause-reads g c told =
-    reads_on g.M.Machine.time g.M.Machine.state c.args.machine.now c.loop-section.machine c.inspected_section.new.machine (c.loop-section.invariant.reads told) (c.inspected_section.ensures.reads told)
+pub returns-in_err-section-clause-looks : goal.returns-in_err-section-clause-looks
+returns-in_err-section-clause-looks g c = record {
+  reads = λ told. reads_on g.M.Machine.time g.M.Machine.state c.args.machine.now c.loop-section.machine c.inspected_section.new.machine (c.loop-section.invariant.reads told) (c.inspected_section.ensures.looks.reads told);
+  counted = search rules;
+}
 
 pub returns-in_err-section-clause-says : goal.returns-in_err-section-clause-says
 returns-in_err-section-clause-says g c told =
@@ -43,7 +45,7 @@ loop-section-preserved g c =
           (unwrapped _ _ _ _ refl refl (c.in_ok-section.ensures.says told
           (item_inside (contents (g.M.Machine.state c.args.machine.now).files c.args.path.now) _ (headers_of c.args.head.now) c.sections-section-items.result.now c.loop-section.section-index _ (c.requires.head told) same c.sections-section-items.ensures c.loop-section-test.true)));
       sha256 = all_more (λ (section : Inspected). bank_of section.digest ≡ banks.Sha256) c.loop-section.found.items c.push.new.items.items c.in_ok-section.section before.sha256 c.in_ok-section.ensures.sha256 (search rules);
-      reads = λ told. reads_on g.M.Machine.time g.M.Machine.state c.args.machine.now c.loop-section.machine c.inspected_section.new.machine (before.reads told) (c.inspected_section.ensures.reads told);
+      reads = λ told. reads_on g.M.Machine.time g.M.Machine.state c.args.machine.now c.loop-section.machine c.inspected_section.new.machine (before.reads told) (c.inspected_section.ensures.looks.reads told);
       counts = search rules;
       taken = λ told. sections_taken c.sections-section-items.result.now c.loop-section.section-index _ _ _ _ c.loop-section-test.true (before.taken told) (c.inspected_section.ensures.taken told);
     }
@@ -56,9 +58,11 @@ returns-in_err-section-clause-taken g c told =
 pub returns-clause-taken : goal.returns-clause-taken
 returns-clause-taken g c told = all_sections_taken c.sections-section-items.result.now _ _ _ _ c.sections-section-items.ensures (c.loop-section.invariant.taken told)
 
-pub returns-in_err-push-clause-reads : goal.returns-in_err-push-clause-reads
-returns-in_err-push-clause-reads g c told =
-    reads_on g.M.Machine.time g.M.Machine.state c.args.machine.now c.loop-section.machine c.inspected_section.new.machine (c.loop-section.invariant.reads told) (c.inspected_section.ensures.reads told)
+pub returns-in_err-push-clause-looks : goal.returns-in_err-push-clause-looks
+returns-in_err-push-clause-looks g c = record {
+  reads = λ told. reads_on g.M.Machine.time g.M.Machine.state c.args.machine.now c.loop-section.machine c.inspected_section.new.machine (c.loop-section.invariant.reads told) (c.inspected_section.ensures.looks.reads told);
+  counted = search rules;
+}
 
 pub returns-in_err-push-clause-taken : goal.returns-in_err-push-clause-taken
 returns-in_err-push-clause-taken g c told =

@@ -1,6 +1,6 @@
-use Rattle.std.proofs.Common.{◌≡◌, true, not, sym, ap, ◌∙◌}
+use Rattle.std.proofs.Common.{◌≡◌, true, not, sym, ap, ◌∙◌, rules}
 use Rattle.boot_machine.specs.Disk.{State, has}
-use Rattle.boot_machine.proofs.Reading.{reads_once, reads_on}
+use Rattle.boot_machine.proofs.Reading.{looks_once, reads_on, reads_once}
 use Rattle.install_steps.proofs.RefusedLemmas.{has-sized}
 use Rattle.install_steps.proofs.moves.allow_move.Goals as goal
 
@@ -22,28 +22,32 @@ returns-clause-found g c told =
     let same : has s.files c.args.to.now ≡ has (g.M.Machine.state c.size.new.self).files c.args.to.now = ap (λ (t : State). has t.files c.args.to.now) (sym (c.size.ensures.row told).same) in
     (there, same ∙ has-sized (g.M.Machine.state c.size.new.self).files c.args.to.now c.in_ok-size-2.field-0 (c.in_ok-size-2.ensures.row told).answer ∙ sym c.is_some.ensures ∙ c.if-is_some.false)
 
-pub returns-in_err-size-clause-reads : goal.returns-in_err-size-clause-reads
-returns-in_err-size-clause-reads g c told =
-    reads_once g.M.Machine.time g.M.Machine.state c.args.machine.now c.size.new.self (λ m o. g.met.M.Machine.only_now c.args.machine.now m o told) (c.size.ensures.moments told) (c.size.ensures.row told).same
+pub returns-in_err-size-clause-looks : goal.returns-in_err-size-clause-looks
+returns-in_err-size-clause-looks g c = looks_once (g.met.M.Machine.only_now c.args.machine.now) c.size.ensures.moments (λ told. (c.size.ensures.row told).same) (search rules)
 
-pub returns-then-is_none-clause-reads : goal.returns-then-is_none-clause-reads
-returns-then-is_none-clause-reads g c told =
-    reads_once g.M.Machine.time g.M.Machine.state c.args.machine.now c.size.new.self (λ m o. g.met.M.Machine.only_now c.args.machine.now m o told) (c.size.ensures.moments told) (c.size.ensures.row told).same
+pub returns-then-is_none-clause-looks : goal.returns-then-is_none-clause-looks
+returns-then-is_none-clause-looks g c = looks_once (g.met.M.Machine.only_now c.args.machine.now) c.size.ensures.moments (λ told. (c.size.ensures.row told).same) (search rules)
 
-pub returns-in_err-size-2-clause-reads : goal.returns-in_err-size-2-clause-reads
-returns-in_err-size-2-clause-reads g c told =
-    let first = reads_once g.M.Machine.time g.M.Machine.state c.args.machine.now c.size.new.self (λ m o. g.met.M.Machine.only_now c.args.machine.now m o told) (c.size.ensures.moments told) (c.size.ensures.row told).same in
-    let second = reads_once g.M.Machine.time g.M.Machine.state c.size.new.self c.size-2.new.self (λ m o. g.met.M.Machine.only_now c.size.new.self m o told) (c.size-2.ensures.moments told) (c.size-2.ensures.row told).same in
-    reads_on g.M.Machine.time g.M.Machine.state _ _ _ first second
+pub returns-in_err-size-2-clause-looks : goal.returns-in_err-size-2-clause-looks
+returns-in_err-size-2-clause-looks g c = record {
+  reads = λ told. let first = reads_once g.M.Machine.time g.M.Machine.state c.args.machine.now c.size.new.self (λ m o left. g.met.M.Machine.only_now c.args.machine.now m o told left) (c.size.ensures.moments told) (c.size.ensures.row told).same in
+      let second = reads_once g.M.Machine.time g.M.Machine.state c.size.new.self c.size-2.new.self (λ m o. g.met.M.Machine.only_now c.size.new.self m o told) (c.size-2.ensures.moments told) (c.size-2.ensures.row told).same in
+      reads_on g.M.Machine.time g.M.Machine.state _ _ _ first second;
+  counted = search rules;
+}
 
-pub returns-then-is_some-clause-reads : goal.returns-then-is_some-clause-reads
-returns-then-is_some-clause-reads g c told =
-    let first = reads_once g.M.Machine.time g.M.Machine.state c.args.machine.now c.size.new.self (λ m o. g.met.M.Machine.only_now c.args.machine.now m o told) (c.size.ensures.moments told) (c.size.ensures.row told).same in
-    let second = reads_once g.M.Machine.time g.M.Machine.state c.size.new.self c.size-2.new.self (λ m o. g.met.M.Machine.only_now c.size.new.self m o told) (c.size-2.ensures.moments told) (c.size-2.ensures.row told).same in
-    reads_on g.M.Machine.time g.M.Machine.state _ _ _ first second
+pub returns-then-is_some-clause-looks : goal.returns-then-is_some-clause-looks
+returns-then-is_some-clause-looks g c = record {
+  reads = λ told. let first = reads_once g.M.Machine.time g.M.Machine.state c.args.machine.now c.size.new.self (λ m o left. g.met.M.Machine.only_now c.args.machine.now m o told left) (c.size.ensures.moments told) (c.size.ensures.row told).same in
+      let second = reads_once g.M.Machine.time g.M.Machine.state c.size.new.self c.size-2.new.self (λ m o. g.met.M.Machine.only_now c.size.new.self m o told) (c.size-2.ensures.moments told) (c.size-2.ensures.row told).same in
+      reads_on g.M.Machine.time g.M.Machine.state _ _ _ first second;
+  counted = search rules;
+}
 
-pub returns-clause-reads : goal.returns-clause-reads
-returns-clause-reads g c told =
-    let first = reads_once g.M.Machine.time g.M.Machine.state c.args.machine.now c.size.new.self (λ m o. g.met.M.Machine.only_now c.args.machine.now m o told) (c.size.ensures.moments told) (c.size.ensures.row told).same in
-    let second = reads_once g.M.Machine.time g.M.Machine.state c.size.new.self c.size-2.new.self (λ m o. g.met.M.Machine.only_now c.size.new.self m o told) (c.size-2.ensures.moments told) (c.size-2.ensures.row told).same in
-    reads_on g.M.Machine.time g.M.Machine.state _ _ _ first second
+pub returns-clause-looks : goal.returns-clause-looks
+returns-clause-looks g c = record {
+  reads = λ told. let first = reads_once g.M.Machine.time g.M.Machine.state c.args.machine.now c.size.new.self (λ m o left. g.met.M.Machine.only_now c.args.machine.now m o told left) (c.size.ensures.moments told) (c.size.ensures.row told).same in
+      let second = reads_once g.M.Machine.time g.M.Machine.state c.size.new.self c.size-2.new.self (λ m o. g.met.M.Machine.only_now c.size.new.self m o told) (c.size-2.ensures.moments told) (c.size-2.ensures.row told).same in
+      reads_on g.M.Machine.time g.M.Machine.state _ _ _ first second;
+  counted = search rules;
+}

@@ -1,12 +1,12 @@
-use Rattle.std.proofs.Common.{◌≡◌, inl, inr, refl, ap, ◌∙◌}
+use Rattle.std.proofs.Common.{◌≡◌, inl, inr, refl, ap, ◌∙◌, rules}
 use Rattle.std.specs.FinMap as map
 use Rattle.boot_machine.specs.Disk.{recovered_view}
 use Rattle.boot_machine.specs.Rows.{move_in}
 use Rattle.boot_machine.proofs.Recovering.{calm-removed}
 use Rattle.boot_machine.proofs.Views.{has-removed, temps-move_in}
 use Rattle.install_steps.proofs.MoveLemmas.{apart_of, intended_view, intended_there, moved_view, dropped_view, intent_there}
-use Rattle.install_steps.proofs.StepLemmas.{steps_part, steps_then, done_after, ok_then, ok_both}
-use Rattle.install_steps.proofs.QuietLemmas.{quiet_first, quiet_then}
+use Rattle.install_steps.proofs.StepLemmas.{steps_part, steps_then, done_after, ok_both}
+use Rattle.install_steps.proofs.QuietLemmas.{alone_by, quiet_of, quiet_then}
 use Rattle.install_steps.proofs.moves.move_intended.Goals as goal
 
 pub put_intent-requires-clause-differ : goal.put_intent-requires-clause-differ
@@ -21,7 +21,7 @@ returns-in_err-put_intent-clause-step g c told firm =
 
 pub rename_synced-requires-clause-there : goal.rename_synced-requires-clause-there
 rename_synced-requires-clause-there g c told =
-    intended_there (g.M.Machine.state c.args.machine.now).files _ c.args.from.now c.args.to.now (c.requires.rested told) (c.in_ok-put_intent.ensures.intends told) (c.requires.there told)
+    intended_there (g.M.Machine.state c.args.machine.now).files _ c.args.from.now c.args.to.now (c.requires.ready told).rested (c.in_ok-put_intent.ensures.intends told) (c.requires.there told)
 
 pub rename_synced-requires-clause-named : goal.rename_synced-requires-clause-named
 rename_synced-requires-clause-named g c told = (c.in_ok-put_intent.ensures.intends told).named
@@ -33,14 +33,14 @@ returns-in_err-rename_synced-clause-step g c told firm =
     let first = steps_part g.M.Machine.time g.M.Machine.state next (recovered_view s.files) c.args.machine.now c.put_intent.new.machine (inl refl) (c.put_intent.ensures.step told firm) in
     let intends = c.in_ok-put_intent.ensures.intends told in
     let m = g.M.Machine.state c.put_intent.new.machine in
-    let stood : recovered_view m.files ≡ recovered_view s.files = intended_view s.files m.files c.args.from.now c.args.to.now (c.requires.rested told) intends (c.requires.none told) in
-    let moved : recovered_view (move_in c.args.from.now c.args.to.now m.files) ≡ next = moved_view s.files m.files c.args.from.now c.args.to.now (c.requires.rested told) intends in
-    let second = steps_then g.M.Machine.time g.M.Machine.state next _ c.args.machine.now c.put_intent.new.machine c.rename_synced.new.machine first (c.put_intent.ensures.keeps told).printed (inl stood) (inr moved) (c.rename_synced.ensures.step told (c.put_intent.ensures.step told firm).firm) in
+    let stood : recovered_view m.files ≡ recovered_view s.files = intended_view s.files m.files c.args.from.now c.args.to.now (c.requires.ready told).rested intends (c.requires.none told) in
+    let moved : recovered_view (move_in c.args.from.now c.args.to.now m.files) ≡ next = moved_view s.files m.files c.args.from.now c.args.to.now (c.requires.ready told).rested intends in
+    let second = steps_then g.M.Machine.time g.M.Machine.state next _ c.args.machine.now c.put_intent.new.machine c.rename_synced.new.machine first (c.put_intent.ensures.alone.keeps told).printed (inl stood) (inr moved) (c.rename_synced.ensures.step told (c.put_intent.ensures.step told firm).firm) in
     second
 
 pub unlink_synced-requires-clause-there : goal.unlink_synced-requires-clause-there
 unlink_synced-requires-clause-there g c told =
-    rw (c.requires.intent.0, c.in_ok-rename_synced.ensures.files told) (intent_there (g.M.Machine.state c.args.machine.now).files _ c.args.from.now c.args.to.now (c.requires.rested told) (c.in_ok-put_intent.ensures.intends told))
+    rw (c.requires.intent.0, c.in_ok-rename_synced.ensures.files told) (intent_there (g.M.Machine.state c.args.machine.now).files _ c.args.from.now c.args.to.now (c.requires.ready told).rested (c.in_ok-put_intent.ensures.intends told))
 
 pub returns-clause-step : goal.returns-clause-step
 returns-clause-step g c told firm =
@@ -49,14 +49,14 @@ returns-clause-step g c told firm =
     let first = steps_part g.M.Machine.time g.M.Machine.state next (recovered_view s.files) c.args.machine.now c.put_intent.new.machine (inl refl) (c.put_intent.ensures.step told firm) in
     let intends = c.in_ok-put_intent.ensures.intends told in
     let m = g.M.Machine.state c.put_intent.new.machine in
-    let stood : recovered_view m.files ≡ recovered_view s.files = intended_view s.files m.files c.args.from.now c.args.to.now (c.requires.rested told) intends (c.requires.none told) in
-    let moved : recovered_view (move_in c.args.from.now c.args.to.now m.files) ≡ next = moved_view s.files m.files c.args.from.now c.args.to.now (c.requires.rested told) intends in
-    let second = steps_then g.M.Machine.time g.M.Machine.state next _ c.args.machine.now c.put_intent.new.machine c.rename_synced.new.machine first (c.put_intent.ensures.keeps told).printed (inl stood) (inr moved) (c.rename_synced.ensures.step told (c.put_intent.ensures.step told firm).firm) in
+    let stood : recovered_view m.files ≡ recovered_view s.files = intended_view s.files m.files c.args.from.now c.args.to.now (c.requires.ready told).rested intends (c.requires.none told) in
+    let moved : recovered_view (move_in c.args.from.now c.args.to.now m.files) ≡ next = moved_view s.files m.files c.args.from.now c.args.to.now (c.requires.ready told).rested intends in
+    let second = steps_then g.M.Machine.time g.M.Machine.state next _ c.args.machine.now c.put_intent.new.machine c.rename_synced.new.machine first (c.put_intent.ensures.alone.keeps told).printed (inl stood) (inr moved) (c.rename_synced.ensures.step told (c.put_intent.ensures.step told firm).firm) in
     let n = g.M.Machine.state c.rename_synced.new.machine in
     let files = c.in_ok-rename_synced.ensures.files told in
     let sees : recovered_view n.files ≡ next = ap recovered_view files ∙ moved in
-    let without : recovered_view (map.remove n.files c.args.intent.now.target.path) ≡ next = rw (c.requires.intent.0, files) (dropped_view s.files m.files c.args.from.now c.args.to.now (c.requires.rested told) intends) in
-    steps_then g.M.Machine.time g.M.Machine.state next _ c.args.machine.now c.rename_synced.new.machine c.unlink_synced.new.machine second ((c.rename_synced.ensures.keeps told).printed ∙ (c.put_intent.ensures.keeps told).printed) (inr sees) (inr without) (c.unlink_synced.ensures.step told second.firm)
+    let without : recovered_view (map.remove n.files c.args.intent.now.target.path) ≡ next = rw (c.requires.intent.0, files) (dropped_view s.files m.files c.args.from.now c.args.to.now (c.requires.ready told).rested intends) in
+    steps_then g.M.Machine.time g.M.Machine.state next _ c.args.machine.now c.rename_synced.new.machine c.unlink_synced.new.machine second ((c.rename_synced.ensures.alone.keeps told).printed ∙ (c.put_intent.ensures.alone.keeps told).printed) (inr sees) (inr without) (c.unlink_synced.ensures.step told second.firm)
 
 pub returns-clause-done : goal.returns-clause-done
 returns-clause-done g c = ok_both c.unlink_synced.result c.unlink_synced.ensures.files c.unlink_synced.ensures.one (λ removed one told firm.
@@ -64,28 +64,28 @@ returns-clause-done g c = ok_both c.unlink_synced.result c.unlink_synced.ensures
     let next = move_in c.args.from.now c.args.to.now (recovered_view s.files) in
     let intends = c.in_ok-put_intent.ensures.intends told in
     let m = g.M.Machine.state c.put_intent.new.machine in
-    let is : recovered_view (g.M.Machine.state c.unlink_synced.new.machine).files ≡ next = rw (removed told, c.requires.intent.0, c.in_ok-rename_synced.ensures.files told) (dropped_view s.files m.files c.args.from.now c.args.to.now (c.requires.rested told) intends) in
+    let is : recovered_view (g.M.Machine.state c.unlink_synced.new.machine).files ≡ next = rw (removed told, c.requires.intent.0, c.in_ok-rename_synced.ensures.files told) (dropped_view s.files m.files c.args.from.now c.args.to.now (c.requires.ready told).rested intends) in
     done_after g.M.Machine.time g.M.Machine.state next c.args.machine.now c.unlink_synced.new.machine (g.met.M.Machine.sound c.unlink_synced.new.machine told) (returns-clause-step g c told firm) (one told) is)
 
-pub returns-clause-rests : goal.returns-clause-rests
-returns-clause-rests g c = ok_then c.unlink_synced.result c.unlink_synced.ensures.files (λ removed told.
-    rw (removed told, c.requires.intent.0) (calm-removed (g.M.Machine.state c.rename_synced.new.machine).files))
+pub returns-clause-ready : goal.returns-clause-ready
+returns-clause-ready g c = ok_both c.unlink_synced.result c.unlink_synced.ensures.files c.unlink_synced.ensures.one (λ removed one told. record {
+  next = record {
+    one = one told;
+    rested = rw (removed told, c.requires.intent.0) (calm-removed (g.M.Machine.state c.rename_synced.new.machine).files);
+  };
+  temps = λ q temp there.
+      let kept = has-removed (g.M.Machine.state c.rename_synced.new.machine).files c.args.intent.now.target.path q (rw (removed told) at there) in
+      c.in_ok-put_intent.ensures.temps told q temp
+      (temps-move_in (g.M.Machine.state c.put_intent.new.machine).files c.args.from.now c.args.to.now c.know-2.ensures q temp (rw (c.in_ok-rename_synced.ensures.files told) at kept));
+})
 
-pub returns-clause-temps : goal.returns-clause-temps
-returns-clause-temps g c = ok_then c.unlink_synced.result c.unlink_synced.ensures.files (λ removed told q temp there.
-    let kept = has-removed (g.M.Machine.state c.rename_synced.new.machine).files c.args.intent.now.target.path q (rw (removed told) at there) in
-    c.in_ok-put_intent.ensures.temps told q temp
-    (temps-move_in (g.M.Machine.state c.put_intent.new.machine).files c.args.from.now c.args.to.now c.know-2.ensures q temp (rw (c.in_ok-rename_synced.ensures.files told) at kept)))
+pub returns-in_err-rename_synced-clause-alone : goal.returns-in_err-rename_synced-clause-alone
+returns-in_err-rename_synced-clause-alone g c = alone_by (λ told.
+    let put = quiet_of c.put_intent.ensures.alone told in
+    quiet_then _ _ _ _ _ put (quiet_of c.rename_synced.ensures.alone told)) (search rules)
 
-pub returns-in_err-rename_synced-clause-quiet : goal.returns-in_err-rename_synced-clause-quiet
-returns-in_err-rename_synced-clause-quiet g c told =
-    let put = quiet_first g.M.Machine.time g.M.Machine.state _ _ (c.put_intent.ensures.quiet told) (c.put_intent.ensures.keeps told) in
-    let renamed = quiet_then _ _ _ _ _ put (c.rename_synced.ensures.quiet told) (c.rename_synced.ensures.keeps told) in
-    renamed.moments
-
-pub returns-clause-quiet : goal.returns-clause-quiet
-returns-clause-quiet g c told =
-    let put = quiet_first g.M.Machine.time g.M.Machine.state _ _ (c.put_intent.ensures.quiet told) (c.put_intent.ensures.keeps told) in
-    let renamed = quiet_then _ _ _ _ _ put (c.rename_synced.ensures.quiet told) (c.rename_synced.ensures.keeps told) in
-    let ended = quiet_then _ _ _ _ _ renamed (c.unlink_synced.ensures.quiet told) (c.unlink_synced.ensures.keeps told) in
-    ended.moments
+pub returns-clause-alone : goal.returns-clause-alone
+returns-clause-alone g c = alone_by (λ told.
+    let put = quiet_of c.put_intent.ensures.alone told in
+    let renamed = quiet_then _ _ _ _ _ put (quiet_of c.rename_synced.ensures.alone told) in
+    quiet_then _ _ _ _ _ renamed (quiet_of c.unlink_synced.ensures.alone told)) (search rules)

@@ -1,4 +1,4 @@
-use Rattle.std.proofs.Common.{◌≡◌, ◌∙◌, true, [], refl, sym, subst}
+use Rattle.std.proofs.Common.{◌≡◌, ◌∙◌, true, [], refl, sym, subst, rules}
 use Rattle.std.specs.FinMap as map
 use Rattle.boot_machine.specs.Disk.{Files, has, recovered_view}
 use Rattle.boot_machine.specs.Rows.{contents, move_in}
@@ -10,13 +10,13 @@ use Rattle.install_steps.proofs.MoveLemmas.{intended_view}
 use Rattle.install_steps.proofs.StepLemmas.{begins_same, firm_so_far, settled_so_far, steps_same, steps_on, ok_then}
 use Rattle.install_steps.proofs.AppendLemmas.{goes-appends, contents-created}
 use Rattle.install_steps.proofs.WrittenIntent.{grown_whole, intends_written, temps_put, may_stand_from}
-use Rattle.install_steps.proofs.QuietLemmas.{quiet-create, quiet_appends, quiet_start, quiet_then}
+use Rattle.install_steps.proofs.QuietLemmas.{alone_by, quiet-create, quiet_appends, quiet_of, quiet_start, quiet_then}
 use Rattle.install_steps.proofs.moves.put_intent.Goals as goal
 
 pub returns-in_err-create-clause-step : goal.returns-in_err-create-clause-step
 returns-in_err-create-clause-step g c told firm =
     let s = g.M.Machine.state c.args.machine.now in
-    let start = begins_same g.M.Machine.time g.M.Machine.state c.args.machine.now (λ m o. g.met.M.Machine.only_now c.args.machine.now m o told) (g.met.M.Machine.sound c.args.machine.now told) firm (c.requires.one told) in
+    let start = begins_same g.M.Machine.time g.M.Machine.state c.args.machine.now (λ m o left. g.met.M.Machine.only_now c.args.machine.now m o told left) (g.met.M.Machine.sound c.args.machine.now told) firm (c.requires.ready told).one in
     let made = goes-create _ _ _ _ _ _ c.create.result start (c.create.ensures.moments told) c.args.intent.now.target.temp c.know.ensures (c.create.ensures.row told) in
     steps_same _ _ _ _ _ made
 
@@ -28,7 +28,7 @@ append-requires g c = record {
 pub returns-in_err-append-clause-step : goal.returns-in_err-append-clause-step
 returns-in_err-append-clause-step g c told firm =
     let s = g.M.Machine.state c.args.machine.now in
-    let start = begins_same g.M.Machine.time g.M.Machine.state c.args.machine.now (λ m o. g.met.M.Machine.only_now c.args.machine.now m o told) (g.met.M.Machine.sound c.args.machine.now told) firm (c.requires.one told) in
+    let start = begins_same g.M.Machine.time g.M.Machine.state c.args.machine.now (λ m o left. g.met.M.Machine.only_now c.args.machine.now m o told left) (g.met.M.Machine.sound c.args.machine.now told) firm (c.requires.ready told).one in
     let made = goes-create _ _ _ _ _ _ c.create.result start (c.create.ensures.moments told) c.args.intent.now.target.temp c.know.ensures (c.create.ensures.row told) in
     let first = goes-appends _ _ _ _ _ _ made c.args.intent.now.target.temp c.know.ensures (c.append.ensures.appends told) in
     steps_same _ _ _ _ _ first
@@ -43,7 +43,7 @@ put_in_place-requires g c = record {
 pub returns-clause-step : goal.returns-clause-step
 returns-clause-step g c told firm =
     let s = g.M.Machine.state c.args.machine.now in
-    let start = begins_same g.M.Machine.time g.M.Machine.state c.args.machine.now (λ m o. g.met.M.Machine.only_now c.args.machine.now m o told) (g.met.M.Machine.sound c.args.machine.now told) firm (c.requires.one told) in
+    let start = begins_same g.M.Machine.time g.M.Machine.state c.args.machine.now (λ m o left. g.met.M.Machine.only_now c.args.machine.now m o told left) (g.met.M.Machine.sound c.args.machine.now told) firm (c.requires.ready told).one in
     let made = goes-create _ _ _ _ _ _ c.create.result start (c.create.ensures.moments told) c.args.intent.now.target.temp c.know.ensures (c.create.ensures.row told) in
     let first = goes-appends _ _ _ _ _ _ made c.args.intent.now.target.temp c.know.ensures (c.append.ensures.appends told) in
     let m = (g.M.Machine.state c.args.machine.now).files in
@@ -55,7 +55,7 @@ returns-clause-step g c told firm =
     let put : Intends c.args.from.now c.args.to.now m (move_in c.args.intent.now.target.temp c.args.intent.now.target.path (g.M.Machine.state c.append.new.machine).files) =
     intends_written m c.args.intent.now.target.temp c.args.intent.now.target.path mid (g.M.Machine.state c.append.new.machine) c.know.ensures c.requires.intent.0 created
     (c.append.ensures.appends told).left c.args.from.now c.args.to.now bytes c.know_normal.ensures.normal c.know_normal-2.ensures.normal stand in
-    let is : recovered_view (move_in c.args.intent.now.target.temp c.args.intent.now.target.path (g.M.Machine.state c.append.new.machine).files) ≡ recovered_view s.files = intended_view m _ c.args.from.now c.args.to.now (c.requires.rested told) put (c.requires.none told) in
+    let is : recovered_view (move_in c.args.intent.now.target.temp c.args.intent.now.target.path (g.M.Machine.state c.append.new.machine).files) ≡ recovered_view s.files = intended_view m _ c.args.from.now c.args.to.now (c.requires.ready told).rested put (c.requires.none told) in
     let finished = c.put_in_place.ensures.step told (firm_so_far _ _ _ _ _ first) (settled_so_far _ _ _ _ first) in
     steps_on _ _ _ _ _ _ first (subst (λ (v : Files). StepsTo g.M.Machine.time g.M.Machine.state v c.append.new.machine c.put_in_place.new.machine) is finished)
 
@@ -80,23 +80,20 @@ returns-clause-temps g c = ok_then c.put_in_place.result c.put_in_place.ensures.
     temps_put m c.args.intent.now.target.temp c.args.intent.now.target.path mid (g.M.Machine.state c.append.new.machine) c.know.ensures c.requires.intent.0 created
     (c.append.ensures.appends told).left q temp (rw (files told) at there))
 
-pub returns-in_err-create-clause-quiet : goal.returns-in_err-create-clause-quiet
-returns-in_err-create-clause-quiet g c told =
-    let start = quiet_start g.M.Machine.time g.M.Machine.state c.args.machine.now (λ m o. g.met.M.Machine.only_now c.args.machine.now m o told) in
-    let made = quiet-create _ _ _ _ _ start (λ m o. g.met.M.Machine.only_now c.args.machine.now m o told) (c.create.ensures.moments told) c.create.result c.args.intent.now.target.temp (c.create.ensures.row told) in
-    made.moments
+pub returns-in_err-create-clause-alone : goal.returns-in_err-create-clause-alone
+returns-in_err-create-clause-alone g c = alone_by (λ told.
+    let start = quiet_start g.M.Machine.time g.M.Machine.state c.args.machine.now (λ m o left. g.met.M.Machine.only_now c.args.machine.now m o told left) in
+    quiet-create _ _ _ _ _ start (λ m o left. g.met.M.Machine.only_now c.args.machine.now m o told left) (c.create.ensures.moments told) c.create.result c.args.intent.now.target.temp (c.create.ensures.row told)) (search rules)
 
-pub returns-in_err-append-clause-quiet : goal.returns-in_err-append-clause-quiet
-returns-in_err-append-clause-quiet g c told =
-    let start = quiet_start g.M.Machine.time g.M.Machine.state c.args.machine.now (λ m o. g.met.M.Machine.only_now c.args.machine.now m o told) in
-    let made = quiet-create _ _ _ _ _ start (λ m o. g.met.M.Machine.only_now c.args.machine.now m o told) (c.create.ensures.moments told) c.create.result c.args.intent.now.target.temp (c.create.ensures.row told) in
-    let first = quiet_appends _ _ c.args.intent.now.target.temp _ _ _ made (c.append.ensures.appends told) in
-    first.moments
+pub returns-in_err-append-clause-alone : goal.returns-in_err-append-clause-alone
+returns-in_err-append-clause-alone g c = alone_by (λ told.
+    let start = quiet_start g.M.Machine.time g.M.Machine.state c.args.machine.now (λ m o left. g.met.M.Machine.only_now c.args.machine.now m o told left) in
+    let made = quiet-create _ _ _ _ _ start (λ m o left. g.met.M.Machine.only_now c.args.machine.now m o told left) (c.create.ensures.moments told) c.create.result c.args.intent.now.target.temp (c.create.ensures.row told) in
+    quiet_appends _ _ c.args.intent.now.target.temp _ _ _ made (c.append.ensures.appends told)) (search rules)
 
-pub returns-clause-quiet : goal.returns-clause-quiet
-returns-clause-quiet g c told =
-    let start = quiet_start g.M.Machine.time g.M.Machine.state c.args.machine.now (λ m o. g.met.M.Machine.only_now c.args.machine.now m o told) in
-    let made = quiet-create _ _ _ _ _ start (λ m o. g.met.M.Machine.only_now c.args.machine.now m o told) (c.create.ensures.moments told) c.create.result c.args.intent.now.target.temp (c.create.ensures.row told) in
+pub returns-clause-alone : goal.returns-clause-alone
+returns-clause-alone g c = alone_by (λ told.
+    let start = quiet_start g.M.Machine.time g.M.Machine.state c.args.machine.now (λ m o left. g.met.M.Machine.only_now c.args.machine.now m o told left) in
+    let made = quiet-create _ _ _ _ _ start (λ m o left. g.met.M.Machine.only_now c.args.machine.now m o told left) (c.create.ensures.moments told) c.create.result c.args.intent.now.target.temp (c.create.ensures.row told) in
     let first = quiet_appends _ _ c.args.intent.now.target.temp _ _ _ made (c.append.ensures.appends told) in
-    let ended = quiet_then _ _ _ _ _ first (c.put_in_place.ensures.quiet told) (c.put_in_place.ensures.keeps told) in
-    ended.moments
+    quiet_then _ _ _ _ _ first (quiet_of c.put_in_place.ensures.alone told)) (search rules)

@@ -2,7 +2,7 @@ use Rattle.std.proofs.Common.{◌≡◌, inl}
 use Rattle.std.specs.FinMap as map
 use Rattle.boot_machine.specs.Disk.{recovered_view}
 use Rattle.boot_machine.proofs.Recovering.{calm-removed, recovered_view-drop_intent}
-use Rattle.install_steps.proofs.StepLemmas.{steps_part, ok_then}
+use Rattle.install_steps.proofs.StepLemmas.{steps_part, ok_both}
 use Rattle.install_steps.proofs.recovery.drop_intent.Goals as goal
 
 pub unlink_synced-requires-clause-there : goal.unlink_synced-requires-clause-there
@@ -14,6 +14,8 @@ returns-clause-step g c told firm =
     let is : recovered_view (map.remove s.files c.args.intent.now.path) ≡ recovered_view s.files = rw c.requires.at_intent (recovered_view-drop_intent s.files (c.requires.whole told)) in
     steps_part g.M.Machine.time g.M.Machine.state (recovered_view s.files) _ c.args.machine.now c.unlink_synced.new.machine (inl is) (c.unlink_synced.ensures.step told firm)
 
-pub returns-clause-rests : goal.returns-clause-rests
-returns-clause-rests g c = ok_then c.unlink_synced.result c.unlink_synced.ensures.files (λ removed told.
-    rw (removed told, c.requires.at_intent) (calm-removed (g.M.Machine.state c.args.machine.now).files))
+pub returns-clause-ready : goal.returns-clause-ready
+returns-clause-ready g c = ok_both c.unlink_synced.result c.unlink_synced.ensures.files c.unlink_synced.ensures.one (λ removed one told. record {
+  one = one told;
+  rested = rw (removed told, c.requires.at_intent) (calm-removed (g.M.Machine.state c.args.machine.now).files);
+})

@@ -4,27 +4,27 @@ use Rattle.boot_machine.specs.Disk.{State, has, recovered_view}
 use Rattle.boot_machine.proofs.Recovering.{intent_there, whole-first, whole-second, whole-removed, intent_kept, recovered_view-drop_left}
 use Rattle.boot_machine.proofs.Going.{goes-read}
 use Rattle.install_steps.proofs.StepLemmas.{begins_same, steps_same, steps_then, ok_then}
-use Rattle.install_steps.proofs.QuietLemmas.{quiet-read, quiet_start, quiet_then}
+use Rattle.install_steps.proofs.QuietLemmas.{alone_by, quiet-read, quiet_of, quiet_start, quiet_then}
 use Rattle.install_steps.proofs.recovery.drop_left.Goals as goal
 
 pub returns-in_err-size-clause-step : goal.returns-in_err-size-clause-step
 returns-in_err-size-clause-step g c told firm =
     let s = g.M.Machine.state c.args.machine.now in
-    let start = begins_same g.M.Machine.time g.M.Machine.state c.args.machine.now (λ m o. g.met.M.Machine.only_now c.args.machine.now m o told) (g.met.M.Machine.sound c.args.machine.now told) firm (c.requires.one told) in
+    let start = begins_same g.M.Machine.time g.M.Machine.state c.args.machine.now (λ m o left. g.met.M.Machine.only_now c.args.machine.now m o told left) (g.met.M.Machine.sound c.args.machine.now told) firm (c.requires.one told) in
     let looked = goes-read _ _ _ _ _ _ start (c.size.ensures.moments told) (c.size.ensures.row told).same in
     steps_same _ _ _ _ _ looked
 
 pub returns-then-is_none-clause-step : goal.returns-then-is_none-clause-step
 returns-then-is_none-clause-step g c told firm =
     let s = g.M.Machine.state c.args.machine.now in
-    let start = begins_same g.M.Machine.time g.M.Machine.state c.args.machine.now (λ m o. g.met.M.Machine.only_now c.args.machine.now m o told) (g.met.M.Machine.sound c.args.machine.now told) firm (c.requires.one told) in
+    let start = begins_same g.M.Machine.time g.M.Machine.state c.args.machine.now (λ m o left. g.met.M.Machine.only_now c.args.machine.now m o told left) (g.met.M.Machine.sound c.args.machine.now told) firm (c.requires.one told) in
     let looked = goes-read _ _ _ _ _ _ start (c.size.ensures.moments told) (c.size.ensures.row told).same in
     steps_same _ _ _ _ _ looked
 
 pub returns-in_err-size-2-clause-step : goal.returns-in_err-size-2-clause-step
 returns-in_err-size-2-clause-step g c told firm =
     let s = g.M.Machine.state c.args.machine.now in
-    let start = begins_same g.M.Machine.time g.M.Machine.state c.args.machine.now (λ m o. g.met.M.Machine.only_now c.args.machine.now m o told) (g.met.M.Machine.sound c.args.machine.now told) firm (c.requires.one told) in
+    let start = begins_same g.M.Machine.time g.M.Machine.state c.args.machine.now (λ m o left. g.met.M.Machine.only_now c.args.machine.now m o told left) (g.met.M.Machine.sound c.args.machine.now told) firm (c.requires.one told) in
     let looked = goes-read _ _ _ _ _ _ start (c.size.ensures.moments told) (c.size.ensures.row told).same in
     let looked2 = goes-read _ _ _ _ _ _ looked (c.size-2.ensures.moments told) (c.size-2.ensures.row told).same in
     steps_same _ _ _ _ _ looked2
@@ -32,7 +32,7 @@ returns-in_err-size-2-clause-step g c told firm =
 pub returns-then-is_none-2-clause-step : goal.returns-then-is_none-2-clause-step
 returns-then-is_none-2-clause-step g c told firm =
     let s = g.M.Machine.state c.args.machine.now in
-    let start = begins_same g.M.Machine.time g.M.Machine.state c.args.machine.now (λ m o. g.met.M.Machine.only_now c.args.machine.now m o told) (g.met.M.Machine.sound c.args.machine.now told) firm (c.requires.one told) in
+    let start = begins_same g.M.Machine.time g.M.Machine.state c.args.machine.now (λ m o left. g.met.M.Machine.only_now c.args.machine.now m o told left) (g.met.M.Machine.sound c.args.machine.now told) firm (c.requires.one told) in
     let looked = goes-read _ _ _ _ _ _ start (c.size.ensures.moments told) (c.size.ensures.row told).same in
     let looked2 = goes-read _ _ _ _ _ _ looked (c.size-2.ensures.moments told) (c.size-2.ensures.row told).same in
     steps_same _ _ _ _ _ looked2
@@ -58,7 +58,7 @@ returns-then-is_none-2-clause-there g c told = rw ((c.size-2.ensures.row told).s
 pub returns-clause-step : goal.returns-clause-step
 returns-clause-step g c told firm =
     let s = g.M.Machine.state c.args.machine.now in
-    let start = begins_same g.M.Machine.time g.M.Machine.state c.args.machine.now (λ m o. g.met.M.Machine.only_now c.args.machine.now m o told) (g.met.M.Machine.sound c.args.machine.now told) firm (c.requires.one told) in
+    let start = begins_same g.M.Machine.time g.M.Machine.state c.args.machine.now (λ m o left. g.met.M.Machine.only_now c.args.machine.now m o told left) (g.met.M.Machine.sound c.args.machine.now told) firm (c.requires.one told) in
     let looked = goes-read _ _ _ _ _ _ start (c.size.ensures.moments told) (c.size.ensures.row told).same in
     let looked2 = goes-read _ _ _ _ _ _ looked (c.size-2.ensures.moments told) (c.size-2.ensures.row told).same in
     let same = (c.size-2.ensures.row told).same ∙ (c.size.ensures.row told).same in
@@ -80,36 +80,31 @@ returns-clause-there g c = ok_then c.unlink_synced.result c.unlink_synced.ensure
     let same = (c.size-2.ensures.row told).same ∙ (c.size.ensures.row told).same in
     rw (removed told, same) (intent_kept s.files c.args.names.now.from c.args.names.now.to (c.requires.named told)))
 
-pub returns-in_err-size-clause-quiet : goal.returns-in_err-size-clause-quiet
-returns-in_err-size-clause-quiet g c told =
-    let start = quiet_start g.M.Machine.time g.M.Machine.state c.args.machine.now (λ m o. g.met.M.Machine.only_now c.args.machine.now m o told) in
-    let looked = quiet-read _ _ _ _ _ start (λ m o. g.met.M.Machine.only_now c.args.machine.now m o told) (c.size.ensures.moments told) (c.size.ensures.row told).same in
-    looked.moments
+pub returns-in_err-size-clause-alone : goal.returns-in_err-size-clause-alone
+returns-in_err-size-clause-alone g c = alone_by (λ told.
+    let start = quiet_start g.M.Machine.time g.M.Machine.state c.args.machine.now (λ m o left. g.met.M.Machine.only_now c.args.machine.now m o told left) in
+    quiet-read _ _ _ _ _ start (λ m o left. g.met.M.Machine.only_now c.args.machine.now m o told left) (c.size.ensures.moments told) (c.size.ensures.row told).same) (search rules)
 
-pub returns-then-is_none-clause-quiet : goal.returns-then-is_none-clause-quiet
-returns-then-is_none-clause-quiet g c told =
-    let start = quiet_start g.M.Machine.time g.M.Machine.state c.args.machine.now (λ m o. g.met.M.Machine.only_now c.args.machine.now m o told) in
-    let looked = quiet-read _ _ _ _ _ start (λ m o. g.met.M.Machine.only_now c.args.machine.now m o told) (c.size.ensures.moments told) (c.size.ensures.row told).same in
-    looked.moments
+pub returns-then-is_none-clause-alone : goal.returns-then-is_none-clause-alone
+returns-then-is_none-clause-alone g c = alone_by (λ told.
+    let start = quiet_start g.M.Machine.time g.M.Machine.state c.args.machine.now (λ m o left. g.met.M.Machine.only_now c.args.machine.now m o told left) in
+    quiet-read _ _ _ _ _ start (λ m o left. g.met.M.Machine.only_now c.args.machine.now m o told left) (c.size.ensures.moments told) (c.size.ensures.row told).same) (search rules)
 
-pub returns-in_err-size-2-clause-quiet : goal.returns-in_err-size-2-clause-quiet
-returns-in_err-size-2-clause-quiet g c told =
-    let start = quiet_start g.M.Machine.time g.M.Machine.state c.args.machine.now (λ m o. g.met.M.Machine.only_now c.args.machine.now m o told) in
-    let looked = quiet-read _ _ _ _ _ start (λ m o. g.met.M.Machine.only_now c.args.machine.now m o told) (c.size.ensures.moments told) (c.size.ensures.row told).same in
+pub returns-in_err-size-2-clause-alone : goal.returns-in_err-size-2-clause-alone
+returns-in_err-size-2-clause-alone g c = alone_by (λ told.
+    let start = quiet_start g.M.Machine.time g.M.Machine.state c.args.machine.now (λ m o left. g.met.M.Machine.only_now c.args.machine.now m o told left) in
+    let looked = quiet-read _ _ _ _ _ start (λ m o left. g.met.M.Machine.only_now c.args.machine.now m o told left) (c.size.ensures.moments told) (c.size.ensures.row told).same in
+    quiet-read _ _ _ _ _ looked (λ m o. g.met.M.Machine.only_now c.size.new.self m o told) (c.size-2.ensures.moments told) (c.size-2.ensures.row told).same) (search rules)
+
+pub returns-then-is_none-2-clause-alone : goal.returns-then-is_none-2-clause-alone
+returns-then-is_none-2-clause-alone g c = alone_by (λ told.
+    let start = quiet_start g.M.Machine.time g.M.Machine.state c.args.machine.now (λ m o left. g.met.M.Machine.only_now c.args.machine.now m o told left) in
+    let looked = quiet-read _ _ _ _ _ start (λ m o left. g.met.M.Machine.only_now c.args.machine.now m o told left) (c.size.ensures.moments told) (c.size.ensures.row told).same in
+    quiet-read _ _ _ _ _ looked (λ m o. g.met.M.Machine.only_now c.size.new.self m o told) (c.size-2.ensures.moments told) (c.size-2.ensures.row told).same) (search rules)
+
+pub returns-clause-alone : goal.returns-clause-alone
+returns-clause-alone g c = alone_by (λ told.
+    let start = quiet_start g.M.Machine.time g.M.Machine.state c.args.machine.now (λ m o left. g.met.M.Machine.only_now c.args.machine.now m o told left) in
+    let looked = quiet-read _ _ _ _ _ start (λ m o left. g.met.M.Machine.only_now c.args.machine.now m o told left) (c.size.ensures.moments told) (c.size.ensures.row told).same in
     let looked2 = quiet-read _ _ _ _ _ looked (λ m o. g.met.M.Machine.only_now c.size.new.self m o told) (c.size-2.ensures.moments told) (c.size-2.ensures.row told).same in
-    looked2.moments
-
-pub returns-then-is_none-2-clause-quiet : goal.returns-then-is_none-2-clause-quiet
-returns-then-is_none-2-clause-quiet g c told =
-    let start = quiet_start g.M.Machine.time g.M.Machine.state c.args.machine.now (λ m o. g.met.M.Machine.only_now c.args.machine.now m o told) in
-    let looked = quiet-read _ _ _ _ _ start (λ m o. g.met.M.Machine.only_now c.args.machine.now m o told) (c.size.ensures.moments told) (c.size.ensures.row told).same in
-    let looked2 = quiet-read _ _ _ _ _ looked (λ m o. g.met.M.Machine.only_now c.size.new.self m o told) (c.size-2.ensures.moments told) (c.size-2.ensures.row told).same in
-    looked2.moments
-
-pub returns-clause-quiet : goal.returns-clause-quiet
-returns-clause-quiet g c told =
-    let start = quiet_start g.M.Machine.time g.M.Machine.state c.args.machine.now (λ m o. g.met.M.Machine.only_now c.args.machine.now m o told) in
-    let looked = quiet-read _ _ _ _ _ start (λ m o. g.met.M.Machine.only_now c.args.machine.now m o told) (c.size.ensures.moments told) (c.size.ensures.row told).same in
-    let looked2 = quiet-read _ _ _ _ _ looked (λ m o. g.met.M.Machine.only_now c.size.new.self m o told) (c.size-2.ensures.moments told) (c.size-2.ensures.row told).same in
-    let ended = quiet_then _ _ _ _ _ looked2 (c.unlink_synced.ensures.quiet told) (c.unlink_synced.ensures.keeps told) in
-    ended.moments
+    quiet_then _ _ _ _ _ looked2 (quiet_of c.unlink_synced.ensures.alone told)) (search rules)

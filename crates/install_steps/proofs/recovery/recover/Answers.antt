@@ -1,6 +1,7 @@
+use Rattle.std.proofs.Common.{rules}
 use Rattle.install_steps.proofs.RecoverLemmas.{recovers_on, recovers_not, settled_now, same_all, same_from}
 use Rattle.install_steps.proofs.StepLemmas.{ok_any}
-use Rattle.install_steps.proofs.QuietLemmas.{quiet_stays, quiet_then}
+use Rattle.install_steps.proofs.QuietLemmas.{alone_by, quiet_of, quiet_then}
 use Rattle.install_steps.proofs.recovery.recover.Goals as goal
 
 pub returns-in_err-settle-clause-recovers : goal.returns-in_err-settle-clause-recovers
@@ -14,7 +15,7 @@ returns-in_err-settle-clause-same g c told settled =
 pub returns-clause-recovers : goal.returns-clause-recovers
 returns-clause-recovers g c told firm =
     recovers_on g.M.Machine.time g.M.Machine.state c.args.machine.now c.settle.new.machine c.finish_left.new.machine
-    (c.settle.ensures.moments told) (c.settle.ensures.files told) (c.settle.ensures.keeps told).printed (c.finish_left.ensures.step told (c.settle.ensures.firm told firm)) (c.in_ok-settle.ensures.one told) (λ t m le image. g.met.M.Machine.counts_now c.finish_left.new.machine t m told le image)
+    (c.settle.ensures.moments told) (c.settle.ensures.files told) (c.settle.ensures.alone.keeps told).printed (c.finish_left.ensures.step told (c.settle.ensures.firm told firm)) (c.in_ok-settle.ensures.one told) (λ t m le image. g.met.M.Machine.counts_now c.finish_left.new.machine t m told le image)
 
 pub returns-clause-same : goal.returns-clause-same
 returns-clause-same g c told settled =
@@ -23,20 +24,18 @@ returns-clause-same g c told settled =
 pub returns-clause-settled : goal.returns-clause-settled
 returns-clause-settled g c = ok_any c.finish_left.result (λ told firm.
     settled_now g.M.Machine.time g.M.Machine.state c.args.machine.now c.settle.new.machine c.finish_left.new.machine
-    (c.settle.ensures.moments told) (c.settle.ensures.files told) (c.settle.ensures.keeps told).printed (c.finish_left.ensures.step told (c.settle.ensures.firm told firm)) (λ t m le image. g.met.M.Machine.counts_now c.finish_left.new.machine t m told le image))
+    (c.settle.ensures.moments told) (c.settle.ensures.files told) (c.settle.ensures.alone.keeps told).printed (c.finish_left.ensures.step told (c.settle.ensures.firm told firm)) (λ t m le image. g.met.M.Machine.counts_now c.finish_left.new.machine t m told le image))
 
 pub returns-clause-synced : goal.returns-clause-synced
 returns-clause-synced g c = ok_any c.finish_left.result (λ told firm.
     same_from g.M.Machine.time g.M.Machine.state c.args.machine.now c.settle.new.machine c.finish_left.new.machine
-    (c.settle.ensures.moments told) (c.settle.ensures.files told) (c.settle.ensures.keeps told).printed (c.finish_left.ensures.step told (c.settle.ensures.firm told firm)) (c.in_ok-settle.ensures.one told))
+    (c.settle.ensures.moments told) (c.settle.ensures.files told) (c.settle.ensures.alone.keeps told).printed (c.finish_left.ensures.step told (c.settle.ensures.firm told firm)) (c.in_ok-settle.ensures.one told))
 
-pub returns-in_err-settle-clause-quiet : goal.returns-in_err-settle-clause-quiet
-returns-in_err-settle-clause-quiet g c told =
-    let settled = quiet_stays g.M.Machine.time g.M.Machine.state _ _ (c.settle.ensures.moments told) (c.settle.ensures.keeps told) in
-    settled.moments
+pub returns-in_err-settle-clause-alone : goal.returns-in_err-settle-clause-alone
+returns-in_err-settle-clause-alone g c = alone_by (λ told.
+    quiet_of c.settle.ensures.alone told) (search rules)
 
-pub returns-clause-quiet : goal.returns-clause-quiet
-returns-clause-quiet g c told =
-    let settled = quiet_stays g.M.Machine.time g.M.Machine.state _ _ (c.settle.ensures.moments told) (c.settle.ensures.keeps told) in
-    let ended = quiet_then _ _ _ _ _ settled (c.finish_left.ensures.quiet told) (c.finish_left.ensures.keeps told) in
-    ended.moments
+pub returns-clause-alone : goal.returns-clause-alone
+returns-clause-alone g c = alone_by (λ told.
+    let settled = quiet_of c.settle.ensures.alone told in
+    quiet_then _ _ _ _ _ settled (quiet_of c.finish_left.ensures.alone told)) (search rules)

@@ -9,20 +9,20 @@ use Rattle.install_steps.specs.Steps.{StepsTo, IsDone}
 use Rattle.install_steps.specs.proofs.AppendLaws.{appends-there}
 use Rattle.install_steps.proofs.AppendLemmas.{calm_left, copied_file, goes-appends, temps_left}
 use Rattle.install_steps.proofs.CopyLemmas.{sees_copy, size_there, size_within}
-use Rattle.install_steps.proofs.KeepLemmas.{keeps_appends, keeps_create, keeps_on, keeps_same, takes_first, takes_later, takes_nothing, takes_part}
+use Rattle.install_steps.proofs.KeepLemmas.{takes_first, takes_later, takes_nothing, takes_part}
 use Rattle.install_steps.proofs.StepLemmas.{begins_same, firm_so_far, settled_so_far, steps_same, steps_on, off_intent}
-use Rattle.install_steps.proofs.QuietLemmas.{quiet_appends, quiet-create, quiet-read, quiet_start, quiet_then}
+use Rattle.install_steps.proofs.QuietLemmas.{alone_by, quiet-create, quiet-read, quiet_appends, quiet_of, quiet_start, quiet_then}
 use Rattle.install_steps.proofs.write.write_whole.Goals as goal
 
 pub returns-in_err-size-clause-step : goal.returns-in_err-size-clause-step
 returns-in_err-size-clause-step g c told firm =
-    let start = begins_same g.M.Machine.time g.M.Machine.state c.args.machine.now (λ m o. g.met.M.Machine.only_now c.args.machine.now m o told) (g.met.M.Machine.sound c.args.machine.now told) firm (c.requires.one told) in
+    let start = begins_same g.M.Machine.time g.M.Machine.state c.args.machine.now (λ m o left. g.met.M.Machine.only_now c.args.machine.now m o told left) (g.met.M.Machine.sound c.args.machine.now told) firm (c.requires.ready told).one in
     let looked = goes-read _ _ _ _ _ _ start (c.size.ensures.moments told) (c.size.ensures.row told).same in
     steps_same _ _ _ _ _ looked
 
 pub returns-in_default-clause-step : goal.returns-in_default-clause-step
 returns-in_default-clause-step g c told firm =
-    let start = begins_same g.M.Machine.time g.M.Machine.state c.args.machine.now (λ m o. g.met.M.Machine.only_now c.args.machine.now m o told) (g.met.M.Machine.sound c.args.machine.now told) firm (c.requires.one told) in
+    let start = begins_same g.M.Machine.time g.M.Machine.state c.args.machine.now (λ m o left. g.met.M.Machine.only_now c.args.machine.now m o told left) (g.met.M.Machine.sound c.args.machine.now told) firm (c.requires.ready told).one in
     let looked = goes-read _ _ _ _ _ _ start (c.size.ensures.moments told) (c.size.ensures.row told).same in
     steps_same _ _ _ _ _ looked
 
@@ -30,11 +30,11 @@ pub returns-in_default-clause-not_found : goal.returns-in_default-clause-not_fou
 returns-in_default-clause-not_found g c = λ err told.
     let s = g.M.Machine.state c.args.machine.now in
     let none : has s.files c.args.from.now ≡ false = search rules in
-    (rw (has-recovered_view s.files c.args.from.now (c.requires.rested told) c.know.ensures) none, (c.size.ensures.row told).same)
+    (rw (has-recovered_view s.files c.args.from.now (c.requires.ready told).rested c.know.ensures) none, (c.size.ensures.row told).same)
 
 pub returns-in_err-create-clause-step : goal.returns-in_err-create-clause-step
 returns-in_err-create-clause-step g c told firm =
-    let start = begins_same g.M.Machine.time g.M.Machine.state c.args.machine.now (λ m o. g.met.M.Machine.only_now c.args.machine.now m o told) (g.met.M.Machine.sound c.args.machine.now told) firm (c.requires.one told) in
+    let start = begins_same g.M.Machine.time g.M.Machine.state c.args.machine.now (λ m o left. g.met.M.Machine.only_now c.args.machine.now m o told left) (g.met.M.Machine.sound c.args.machine.now told) firm (c.requires.ready told).one in
     let looked = goes-read _ _ _ _ _ _ start (c.size.ensures.moments told) (c.size.ensures.row told).same in
     let made = goes-create _ _ _ _ _ _ c.create.result looked (c.create.ensures.moments told) c.args.target.now.temp c.know-3.ensures (c.create.ensures.row told) in
     steps_same _ _ _ _ _ made
@@ -45,7 +45,7 @@ copy_part-requires-clause-there g c told =
 
 pub returns-in_err-copy_part-clause-step : goal.returns-in_err-copy_part-clause-step
 returns-in_err-copy_part-clause-step g c told firm =
-    let start = begins_same g.M.Machine.time g.M.Machine.state c.args.machine.now (λ m o. g.met.M.Machine.only_now c.args.machine.now m o told) (g.met.M.Machine.sound c.args.machine.now told) firm (c.requires.one told) in
+    let start = begins_same g.M.Machine.time g.M.Machine.state c.args.machine.now (λ m o left. g.met.M.Machine.only_now c.args.machine.now m o told left) (g.met.M.Machine.sound c.args.machine.now told) firm (c.requires.ready told).one in
     let looked = goes-read _ _ _ _ _ _ start (c.size.ensures.moments told) (c.size.ensures.row told).same in
     let made = goes-create _ _ _ _ _ _ c.create.result looked (c.create.ensures.moments told) c.args.target.now.temp c.know-3.ensures (c.create.ensures.row told) in
     let written = goes-appends _ _ _ _ _ _ made c.args.target.now.temp c.know-3.ensures (c.copy_part.ensures.appends told) in
@@ -60,132 +60,114 @@ put_in_place-requires g c = record {
 
 pub returns-in_err-put_in_place-clause-step : goal.returns-in_err-put_in_place-clause-step
 returns-in_err-put_in_place-clause-step g c told firm =
-    let start = begins_same g.M.Machine.time g.M.Machine.state c.args.machine.now (λ m o. g.met.M.Machine.only_now c.args.machine.now m o told) (g.met.M.Machine.sound c.args.machine.now told) firm (c.requires.one told) in
+    let start = begins_same g.M.Machine.time g.M.Machine.state c.args.machine.now (λ m o left. g.met.M.Machine.only_now c.args.machine.now m o told left) (g.met.M.Machine.sound c.args.machine.now told) firm (c.requires.ready told).one in
     let looked = goes-read _ _ _ _ _ _ start (c.size.ensures.moments told) (c.size.ensures.row told).same in
     let made = goes-create _ _ _ _ _ _ c.create.result looked (c.create.ensures.moments told) c.args.target.now.temp c.know-3.ensures (c.create.ensures.row told) in
     let written = goes-appends _ _ _ _ _ _ made c.args.target.now.temp c.know-3.ensures (c.copy_part.ensures.appends told) in
     let s = g.M.Machine.state c.args.machine.now in
     let created : (g.M.Machine.state c.create.new.self).files ≡ map.insert (g.M.Machine.state c.args.machine.now).files c.args.target.now.temp [] = rw (c.in_ok-create.ensures.row told, (c.size.ensures.row told).same) refl in
-    let long = size_within s.files c.args.from.now c.in_ok-size.field-0 c.in-Some.size c.min-size.result (c.requires.rested told) c.know.ensures (c.requires.small told) (c.in_ok-size.ensures.row told).answer c.in-Some.is (λ small. omega (arith, small, c.min-size.ensures)) in
+    let long = size_within s.files c.args.from.now c.in_ok-size.field-0 c.in-Some.size c.min-size.result (c.requires.ready told).rested c.know.ensures (c.requires.small told) (c.in_ok-size.ensures.row told).answer c.in-Some.is (λ small. omega (arith, small, c.min-size.ensures)) in
     let all = copied_file s.files c.args.target.now.temp c.args.from.now (g.M.Machine.state c.create.new.self) (g.M.Machine.state c.copy_part.new.machine) c.min-size.result c.know-3.ensures c.know.ensures created (c.copy_part.ensures.appends told).left (c.in_ok-copy_part.ensures.grows told) long in
-    let is = sees_copy s.files (g.M.Machine.state c.copy_part.new.machine).files c.args.target.now.temp c.args.from.now c.args.target.now.path (c.requires.rested told) (off_intent c.args.target.now.path c.requires.free) c.know-3.ensures c.know.ensures c.know-2.ensures (size_there s.files c.args.from.now c.in_ok-size.field-0 c.in-Some.size (c.in_ok-size.ensures.row told).answer c.in-Some.is).1 all in
+    let is = sees_copy s.files (g.M.Machine.state c.copy_part.new.machine).files c.args.target.now.temp c.args.from.now c.args.target.now.path (c.requires.ready told).rested (off_intent c.args.target.now.path c.requires.free) c.know-3.ensures c.know.ensures c.know-2.ensures (size_there s.files c.args.from.now c.in_ok-size.field-0 c.in-Some.size (c.in_ok-size.ensures.row told).answer c.in-Some.is).1 all in
     steps_on _ _ _ _ _ _ written (subst (λ (v : Files). StepsTo g.M.Machine.time g.M.Machine.state v c.copy_part.new.machine c.put_in_place.new.machine) is (c.put_in_place.ensures.step told (firm_so_far _ _ _ _ _ written) (settled_so_far _ _ _ _ written)))
 
 pub returns-clause-step : goal.returns-clause-step
 returns-clause-step g c told firm =
-    let start = begins_same g.M.Machine.time g.M.Machine.state c.args.machine.now (λ m o. g.met.M.Machine.only_now c.args.machine.now m o told) (g.met.M.Machine.sound c.args.machine.now told) firm (c.requires.one told) in
+    let start = begins_same g.M.Machine.time g.M.Machine.state c.args.machine.now (λ m o left. g.met.M.Machine.only_now c.args.machine.now m o told left) (g.met.M.Machine.sound c.args.machine.now told) firm (c.requires.ready told).one in
     let looked = goes-read _ _ _ _ _ _ start (c.size.ensures.moments told) (c.size.ensures.row told).same in
     let made = goes-create _ _ _ _ _ _ c.create.result looked (c.create.ensures.moments told) c.args.target.now.temp c.know-3.ensures (c.create.ensures.row told) in
     let written = goes-appends _ _ _ _ _ _ made c.args.target.now.temp c.know-3.ensures (c.copy_part.ensures.appends told) in
     let s = g.M.Machine.state c.args.machine.now in
     let created : (g.M.Machine.state c.create.new.self).files ≡ map.insert (g.M.Machine.state c.args.machine.now).files c.args.target.now.temp [] = rw (c.in_ok-create.ensures.row told, (c.size.ensures.row told).same) refl in
-    let long = size_within s.files c.args.from.now c.in_ok-size.field-0 c.in-Some.size c.min-size.result (c.requires.rested told) c.know.ensures (c.requires.small told) (c.in_ok-size.ensures.row told).answer c.in-Some.is (λ small. omega (arith, small, c.min-size.ensures)) in
+    let long = size_within s.files c.args.from.now c.in_ok-size.field-0 c.in-Some.size c.min-size.result (c.requires.ready told).rested c.know.ensures (c.requires.small told) (c.in_ok-size.ensures.row told).answer c.in-Some.is (λ small. omega (arith, small, c.min-size.ensures)) in
     let all = copied_file s.files c.args.target.now.temp c.args.from.now (g.M.Machine.state c.create.new.self) (g.M.Machine.state c.copy_part.new.machine) c.min-size.result c.know-3.ensures c.know.ensures created (c.copy_part.ensures.appends told).left (c.in_ok-copy_part.ensures.grows told) long in
-    let is = sees_copy s.files (g.M.Machine.state c.copy_part.new.machine).files c.args.target.now.temp c.args.from.now c.args.target.now.path (c.requires.rested told) (off_intent c.args.target.now.path c.requires.free) c.know-3.ensures c.know.ensures c.know-2.ensures (size_there s.files c.args.from.now c.in_ok-size.field-0 c.in-Some.size (c.in_ok-size.ensures.row told).answer c.in-Some.is).1 all in
+    let is = sees_copy s.files (g.M.Machine.state c.copy_part.new.machine).files c.args.target.now.temp c.args.from.now c.args.target.now.path (c.requires.ready told).rested (off_intent c.args.target.now.path c.requires.free) c.know-3.ensures c.know.ensures c.know-2.ensures (size_there s.files c.args.from.now c.in_ok-size.field-0 c.in-Some.size (c.in_ok-size.ensures.row told).answer c.in-Some.is).1 all in
     steps_on _ _ _ _ _ _ written (subst (λ (v : Files). StepsTo g.M.Machine.time g.M.Machine.state v c.copy_part.new.machine c.put_in_place.new.machine) is (c.put_in_place.ensures.step told (firm_so_far _ _ _ _ _ written) (settled_so_far _ _ _ _ written)))
 
 pub returns-clause-done : goal.returns-clause-done
 returns-clause-done g c told firm =
-    let start = begins_same g.M.Machine.time g.M.Machine.state c.args.machine.now (λ m o. g.met.M.Machine.only_now c.args.machine.now m o told) (g.met.M.Machine.sound c.args.machine.now told) firm (c.requires.one told) in
+    let start = begins_same g.M.Machine.time g.M.Machine.state c.args.machine.now (λ m o left. g.met.M.Machine.only_now c.args.machine.now m o told left) (g.met.M.Machine.sound c.args.machine.now told) firm (c.requires.ready told).one in
     let looked = goes-read _ _ _ _ _ _ start (c.size.ensures.moments told) (c.size.ensures.row told).same in
     let made = goes-create _ _ _ _ _ _ c.create.result looked (c.create.ensures.moments told) c.args.target.now.temp c.know-3.ensures (c.create.ensures.row told) in
     let written = goes-appends _ _ _ _ _ _ made c.args.target.now.temp c.know-3.ensures (c.copy_part.ensures.appends told) in
     let s = g.M.Machine.state c.args.machine.now in
     let created : (g.M.Machine.state c.create.new.self).files ≡ map.insert (g.M.Machine.state c.args.machine.now).files c.args.target.now.temp [] = rw (c.in_ok-create.ensures.row told, (c.size.ensures.row told).same) refl in
-    let long = size_within s.files c.args.from.now c.in_ok-size.field-0 c.in-Some.size c.min-size.result (c.requires.rested told) c.know.ensures (c.requires.small told) (c.in_ok-size.ensures.row told).answer c.in-Some.is (λ small. omega (arith, small, c.min-size.ensures)) in
+    let long = size_within s.files c.args.from.now c.in_ok-size.field-0 c.in-Some.size c.min-size.result (c.requires.ready told).rested c.know.ensures (c.requires.small told) (c.in_ok-size.ensures.row told).answer c.in-Some.is (λ small. omega (arith, small, c.min-size.ensures)) in
     let all = copied_file s.files c.args.target.now.temp c.args.from.now (g.M.Machine.state c.create.new.self) (g.M.Machine.state c.copy_part.new.machine) c.min-size.result c.know-3.ensures c.know.ensures created (c.copy_part.ensures.appends told).left (c.in_ok-copy_part.ensures.grows told) long in
-    let is = sees_copy s.files (g.M.Machine.state c.copy_part.new.machine).files c.args.target.now.temp c.args.from.now c.args.target.now.path (c.requires.rested told) (off_intent c.args.target.now.path c.requires.free) c.know-3.ensures c.know.ensures c.know-2.ensures (size_there s.files c.args.from.now c.in_ok-size.field-0 c.in-Some.size (c.in_ok-size.ensures.row told).answer c.in-Some.is).1 all in
+    let is = sees_copy s.files (g.M.Machine.state c.copy_part.new.machine).files c.args.target.now.temp c.args.from.now c.args.target.now.path (c.requires.ready told).rested (off_intent c.args.target.now.path c.requires.free) c.know-3.ensures c.know.ensures c.know-2.ensures (size_there s.files c.args.from.now c.in_ok-size.field-0 c.in-Some.size (c.in_ok-size.ensures.row told).answer c.in-Some.is).1 all in
     subst (IsDone (g.M.Machine.state c.put_in_place.new.machine)) is (c.in_ok-put_in_place.ensures.done told (firm_so_far _ _ _ _ _ written) (settled_so_far _ _ _ _ written))
 
 pub returns-clause-found : goal.returns-clause-found
 returns-clause-found g c told =
     let s = g.M.Machine.state c.args.machine.now in
-    rw (has-recovered_view s.files c.args.from.now (c.requires.rested told) c.know.ensures) (size_there s.files c.args.from.now c.in_ok-size.field-0 c.in-Some.size (c.in_ok-size.ensures.row told).answer c.in-Some.is).1
+    rw (has-recovered_view s.files c.args.from.now (c.requires.ready told).rested c.know.ensures) (size_there s.files c.args.from.now c.in_ok-size.field-0 c.in-Some.size (c.in_ok-size.ensures.row told).answer c.in-Some.is).1
 
-pub returns-clause-temps : goal.returns-clause-temps
-returns-clause-temps g c told q temp there =
-    let created : (g.M.Machine.state c.create.new.self).files ≡ map.insert (g.M.Machine.state c.args.machine.now).files c.args.target.now.temp [] = rw (c.in_ok-create.ensures.row told, (c.size.ensures.row told).same) refl in
-    temps_left (g.M.Machine.state c.args.machine.now).files c.args.target.now.temp c.args.target.now.path (g.M.Machine.state c.create.new.self) (g.M.Machine.state c.copy_part.new.machine) c.know-3.ensures c.know-2.ensures created (c.copy_part.ensures.appends told).left q temp
-    (rw (c.in_ok-put_in_place.ensures.files told) at there)
+pub returns-clause-ready : goal.returns-clause-ready
+returns-clause-ready g c told =
+    let m = (g.M.Machine.state c.args.machine.now).files in
+    let mid = g.M.Machine.state c.create.new.self in
+    let last = g.M.Machine.state c.copy_part.new.machine in
+    let created : mid.files ≡ map.insert m c.args.target.now.temp [] = rw (c.in_ok-create.ensures.row told, (c.size.ensures.row told).same) refl in
+    record {
+      next = record {
+        one = c.in_ok-put_in_place.ensures.one told;
+        rested = rw (c.in_ok-put_in_place.ensures.files told)
+            (calm_left m c.args.target.now.temp c.args.target.now.path mid last (c.requires.ready told).rested (off_intent c.args.target.now.path c.requires.free) c.know-3.ensures created (c.copy_part.ensures.appends told).left);
+      };
+      temps = λ q temp there. temps_left m c.args.target.now.temp c.args.target.now.path mid last c.know-3.ensures c.know-2.ensures created (c.copy_part.ensures.appends told).left q temp
+          (rw (c.in_ok-put_in_place.ensures.files told) at there);
+    }
 
-pub returns-clause-rests : goal.returns-clause-rests
-returns-clause-rests g c told =
-    let created : (g.M.Machine.state c.create.new.self).files ≡ map.insert (g.M.Machine.state c.args.machine.now).files c.args.target.now.temp [] = rw (c.in_ok-create.ensures.row told, (c.size.ensures.row told).same) refl in
-    rw (c.in_ok-put_in_place.ensures.files told)
-    (calm_left (g.M.Machine.state c.args.machine.now).files c.args.target.now.temp c.args.target.now.path (g.M.Machine.state c.create.new.self) (g.M.Machine.state c.copy_part.new.machine) (c.requires.rested told) (off_intent c.args.target.now.path c.requires.free) c.know-3.ensures created (c.copy_part.ensures.appends told).left)
+pub returns-in_err-size-clause-alone : goal.returns-in_err-size-clause-alone
+returns-in_err-size-clause-alone g c = alone_by (λ told.
+    let start = quiet_start g.M.Machine.time g.M.Machine.state c.args.machine.now (λ m o left. g.met.M.Machine.only_now c.args.machine.now m o told left) in
+    quiet-read _ _ _ _ _ start (λ m o left. g.met.M.Machine.only_now c.args.machine.now m o told left) (c.size.ensures.moments told) (c.size.ensures.row told).same) (search rules)
 
-pub returns-in_err-size-clause-quiet : goal.returns-in_err-size-clause-quiet
-returns-in_err-size-clause-quiet g c told =
-    let start = quiet_start g.M.Machine.time g.M.Machine.state c.args.machine.now (λ m o. g.met.M.Machine.only_now c.args.machine.now m o told) in
-    let looked = quiet-read _ _ _ _ _ start (λ m o. g.met.M.Machine.only_now c.args.machine.now m o told) (c.size.ensures.moments told) (c.size.ensures.row told).same in
-    looked.moments
+pub returns-in_default-clause-alone : goal.returns-in_default-clause-alone
+returns-in_default-clause-alone g c = alone_by (λ told.
+    let start = quiet_start g.M.Machine.time g.M.Machine.state c.args.machine.now (λ m o left. g.met.M.Machine.only_now c.args.machine.now m o told left) in
+    quiet-read _ _ _ _ _ start (λ m o left. g.met.M.Machine.only_now c.args.machine.now m o told left) (c.size.ensures.moments told) (c.size.ensures.row told).same) (search rules)
 
-pub returns-in_default-clause-quiet : goal.returns-in_default-clause-quiet
-returns-in_default-clause-quiet g c told =
-    let start = quiet_start g.M.Machine.time g.M.Machine.state c.args.machine.now (λ m o. g.met.M.Machine.only_now c.args.machine.now m o told) in
-    let looked = quiet-read _ _ _ _ _ start (λ m o. g.met.M.Machine.only_now c.args.machine.now m o told) (c.size.ensures.moments told) (c.size.ensures.row told).same in
-    looked.moments
+pub returns-in_err-create-clause-alone : goal.returns-in_err-create-clause-alone
+returns-in_err-create-clause-alone g c = alone_by (λ told.
+    let start = quiet_start g.M.Machine.time g.M.Machine.state c.args.machine.now (λ m o left. g.met.M.Machine.only_now c.args.machine.now m o told left) in
+    let looked = quiet-read _ _ _ _ _ start (λ m o left. g.met.M.Machine.only_now c.args.machine.now m o told left) (c.size.ensures.moments told) (c.size.ensures.row told).same in
+    quiet-create _ _ _ _ _ looked (λ m o. g.met.M.Machine.only_now c.size.new.self m o told) (c.create.ensures.moments told) c.create.result c.args.target.now.temp (c.create.ensures.row told)) (search rules)
 
-pub returns-in_err-create-clause-quiet : goal.returns-in_err-create-clause-quiet
-returns-in_err-create-clause-quiet g c told =
-    let start = quiet_start g.M.Machine.time g.M.Machine.state c.args.machine.now (λ m o. g.met.M.Machine.only_now c.args.machine.now m o told) in
-    let looked = quiet-read _ _ _ _ _ start (λ m o. g.met.M.Machine.only_now c.args.machine.now m o told) (c.size.ensures.moments told) (c.size.ensures.row told).same in
+pub returns-in_err-copy_part-clause-alone : goal.returns-in_err-copy_part-clause-alone
+returns-in_err-copy_part-clause-alone g c = alone_by (λ told.
+    let start = quiet_start g.M.Machine.time g.M.Machine.state c.args.machine.now (λ m o left. g.met.M.Machine.only_now c.args.machine.now m o told left) in
+    let looked = quiet-read _ _ _ _ _ start (λ m o left. g.met.M.Machine.only_now c.args.machine.now m o told left) (c.size.ensures.moments told) (c.size.ensures.row told).same in
     let made = quiet-create _ _ _ _ _ looked (λ m o. g.met.M.Machine.only_now c.size.new.self m o told) (c.create.ensures.moments told) c.create.result c.args.target.now.temp (c.create.ensures.row told) in
-    made.moments
+    quiet_appends _ _ c.args.target.now.temp _ _ _ made (c.copy_part.ensures.appends told)) (search rules)
 
-pub returns-in_err-copy_part-clause-quiet : goal.returns-in_err-copy_part-clause-quiet
-returns-in_err-copy_part-clause-quiet g c told =
-    let start = quiet_start g.M.Machine.time g.M.Machine.state c.args.machine.now (λ m o. g.met.M.Machine.only_now c.args.machine.now m o told) in
-    let looked = quiet-read _ _ _ _ _ start (λ m o. g.met.M.Machine.only_now c.args.machine.now m o told) (c.size.ensures.moments told) (c.size.ensures.row told).same in
-    let made = quiet-create _ _ _ _ _ looked (λ m o. g.met.M.Machine.only_now c.size.new.self m o told) (c.create.ensures.moments told) c.create.result c.args.target.now.temp (c.create.ensures.row told) in
-    let written = quiet_appends _ _ c.args.target.now.temp _ _ _ made (c.copy_part.ensures.appends told) in
-    written.moments
-
-pub returns-in_err-put_in_place-clause-quiet : goal.returns-in_err-put_in_place-clause-quiet
-returns-in_err-put_in_place-clause-quiet g c told =
-    let start = quiet_start g.M.Machine.time g.M.Machine.state c.args.machine.now (λ m o. g.met.M.Machine.only_now c.args.machine.now m o told) in
-    let looked = quiet-read _ _ _ _ _ start (λ m o. g.met.M.Machine.only_now c.args.machine.now m o told) (c.size.ensures.moments told) (c.size.ensures.row told).same in
-    let made = quiet-create _ _ _ _ _ looked (λ m o. g.met.M.Machine.only_now c.size.new.self m o told) (c.create.ensures.moments told) c.create.result c.args.target.now.temp (c.create.ensures.row told) in
-    let written = quiet_appends _ _ c.args.target.now.temp _ _ _ made (c.copy_part.ensures.appends told) in
-    let ended = quiet_then _ _ _ _ _ written (c.put_in_place.ensures.quiet told) (c.put_in_place.ensures.keeps told) in
-    ended.moments
-
-pub returns-clause-quiet : goal.returns-clause-quiet
-returns-clause-quiet g c told =
-    let start = quiet_start g.M.Machine.time g.M.Machine.state c.args.machine.now (λ m o. g.met.M.Machine.only_now c.args.machine.now m o told) in
-    let looked = quiet-read _ _ _ _ _ start (λ m o. g.met.M.Machine.only_now c.args.machine.now m o told) (c.size.ensures.moments told) (c.size.ensures.row told).same in
+pub returns-in_err-put_in_place-clause-alone : goal.returns-in_err-put_in_place-clause-alone
+returns-in_err-put_in_place-clause-alone g c = alone_by (λ told.
+    let start = quiet_start g.M.Machine.time g.M.Machine.state c.args.machine.now (λ m o left. g.met.M.Machine.only_now c.args.machine.now m o told left) in
+    let looked = quiet-read _ _ _ _ _ start (λ m o left. g.met.M.Machine.only_now c.args.machine.now m o told left) (c.size.ensures.moments told) (c.size.ensures.row told).same in
     let made = quiet-create _ _ _ _ _ looked (λ m o. g.met.M.Machine.only_now c.size.new.self m o told) (c.create.ensures.moments told) c.create.result c.args.target.now.temp (c.create.ensures.row told) in
     let written = quiet_appends _ _ c.args.target.now.temp _ _ _ made (c.copy_part.ensures.appends told) in
-    let ended = quiet_then _ _ _ _ _ written (c.put_in_place.ensures.quiet told) (c.put_in_place.ensures.keeps told) in
-    ended.moments
+    quiet_then _ _ _ _ _ written (quiet_of c.put_in_place.ensures.alone told)) (search rules)
 
-pub returns-in_err-size-clause-keeps : goal.returns-in_err-size-clause-keeps
-returns-in_err-size-clause-keeps g c told =
-    keeps_same (g.M.Machine.state c.args.machine.now) (g.M.Machine.state c.size.new.self) (c.size.ensures.row told).same
+pub returns-clause-alone : goal.returns-clause-alone
+returns-clause-alone g c = alone_by (λ told.
+    let start = quiet_start g.M.Machine.time g.M.Machine.state c.args.machine.now (λ m o left. g.met.M.Machine.only_now c.args.machine.now m o told left) in
+    let looked = quiet-read _ _ _ _ _ start (λ m o left. g.met.M.Machine.only_now c.args.machine.now m o told left) (c.size.ensures.moments told) (c.size.ensures.row told).same in
+    let made = quiet-create _ _ _ _ _ looked (λ m o. g.met.M.Machine.only_now c.size.new.self m o told) (c.create.ensures.moments told) c.create.result c.args.target.now.temp (c.create.ensures.row told) in
+    let written = quiet_appends _ _ c.args.target.now.temp _ _ _ made (c.copy_part.ensures.appends told) in
+    quiet_then _ _ _ _ _ written (quiet_of c.put_in_place.ensures.alone told)) (search rules)
 
 pub returns-in_err-size-clause-taken : goal.returns-in_err-size-clause-taken
 returns-in_err-size-clause-taken g c told =
     takes_nothing (length (contents (g.M.Machine.state c.args.machine.now).files c.args.from.now)) (g.M.Machine.taken c.args.machine.now) (g.M.Machine.taken c.size.new.self) (c.size.ensures.taken told)
 
-pub returns-in_default-clause-keeps : goal.returns-in_default-clause-keeps
-returns-in_default-clause-keeps g c told =
-    keeps_same (g.M.Machine.state c.args.machine.now) (g.M.Machine.state c.size.new.self) (c.size.ensures.row told).same
-
 pub returns-in_default-clause-taken : goal.returns-in_default-clause-taken
 returns-in_default-clause-taken g c told =
     takes_nothing (length (contents (g.M.Machine.state c.args.machine.now).files c.args.from.now)) (g.M.Machine.taken c.args.machine.now) (g.M.Machine.taken c.size.new.self) (c.size.ensures.taken told)
 
-pub returns-in_err-create-clause-keeps : goal.returns-in_err-create-clause-keeps
-returns-in_err-create-clause-keeps g c told =
-    keeps_on _ _ _ (keeps_same (g.M.Machine.state c.args.machine.now) (g.M.Machine.state c.size.new.self) (c.size.ensures.row told).same) (keeps_create (g.M.Machine.state c.size.new.self) (g.M.Machine.state c.create.new.self) c.args.target.now.temp c.create.result (c.create.ensures.row told))
-
 pub returns-in_err-create-clause-taken : goal.returns-in_err-create-clause-taken
 returns-in_err-create-clause-taken g c told =
     takes_nothing (length (contents (g.M.Machine.state c.args.machine.now).files c.args.from.now)) (g.M.Machine.taken c.args.machine.now) (g.M.Machine.taken c.create.new.self) (c.create.ensures.taken told ∙ c.size.ensures.taken told)
-
-pub returns-in_err-copy_part-clause-keeps : goal.returns-in_err-copy_part-clause-keeps
-returns-in_err-copy_part-clause-keeps g c told =
-    keeps_on _ _ _ (keeps_on _ _ _ (keeps_same (g.M.Machine.state c.args.machine.now) (g.M.Machine.state c.size.new.self) (c.size.ensures.row told).same) (keeps_create (g.M.Machine.state c.size.new.self) (g.M.Machine.state c.create.new.self) c.args.target.now.temp c.create.result (c.create.ensures.row told))) (keeps_appends (g.M.Machine.state c.create.new.self) (g.M.Machine.state c.copy_part.new.machine) c.args.target.now.temp (c.copy_part.ensures.appends told).left)
 
 pub returns-in_err-copy_part-clause-taken : goal.returns-in_err-copy_part-clause-taken
 returns-in_err-copy_part-clause-taken g c told =
@@ -194,20 +176,12 @@ returns-in_err-copy_part-clause-taken g c told =
     let within : c.min-size.result ≤ limit = omega (arith, size, c.min-size.ensures) in
     takes_later limit (g.M.Machine.taken c.args.machine.now) (g.M.Machine.taken c.create.new.self) (g.M.Machine.taken c.copy_part.new.machine) (c.create.ensures.taken told ∙ c.size.ensures.taken told) (takes_part c.min-size.result limit (g.M.Machine.taken c.create.new.self) (g.M.Machine.taken c.copy_part.new.machine) within (c.copy_part.ensures.taken told))
 
-pub returns-in_err-put_in_place-clause-keeps : goal.returns-in_err-put_in_place-clause-keeps
-returns-in_err-put_in_place-clause-keeps g c told =
-    keeps_on _ _ _ (keeps_on _ _ _ (keeps_on _ _ _ (keeps_same (g.M.Machine.state c.args.machine.now) (g.M.Machine.state c.size.new.self) (c.size.ensures.row told).same) (keeps_create (g.M.Machine.state c.size.new.self) (g.M.Machine.state c.create.new.self) c.args.target.now.temp c.create.result (c.create.ensures.row told))) (keeps_appends (g.M.Machine.state c.create.new.self) (g.M.Machine.state c.copy_part.new.machine) c.args.target.now.temp (c.copy_part.ensures.appends told).left)) (c.put_in_place.ensures.keeps told)
-
 pub returns-in_err-put_in_place-clause-taken : goal.returns-in_err-put_in_place-clause-taken
 returns-in_err-put_in_place-clause-taken g c told =
     let limit = length (contents (g.M.Machine.state c.args.machine.now).files c.args.from.now) in
     let size = (size_there (g.M.Machine.state c.args.machine.now).files c.args.from.now c.in_ok-size.field-0 c.in-Some.size (c.in_ok-size.ensures.row told).answer c.in-Some.is).0 in
     let within : c.min-size.result ≤ limit = omega (arith, size, c.min-size.ensures) in
     takes_first limit (g.M.Machine.taken c.args.machine.now) (g.M.Machine.taken c.copy_part.new.machine) (g.M.Machine.taken c.put_in_place.new.machine) (takes_later limit (g.M.Machine.taken c.args.machine.now) (g.M.Machine.taken c.create.new.self) (g.M.Machine.taken c.copy_part.new.machine) (c.create.ensures.taken told ∙ c.size.ensures.taken told) (takes_part c.min-size.result limit (g.M.Machine.taken c.create.new.self) (g.M.Machine.taken c.copy_part.new.machine) within (c.copy_part.ensures.taken told))) (c.put_in_place.ensures.taken told)
-
-pub returns-clause-keeps : goal.returns-clause-keeps
-returns-clause-keeps g c told =
-    keeps_on _ _ _ (keeps_on _ _ _ (keeps_on _ _ _ (keeps_same (g.M.Machine.state c.args.machine.now) (g.M.Machine.state c.size.new.self) (c.size.ensures.row told).same) (keeps_create (g.M.Machine.state c.size.new.self) (g.M.Machine.state c.create.new.self) c.args.target.now.temp c.create.result (c.create.ensures.row told))) (keeps_appends (g.M.Machine.state c.create.new.self) (g.M.Machine.state c.copy_part.new.machine) c.args.target.now.temp (c.copy_part.ensures.appends told).left)) (c.put_in_place.ensures.keeps told)
 
 pub returns-clause-taken : goal.returns-clause-taken
 returns-clause-taken g c told =

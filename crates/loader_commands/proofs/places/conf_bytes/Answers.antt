@@ -1,20 +1,19 @@
-use Rattle.std.proofs.Common.{List, ℕ, Result, ap, ◌∙◌, subst}
+use Rattle.std.proofs.Common.{List, ℕ, Result, ap, ◌∙◌, subst, rules}
 use Rattle.boot_base.specs.declared.refusal.Refusal.{Refusal}
 use Rattle.boot_machine.specs.Disk.{State}
 use Rattle.boot_machine.specs.Sent.{seen}
-use Rattle.boot_machine.proofs.Reading.{reads_on}
+use Rattle.boot_machine.proofs.Reading.{looks_on}
 use Rattle.command_plans.specs.Unsaying.{Says}
 use Rattle.loader_commands.proofs.Limits.{conf_read}
 use Rattle.loader_commands.proofs.places.conf_bytes.Goals as goal
 
-pub returns-in-Some-2-clause-reads : goal.returns-in-Some-2-clause-reads
-returns-in-Some-2-clause-reads g c told =
-    reads_on g.M.Machine.time g.M.Machine.state c.args.machine.now c.seen_size.new.machine c.file_part.new.machine (c.in_ok-seen_size.ensures.reads told) (c.file_part.ensures.reads told)
+pub returns-in-Some-2-clause-looks : goal.returns-in-Some-2-clause-looks
+returns-in-Some-2-clause-looks g c = looks_on c.in_ok-seen_size.ensures.looks c.file_part.ensures.looks (search rules)
 
 pub returns-in-Some-2-clause-says : goal.returns-in-Some-2-clause-says
 returns-in-Some-2-clause-says g c told =
     let old = g.M.Machine.state c.args.machine.now in
-    let reads = c.in_ok-seen_size.ensures.reads told in
+    let reads = c.in_ok-seen_size.ensures.looks.reads told in
     subst (λ (meant : Result (List ℕ) Refusal). Says (λ bytes. bytes.items) c.file_part.result meant)
     (conf_read (seen old) (seen (g.M.Machine.state c.seen_size.new.machine)) c.args.path.now c.in-Some.size (ap (λ (s : State). seen s) reads.same)
     (c.in_ok-seen_size.ensures.size told ∙ c.in-Some.is) c.if-size-gt-TEXT_LIMIT.false)

@@ -1,10 +1,9 @@
-use Rattle.boot_machine.proofs.Reading.{reads_none}
+use Rattle.std.proofs.Common.{rules}
+use Rattle.boot_machine.proofs.Reading.{looks_none}
 use Rattle.loader_commands.proofs.set.conf_update.Goals as goal
 
-pub returns-in_err-check_value-clause-reads : goal.returns-in_err-check_value-clause-reads
-returns-in_err-check_value-clause-reads g c told =
-    reads_none g.M.Machine.time g.M.Machine.state c.args.machine.now (λ m o left. g.met.M.Machine.only_now c.args.machine.now m o told left)
+pub returns-in_err-check_value-clause-looks : goal.returns-in_err-check_value-clause-looks
+returns-in_err-check_value-clause-looks g c = looks_none (g.met.M.Machine.only_now c.args.machine.now) (search rules)
 
-pub returns-in_err-path-clause-reads : goal.returns-in_err-path-clause-reads
-returns-in_err-path-clause-reads g c told =
-    reads_none g.M.Machine.time g.M.Machine.state c.args.machine.now (λ m o left. g.met.M.Machine.only_now c.args.machine.now m o told left)
+pub returns-in_err-path-clause-looks : goal.returns-in_err-path-clause-looks
+returns-in_err-path-clause-looks g c = looks_none (g.met.M.Machine.only_now c.args.machine.now) (search rules)

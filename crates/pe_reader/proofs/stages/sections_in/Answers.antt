@@ -1,6 +1,6 @@
-use Rattle.boot_machine.proofs.Reading.{reads_none}
+use Rattle.std.proofs.Common.{rules}
+use Rattle.boot_machine.proofs.Reading.{looks_none}
 use Rattle.pe_reader.proofs.stages.sections_in.Goals as goal
 
-pub returns-in_err-table-clause-reads : goal.returns-in_err-table-clause-reads
-returns-in_err-table-clause-reads g c told =
-    reads_none g.M.Machine.time g.M.Machine.state c.args.machine.now (λ m o left. g.met.M.Machine.only_now c.args.machine.now m o told left)
+pub returns-in_err-table-clause-looks : goal.returns-in_err-table-clause-looks
+returns-in_err-table-clause-looks g c = looks_none (g.met.M.Machine.only_now c.args.machine.now) (search rules)

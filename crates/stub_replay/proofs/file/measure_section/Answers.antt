@@ -1,7 +1,7 @@
-use Rattle.std.proofs.Common.{sym, ◌∙◌, IsTrue}
+use Rattle.std.proofs.Common.{sym, ◌∙◌, IsTrue, rules}
 use Rattle.boot_machine.specs.Rows.{contents}
 use Rattle.boot_machine.specs.Sent.{seen}
-use Rattle.boot_machine.proofs.Reading.{reads_none}
+use Rattle.boot_machine.proofs.Reading.{looks_none}
 use Rattle.pe_reader.specs.Reads.{headers_of}
 use Rattle.stub_replay.proofs.Sections.{section_none, section_some, section_long}
 use Rattle.stub_replay.proofs.Shown.{shown_contents}
@@ -12,9 +12,8 @@ returns-in-None-clause-value g c =
     let file = contents (g.M.Machine.state c.args.machine.now).files c.args.path.now in
     section_none (IsTrue g.M.Machine.tells) file c.args.name.now (headers_of c.args.head.now) c.args.registers.now c.requires.head (sym c.find.ensures.at ∙ c.in-None.is)
 
-pub returns-in-None-clause-reads : goal.returns-in-None-clause-reads
-returns-in-None-clause-reads g c told =
-    reads_none g.M.Machine.time g.M.Machine.state c.args.machine.now (λ m o left. g.met.M.Machine.only_now c.args.machine.now m o told left)
+pub returns-in-None-clause-looks : goal.returns-in-None-clause-looks
+returns-in-None-clause-looks g c = looks_none (g.met.M.Machine.only_now c.args.machine.now) (search rules)
 
 pub returns-in_ok-measure_part-in-Some-clause-value : goal.returns-in_ok-measure_part-in-Some-clause-value
 returns-in_ok-measure_part-in-Some-clause-value g c =

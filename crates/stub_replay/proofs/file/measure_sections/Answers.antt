@@ -20,9 +20,11 @@ pub measure_section-requires-clause-between : goal.measure_section-requires-clau
 measure_section-requires-clause-between g c =
     between_on (IsTrue g.M.Machine.tells) _ c.args.registers.now c.loop-name.registers c.requires.between c.loop-name.invariant.measured
 
-pub returns-in_err-measure_section-clause-reads : goal.returns-in_err-measure_section-clause-reads
-returns-in_err-measure_section-clause-reads g c told =
-    reads_on g.M.Machine.time g.M.Machine.state _ _ _ (c.loop-name.invariant.reads told) (c.measure_section.ensures.reads told)
+pub returns-in_err-measure_section-clause-looks : goal.returns-in_err-measure_section-clause-looks
+returns-in_err-measure_section-clause-looks g c = record {
+  reads = λ told. reads_on g.M.Machine.time g.M.Machine.state _ _ _ (c.loop-name.invariant.reads told) (c.measure_section.ensures.looks.reads told);
+  counted = search rules;
+}
 
 pub returns-in_err-measure_section-clause-taken : goal.returns-in_err-measure_section-clause-taken
 returns-in_err-measure_section-clause-taken g c told =
@@ -42,7 +44,7 @@ loop-name-preserved g c =
     record {
       room = search rules;
       measured = sections_more (IsTrue g.M.Machine.tells) file _ _ c.loop-name.name-index c.args.registers.now c.loop-name.registers c.measure_section.new.registers same at before.measured section.value;
-      reads = λ told. reads_on g.M.Machine.time g.M.Machine.state _ _ _ (before.reads told) (c.measure_section.ensures.reads told);
+      reads = λ told. reads_on g.M.Machine.time g.M.Machine.state _ _ _ (before.reads told) (c.measure_section.ensures.looks.reads told);
       counts = search rules;
       taken = λ told. taken_more file _ _ c.loop-name.name-index _ _ _ (same told) at (before.taken told) (section.taken told);
     }

@@ -17,9 +17,11 @@ loop-piece-init g c = record {
   taken = λ told. omega arith;
 }
 
-pub returns-in_err-take_piece-clause-reads : goal.returns-in_err-take_piece-clause-reads
-returns-in_err-take_piece-clause-reads g c told =
-    reads_on g.M.Machine.time g.M.Machine.state _ _ _ (c.loop-piece.invariant.reads told) (c.take_piece.ensures.reads told)
+pub returns-in_err-take_piece-clause-looks : goal.returns-in_err-take_piece-clause-looks
+returns-in_err-take_piece-clause-looks g c = record {
+  reads = λ told. reads_on g.M.Machine.time g.M.Machine.state _ _ _ (c.loop-piece.invariant.reads told) (c.take_piece.ensures.looks.reads told);
+  counted = search rules;
+}
 
 pub loop-piece-preserved : goal.loop-piece-preserved
 loop-piece-preserved g c =
@@ -30,7 +32,7 @@ loop-piece-preserved g c =
       hashed = pieces_more g.M.Machine.tells (contents (seen (g.M.Machine.state c.args.machine.now))) (contents (seen (g.M.Machine.state c.loop-piece.machine)))
           c.args.pieces.now c.loop-piece.piece-index c.piece-item.result c.args.registers.now c.loop-piece.registers c.take_piece.new.registers
           (λ told. ap (λ (s : State). contents (seen s)) (before.reads told).same) (omega arith) c.piece-item.is before.hashed piece.data;
-      reads = λ told. reads_on g.M.Machine.time g.M.Machine.state _ _ _ (before.reads told) (c.take_piece.ensures.reads told);
+      reads = λ told. reads_on g.M.Machine.time g.M.Machine.state _ _ _ (before.reads told) (c.take_piece.ensures.looks.reads told);
       counts = search rules;
       taken = λ told.
           omega (

@@ -22,9 +22,11 @@ pub measure_part-requires-clause-between : goal.measure_part-requires-clause-bet
 measure_part-requires-clause-between g c =
     between_after c.loop-part.invariant.value.0 c.args.registers.now c.loop-part.registers c.requires.between c.loop-part.invariant.value.1
 
-pub returns-in_err-measure_part-clause-reads : goal.returns-in_err-measure_part-clause-reads
-returns-in_err-measure_part-clause-reads g c told =
-    reads_on g.M.Machine.time g.M.Machine.state _ _ _ (c.loop-part.invariant.reads told) (c.measure_part.ensures.reads told)
+pub returns-in_err-measure_part-clause-looks : goal.returns-in_err-measure_part-clause-looks
+returns-in_err-measure_part-clause-looks g c = record {
+  reads = λ told. reads_on g.M.Machine.time g.M.Machine.state _ _ _ (c.loop-part.invariant.reads told) (c.measure_part.ensures.looks.reads told);
+  counted = search rules;
+}
 
 pub loop-part-preserved : goal.loop-part-preserved
 loop-part-preserved g c =
@@ -35,7 +37,7 @@ loop-part-preserved g c =
       value = parts_more g.M.Machine.tells (contents (seen (g.M.Machine.state c.args.machine.now))) (contents (seen (g.M.Machine.state c.loop-part.machine)))
           c.args.parts.now c.loop-part.part-index c.part-item.result c.args.registers.now c.loop-part.registers c.measure_part.new.registers
           (λ told. ap (λ (s : State). contents (seen s)) (before.reads told).same) (omega arith) c.part-item.is before.value part.value;
-      reads = λ told. reads_on g.M.Machine.time g.M.Machine.state _ _ _ (before.reads told) (c.measure_part.ensures.reads told);
+      reads = λ told. reads_on g.M.Machine.time g.M.Machine.state _ _ _ (before.reads told) (c.measure_part.ensures.looks.reads told);
       counts = search rules;
       taken = λ told.
           omega (

@@ -1,7 +1,7 @@
-use Rattle.std.proofs.Common.{arith}
+use Rattle.std.proofs.Common.{arith, rules}
 use Rattle.boot_machine.specs.Rows.{contents}
 use Rattle.boot_machine.specs.Sent.{seen}
-use Rattle.boot_machine.proofs.Reading.{reads_none}
+use Rattle.boot_machine.proofs.Reading.{looks_none}
 use Rattle.stub_replay.proofs.Taking.{held_after}
 use Rattle.stub_replay.proofs.Measuring.{part_empty, part_some}
 use Rattle.stub_replay.proofs.prediction.measure_part.Goals as goal
@@ -10,9 +10,8 @@ pub returns-then-content_length-eq0-clause-value : goal.returns-then-content_len
 returns-then-content_length-eq0-clause-value g c =
     part_empty g.M.Machine.tells (contents (seen (g.M.Machine.state c.args.machine.now))) c.args.part.now.name.now c.args.part.now.content c.args.registers.now (omega arith)
 
-pub returns-then-content_length-eq0-clause-reads : goal.returns-then-content_length-eq0-clause-reads
-returns-then-content_length-eq0-clause-reads g c told =
-    reads_none g.M.Machine.time g.M.Machine.state c.args.machine.now (λ m o left. g.met.M.Machine.only_now c.args.machine.now m o told left)
+pub returns-then-content_length-eq0-clause-looks : goal.returns-then-content_length-eq0-clause-looks
+returns-then-content_length-eq0-clause-looks g c = looks_none (g.met.M.Machine.only_now c.args.machine.now) (search rules)
 
 pub close_all-requires : goal.close_all-requires
 close_all-requires g c =

@@ -1,15 +1,14 @@
 use Rattle.std.proofs.Common.{◌∙◌, rules, map, IsTrue}
 use Rattle.boot_machine.specs.Rows.{contents}
 use Rattle.boot_machine.specs.Sent.{seen}
-use Rattle.boot_machine.proofs.Reading.{reads_none}
+use Rattle.boot_machine.proofs.Reading.{looks_none}
 use Rattle.stub_replay.specs.Parts.{named_bytes, items_of, HaveSizes}
 use Rattle.stub_replay.proofs.Measuring.{value_banks, value_shown}
 use Rattle.stub_replay.proofs.Zips.{written_back}
 use Rattle.stub_replay.proofs.prediction.predict.Goals as goal
 
-pub returns-in_err-registers-clause-reads : goal.returns-in_err-registers-clause-reads
-returns-in_err-registers-clause-reads g c told =
-    reads_none g.M.Machine.time g.M.Machine.state c.args.machine.now (λ m o left. g.met.M.Machine.only_now c.args.machine.now m o told left)
+pub returns-in_err-registers-clause-looks : goal.returns-in_err-registers-clause-looks
+returns-in_err-registers-clause-looks g c = looks_none (g.met.M.Machine.only_now c.args.machine.now) (search rules)
 
 pub returns-clause-banks : goal.returns-clause-banks
 returns-clause-banks g c =

@@ -20,13 +20,17 @@ loop-done-init g c =
       counts = refl;
     }
 
-pub returns-in_err-count-clause-reads : goal.returns-in_err-count-clause-reads
-returns-in_err-count-clause-reads g c told =
-    reads_on g.M.Machine.time g.M.Machine.state c.args.machine.now c.loop-done.machine c.same_piece.new.machine (c.loop-done.invariant.reads told) (c.same_piece.ensures.reads told)
+pub returns-in_err-count-clause-looks : goal.returns-in_err-count-clause-looks
+returns-in_err-count-clause-looks g c = record {
+  reads = λ told. reads_on g.M.Machine.time g.M.Machine.state c.args.machine.now c.loop-done.machine c.same_piece.new.machine (c.loop-done.invariant.reads told) (c.same_piece.ensures.looks.reads told);
+  counted = search rules;
+}
 
-pub returns-then-count-eq0-clause-reads : goal.returns-then-count-eq0-clause-reads
-returns-then-count-eq0-clause-reads g c told =
-    reads_on g.M.Machine.time g.M.Machine.state c.args.machine.now c.loop-done.machine c.same_piece.new.machine (c.loop-done.invariant.reads told) (c.same_piece.ensures.reads told)
+pub returns-then-count-eq0-clause-looks : goal.returns-then-count-eq0-clause-looks
+returns-then-count-eq0-clause-looks g c = record {
+  reads = λ told. reads_on g.M.Machine.time g.M.Machine.state c.args.machine.now c.loop-done.machine c.same_piece.new.machine (c.loop-done.invariant.reads told) (c.same_piece.ensures.looks.reads told);
+  counted = search rules;
+}
 
 pub loop-done-preserved : goal.loop-done-preserved
 loop-done-preserved g c =
@@ -46,6 +50,6 @@ loop-done-preserved g c =
       reads =
           λ told.
           reads_on g.M.Machine.time g.M.Machine.state c.args.machine.now c.loop-done.machine c.same_piece.new.machine
-          (before.reads told) (c.same_piece.ensures.reads told);
+          (before.reads told) (c.same_piece.ensures.looks.reads told);
       counts = search rules;
     }

@@ -1,4 +1,4 @@
-use Rattle.std.proofs.Common.{◌≡◌, ◌≤◌, ◌-◌, IsTrue, length}
+use Rattle.std.proofs.Common.{◌≡◌, ◌≤◌, ◌-◌, IsTrue}
 use Rattle.boot_machine.specs.Reading.{OnlyReads, fill_with_zeros}
 use Rattle.boot_machine.specs.Rows.{contents}
 use Rattle.type1_install.proofs.alike.are_alike.Given as goal

@@ -1,7 +1,6 @@
-use Rattle.std.proofs.Common.{◌≡◌, ◌∙◌, Ok, ap, sym}
+use Rattle.std.proofs.Common.{◌∙◌, ap, sym}
 use Rattle.std.specs.Prelude.{string_bytes}
-use Rattle.type1_install.specs.Installing.{install_plan, place_in}
-use Rattle.type1_install.specs.Shown.{plan_shown}
+use Rattle.type1_install.specs.Installing.{place_in}
 use Rattle.type1_install.proofs.Planned.{few_read, fields_read}
 use Rattle.type1_install.proofs.Words.{plan_is}
 use Rattle.type1_install.proofs.install_words.install_plan.Goals as goal

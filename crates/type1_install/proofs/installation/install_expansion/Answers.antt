@@ -1,9 +1,9 @@
-use Rattle.std.proofs.Common.{◌≡◌, ◌∙◌, ◌∷◌, ◌++◌, [], Ok, List, ap, arith, length, map, subst, sym}
+use Rattle.std.proofs.Common.{◌≡◌, ◌∙◌, ◌∷◌, ◌++◌, [], Ok, List, ap, arith, length, map, subst, sym, rules}
 use Rattle.std.specs.Prelude.{All}
 use Rattle.boot_base.specs.Paths.{Path}
 use Rattle.boot_machine.specs.Disk.{State}
 use Rattle.boot_machine.specs.Sent.{seen}
-use Rattle.boot_machine.proofs.Reading.{reads_none, reads_on}
+use Rattle.boot_machine.proofs.Reading.{looks_none, looks_on}
 use Rattle.command_plans.specs.Files.{each}
 use Rattle.command_plans.specs.Unsaying.{UnsaidFor}
 use Rattle.command_plans.proofs.Unsaying.{says_unsaid}
@@ -15,9 +15,8 @@ use Rattle.type1_install.specs.declared.payload.Payload.{Payload}
 use Rattle.type1_install.proofs.Expanding.{both_made, expansion_made, expansion_refused, first_unsaid, later_unsaid}
 use Rattle.type1_install.proofs.installation.install_expansion.Goals as goal
 
-pub returns-in_err-plan-clause-reads : goal.returns-in_err-plan-clause-reads
-returns-in_err-plan-clause-reads g c told =
-    reads_none g.M.Machine.time g.M.Machine.state c.args.machine.now (λ m o left. g.met.M.Machine.only_now c.args.machine.now m o told left)
+pub returns-in_err-plan-clause-looks : goal.returns-in_err-plan-clause-looks
+returns-in_err-plan-clause-looks g c = looks_none (g.met.M.Machine.only_now c.args.machine.now) (search rules)
 
 pub returns-in_err-linux-clause-says : goal.returns-in_err-linux-clause-says
 returns-in_err-linux-clause-says g c told =
@@ -32,16 +31,15 @@ returns-in_err-initrds-clause-says g c told =
     let view = seen (g.M.Machine.state c.args.machine.now) in
     let plan = plan_shown c.args.words.now.texts c.in_ok-plan.plan in
     let why = c.in_err-initrds.field-0.0 in
-    let same = (c.payload_at.ensures.reads told).same in
+    let same = (c.payload_at.ensures.looks.reads told).same in
     let later : UnsaidFor why (each (payload_at view) plan.initrds) =
     subst (λ (files : List Path). UnsaidFor why (each (payload_at view) files)) c.deref.ensures.value
     (subst (λ (s : State). UnsaidFor why (each (payload_at (seen s)) c.deref.result.now)) same (c.in_err-initrds.ensures.says told)) in
     says_unsaid c.from_residual-in_err-initrds.result why _ _ c.from_residual-in_err-initrds.ensures.0 c.from_residual-in_err-initrds.ensures.1
     (expansion_refused view c.args.words.now plan c.in_ok-plan.ensures.means why (later_unsaid view plan.linux plan.initrds c.in_ok-linux.linux (c.in_ok-linux.ensures.says told) why later))
 
-pub returns-in_err-initrds-clause-reads : goal.returns-in_err-initrds-clause-reads
-returns-in_err-initrds-clause-reads g c told =
-    reads_on g.M.Machine.time g.M.Machine.state c.args.machine.now c.payload_at.new.machine c.payloads_at.new.machine (c.payload_at.ensures.reads told) (c.payloads_at.ensures.reads told)
+pub returns-in_err-initrds-clause-looks : goal.returns-in_err-initrds-clause-looks
+returns-in_err-initrds-clause-looks g c = looks_on c.payload_at.ensures.looks c.payloads_at.ensures.looks (search rules)
 
 pub install_commands-requires-clause-initrds : goal.install_commands-requires-clause-initrds
 install_commands-requires-clause-initrds g c = subst (All HasPayloadName) (sym c.deref-2.ensures.value) c.in_ok-initrds.ensures.names
@@ -50,13 +48,11 @@ pub install_commands-requires-clause-few : goal.install_commands-requires-clause
 install_commands-requires-clause-few g c =
     omega (arith, ap (λ (l : List Payload). length l) c.deref-2.ensures.value, c.in_ok-initrds.ensures.count, ap (λ (l : List Path). length l) c.deref.ensures.value, c.in_ok-plan.ensures.few)
 
-pub returns-in_err-install_commands-clause-reads : goal.returns-in_err-install_commands-clause-reads
-returns-in_err-install_commands-clause-reads g c told =
-    reads_on g.M.Machine.time g.M.Machine.state c.args.machine.now c.payload_at.new.machine c.payloads_at.new.machine (c.payload_at.ensures.reads told) (c.payloads_at.ensures.reads told)
+pub returns-in_err-install_commands-clause-looks : goal.returns-in_err-install_commands-clause-looks
+returns-in_err-install_commands-clause-looks g c = looks_on c.payload_at.ensures.looks c.payloads_at.ensures.looks (search rules)
 
-pub returns-clause-reads : goal.returns-clause-reads
-returns-clause-reads g c told =
-    reads_on g.M.Machine.time g.M.Machine.state c.args.machine.now c.payload_at.new.machine c.payloads_at.new.machine (c.payload_at.ensures.reads told) (c.payloads_at.ensures.reads told)
+pub returns-clause-looks : goal.returns-clause-looks
+returns-clause-looks g c = looks_on c.payload_at.ensures.looks c.payloads_at.ensures.looks (search rules)
 
 pub returns-clause-says : goal.returns-clause-says
 returns-clause-says g c told =
@@ -64,7 +60,7 @@ returns-clause-says g c told =
     λ folder initrds. put_in folder c.in_ok-linux.linux ∷ (map (put_in folder) initrds ++ command.Enter c.in_ok-plan.plan.place.entry (entry_text (fields_with c.args.words.now.texts c.in_ok-linux.linux initrds)) ∷ []) in
     let view = seen (g.M.Machine.state c.args.machine.now) in
     let plan = plan_shown c.args.words.now.texts c.in_ok-plan.plan in
-    let same = (c.payload_at.ensures.reads told).same in
+    let same = (c.payload_at.ensures.looks.reads told).same in
     let later : each (payload_at view) plan.initrds ≡ Ok c.in_ok-initrds.initrds.items =
     subst (λ (files : List Path). each (payload_at view) files ≡ Ok c.in_ok-initrds.initrds.items) c.deref.ensures.value
     (subst (λ (s : State). each (payload_at (seen s)) c.deref.result.now ≡ Ok c.in_ok-initrds.initrds.items) same (c.in_ok-initrds.ensures.says told)) in

@@ -1,7 +1,6 @@
-use Rattle.std.proofs.Common.{◌≡◌, ◌∙◌, List, subst, sym}
+use Rattle.std.proofs.Common.{◌∙◌, List, subst, sym}
 use Rattle.std.specs.Prelude.{Contains}
 use Rattle.boot_base.specs.Paths.{Path}
-use Rattle.type1_install.specs.Unnamed.{unnamed_among}
 use Rattle.type1_install.proofs.Unnamed.{free_paths, left_over}
 use Rattle.type1_install.proofs.naming.unnamed.Goals as goal
 

@@ -1,8 +1,8 @@
-use Rattle.std.proofs.Common.{◌∙◌, ap, length, sym}
+use Rattle.std.proofs.Common.{◌∙◌, ap, length, sym, rules}
 use Rattle.boot_machine.specs.Disk.{State}
 use Rattle.boot_machine.specs.Rows.{contents}
 use Rattle.boot_machine.specs.Sent.{seen}
-use Rattle.boot_machine.proofs.Reading.{reads_on}
+use Rattle.boot_machine.proofs.Reading.{looks_on}
 use Rattle.command_plans.specs.Files.{bytes_at}
 use Rattle.command_plans.proofs.Unsaying.{says_unsaid}
 use Rattle.type1_install.proofs.Payloads.{payload_made, unsaid_first}
@@ -14,28 +14,24 @@ returns-in_err-size-clause-says g c told =
     says_unsaid c.from_residual.result c.in_err-size.field-0.0 _ _ c.from_residual.ensures.0 c.from_residual.ensures.1
     (unsaid_first c.in_err-size.field-0.0 (bytes_at view c.args.file.now) _ (c.in_err-size.ensures.file told))
 
-pub returns-in_err-digest-clause-reads : goal.returns-in_err-digest-clause-reads
-returns-in_err-digest-clause-reads g c told =
-    reads_on g.M.Machine.time g.M.Machine.state c.args.machine.now c.readable_size.new.machine c.file_digest.new.machine (c.readable_size.ensures.reads told) (c.file_digest.ensures.reads told)
+pub returns-in_err-digest-clause-looks : goal.returns-in_err-digest-clause-looks
+returns-in_err-digest-clause-looks g c = looks_on c.readable_size.ensures.looks c.file_digest.ensures.looks (search rules)
 
-pub returns-in_err-name-clause-reads : goal.returns-in_err-name-clause-reads
-returns-in_err-name-clause-reads g c told =
-    reads_on g.M.Machine.time g.M.Machine.state c.args.machine.now c.readable_size.new.machine c.file_digest.new.machine (c.readable_size.ensures.reads told) (c.file_digest.ensures.reads told)
+pub returns-in_err-name-clause-looks : goal.returns-in_err-name-clause-looks
+returns-in_err-name-clause-looks g c = looks_on c.readable_size.ensures.looks c.file_digest.ensures.looks (search rules)
 
-pub returns-in_err-file-clause-reads : goal.returns-in_err-file-clause-reads
-returns-in_err-file-clause-reads g c told =
-    reads_on g.M.Machine.time g.M.Machine.state c.args.machine.now c.readable_size.new.machine c.file_digest.new.machine (c.readable_size.ensures.reads told) (c.file_digest.ensures.reads told)
+pub returns-in_err-file-clause-looks : goal.returns-in_err-file-clause-looks
+returns-in_err-file-clause-looks g c = looks_on c.readable_size.ensures.looks c.file_digest.ensures.looks (search rules)
 
-pub returns-clause-reads : goal.returns-clause-reads
-returns-clause-reads g c told =
-    reads_on g.M.Machine.time g.M.Machine.state c.args.machine.now c.readable_size.new.machine c.file_digest.new.machine (c.readable_size.ensures.reads told) (c.file_digest.ensures.reads told)
+pub returns-clause-looks : goal.returns-clause-looks
+returns-clause-looks g c = looks_on c.readable_size.ensures.looks c.file_digest.ensures.looks (search rules)
 
 pub returns-clause-says : goal.returns-clause-says
 returns-clause-says g c told =
     let s = g.M.Machine.state c.args.machine.now in
     let mid = g.M.Machine.state c.readable_size.new.machine in
     let path = c.args.file.now in
-    let same = ap (λ (s : State). contents s.files path) (c.readable_size.ensures.reads told).same in
+    let same = ap (λ (s : State). contents s.files path) (c.readable_size.ensures.looks.reads told).same in
     payload_made (seen s) mid.files path _ _ _ _ (c.in_ok-size.ensures.file told) (c.in_ok-size.ensures.held told ∙ sym same)
     (c.in_ok-digest.ensures.value told (ap length same ∙ c.in_ok-size.ensures.size told))
     c.in_ok-name.ensures.digits c.in_ok-file.ensures

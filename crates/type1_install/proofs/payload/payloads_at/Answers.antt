@@ -1,4 +1,4 @@
-use Rattle.std.proofs.Common.{◌≡◌, ◌∙◌, ◌++◌, ◌∷◌, [], Ok, ap, arith, length, length-append, refl, rules, subst, sym}
+use Rattle.std.proofs.Common.{◌≡◌, ◌∙◌, ◌∷◌, [], Ok, ap, arith, length, length-append, refl, rules, subst, sym}
 use Rattle.std.specs.Prelude.{All}
 use Rattle.std.proofs.lemmas.List.Elements.{All-nil, All-push}
 use Rattle.boot_machine.specs.Disk.{State}
@@ -29,13 +29,17 @@ returns-in_err-payload-clause-says g c told =
     (taken_unsaid (payload_at (seen first)) c.args.files.now c.loop-file.file-index c.loop-file.payloads.items c.file-item.result c.file-item.result c.in_err-payload.field-0.0 c.loop-file-test.true (before.found told) c.file-item.is
     (subst (λ (s : State). UnsaidFor c.in_err-payload.field-0.0 (payload_at (seen s) c.file-item.result)) (before.reads told).same (c.in_err-payload.ensures.says told)))
 
-pub returns-in_err-payload-clause-reads : goal.returns-in_err-payload-clause-reads
-returns-in_err-payload-clause-reads g c told =
-    reads_on g.M.Machine.time g.M.Machine.state _ _ _ (c.loop-file.invariant.reads told) (c.payload_at.ensures.reads told)
+pub returns-in_err-payload-clause-looks : goal.returns-in_err-payload-clause-looks
+returns-in_err-payload-clause-looks g c = record {
+  reads = λ told. reads_on g.M.Machine.time g.M.Machine.state _ _ _ (c.loop-file.invariant.reads told) (c.payload_at.ensures.looks.reads told);
+  counted = search rules;
+}
 
-pub returns-in_err-push-clause-reads : goal.returns-in_err-push-clause-reads
-returns-in_err-push-clause-reads g c told =
-    reads_on g.M.Machine.time g.M.Machine.state _ _ _ (c.loop-file.invariant.reads told) (c.payload_at.ensures.reads told)
+pub returns-in_err-push-clause-looks : goal.returns-in_err-push-clause-looks
+returns-in_err-push-clause-looks g c = record {
+  reads = λ told. reads_on g.M.Machine.time g.M.Machine.state _ _ _ (c.loop-file.invariant.reads told) (c.payload_at.ensures.looks.reads told);
+  counted = search rules;
+}
 
 pub loop-file-preserved : goal.loop-file-preserved
 loop-file-preserved g c =
@@ -49,7 +53,7 @@ loop-file-preserved g c =
           c.in_ok-push.ensures;
       names = subst (All HasPayloadName) (sym c.in_ok-push.ensures) (All-push HasPayloadName c.loop-file.payloads.items c.in_ok-payload.payload before.names c.in_ok-payload.ensures.name);
       count = omega (arith, before.count, ap length c.in_ok-push.ensures, length-append c.loop-file.payloads.items (c.in_ok-payload.payload ∷ []));
-      reads = λ told. reads_on g.M.Machine.time g.M.Machine.state _ _ _ (before.reads told) (c.payload_at.ensures.reads told);
+      reads = λ told. reads_on g.M.Machine.time g.M.Machine.state _ _ _ (before.reads told) (c.payload_at.ensures.looks.reads told);
       counts = search rules;
     }
 
