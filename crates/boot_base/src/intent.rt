@@ -1,6 +1,5 @@
 //! What an intent's bytes name.
-ghost use Rattle.std.specs.Prelude.{◌≡◌, ◌==◌, IfOk, position};
-ghost use Rattle.std.specs.Option.{option_map};
+ghost use Rattle.std.specs.Prelude.{◌≡◌, ◌==◌, IfOk, position, option_map};
 ghost use Rattle.boot_base.specs.Paths.{at_nul, read_intent};
 ghost use Rattle.boot_base.specs.Intents.{cut_of, names_of};
 

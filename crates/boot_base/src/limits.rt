@@ -10,4 +10,4 @@ pub const TEXT_LIMIT: u64 = 65_536;
 pub const PIECE_SIZE: usize = 65_536;
 
 /// A buffer through which the bytes of a file go, piece by piece.
-pub type Piece = [u8; PIECE_SIZE];
+pub type Buffer = [u8; PIECE_SIZE];

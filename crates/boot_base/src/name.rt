@@ -1,7 +1,6 @@
 //! Names in eight bytes, as section headers hold them (Microsoft PE/COFF).
 
-ghost use Rattle.std.specs.Prelude.{◌≡◌, ◌<◌, ◌==◌, ◌++◌, length, position, IfOk, IfSome, OnOk, string_bytes};
-ghost use Rattle.std.specs.List.{flat_map};
+ghost use Rattle.std.specs.Prelude.{◌≡◌, ◌<◌, ◌==◌, ◌++◌, length, position, IfOk, IfSome, OnOk, string_bytes, flat_map};
 ghost use Rattle.boot_base.specs.Names.{short_name, shown_byte};
 
 use std::alloc::{AllocError, Global};

@@ -2,8 +2,7 @@
 ghost use Rattle.std.specs.Prelude.{◌≡◌, IsTrue};
 ghost use Rattle.boot_machine.specs.Prelude.{Files, IsFirm, IsRested, seen};
 ghost use Rattle.boot_commands.specs.Commands.{Behaves, LeavesTidied, TidiesTo};
-ghost use Rattle.command_plans.specs.Deeds.{deed_of_answer};
-ghost use Rattle.command_plans.specs.Prelude.{CanMake, Drops, LeavesRested, Performs, answer_of_plan, end_of};
+ghost use Rattle.command_plans.specs.Prelude.{CanMake, Drops, LeavesRested, Performs, answer_of_plan, end_of, deed_of_answer};
 ghost use Rattle.tool_words.specs.declared.command.Command.{Command};
 
 use boot_machine::Machine;

@@ -1,7 +1,6 @@
 //! Names that stand once, and entries with paths of their own, in the order of the menu.
-ghost use Rattle.std.specs.Prelude.{◌≡◌, ℕ, List, AllPairs, Contains, IfOk, IsPermutation, OnOk, bytes_eq};
+ghost use Rattle.std.specs.Prelude.{◌≡◌, ℕ, List, AllPairs, Contains, IfOk, IsPermutation, OnOk, bytes_eq, IsSorted};
 ghost use Rattle.std.specs.List.{IsDistinct};
-ghost use Rattle.std.specs.List.Sorted.{IsSorted};
 ghost use Rattle.boot_folder.specs.Scanning.{path_order};
 ghost use Rattle.boot_machine.specs.Prelude.{path_cmp};
 ghost use Rattle.menu_order.specs.Menu.{HaveOwnPaths, IsBefore};

@@ -5,10 +5,8 @@ ghost use Rattle.boot_base.specs.Paths.{file_name_of};
 ghost use Rattle.boot_machine.specs.Prelude.{Counts, Looks, TakesAtMost, contents};
 ghost use Rattle.menu_order.specs.Splits.{has_suffix};
 ghost use Rattle.boot_folder.specs.Records.{titled_item, type2_item, uki_of};
-ghost use Rattle.pe_reader.specs.LoadedBytes.{bytes_in};
+ghost use Rattle.pe_reader.specs.Prelude.{bytes_in, pe_of, headers_of};
 ghost use Rattle.boot_folder.specs.Items.{CountsItem, GivesItem, IsUnread};
-ghost use Rattle.pe_reader.specs.Grammar.{pe_of};
-ghost use Rattle.pe_reader.specs.Reads.{headers_of};
 ghost use Rattle.boot_folder.specs.Ranges.{IsRange, FindsOsrel};
 
 use crate::fault::{ItemFault, Missing};

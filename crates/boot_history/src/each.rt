@@ -1,7 +1,6 @@
 //! Runs on one machine, one after the other.
 ghost use Rattle.std.specs.Prelude.{◌≡◌, IsTrue, length, map, string_bytes};
-ghost use Rattle.boot_machine.specs.Prelude.{IsFirm};
-ghost use Rattle.boot_machine.specs.Sent.{Adds};
+ghost use Rattle.boot_machine.specs.Prelude.{IsFirm, Adds};
 ghost use Rattle.boot_history.specs.Histories.{HasHistory};
 
 use boot_machine::Machine;

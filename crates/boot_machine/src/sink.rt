@@ -1,11 +1,7 @@
 //! What takes bytes that are streamed.
 ghost use Rattle.std.specs.Prelude.{◌≡◌, ◌++◌, false, List, [], ℕ, OnOk, OnErr, IsTrue};
 ghost use Rattle.boot_base.specs.Paths.{Path, is_temp};
-ghost use Rattle.boot_machine.specs.Counts.{CountsDisk};
-ghost use Rattle.boot_machine.specs.Reading.{OnlyReads};
-ghost use Rattle.boot_machine.specs.Rows.{contents};
-ghost use Rattle.boot_machine.specs.Taken.{TakesNone};
-ghost use Rattle.boot_machine.specs.Streams.{TookSome};
+ghost use Rattle.boot_machine.specs.Prelude.{CountsDisk, OnlyReads, contents, TakesNone, TookSome};
 
 use crate::machine::{DiskFault, Machine};
 

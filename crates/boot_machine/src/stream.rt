@@ -1,9 +1,6 @@
 //! The loop that streams a range of a file.
 ghost use Rattle.std.specs.Prelude.{◌≡◌, ◌<◌, ◌≤◌, ◌+◌, ◌^◌, length, drop, IfOk, OnOk, OnErr, IsTrue};
-ghost use Rattle.boot_machine.specs.Counts.{CountsDisk};
-ghost use Rattle.boot_machine.specs.Reading.{TakesAtMost, TakesPiece, fill_with_zeros};
-ghost use Rattle.boot_machine.specs.Rows.{contents};
-ghost use Rattle.boot_machine.specs.Streams.{TookSome, TookWhere};
+ghost use Rattle.boot_machine.specs.Prelude.{CountsDisk, TakesAtMost, TakesPiece, fill_with_zeros, contents, TookSome, TookWhere};
 
 use crate::machine::{DiskFault, Machine};
 use crate::read::read_piece;

@@ -1,7 +1,6 @@
 //! The lines of a command that stands for others.
 ghost use Rattle.std.specs.Prelude.{◌≡◌, true, All, IfOk, IsTrue, OnOk};
-ghost use Rattle.boot_machine.specs.Prelude.{HasOneCandidate, IsFirm, recovered_views};
-ghost use Rattle.boot_machine.specs.Sent.{latest_view};
+ghost use Rattle.boot_machine.specs.Prelude.{HasOneCandidate, IsFirm, recovered_views, latest_view};
 ghost use Rattle.boot_commands.specs.Expansions.{expands, expansion};
 ghost use Rattle.boot_commands.specs.Plain.{is_step};
 ghost use Rattle.install_steps.specs.Recovery.{RecoversTo, SameFrom};

@@ -1,7 +1,6 @@
 //! Standard input, read to its end.
 ghost use Rattle.std.specs.Prelude.{◌≡◌, ◌+◌, ◌≤◌, ℕ, drop, take, IfOk, OnOk, IsErrOf, IsTrue};
-ghost use Rattle.boot_machine.specs.Prelude.{EachSince, IsImage};
-ghost use Rattle.boot_machine.specs.Sent.{SameButInput};
+ghost use Rattle.boot_machine.specs.Prelude.{EachSince, IsImage, SameButInput};
 ghost use Rattle.command_plans.specs.Prelude.{CountsStop};
 ghost use Rattle.boot_run.specs.Lines.{script_limit};
 

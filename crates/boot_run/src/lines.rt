@@ -1,9 +1,7 @@
 //! A run over a list of lines.
 ghost use Rattle.std.specs.Prelude.{◌≡◌, ◌||◌, true, false, not, All, IfOk, OnOk, OnErr, ℕ, take, IsTrue};
 ghost use Rattle.boot_base.specs.Refusals.{line_of};
-ghost use Rattle.boot_machine.specs.Prelude.{CountsPipe, EachSince, IsFirm, IsRested, on_channel, recovered_now, seen};
-ghost use Rattle.boot_machine.specs.Rows.{with_printed};
-ghost use Rattle.boot_machine.specs.Sent.{PrintsPart};
+ghost use Rattle.boot_machine.specs.Prelude.{CountsPipe, EachSince, IsFirm, IsRested, on_channel, recovered_now, seen, with_printed, PrintsPart};
 ghost use Rattle.boot_machine.specs.declared.machine.Channel.TheVariants.{Err, Out};
 ghost use Rattle.command_plans.specs.Prelude.{CountsStop, LeavesRested, Performs, end_of, is_refusal};
 ghost use Rattle.boot_commands.specs.Commands.{Behaves, LeavesTidied, deed_of};

@@ -1,11 +1,9 @@
 //! The top call.
 ghost use Rattle.std.specs.Prelude.{◌≡◌, ◌≤◌, ◌++◌, true, false, ℕ, List, [], ◌∷◌, All, IfOk, IsErrOf, IsTrue, OnOk, Ok, Err, drop, take, ◌+◌, map, string_bytes};
-ghost use Rattle.boot_machine.specs.Prelude.{EachSince, IsFirm, IsImage, IsRested, IsSettled, on_channel, recovered_now, recovered_view, recovered_views};
-ghost use Rattle.boot_machine.specs.Sent.{Adds, SameButInput};
+ghost use Rattle.boot_machine.specs.Prelude.{EachSince, IsFirm, IsImage, IsRested, IsSettled, on_channel, recovered_now, recovered_view, recovered_views, Adds, SameButInput};
 ghost use Rattle.boot_machine.specs.declared.machine.Channel.TheVariants.{Err as ErrChannel};
 ghost use Rattle.install_steps.specs.Steps.{NoNewTemp};
-ghost use Rattle.command_plans.specs.Deeds.{Stopped};
-ghost use Rattle.command_plans.specs.Prelude.{CountsStop};
+ghost use Rattle.command_plans.specs.Prelude.{CountsStop, Stopped};
 ghost use Rattle.tool_words.specs.Meaning.{meaning};
 ghost use Rattle.tool_words.specs.declared.fault.UsageReason.{UsageReason};
 ghost use Rattle.boot_run.specs.CommandRuns.{RunsCommand};

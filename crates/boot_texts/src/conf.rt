@@ -1,8 +1,7 @@
 //! What loader.conf says, and what may be written into it.
-ghost use Rattle.std.specs.Prelude.{◌≡◌, ◌↔◌, IsTrue, IfOk};
+ghost use Rattle.std.specs.Prelude.{◌≡◌, ◌↔◌, IsTrue, IfOk, option_copied};
 ghost use Rattle.std.specs.Char.{is_ascii_digit, is_ascii_graphic};
 ghost use Rattle.std.specs.List.{list_all};
-ghost use Rattle.std.specs.Option.{option_copied};
 ghost use Rattle.boot_texts.specs.Conf.{IsDefaultPattern, names_variable, conf_default, conf_of, conf_timeout, is_seconds, is_timeout};
 
 use crate::entry_line::last_value;

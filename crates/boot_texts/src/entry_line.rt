@@ -1,7 +1,6 @@
 //! The lines of an entry file, which loader.conf has too, and the values of their keys.
-ghost use Rattle.std.specs.Prelude.{◌≡◌, ◌≤◌, length};
+ghost use Rattle.std.specs.Prelude.{◌≡◌, ◌≤◌, length, option_copied, option_map};
 ghost use Rattle.std.specs.List.{position_or_len, prefix_len};
-ghost use Rattle.std.specs.Option.{option_copied, option_map};
 ghost use Rattle.boot_texts.specs.EntryLines.{entry_reading, entry_value, is_gap};
 ghost use Rattle.boot_texts.specs.KeyValues.{given_value};
 

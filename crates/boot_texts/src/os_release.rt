@@ -1,7 +1,6 @@
 //! os-release texts.
-ghost use Rattle.std.specs.Prelude.{◌≡◌, ◌==◌, IfOk};
+ghost use Rattle.std.specs.Prelude.{◌≡◌, ◌==◌, IfOk, option_copied};
 ghost use Rattle.std.specs.List.{before_first};
-ghost use Rattle.std.specs.Option.{option_copied};
 ghost use Rattle.boot_texts.specs.KeyValues.{last_value};
 ghost use Rattle.boot_texts.specs.OsRelease.{filled_value, os_pairs, sort_key_of, title_of, version_of};
 

@@ -1,6 +1,5 @@
 //! The items of a pattern.
-ghost use Rattle.std.specs.Prelude.{◌≡◌, ◌<◌, ◌≤◌, length, IfSome};
-ghost use Rattle.std.specs.Option.{option_map};
+ghost use Rattle.std.specs.Prelude.{◌≡◌, ◌<◌, ◌≤◌, length, IfSome, option_map};
 ghost use Rattle.std.specs.List.{list_any, position_or_len};
 ghost use Rattle.boot_texts.specs.Patterns.{is_any_run, item_takes, member_holds, members_of};
 ghost use Rattle.boot_texts.specs.PatternItems.{ends_set, escape_reading, item_of, item_reading, set_reading};

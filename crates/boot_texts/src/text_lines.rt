@@ -1,9 +1,8 @@
 //! The lines of a text of settings, as os-release(5), the Boot Loader Specification's entry files and
 //! loader.conf(5) have them: cut at newlines, trimmed, without empty lines and comments. Of entry files and
 //! loader.conf also the key and the value of a line.
-ghost use Rattle.std.specs.Prelude.{◌≡◌, ◌∷◌, ◌<◌, length, IfSome, position};
+ghost use Rattle.std.specs.Prelude.{◌≡◌, ◌∷◌, ◌<◌, length, IfSome, position, option_copied};
 ghost use Rattle.std.specs.List.{slice_split};
-ghost use Rattle.std.specs.Option.{option_copied};
 ghost use Rattle.boot_texts.specs.TextLines.{is_blank, is_newline, is_counted, without_front_blanks, without_end_blanks, trim_blanks, pieces_of, lines_of};
 
 use std::marker::Model;

@@ -1,15 +1,9 @@
 //! Changes that several commands make: a file comes to stand at another path too, or goes.
-ghost use Rattle.std.specs.Prelude.{◌≡◌, length, IfOk, IsTrue, Some, ℕ};
-ghost use Rattle.std.specs.Option.{option_map};
+ghost use Rattle.std.specs.Prelude.{◌≡◌, length, IfOk, IsTrue, Some, ℕ, option_map};
 ghost use Rattle.std.specs.FinMap.{get, insert};
 ghost use Rattle.boot_base.specs.Paths.{IsFree};
 ghost use Rattle.boot_machine.specs.Prelude.{Looks, State, TakesAtMost, contents, seen};
-ghost use Rattle.command_plans.specs.Answers.{done_answer, refusal};
-ghost use Rattle.command_plans.specs.Changes.{IsCopy, installed_text, unlink_answer, unlinked_text};
-ghost use Rattle.command_plans.specs.Declining.{printed_path};
-ghost use Rattle.command_plans.specs.Performs.{CountsStop};
-ghost use Rattle.command_plans.specs.Makeable.{IsLineOf, TellsGone};
-ghost use Rattle.command_plans.specs.Plans.{CanCopy, Plans};
+ghost use Rattle.command_plans.specs.Prelude.{done_answer, refusal, IsCopy, installed_text, unlink_answer, unlinked_text, printed_path, CountsStop, IsLineOf, TellsGone, CanCopy, Plans};
 
 use crate::declined::not_there;
 use crate::outcome::{Outcome, Stop};

@@ -1,11 +1,9 @@
 //! The banks and the phase paths that a command's words choose.
-ghost use Rattle.std.specs.Prelude.{◌≡◌, ◌≢◌, bytes_eq, false, map, IfOk};
-ghost use Rattle.std.specs.List.{AllPairs, filter_map};
+ghost use Rattle.std.specs.Prelude.{◌≡◌, ◌≢◌, bytes_eq, false, map, IfOk, AllPairs, filter_map};
 ghost use Rattle.std.specs.Cmp.Lexicographic.{pointwise};
-ghost use Rattle.pcr_values.specs.Banks.{bank_named};
+ghost use Rattle.pcr_values.specs.Prelude.{bank_named, HasDistinctPaths, phase_words};
 ghost use Rattle.pcr_values.specs.declared.bank.Bank.{Bank};
-ghost use Rattle.pcr_values.specs.Phases.{HasDistinctPaths, phase_words};
-ghost use Rattle.command_plans.specs.Choices.{banks_of, without_repeats, paths_of};
+ghost use Rattle.command_plans.specs.Prelude.{banks_of, without_repeats, paths_of};
 
 use boot_base::Text;
 use pcr_values::{Bank, PhasePath, default_paths};

@@ -1,6 +1,6 @@
 //! Words that are refused, and what refusals say of paths.
 ghost use Rattle.std.specs.Prelude.{◌≡◌, IfOk};
-ghost use Rattle.command_plans.specs.Declining.{Means, install_name, path_in, path_under, printed_path};
+ghost use Rattle.command_plans.specs.Prelude.{Means, install_name, path_in, path_under, printed_path};
 
 use boot_base::{BootPath, PathFault, Refusal, Text};
 use menu_order::{Suffix, is_install_name};

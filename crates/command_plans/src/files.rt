@@ -1,14 +1,10 @@
 //! Files that a command names.
 ghost use Rattle.std.specs.Prelude.{◌≡◌, ◌≤◌, ◌<◌, ◌+◌, ◌^◌, IfOk, IsTrue, OnOk, Ok, Result, drop, length, true};
 ghost use Rattle.boot_machine.specs.Prelude.{Counts, Looks, TakesAtMost, contents, fill_with_zeros, has, seen};
-ghost use Rattle.pe_reader.specs.Grammar.{Headers, pe_of};
-ghost use Rattle.pe_reader.specs.Reads.{CountsHead, FailsFrom, GivesFrom, ReadFrom, head_counts, headers_of};
-ghost use Rattle.pe_reader.specs.Reasons.{pe_reason_text};
+ghost use Rattle.pe_reader.specs.Prelude.{Headers, pe_of, CountsHead, FailsFrom, GivesFrom, ReadFrom, head_counts, headers_of, pe_reason_text};
 ghost use Rattle.pe_reader.specs.declared.fault.FailedCheck.{FailedCheck};
-ghost use Rattle.command_plans.specs.Declining.{printed_path};
+ghost use Rattle.command_plans.specs.Prelude.{printed_path, bytes_at, headers_or, image_at, CountsUnsaid, Says, UnsaidFor, unsaid_counts};
 ghost use Rattle.boot_base.specs.Limits.{file_limit};
-ghost use Rattle.command_plans.specs.Files.{bytes_at, headers_or, image_at};
-ghost use Rattle.command_plans.specs.Unsaying.{CountsUnsaid, Says, UnsaidFor, unsaid_counts};
 
 use crate::declined::{not_there, printed_path};
 use crate::reading::seen_size;

@@ -4,10 +4,7 @@ ghost use Rattle.boot_folder.specs.Entries.{IsEntry};
 ghost use Rattle.boot_folder.specs.Scanning.{scan_limit};
 ghost use Rattle.boot_folder.specs.declared.fault.ScanFault.TheVariants as scans;
 ghost use Rattle.boot_machine.specs.Prelude.{Looks, TakesAtMost, seen};
-ghost use Rattle.command_plans.specs.Unsaying.{CountsUnsaid, Says};
-ghost use Rattle.command_plans.specs.Declining.{Means};
-ghost use Rattle.command_plans.specs.Folders.{folders_of};
-ghost use Rattle.command_plans.specs.Menus.{menu_at, scan_unsaid};
+ghost use Rattle.command_plans.specs.Prelude.{CountsUnsaid, Says, Means, folders_of, menu_at, scan_unsaid};
 ghost use Rattle.menu_order.specs.Menu.{IsMenu};
 
 use crate::declined::{Declined, path_in, path_under};

@@ -1,6 +1,6 @@
 //! What a command comes to, and why it comes to nothing.
 ghost use Rattle.std.specs.Prelude.{◌≡◌};
-ghost use Rattle.command_plans.specs.Answers.{channel_of};
+ghost use Rattle.command_plans.specs.Prelude.{channel_of};
 
 use boot_machine::{Channel, DiskFault, NamesFault, PipeFault};
 use std::alloc::AllocError;

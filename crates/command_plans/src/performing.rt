@@ -3,17 +3,11 @@ ghost use Rattle.std.specs.Prelude.{◌≡◌, ◌≤◌, ℕ, true, length, tak
 ghost use Rattle.std.specs.FinMap.{insert};
 ghost use Rattle.boot_base.specs.Limits.{file_limit};
 ghost use Rattle.boot_base.specs.Paths.{IsFree};
-ghost use Rattle.boot_machine.specs.Prelude.{CountsDisk, EachSince, IsFirm, IsRested, TakesAtMost, TakesNone, contents, has, on_channel, seen};
-ghost use Rattle.boot_machine.specs.Rows.{with_printed};
-ghost use Rattle.boot_machine.specs.Sent.{PrintsPart};
+ghost use Rattle.boot_machine.specs.Prelude.{CountsDisk, EachSince, IsFirm, IsRested, TakesAtMost, TakesNone, contents, has, on_channel, seen, with_printed, PrintsPart};
 ghost use Rattle.image_writer.specs.Sourced.{IsSourced};
 ghost use Rattle.image_writer.specs.Taken.{writing_length};
 ghost use Rattle.install_steps.specs.Steps.{CanStep, CountsStep, IsDone, LeavesAlone, LeavesReady, ReadyUnless, StepsTo};
-ghost use Rattle.command_plans.specs.Answers.{channel_of};
-ghost use Rattle.command_plans.specs.Deeds.{deed_of_answer};
-ghost use Rattle.command_plans.specs.Performs.{CountsFault, LeavesNoTempBy, LeavesRestedBy, Performs, end_by};
-ghost use Rattle.command_plans.specs.Makeable.{IsMakeable};
-ghost use Rattle.command_plans.specs.Plans.{CanMake, Drops, DropsBy, with_copy, effect, making_length, answer_of_plan, view_with_image};
+ghost use Rattle.command_plans.specs.Prelude.{channel_of, deed_of_answer, CountsFault, LeavesNoTempBy, LeavesRestedBy, Performs, end_by, IsMakeable, CanMake, Drops, DropsBy, with_copy, effect, making_length, answer_of_plan, view_with_image};
 
 use crate::outcome::{MachineFault, Outcome};
 use crate::plan::{Change, Plan, RefusalLine};

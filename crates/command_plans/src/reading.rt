@@ -1,6 +1,5 @@
 //! Calls that only read.
-ghost use Rattle.std.specs.Prelude.{◌≡◌, length, IfOk, IsTrue};
-ghost use Rattle.std.specs.Option.{option_map};
+ghost use Rattle.std.specs.Prelude.{◌≡◌, length, IfOk, IsTrue, option_map};
 ghost use Rattle.std.specs.FinMap.{get};
 ghost use Rattle.boot_machine.specs.Prelude.{CountsDisk, Looks, TakesAtMost, seen};
 

@@ -2,9 +2,7 @@
 ghost use Rattle.std.specs.Prelude.{◌≡◌, IfOk};
 ghost use Rattle.boot_base.specs.Refusals.{line_of, number_of};
 ghost use Rattle.boot_machine.specs.Prelude.{State, seen};
-ghost use Rattle.command_plans.specs.Answers.{refusal};
-ghost use Rattle.command_plans.specs.Plans.{Plans};
-ghost use Rattle.command_plans.specs.Refusing.{PlansDeclined};
+ghost use Rattle.command_plans.specs.Prelude.{refusal, Plans, PlansDeclined};
 
 use crate::declined::Declined;
 use crate::outcome::Outcome;

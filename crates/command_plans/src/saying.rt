@@ -2,11 +2,7 @@
 ghost use Rattle.std.specs.Prelude.{◌≡◌, IfOk, List, Result, ℕ};
 ghost use Rattle.boot_base.specs.declared.refusal.Refusal.{Refusal};
 ghost use Rattle.boot_machine.specs.Prelude.{Counts, State, seen};
-ghost use Rattle.command_plans.specs.Unsaying.{CountsUnsaid, Says, unsaid_counts};
-ghost use Rattle.command_plans.specs.Answers.{Answer, answer_of_read, answer_or_refusal};
-ghost use Rattle.command_plans.specs.Performs.{CountsStop};
-ghost use Rattle.command_plans.specs.Plans.{Plans, PlansAs};
-ghost use Rattle.command_plans.specs.Refusing.{PlansUnsaid};
+ghost use Rattle.command_plans.specs.Prelude.{CountsUnsaid, Says, unsaid_counts, Answer, answer_of_read, answer_or_refusal, CountsStop, Plans, PlansAs, PlansUnsaid};
 
 use crate::outcome::{Outcome, Stop};
 use crate::plan::{Change, Plan};

@@ -1,6 +1,5 @@
 //! `bless`.
-ghost use Rattle.std.specs.Prelude.{◌≡◌, ◌++◌, codes, false, true, Ok, Some, IfOk, IsTrue, string_bytes};
-ghost use Rattle.std.specs.Option.{option_map};
+ghost use Rattle.std.specs.Prelude.{◌≡◌, ◌++◌, codes, false, true, Ok, Some, IfOk, IsTrue, string_bytes, option_map};
 ghost use Rattle.boot_base.specs.Paths.{IsFree, beside, file_name_of, sibling_of};
 ghost use Rattle.menu_order.specs.Bless.{choice_of, target_of};
 ghost use Rattle.menu_order.specs.Renames.{bad_name_of, good_name_of};

@@ -1,6 +1,5 @@
 //! `boot`.
-ghost use Rattle.std.specs.Prelude.{◌≡◌, ◌∷◌, true, [], Ok, IfOk, IsTrue, Some, string_bytes};
-ghost use Rattle.std.specs.Option.{option_map};
+ghost use Rattle.std.specs.Prelude.{◌≡◌, ◌∷◌, true, [], Ok, IfOk, IsTrue, Some, string_bytes, option_map};
 ghost use Rattle.boot_base.specs.Paths.{IsFree, path_of};
 ghost use Rattle.boot_folder.specs.Entries.{IsEntry, folder_of};
 ghost use Rattle.boot_machine.specs.Prelude.{Looks, TakesAtMost, has, seen};

@@ -1,6 +1,5 @@
 //! `install`.
-ghost use Rattle.std.specs.Prelude.{◌≡◌, ◌≤◌, ◌<◌, length, true, IfOk, IfSome, IsTrue, OnOk, Result, string_bytes};
-ghost use Rattle.std.specs.Option.{option_map};
+ghost use Rattle.std.specs.Prelude.{◌≡◌, ◌≤◌, ◌<◌, length, true, IfOk, IfSome, IsTrue, OnOk, Result, string_bytes, option_map};
 ghost use Rattle.boot_base.specs.Limits.{file_limit};
 ghost use Rattle.boot_base.specs.Paths.{IsFree, file_name_of};
 ghost use Rattle.menu_order.specs.Splits.{has_suffix};

@@ -1,6 +1,6 @@
 //! Sections as JSON.
 ghost use Rattle.std.specs.Prelude.{◌≡◌, All, IfOk};
-ghost use Rattle.pcr_values.specs.Values.{bank_of};
+ghost use Rattle.pcr_values.specs.Prelude.{bank_of};
 ghost use Rattle.pcr_values.specs.declared.bank.Bank.TheVariants.{Sha256};
 
 use crate::fault::RowFault;

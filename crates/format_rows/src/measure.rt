@@ -3,7 +3,7 @@ use crate::case::{Case, file_path};
 use crate::fault::RowFault;
 use crate::read::{head_there, machine_head_text};
 use crate::words::bank_of;
-use boot_base::{BootPath, PIECE_SIZE, Piece};
+use boot_base::{BootPath, Buffer, PIECE_SIZE};
 use memory_machine::{MemMachine, ReadSeen};
 use pcr_values::{Bank, Pcr};
 use pe_reader::{HeadFault, Pe};
@@ -20,7 +20,7 @@ pub(crate) fn replay_text(alloc: Global, case: &Case, bank: &str) -> Result<Stri
 }
 
 // A buffer of one piece. No proof sees what it holds.
-fn piece_buffer() -> Piece {
+fn piece_buffer() -> Buffer {
     [1; PIECE_SIZE]
 }
 

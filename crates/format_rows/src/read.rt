@@ -2,8 +2,7 @@
 ghost use Rattle.std.specs.Prelude.{◌≡◌, Ok, IfOk};
 ghost use Rattle.boot_machine.specs.Prelude.{contents};
 ghost use Rattle.memory_machine.specs.Memory.{mem_state};
-ghost use Rattle.pe_reader.specs.Grammar.{pe_of};
-ghost use Rattle.pe_reader.specs.Reads.{headers_of};
+ghost use Rattle.pe_reader.specs.Prelude.{pe_of, headers_of};
 
 use crate::case::Case;
 use crate::fault::RowFault;

@@ -1,6 +1,6 @@
 //! Why there is no image.
 ghost use Rattle.std.specs.Prelude.{◌≡◌, ◌≤◌, ◌^◌, length, sum_by, option_map, IfOk};
-ghost use Rattle.pe_reader.specs.Reads.{headers_of};
+ghost use Rattle.pe_reader.specs.Prelude.{headers_of};
 ghost use Rattle.pe_builder.specs.Replaced.{MayReplace};
 ghost use Rattle.pe_builder.specs.Planned.{sbat_if_in_place};
 

@@ -1,7 +1,6 @@
 //! How often the system has failed.
 ghost use Rattle.std.specs.Prelude.{◌≡◌, IfOk};
-ghost use Rattle.boot_machine.specs.Prelude.{CountsDisk, CountsPipe, DiskFailsOnce, PipeFailsOnce};
-ghost use Rattle.boot_machine.specs.Counts.{DiskFailed, PipeFailed};
+ghost use Rattle.boot_machine.specs.Prelude.{CountsDisk, CountsPipe, DiskFailsOnce, PipeFailsOnce, DiskFailed, PipeFailed};
 ghost use Rattle.host_machine.specs.Hosts.{counts_of, CountsDiskOnce, CountsPipeOnce};
 
 use boot_machine::{DiskFault, PipeFault};

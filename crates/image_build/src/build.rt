@@ -1,11 +1,9 @@
 //! `ukify build`: the plan of what its words mean.
-ghost use Rattle.std.specs.Prelude.{◌≡◌, ◌≤◌, length, Bool, Err, IfErr, IfOk, IsTrue, Ok, Result, Some};
-ghost use Rattle.std.specs.List.{flat_map};
+ghost use Rattle.std.specs.Prelude.{◌≡◌, ◌≤◌, length, Bool, Err, IfErr, IfOk, IsTrue, Ok, Result, Some, flat_map};
 ghost use Rattle.boot_base.specs.Paths.{IsFree, Path};
 ghost use Rattle.boot_base.specs.declared.refusal.Refusal.{Refusal};
 ghost use Rattle.boot_machine.specs.Prelude.{Counts, Files, Looks, State, TakesAtMost, contents, seen};
-ghost use Rattle.command_plans.specs.Prelude.{CountsStop, CountsUnsaid, Plans, Says, UnsaidFor, making_length, printed_path};
-ghost use Rattle.command_plans.specs.Refusing.{PlansDeclined};
+ghost use Rattle.command_plans.specs.Prelude.{CountsStop, CountsUnsaid, Plans, Says, UnsaidFor, making_length, printed_path, PlansDeclined};
 ghost use Rattle.image_writer.specs.Sourced.{IsSourced, planned_image};
 ghost use Rattle.boot_base.specs.Names.{shown_byte};
 ghost use Rattle.command_plans.specs.declared.declined.Declined.TheVariants as declines;
@@ -13,8 +11,7 @@ ghost use Rattle.image_build.specs.Building.{AreNamed, BuiltImage, build_answer,
 ghost use Rattle.image_build.specs.Imaged.{Images};
 ghost use Rattle.image_build.specs.Planning.{built_as, built_length, IsPlannable, IsPlannedOn, measuring_length, planning_length};
 ghost use Rattle.image_build.specs.Reads.{BuiltHasSizes, material_as, reading_length};
-ghost use Rattle.pe_reader.specs.Grammar.{pe_of};
-ghost use Rattle.pe_reader.specs.Reads.{headers_of};
+ghost use Rattle.pe_reader.specs.Prelude.{pe_of, headers_of};
 ghost use Rattle.uki_parts.specs.Names.{name_bytes};
 
 use crate::build_plan::plan_image_of;

@@ -3,7 +3,7 @@ ghost use Rattle.std.specs.Prelude.{◌≡◌, ◌≤◌, ◌<◌, ◌-◌, ◌^
 ghost use Rattle.std.specs.List.{AllByRecursion};
 ghost use Rattle.std.specs.List.Sorted.{IsNonDecreasingBy};
 ghost use Rattle.boot_machine.specs.Prelude.{Files};
-ghost use Rattle.pe_reader.specs.Reads.{ReadFrom, headers_of};
+ghost use Rattle.pe_reader.specs.Prelude.{ReadFrom, headers_of};
 ghost use Rattle.pe_builder.specs.Replaced.{MayReplace};
 ghost use Rattle.pe_builder.specs.Layout.{FitsPart};
 ghost use Rattle.pe_builder.specs.Sizes.{any_size};

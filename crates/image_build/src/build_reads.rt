@@ -3,10 +3,7 @@ ghost use Rattle.std.specs.Prelude.{◌≡◌, ◌≤◌, ◌<◌, ◌+◌, ◌-
 ghost use Rattle.std.specs.List.{AllZip};
 ghost use Rattle.boot_machine.specs.Prelude.{Looks, TakesAtMost, contents, seen};
 ghost use Rattle.pe_builder.specs.Replaced.{sbat_name};
-ghost use Rattle.pe_reader.specs.Grammar.{pe_of};
-ghost use Rattle.pe_reader.specs.Fields.{part};
-ghost use Rattle.pe_reader.specs.LoadedBytes.{loaded_bytes};
-ghost use Rattle.pe_reader.specs.Reads.{headers_of};
+ghost use Rattle.pe_reader.specs.Prelude.{pe_of, part, loaded_bytes, headers_of};
 ghost use Rattle.uki_parts.specs.Pieces.{HasSizes, Reading, bytes_of, piece_bytes, piece_length, total_length};
 ghost use Rattle.uki_parts.specs.Sbat.{sbat_entries};
 ghost use Rattle.image_build.specs.Building.{contents_of, given_sbat, material_of, named_as, part_bytes, part_named, sbat_of, source_bytes};

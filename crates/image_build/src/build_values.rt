@@ -1,17 +1,10 @@
 //! PCR 11 of a planned image, by what its sections are going to hold (systemd's TPM2 PCR document, PCR 11).
-ghost use Rattle.std.specs.Prelude.{◌≡◌, ◌≤◌, All, IfOk, IfSome, IsTrue, Ok, bytes_eq, map};
-ghost use Rattle.std.specs.List.{find};
-ghost use Rattle.std.specs.Option.{option_copied};
+ghost use Rattle.std.specs.Prelude.{◌≡◌, ◌≤◌, All, IfOk, IfSome, IsTrue, Ok, bytes_eq, map, find, option_copied};
 ghost use Rattle.boot_machine.specs.Prelude.{Files, Looks, TakesAtMost, contents, seen};
-ghost use Rattle.pcr_values.specs.ValueLines.{value_lines};
-ghost use Rattle.pcr_values.specs.Phases.{default_phase_paths};
+ghost use Rattle.pcr_values.specs.Prelude.{value_lines, default_phase_paths, all_banks, fold_pcr, pcr_bank, pcr_value};
 ghost use Rattle.image_writer.specs.Sourced.{planned_image};
-ghost use Rattle.pcr_values.specs.Banks.{all_banks, fold_pcr};
-ghost use Rattle.pcr_values.specs.Values.{pcr_bank, pcr_value};
 ghost use Rattle.stub_replay.specs.Parts.{HaveSizes, IsPlaced, files_length, items_of, named_bytes};
-ghost use Rattle.pe_reader.specs.Grammar.{pe_of};
-ghost use Rattle.pe_reader.specs.LoadedBytes.{loaded_bytes};
-ghost use Rattle.pe_reader.specs.Reads.{headers_of};
+ghost use Rattle.pe_reader.specs.Prelude.{pe_of, loaded_bytes, headers_of};
 ghost use Rattle.stub_replay.specs.Measured.{measured_length, measured_list, stub_pcr};
 ghost use Rattle.uki_parts.specs.Names.{name_bytes};
 ghost use Rattle.uki_parts.specs.Pieces.{Reading};

@@ -1,6 +1,5 @@
 //! What the words of a build name: its files, its texts, and where the image is to stand.
-ghost use Rattle.std.specs.Prelude.{◌≡◌, ◌++◌, ◌∷◌, [], List, ℕ, Some, IfOk, IsTrue, OnOk, codes, is_some, map};
-ghost use Rattle.std.specs.Option.{option_map};
+ghost use Rattle.std.specs.Prelude.{◌≡◌, ◌++◌, ◌∷◌, [], List, ℕ, Some, IfOk, IsTrue, OnOk, codes, is_some, map, option_map};
 ghost use Rattle.boot_base.specs.Paths.{IsFree};
 ghost use Rattle.command_plans.specs.Prelude.{Means, each, if_given};
 ghost use Rattle.tool_words.specs.declared.command.Given.TheVariants.{File};

@@ -1,10 +1,8 @@
 //! `measure calculate`.
-ghost use Rattle.std.specs.Prelude.{◌≡◌, ◌≤◌, ◌++◌, List, ℕ, All, IfOk, IsTrue, Ok, length, map, sum_by};
-ghost use Rattle.std.specs.Option.{option_copied};
+ghost use Rattle.std.specs.Prelude.{◌≡◌, ◌≤◌, ◌++◌, List, ℕ, All, IfOk, IsTrue, Ok, length, map, sum_by, option_copied};
 ghost use Rattle.boot_machine.specs.Prelude.{Looks, TakesAtMost, contents, seen};
 ghost use Rattle.uki_parts.specs.Pieces.{Reading, piece_bytes, piece_length};
-ghost use Rattle.pcr_values.specs.Banks.{fold_pcr};
-ghost use Rattle.pcr_values.specs.Values.{pcr_bank, pcr_value};
+ghost use Rattle.pcr_values.specs.Prelude.{fold_pcr, pcr_bank, pcr_value};
 ghost use Rattle.stub_replay.specs.Ordered.{present_parts};
 ghost use Rattle.stub_replay.specs.Parts.{HaveSizes, IsPlaced, items_of, named_bytes};
 ghost use Rattle.command_plans.specs.Prelude.{CountsStop, CountsUnsaid, DeclinesWords, Means, Plans, RefusesWords, Says, answer_of_read, bytes_at, each, path_in};

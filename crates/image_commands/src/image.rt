@@ -1,10 +1,8 @@
 //! `measure image`: the value of PCR 11 that an image's stub comes to.
 ghost use Rattle.std.specs.Prelude.{◌≡◌, ◌+◌, IfOk, IsTrue, Ok, map};
 ghost use Rattle.boot_machine.specs.Prelude.{Looks, TakesAtMost, contents, seen};
-ghost use Rattle.pcr_values.specs.Banks.{fold_pcr};
-ghost use Rattle.pcr_values.specs.Values.{pcr_bank, pcr_value};
-ghost use Rattle.pe_reader.specs.Grammar.{pe_of};
-ghost use Rattle.pe_reader.specs.Reads.{headers_of};
+ghost use Rattle.pcr_values.specs.Prelude.{fold_pcr, pcr_bank, pcr_value};
+ghost use Rattle.pe_reader.specs.Prelude.{pe_of, headers_of};
 ghost use Rattle.stub_replay.specs.Measured.{measured_raw_length, measured_list};
 ghost use Rattle.command_plans.specs.Prelude.{CountsStop, CountsUnsaid, DeclinesWords, Plans, RefusesWords, Says, answer_of_read, bytes_at, path_in};
 ghost use Rattle.command_plans.specs.declared.plan.Change.TheVariants.{Nothing};

@@ -1,11 +1,9 @@
 //! `ukify inspect`: the sections of an image.
 ghost use Rattle.std.specs.Prelude.{◌≡◌, ◌<◌, ◌≤◌, ◌+◌, All, IfOk, IsTrue, Ok, drop, length, map, sum_by};
 ghost use Rattle.boot_machine.specs.Prelude.{Looks, TakesAtMost, contents, seen};
-ghost use Rattle.pcr_values.specs.Values.{bank_of};
+ghost use Rattle.pcr_values.specs.Prelude.{bank_of};
 ghost use Rattle.pcr_values.specs.declared.bank.Bank.TheVariants as banks;
-ghost use Rattle.pe_reader.specs.Grammar.{pe_of};
-ghost use Rattle.pe_reader.specs.LoadedBytes.{range_of};
-ghost use Rattle.pe_reader.specs.Reads.{headers_of};
+ghost use Rattle.pe_reader.specs.Prelude.{pe_of, range_of, headers_of};
 ghost use Rattle.list_json.specs.Sections.{facts_of};
 ghost use Rattle.command_plans.specs.Prelude.{CountsStop, CountsUnsaid, DeclinesWords, Plans, RefusesWords, Says, answer_of_read, bytes_at, path_in};
 ghost use Rattle.command_plans.specs.declared.plan.Change.TheVariants.{Nothing};

@@ -1,10 +1,6 @@
 //! Sections and values of PCR 11 as they are told: in lines, or as JSON.
-ghost use Rattle.std.specs.Prelude.{◌≡◌, ◌++◌, ℕ, All, List, OnOk, codes, map, IfOk, false};
-ghost use Rattle.std.specs.Fmt.{decimal};
-ghost use Rattle.pcr_values.specs.Banks.{fold_of, fold_pcr};
-ghost use Rattle.pcr_values.specs.Phases.{HasDistinctPaths};
-ghost use Rattle.pcr_values.specs.ValueLines.{HasDistinctBanks};
-ghost use Rattle.pcr_values.specs.Values.{bank_of, bytes_of_digest, pcr_value};
+ghost use Rattle.std.specs.Prelude.{◌≡◌, ◌++◌, ℕ, All, List, OnOk, codes, map, IfOk, false, decimal};
+ghost use Rattle.pcr_values.specs.Prelude.{fold_of, fold_pcr, HasDistinctPaths, HasDistinctBanks, bank_of, bytes_of_digest, pcr_value};
 ghost use Rattle.pcr_values.specs.declared.bank.Bank.{Bank};
 ghost use Rattle.pcr_values.specs.declared.bank.Bank.TheVariants as banks;
 ghost use Rattle.list_json.specs.Sections.{facts_of};

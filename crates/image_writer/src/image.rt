@@ -11,7 +11,7 @@ use crate::append::write_zeros;
 use crate::chunk::{Chunk, number_chunks, rest_chunks, section_chunks, table_chunks};
 use crate::part::write_parts;
 use crate::sources::Sources;
-use boot_base::{Piece, TempPath};
+use boot_base::{Buffer, TempPath};
 use boot_machine::{DiskFault, Machine};
 use install_steps::{append, copy_part};
 use pe_builder::Plan;
@@ -28,7 +28,7 @@ use pe_reader::Section;
 pub fn write_image<M: Machine>(
     plan: &Plan,
     sources: &Sources,
-    buffer: &mut Piece,
+    buffer: &mut Buffer,
     temp: &TempPath,
     machine: &mut M,
 ) -> Result<(), DiskFault>

@@ -1,7 +1,6 @@
 //! The parts of an image behind its stub.
 
-ghost use Rattle.std.specs.Prelude.{◌≡◌, ◌<◌, true, length, replicate, sum_by, IsTrue, OnOk};
-ghost use Rattle.std.specs.List.{flat_map};
+ghost use Rattle.std.specs.Prelude.{◌≡◌, ◌<◌, true, length, replicate, sum_by, IsTrue, OnOk, flat_map};
 ghost use Rattle.boot_machine.specs.Prelude.{CountsDisk, TakesAtMost, has};
 ghost use Rattle.uki_parts.specs.Pieces.{Reading, file_length};
 ghost use Rattle.install_steps.specs.Appends.{AppendsOnly, IsGrown};

@@ -10,7 +10,7 @@ ghost use Rattle.image_writer.specs.Taken.{writing_length};
 
 use crate::image::write_image;
 use crate::sources::Sources;
-use boot_base::{Piece, Target};
+use boot_base::{Buffer, Target};
 use boot_machine::{DiskFault, Machine};
 use install_steps::put_in_place;
 use pe_builder::Plan;
@@ -25,7 +25,7 @@ pub fn write_planned<M: Machine>(
     plan: &Plan,
     sources: &Sources,
     target: &Target,
-    buffer: &mut Piece,
+    buffer: &mut Buffer,
 ) -> Result<(), DiskFault>
     requires free { IsFree target.now.path }
     requires ready { IsTrue M.tells → CanStep (M.state machine.old) }

@@ -1,8 +1,7 @@
 //! Moving a file under an intent, which says at a stop which of its two names counts.
 ghost use Rattle.std.specs.Prelude.{◌≡◌, ◌≢◌, true, false, IfOk, IsTrue, OnOk, IsErrOf, Some};
 ghost use Rattle.boot_base.specs.Paths.{IsFree, intent_bytes};
-ghost use Rattle.boot_machine.specs.Prelude.{CountsDisk, HasOneCandidate, IsFirm, Looks, TakesNone, has, move_in, recovered_view};
-ghost use Rattle.boot_machine.specs.Disk.{intent_names};
+ghost use Rattle.boot_machine.specs.Prelude.{CountsDisk, HasOneCandidate, IsFirm, Looks, TakesNone, has, move_in, recovered_view, intent_names};
 ghost use Rattle.install_steps.specs.Steps.{CanStep, CountsMove, Intends, IsDone, IsIntentOf, LeavesAlone, LeavesReady, NoNewTemp, ReadyUnless, StepsTo, after_move};
 
 use crate::MoveFault;

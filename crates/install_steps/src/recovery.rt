@@ -1,10 +1,8 @@
 //! Finishing or undoing the rename that a stop has left half done.
-ghost use Rattle.std.specs.Prelude.{◌≡◌, ◌⊎◌, true, false, length, IsTrue, IfOk, OnOk, Some};
-ghost use Rattle.std.specs.Option.{option_map};
+ghost use Rattle.std.specs.Prelude.{◌≡◌, ◌⊎◌, true, false, length, IsTrue, IfOk, OnOk, Some, option_map};
 ghost use Rattle.boot_base.specs.Intents.{names_of};
 ghost use Rattle.boot_base.specs.Paths.{intent as intent_path};
-ghost use Rattle.boot_machine.specs.Prelude.{CountsDisk, EachSince, HasOneCandidate, IsFirm, IsSettled, Looks, TakesAtMost, TakesNone, contents, has, recovered_view};
-ghost use Rattle.boot_machine.specs.Disk.{HasNoHalfRename, intent_names};
+ghost use Rattle.boot_machine.specs.Prelude.{CountsDisk, EachSince, HasOneCandidate, IsFirm, IsSettled, Looks, TakesAtMost, TakesNone, contents, has, recovered_view, HasNoHalfRename, intent_names};
 ghost use Rattle.install_steps.specs.Recovery.{RecoversTo, SameFrom, SeesSame};
 ghost use Rattle.install_steps.specs.Steps.{CanStep, CountsRecover, LeavesAlone, NoNewTemp, StepsTo};
 

@@ -7,7 +7,7 @@ ghost use Rattle.install_steps.specs.Steps.{CanStep, CountsStep, IsDone, LeavesA
 
 use crate::StepFault;
 use crate::appends::copy_part;
-use boot_base::{BootPath, FILE_LIMIT, Piece, Target};
+use boot_base::{BootPath, Buffer, FILE_LIMIT, Target};
 use boot_machine::{DiskFault, Machine};
 
 /// Writes these bytes at the target, in place of a file that is there. A stop at any moment leaves what
@@ -45,7 +45,7 @@ pub fn write_whole<M: Machine>(
     machine: &mut M,
     from: &BootPath,
     target: &Target,
-    buffer: &mut Piece,
+    buffer: &mut Buffer,
 ) -> Result<(), StepFault>
     requires free { IsFree target.now.path }
     requires ready { IsTrue M.tells → CanStep (M.state machine.old) }

@@ -1,6 +1,5 @@
 //! The entries that go.
-ghost use Rattle.std.specs.Prelude.{◌≡◌, ◌<◌, ◌+◌, ◌^◌, All, IfOk, length, map, not, ◌||◌, ◌&&◌, nat_lt, slice_get, []};
-ghost use Rattle.std.specs.List.{filter_map};
+ghost use Rattle.std.specs.Prelude.{◌≡◌, ◌<◌, ◌+◌, ◌^◌, All, IfOk, length, map, not, ◌||◌, ◌&&◌, nat_lt, slice_get, [], filter_map};
 ghost use Rattle.keep_newest.specs.Doomed.{doomed_records, doomed_places, group_of, is_good, places_behind};
 ghost use Rattle.keep_newest.specs.Laws.{doomed_paths};
 ghost use Rattle.keep_newest.specs.Tallies.{key_in};

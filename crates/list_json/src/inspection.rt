@@ -1,6 +1,6 @@
 //! The sections of an image as JSON.
 ghost use Rattle.std.specs.Prelude.{◌≡◌, All, IfOk, map};
-ghost use Rattle.pcr_values.specs.Values.{bank_of};
+ghost use Rattle.pcr_values.specs.Prelude.{bank_of};
 ghost use Rattle.pcr_values.specs.declared.bank.Bank.TheVariants as banks;
 ghost use Rattle.serde_json.specs.View.{view};
 ghost use Rattle.list_json.specs.Lines.{ReadsAs, json_line};

@@ -1,10 +1,7 @@
 //! Values of PCR 11 as JSON.
 ghost use Rattle.std.specs.Prelude.{◌≡◌, ◌++◌, ℕ, List, map, IfOk, OnOk};
 ghost use Rattle.serde_json.specs.View.{members_view, view};
-ghost use Rattle.pcr_values.specs.Banks.{bank_name, extend_all, fold_of, fold_pcr};
-ghost use Rattle.pcr_values.specs.Phases.{HasDistinctPaths};
-ghost use Rattle.pcr_values.specs.ValueLines.{HasDistinctBanks};
-ghost use Rattle.pcr_values.specs.Values.{pcr_bank, pcr_bytes, pcr_value};
+ghost use Rattle.pcr_values.specs.Prelude.{bank_name, extend_all, fold_of, fold_pcr, HasDistinctPaths, HasDistinctBanks, pcr_bank, pcr_bytes, pcr_value};
 ghost use Rattle.pcr_values.specs.declared.bank.Bank.{Bank};
 ghost use Rattle.list_json.specs.Lines.{ReadsAs, json_line};
 ghost use Rattle.list_json.specs.Objects.{put_some};

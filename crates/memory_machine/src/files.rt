@@ -1,15 +1,13 @@
 //! A list of files, which contracts see as the map from each path to its bytes.
-ghost use Rattle.std.specs.Prelude.{◌≡◌, ◌++◌, [], ◌∷◌, true, length, position, bytes_eq, drop, vec_len, vec_capacity, if◌then◌else◌, ◌≤◌, IfOk, OnOk, OnErr, MatchOption, ◌≢◌, List, ℕ, IsTrue};
-ghost use Rattle.std.specs.Option.{option_map};
+ghost use Rattle.std.specs.Prelude.{◌≡◌, ◌++◌, [], ◌∷◌, true, length, position, bytes_eq, drop, vec_len, vec_capacity, if◌then◌else◌, ◌≤◌, IfOk, OnOk, OnErr, MatchOption, ◌≢◌, List, ℕ, IsTrue, option_map};
 ghost use Rattle.std.specs.Prelude.{map as all};
 ghost use Rattle.std.specs.FinMap as map;
 ghost use Rattle.boot_base.specs.Paths.{under, is_file_name};
-ghost use Rattle.boot_machine.specs.Prelude.{contents, has, is_listed, move_in, view};
+ghost use Rattle.boot_machine.specs.Prelude.{contents, has, is_listed, move_in, view, Gave, IsNamesOf, append_to};
 ghost use Rattle.memory_machine.specs.Entries.{files_of, pairs_of, pair_of, left_pair, counts_once};
 ghost use Rattle.memory_machine.specs.declared.files.Entry.{Entry};
 ghost use Rattle.memory_machine.specs.Events.{files_after};
 ghost use Rattle.memory_machine.specs.Given.{given_files};
-ghost use Rattle.boot_machine.specs.Rows.{Gave, IsNamesOf, append_to};
 ghost use Rattle.memory_machine.specs.Stops.{IsFilled};
 
 use crate::MemFile;

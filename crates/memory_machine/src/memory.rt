@@ -3,13 +3,12 @@
 ghost use Rattle.std.specs.Prelude.{◌≡◌, ◌≢◌, ◌⊎◌, ◌∷◌, ◌++◌, [], ◌≤◌, ℕ, true, length, drop, bytes_eq, Some, None, Ok, Err, IfOk, OnOk, OnErr};
 ghost use Rattle.std.specs.List.{IsDistinct};
 ghost use Rattle.std.specs.FinMap as maps;
-ghost use Rattle.boot_machine.specs.Prelude.{IsImage, IsSettled, has, on_channel, view};
+ghost use Rattle.boot_machine.specs.Prelude.{IsImage, IsSettled, has, on_channel, view, one_more};
 ghost use Rattle.memory_machine.specs.Events.{log_state, files_after, printed_after};
 ghost use Rattle.memory_machine.specs.Given.{given_files, given_paths};
 ghost use Rattle.boot_machine.specs.proofs.Maps.{same_files_prop};
 ghost use Rattle.memory_machine.specs.Stops.{IsLeft};
 ghost use Rattle.memory_machine.specs.Plan.{mode_of};
-ghost use Rattle.boot_machine.specs.Counts.{one_more};
 
 use crate::disk::Disk;
 use crate::event::Event;

@@ -1,11 +1,10 @@
 //! Names with a boot counter.
-ghost use Rattle.std.specs.Prelude.{◌≡◌, ◌≢◌, ◌↔◌, ◌<◌, ◌≤◌, ◌∷◌, ◌++◌, ℕ, List, length, string_bytes, IfOk, IfSome, IsNone, IsTrue, MatchOption};
+ghost use Rattle.std.specs.Prelude.{◌≡◌, ◌≢◌, ◌↔◌, ◌<◌, ◌≤◌, ◌∷◌, ◌++◌, ℕ, List, length, string_bytes, IfOk, IfSome, IsNone, IsTrue, MatchOption, option_map};
 ghost use Rattle.std.specs.Char.{is_ascii_digit};
 ghost use Rattle.std.specs.List.{list_all};
 ghost use Rattle.menu_order.specs.Counter.{suffix_text, is_number, IsNumber, IsCounter, IsCounted, IsUncounted, IsSplit, IsBaseLength, counted_of, after_boot, written_name, IsGoodName, IsBadName};
 ghost use Rattle.menu_order.specs.Renames.{bad_name_of, booted_name_of, good_name_of};
 ghost use Rattle.menu_order.specs.Splits.{number_in, split_of};
-ghost use Rattle.std.specs.Option.{option_map};
 ghost use Rattle.menu_order.specs.CounterLaws.{OneReading, WrittenReads, ShortestRewrites};
 
 use std::alloc::{AllocError, Global};

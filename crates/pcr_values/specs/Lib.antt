@@ -3,3 +3,4 @@ pub mod Values
 pub mod Hashes
 pub mod Phases
 pub mod ValueLines
+pub mod Prelude

@@ -1,6 +1,6 @@
 //! The banks of a TPM.
 ghost use Rattle.std.specs.Prelude.{◌≡◌};
-ghost use Rattle.pcr_values.specs.Banks.{bank_name, bank_named, digest_length};
+ghost use Rattle.pcr_values.specs.Prelude.{bank_name, bank_named, digest_length};
 
 /// A bank of registers, named for its hash function.
 #[derive(Clone, Copy, Debug, PartialEq, Eq)]

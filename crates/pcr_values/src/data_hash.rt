@@ -1,9 +1,7 @@
 //! The digest of data that comes in pieces.
 ghost use Rattle.std.specs.Prelude.{◌≡◌, ◌++◌, [], List, ℕ};
 ghost use Rattle.pcr_values.specs.declared.bank.Bank.{Bank};
-ghost use Rattle.pcr_values.specs.Banks.{digest_of};
-ghost use Rattle.pcr_values.specs.Values.{bank_of, bytes_of_digest};
-ghost use Rattle.pcr_values.specs.Hashes.{HoldsData};
+ghost use Rattle.pcr_values.specs.Prelude.{digest_of, bank_of, bytes_of_digest, HoldsData};
 
 use crate::bank::Bank;
 use crate::digest::{Digest, DigestBytes};

@@ -1,7 +1,6 @@
 //! Digests of a bank.
 ghost use Rattle.std.specs.Prelude.{◌≡◌, ◌↔◌, length, IsSome, IfSome};
-ghost use Rattle.pcr_values.specs.Banks.{digest_length, digest_of, zero_of};
-ghost use Rattle.pcr_values.specs.Values.{bank_of, bytes_of_digest};
+ghost use Rattle.pcr_values.specs.Prelude.{digest_length, digest_of, zero_of, bank_of, bytes_of_digest};
 
 use crate::bank::Bank;
 use crate::data_hash::DataHash;

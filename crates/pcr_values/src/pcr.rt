@@ -1,7 +1,6 @@
 //! Values of a register.
 ghost use Rattle.std.specs.Prelude.{◌≡◌, length};
-ghost use Rattle.pcr_values.specs.Banks.{digest_length, extend_data, extend_digest, zero_of};
-ghost use Rattle.pcr_values.specs.Values.{bank_of, bytes_of_digest, pcr_bank, pcr_bytes};
+ghost use Rattle.pcr_values.specs.Prelude.{digest_length, extend_data, extend_digest, zero_of, bank_of, bytes_of_digest, pcr_bank, pcr_bytes};
 
 use crate::bank::Bank;
 use crate::data_hash::DataHash;

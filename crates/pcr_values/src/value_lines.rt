@@ -1,10 +1,7 @@
 //! The lines that predict PCR 11.
-ghost use Rattle.std.specs.Prelude.{◌≡◌, ◌++◌, ℕ, List, map, IfOk, OnOk, OnErr};
-ghost use Rattle.std.specs.List.{flat_map};
-ghost use Rattle.pcr_values.specs.Banks.{fold_of, fold_pcr};
-ghost use Rattle.pcr_values.specs.Values.{pcr_bank, pcr_bytes, pcr_value};
+ghost use Rattle.std.specs.Prelude.{◌≡◌, ◌++◌, ℕ, List, map, IfOk, OnOk, OnErr, flat_map};
+ghost use Rattle.pcr_values.specs.Prelude.{fold_of, fold_pcr, pcr_bank, pcr_bytes, pcr_value, HasDistinctPaths};
 ghost use Rattle.pcr_values.specs.declared.bank.Bank.{Bank};
-ghost use Rattle.pcr_values.specs.Phases.{HasDistinctPaths};
 ghost use Rattle.pcr_values.specs.ValueLines.{
   HasDistinctBanks,
   heading_of,

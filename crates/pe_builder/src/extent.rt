@@ -2,8 +2,7 @@
 
 ghost use Rattle.std.specs.Prelude.{◌≡◌, ◌+◌, ◌*◌, ◌<◌, ◌≤◌, ◌^◌, length, set, sum_by};
 ghost use Rattle.std.specs.Int.{next_multiple_of};
-ghost use Rattle.pe_reader.specs.Reads.{headers_of};
-ghost use Rattle.pe_reader.specs.LoadedBytes.{section_at_index};
+ghost use Rattle.pe_reader.specs.Prelude.{headers_of, section_at_index};
 ghost use Rattle.pe_builder.specs.Layout.{virtual_end, end_after, length_after, address_after};
 ghost use Rattle.pe_builder.specs.Replaced.{sbat_index, with_sbat_size, MayReplace};
 

@@ -3,8 +3,7 @@
 ghost use Rattle.std.specs.Prelude.{◌≡◌, ◌+◌, ◌*◌, ◌<◌, ◌≤◌, ◌^◌, length, map, Some, None, IfOk, IfSome, sum_by};
 ghost use Rattle.std.specs.Int.{next_multiple_of};
 ghost use Rattle.std.specs.List.{AllByRecursion};
-ghost use Rattle.pe_reader.specs.Reads.{ReadFrom, headers_of};
-ghost use Rattle.pe_reader.specs.LoadedBytes.{section_at_index};
+ghost use Rattle.pe_reader.specs.Prelude.{ReadFrom, headers_of, section_at_index};
 ghost use Rattle.pe_builder.specs.Layout.{end_after, address_after, FitsPart};
 ghost use Rattle.pe_builder.specs.Replaced.{sbat_index, with_sbat_size, MayReplace};
 ghost use Rattle.pe_builder.specs.Refusals.{wide_size, first_refusal, size_refusal};

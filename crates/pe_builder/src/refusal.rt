@@ -1,7 +1,7 @@
 //! Why there is no image of a stub and parts.
 
 ghost use Rattle.std.specs.Prelude.{◌≡◌, ◌<◌, ◌≤◌, ◌^◌, [], length, nat_le, sum_by, IfOk};
-ghost use Rattle.pe_reader.specs.Reads.{ReadFrom, headers_of};
+ghost use Rattle.pe_reader.specs.Prelude.{ReadFrom, headers_of};
 ghost use Rattle.pe_builder.specs.Layout.{length_after};
 ghost use Rattle.pe_builder.specs.Replaced.{with_sbat_size, MayReplace};
 ghost use Rattle.pe_builder.specs.Refusals.{first_taken, first_refusal, sbat_refusal, size_refusal};

@@ -2,7 +2,7 @@
 
 ghost use Rattle.std.specs.Prelude.{◌≡◌, [], IfOk};
 ghost use Rattle.std.specs.List.{list_any};
-ghost use Rattle.pe_reader.specs.LoadedBytes.{is_named};
+ghost use Rattle.pe_reader.specs.Prelude.{is_named};
 ghost use Rattle.pe_builder.specs.Refusals.{part_is_named, is_taken, first_taken};
 
 use crate::fault::PlanFault;

@@ -1,8 +1,7 @@
 //! What holds of the grammar of PE32+ files, for those who read it without its order of checks.
 
 ghost use Rattle.std.specs.Prelude.{◌≡◌, ◌↔◌, List, ℕ, Ok, IsOk};
-ghost use Rattle.pe_reader.specs.Grammar.{Headers, pe_of};
-ghost use Rattle.pe_reader.specs.Facts.{IsPe, Describes};
+ghost use Rattle.pe_reader.specs.Prelude.{Headers, pe_of, IsPe, Describes};
 
 /// The grammar accepts exactly the bytes that have each of the nineteen facts on places in them.
 pub fn grammar_is_the_facts()

@@ -3,9 +3,7 @@
 ghost use Rattle.std.specs.Prelude.{◌≡◌, ◌+◌, ◌*◌, ◌≤◌, ◌<◌, [], length, IfOk, IsTrue};
 ghost use Rattle.boot_base.specs.Limits.{file_limit};
 ghost use Rattle.boot_machine.specs.Prelude.{CountsDisk, Looks, TakesAtMost, contents};
-ghost use Rattle.pe_reader.specs.Fields.{part};
-ghost use Rattle.pe_reader.specs.Grammar.{head_of, pe_place_of, coff_of, optional_of, sections_of};
-ghost use Rattle.pe_reader.specs.Reads.{FromBytes, GivesFrom, CountsHead, HeadFrom};
+ghost use Rattle.pe_reader.specs.Prelude.{part, head_of, pe_place_of, coff_of, optional_of, sections_of, FromBytes, GivesFrom, CountsHead, HeadFrom};
 
 use crate::fault::HeadFault;
 use crate::head::{Coff, Head, coff_header, optional_header, pe_place};

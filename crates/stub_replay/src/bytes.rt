@@ -1,10 +1,7 @@
 //! The register after a stub has measured an image whose bytes are at hand.
 ghost use Rattle.std.specs.Prelude.{◌≡◌, ◌+◌, ◌<◌, ◌^◌, Ok, IfOk};
-ghost use Rattle.pe_reader.specs.Grammar.{pe_of};
-ghost use Rattle.pe_reader.specs.LoadedBytes.{loaded_bytes, bytes_in};
-ghost use Rattle.pe_reader.specs.Reads.{headers_of};
-ghost use Rattle.pcr_values.specs.Banks.{extend_all, fold_of};
-ghost use Rattle.pcr_values.specs.Values.{pcr_bank, pcr_bytes};
+ghost use Rattle.pe_reader.specs.Prelude.{pe_of, loaded_bytes, bytes_in, headers_of};
+ghost use Rattle.pcr_values.specs.Prelude.{extend_all, fold_of, pcr_bank, pcr_bytes};
 ghost use Rattle.stub_replay.specs.Measured.{section_items, measured_list};
 
 use crate::measured::{after_name, measured_names};

@@ -1,11 +1,8 @@
 //! What a stub measures of the image in a machine's file, read in pieces.
 ghost use Rattle.std.specs.Prelude.{◌≡◌, ◌+◌, ◌<◌, ◌≤◌, ◌^◌, Ok, length, drop, map, IfOk, IsTrue, OnOk};
 ghost use Rattle.boot_machine.specs.Prelude.{CountsDisk, Looks, TakesAtMost, contents};
-ghost use Rattle.pe_reader.specs.Grammar.{pe_of};
-ghost use Rattle.pe_reader.specs.LoadedBytes.{loaded_bytes, bytes_in};
-ghost use Rattle.pe_reader.specs.Reads.{headers_of};
-ghost use Rattle.pcr_values.specs.Banks.{digest_of, fold_of, fold_pcr};
-ghost use Rattle.pcr_values.specs.Values.{bank_of, bytes_of_digest, pcr_bank, pcr_bytes, pcr_value};
+ghost use Rattle.pe_reader.specs.Prelude.{pe_of, loaded_bytes, bytes_in, headers_of};
+ghost use Rattle.pcr_values.specs.Prelude.{digest_of, fold_of, fold_pcr, bank_of, bytes_of_digest, pcr_bank, pcr_bytes, pcr_value};
 ghost use Rattle.stub_replay.specs.Faults.{CountsPredict};
 ghost use Rattle.stub_replay.specs.Measured.{measured_list, measured_raw_length, named_raw_length, section_items};
 ghost use Rattle.stub_replay.specs.Taking.{AreBetween, ExtendsWhere};
@@ -16,7 +13,7 @@ use crate::measured::measured_names;
 use crate::pieces::take_loaded;
 use crate::prediction::measure_part;
 use crate::register::{Register, begin_all, values};
-use boot_base::{BootPath, Piece};
+use boot_base::{BootPath, Buffer};
 use boot_machine::{DiskFault, Machine};
 use pcr_values::{Bank, Digest, Pcr};
 use pe_reader::{LoadedRange, Pe};
@@ -35,7 +32,7 @@ pub fn replay<M: Machine>(
     path: &BootPath,
     head: &Pe,
     bank: Bank,
-    buffer: &mut Piece,
+    buffer: &mut Buffer,
 ) -> Result<Pcr, DiskFault>
     requires { IsTrue M.tells → pe_of (contents (M.state machine.old).files path.now) ≡ Ok (headers_of head.now) }
     ensures bank { IfOk result (λ pcr. pcr_bank pcr ≡ bank) }
@@ -65,7 +62,7 @@ pub fn replay_all<M: Machine>(
     path: &BootPath,
     head: &Pe,
     banks: &[Bank],
-    buffer: &mut Piece,
+    buffer: &mut Buffer,
 ) -> Result<Vec<Pcr>, PredictFault>
     requires { IsTrue M.tells → pe_of (contents (M.state machine.old).files path.now) ≡ Ok (headers_of head.now) }
     ensures banks { IfOk result (λ pcrs. map pcr_bank pcrs.items ≡ banks.now) }

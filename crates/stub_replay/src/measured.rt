@@ -1,7 +1,6 @@
 //! The names of the measured sections, and how a register takes one.
 ghost use Rattle.std.specs.Prelude.{◌≡◌, ◌++◌, ◌∷◌, [], map};
-ghost use Rattle.pcr_values.specs.Banks.{extend_data};
-ghost use Rattle.pcr_values.specs.Values.{pcr_bank, pcr_bytes};
+ghost use Rattle.pcr_values.specs.Prelude.{extend_data, pcr_bank, pcr_bytes};
 ghost use Rattle.stub_replay.specs.Measured.{measured_names};
 
 use pcr_values::{DataHash, Pcr};

@@ -2,7 +2,7 @@
 ghost use Rattle.std.specs.Prelude.{◌≡◌, ◌<◌, ◌≤◌, ◌+◌, ◌^◌, length, take, drop, replicate, sum_by, IfOk, OnOk, IsTrue};
 ghost use Rattle.std.specs.List.{AllZip};
 ghost use Rattle.boot_machine.specs.Prelude.{CountsDisk, Looks, TakesAtMost, contents, seen};
-ghost use Rattle.pe_reader.specs.LoadedBytes.{bytes_in};
+ghost use Rattle.pe_reader.specs.Prelude.{bytes_in};
 ghost use Rattle.uki_parts.specs.Pieces.{HasSizes, bytes_of, file_length, piece_bytes, piece_length};
 ghost use Rattle.stub_replay.specs.Parts.{IsPlaced, IsWhole, content_bytes, read_length};
 ghost use Rattle.stub_replay.specs.Registers.{Takes};

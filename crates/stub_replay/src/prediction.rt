@@ -1,8 +1,7 @@
 //! The values that registers come to.
 ghost use Rattle.std.specs.Prelude.{◌≡◌, ◌<◌, length, map, All, IfOk, OnOk, IsTrue};
 ghost use Rattle.boot_machine.specs.Prelude.{CountsDisk, Looks, TakesAtMost, contents, seen};
-ghost use Rattle.pcr_values.specs.Banks.{fold_pcr};
-ghost use Rattle.pcr_values.specs.Values.{pcr_bank, pcr_value};
+ghost use Rattle.pcr_values.specs.Prelude.{fold_pcr, pcr_bank, pcr_value};
 ghost use Rattle.stub_replay.specs.Measured.{section_items};
 ghost use Rattle.stub_replay.specs.Faults.{CountsPredict};
 ghost use Rattle.stub_replay.specs.Parts.{IsPlaced, IsWhole, content_bytes, named_bytes, items_of, HaveSizes, read_length, files_length};

@@ -1,6 +1,6 @@
 //! The words after a command and its verb: options with their values, and operands.
 ghost use Rattle.std.specs.Prelude.{◌≡◌, ◌≤◌, length, is_none, IfOk, IfSome};
-ghost use Rattle.pcr_values.specs.Banks.{bank_named};
+ghost use Rattle.pcr_values.specs.Prelude.{bank_named};
 ghost use Rattle.word_grammar.specs.Shown.{option_shown};
 ghost use Rattle.tool_words.specs.Items.{word_meaning, option_said, check_value, option_of, without_value as value_missing, is_flag, are_banks};
 ghost use Rattle.tool_words.specs.Answers.{Gives, IsReason};

@@ -1,6 +1,5 @@
 //! The words of a line of a script.
-ghost use Rattle.std.specs.Prelude.{◌≡◌, ◌↔◌, ◌∷◌, [], List, ℕ, true, false, count_by, IfOk};
-ghost use Rattle.std.specs.Str.{chars};
+ghost use Rattle.std.specs.Prelude.{◌≡◌, ◌↔◌, ◌∷◌, [], List, ℕ, true, false, count_by, IfOk, chars};
 ghost use Rattle.tool_words.specs.Line.{is_open, is_quote, is_word_gap, line_words, mark, Gap, Itself};
 ghost use Rattle.tool_words.specs.LineSteps.{all_words};
 ghost use Rattle.tool_words.specs.Shown.{texts};

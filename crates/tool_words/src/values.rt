@@ -1,7 +1,6 @@
 //! What the items of a command give: values of options, and operands.
-ghost use Rattle.std.specs.Prelude.{◌≡◌, [], ◌++◌, length, slice_index_or, IfOk, OnOk};
+ghost use Rattle.std.specs.Prelude.{◌≡◌, [], ◌++◌, length, slice_index_or, IfOk, OnOk, option_copied};
 ghost use Rattle.std.specs.List.{cons_option};
-ghost use Rattle.std.specs.Option.{option_copied};
 ghost use Rattle.tool_words.specs.Items.{item_value, operand_in, all_values, last_option_value, operands};
 ghost use Rattle.tool_words.specs.Shown.{item_shown, items_shown};
 

@@ -3,7 +3,7 @@ ghost use Rattle.std.specs.Prelude.{◌≡◌, ◌<◌, ◌≤◌, ◌+◌, ◌^
 ghost use Rattle.boot_base.specs.Limits.{file_limit};
 ghost use Rattle.boot_machine.specs.Prelude.{CountsDisk, Looks, contents, fill_with_zeros};
 
-use boot_base::{BootPath, PIECE_SIZE, Piece};
+use boot_base::{BootPath, Buffer, PIECE_SIZE};
 use boot_machine::{DiskFault, Machine, read_piece};
 
 // How many of the `left` bytes from `at` on are read of both files, if these are the same in both, and else 0.
@@ -52,8 +52,8 @@ pub(crate) fn are_alike<M: Machine>(
         → contents (M.state machine.old).files first.now ≡ contents (M.state machine.old).files second.now) }
     ensures looks { Looks M.tells M.time M.state M.counts (CountsDisk result) machine.old machine.new }
 {
-    let mut one: Piece = [0; PIECE_SIZE];
-    let mut other: Piece = [0; PIECE_SIZE];
+    let mut one: Buffer = [0; PIECE_SIZE];
+    let mut other: Buffer = [0; PIECE_SIZE];
     let mut done = 0u64;
     while done < size {
         let left = size - done;

@@ -1,8 +1,7 @@
 //! The commands that `type1 cleanup` stands for.
 ghost use Rattle.std.specs.Prelude.{◌≡◌, ◌≤◌, ◌+◌, All, IfErr, IfOk, IsTrue, length, map};
 ghost use Rattle.boot_base.specs.Paths.{IsFree};
-ghost use Rattle.boot_machine.specs.Prelude.{Looks, seen};
-ghost use Rattle.boot_machine.specs.Rows.{IsNamesOf};
+ghost use Rattle.boot_machine.specs.Prelude.{Looks, seen, IsNamesOf};
 ghost use Rattle.tool_words.specs.declared.command.Command.TheVariants.{Remove};
 ghost use Rattle.command_plans.specs.Prelude.{CountsUnsaid, Says};
 ghost use Rattle.type1_install.specs.Cleaning.{cleanup_expansion, unnamed_payloads};

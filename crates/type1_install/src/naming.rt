@@ -1,8 +1,7 @@
 //! The payloads that no entry names.
-ghost use Rattle.std.specs.Prelude.{◌≡◌, ◌≤◌, ◌+◌, ◌++◌, All, Contains, IfOk, OnOk, bytes_eq, filter, length, map, not};
-ghost use Rattle.std.specs.List.{filter_map, flat_map, list_any};
+ghost use Rattle.std.specs.Prelude.{◌≡◌, ◌≤◌, ◌+◌, ◌++◌, All, Contains, IfOk, OnOk, bytes_eq, filter, length, map, not, filter_map, flat_map, option_to_list};
+ghost use Rattle.std.specs.List.{list_any};
 ghost use Rattle.std.specs.List.Sorted.{IsStrictlySortedBy};
-ghost use Rattle.std.specs.Option.{option_to_list};
 ghost use Rattle.boot_base.specs.Paths.{IsFree, Path, under};
 ghost use Rattle.boot_machine.specs.Prelude.{path_cmp};
 ghost use Rattle.boot_texts.specs.EntryText.{is_payload_name};

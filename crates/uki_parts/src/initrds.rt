@@ -1,7 +1,6 @@
 //! Several initrds in one section.
 
-ghost use Rattle.std.specs.Prelude.{◌≡◌, ◌+◌, ◌-◌, ◌*◌, ◌≤◌, ◌<◌, ◌++◌, length, map, IfOk, OnOk};
-ghost use Rattle.std.specs.List.{flat_map};
+ghost use Rattle.std.specs.Prelude.{◌≡◌, ◌+◌, ◌-◌, ◌*◌, ◌≤◌, ◌<◌, ◌++◌, length, map, IfOk, OnOk, flat_map};
 ghost use Rattle.uki_parts.specs.Pieces.{piece_length, total_length};
 ghost use Rattle.uki_parts.specs.Initrds.{joined_initrds, joined_length, padded_piece, padding_of};
 

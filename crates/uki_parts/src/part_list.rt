@@ -1,7 +1,7 @@
 //! The parts of an image in the order in which they are appended.
 
-ghost use Rattle.std.specs.Prelude.{◌≡◌, ◌≤◌, ◌<◌, [], length, OnOk, OnErr};
-ghost use Rattle.std.specs.List.{All, position_or_len};
+ghost use Rattle.std.specs.Prelude.{◌≡◌, ◌≤◌, ◌<◌, [], length, OnOk, OnErr, All};
+ghost use Rattle.std.specs.List.{position_or_len};
 ghost use Rattle.uki_parts.specs.Parts.{part_place, with_part, is_after, HasBytes};
 ghost use Rattle.std.specs.List.Sorted.{IsNonDecreasingBy};
 
