@@ -1,6 +1,7 @@
 -- What a scan of the boot folders answers.
 use Rattle.std.specs.Prelude.{◌≡◌, ◌↔◌, ◌+◌, ◌*◌, ℕ, true, List, length, nat_le, bytes_eq, Contains, Option, Some, None, IsSome, Result, MatchResult, if◌then◌else◌}
 use Rattle.std.specs.List.{IsDistinct, filter_map}
+use Rattle.boot_base.specs.Limits.{text_limit}
 use Rattle.boot_base.specs.Paths.{Path, is_file_name, under}
 use Rattle.boot_base.specs.declared.path.PathFault.{PathFault}
 use Rattle.boot_base.specs.declared.path.PathFault.TheVariants as paths
@@ -14,6 +15,7 @@ use Rattle.std.specs.declared.cmp.Ordering.{Ordering}
 use Rattle.boot_machine.specs.declared.machine.NamesFault.{NamesFault}
 use Rattle.boot_machine.specs.declared.machine.NamesFault.TheVariants as names
 use Rattle.menu_order.specs.declared.item.MenuItem.{MenuItem}
+use Rattle.pe_reader.specs.Reads.{head_limit}
 use Rattle.boot_folder.specs.Entries.{entry_if, type_count}
 use Rattle.boot_folder.specs.declared.fault.ReadFault.{ReadFault}
 use Rattle.boot_folder.specs.declared.fault.ReadFault.TheVariants as reads
@@ -40,10 +42,14 @@ size_within limit (Some bytes) = if nat_le (length bytes) limit then Some (lengt
 abbrev pub entries_named : Suffix → Files → Path → List (List ℕ) → List MenuItem
 entries_named suffix files folder names = filter_map (λ name. entry_if suffix files (under folder name)) names
 
+-- the most bytes that are read of an image: its headers and its os-release text
+abbrev pub image_limit : ℕ
+image_limit = head_limit + text_limit
+
 -- the most bytes that are read of a file of a type
 abbrev pub read_limit : Suffix → ℕ
-read_limit Conf = 65536
-read_limit Efi = 134999
+read_limit Conf = text_limit
+read_limit Efi = image_limit
 
 -- the most bytes that are read of the files of both types
 abbrev pub scan_limit : Files → Option Folders → ℕ

@@ -1,13 +1,14 @@
 //! The entry of one file of a boot folder.
 ghost use Rattle.std.specs.Prelude.{◌≡◌, ◌≤◌, IfOk, IfSome, IsTrue, Result, length, true};
 ghost use Rattle.std.specs.FinMap.{get};
+ghost use Rattle.boot_base.specs.Limits.{text_limit};
 ghost use Rattle.boot_base.specs.Paths.{file_name_of, under};
 ghost use Rattle.menu_order.specs.Splits.{has_suffix};
 ghost use Rattle.menu_order.specs.declared.counted.Suffix.TheVariants.{Conf, Efi};
 ghost use Rattle.boot_folder.specs.Entries.{entry_at, entry_if, own_path};
 ghost use Rattle.boot_folder.specs.Items.{CountsItem, GivesItem};
 ghost use Rattle.boot_folder.specs.Records.{Unfit, value_if_ok, type1_entry, type1_item};
-ghost use Rattle.boot_folder.specs.Scanning.{CountsRead, read_limit, size_within};
+ghost use Rattle.boot_folder.specs.Scanning.{CountsRead, image_limit, read_limit, size_within};
 ghost use Rattle.boot_machine.specs.Prelude.{Counts, CountsDisk, Looks, TakesAtMost, contents};
 ghost use Rattle.menu_order.specs.declared.item.MenuItem.{MenuItem};
 
@@ -45,12 +46,12 @@ fn file_bytes<M: Machine>(
     path: &BootPath,
     size: u64,
 ) -> Result<Vec<u8>, ReadFault>
-    requires { size ≤ 65536 }
+    requires { size ≤ text_limit }
     ensures bytes { IfOk result (λ bytes. IsTrue M.tells
         → size ≡ length (contents (M.state machine.old).files path.now)
         → bytes.items ≡ contents (M.state machine.old).files path.now) }
     ensures looks { Looks M.tells M.time M.state M.counts (CountsRead result) machine.old machine.new }
-    ensures taken { IsTrue M.tells → TakesAtMost 65536 (M.taken machine.old) (M.taken machine.new) }
+    ensures taken { IsTrue M.tells → TakesAtMost text_limit (M.taken machine.old) (M.taken machine.new) }
 {
     let mut bytes = zeros(alloc, size as usize)?;
     read_part(machine, path, 0, &mut bytes)?;
@@ -97,7 +98,7 @@ fn text_at<M: Machine>(
 ) -> Result<Option<MenuItem>, ReadFault>
     ensures exact { IfOk result (λ item. IsTrue M.tells → item ≡ entry_at Conf (M.state machine.old).files path) }
     ensures looks { Looks M.tells M.time M.state M.counts (CountsRead result) machine.old machine.new }
-    ensures taken { IsTrue M.tells → TakesAtMost 65536 (M.taken machine.old) (M.taken machine.new) }
+    ensures taken { IsTrue M.tells → TakesAtMost text_limit (M.taken machine.old) (M.taken machine.new) }
 {
     let Some(size) = size_within(machine, &path, TEXT_LIMIT)? else {
         return Ok(None);
@@ -129,7 +130,7 @@ fn image_at<M: Machine>(
     requires { has_suffix Efi (file_name_of path) ≡ true }
     ensures exact { IfOk result (λ item. IsTrue M.tells → item ≡ entry_at Efi (M.state machine.old).files path) }
     ensures looks { Looks M.tells M.time M.state M.counts (CountsRead result) machine.old machine.new }
-    ensures taken { IsTrue M.tells → TakesAtMost 134999 (M.taken machine.old) (M.taken machine.new) }
+    ensures taken { IsTrue M.tells → TakesAtMost image_limit (M.taken machine.old) (M.taken machine.new) }
 {
     let Some(size) = size_within(machine, &path, FILE_LIMIT)? else {
         return Ok(None);

@@ -1,6 +1,6 @@
 //! Entries of unified kernel images.
 ghost use Rattle.std.specs.Prelude.{◌≡◌, ◌≤◌, ◌<◌, ◌+◌, ◌^◌, ℕ, List, IfOk, IfErr, IsTrue, Ok, true, drop, length, replicate, option_copied};
-ghost use Rattle.boot_base.specs.Limits.{file_limit};
+ghost use Rattle.boot_base.specs.Limits.{file_limit, text_limit};
 ghost use Rattle.boot_base.specs.Paths.{file_name_of};
 ghost use Rattle.boot_machine.specs.Prelude.{Counts, Looks, TakesAtMost, contents};
 ghost use Rattle.menu_order.specs.Splits.{has_suffix};
@@ -8,6 +8,7 @@ ghost use Rattle.boot_folder.specs.Records.{titled_item, type2_item, uki_of};
 ghost use Rattle.pe_reader.specs.Prelude.{bytes_in, pe_of, headers_of};
 ghost use Rattle.boot_folder.specs.Items.{CountsItem, GivesItem, IsUnread};
 ghost use Rattle.boot_folder.specs.Ranges.{IsRange, FindsOsrel};
+ghost use Rattle.boot_folder.specs.Scanning.{image_limit};
 
 use crate::fault::{ItemFault, Missing};
 use crate::name::split_name;
@@ -38,7 +39,7 @@ pub fn uki_item<M: Machine>(
     requires name { has_suffix Suffix.Efi (file_name_of path) ≡ true }
     ensures exact { IsTrue M.tells → GivesItem result (uki_of path (contents (M.state machine.old).files file.now)) }
     ensures looks { Looks M.tells M.time M.state M.counts (CountsItem result) machine.old machine.new }
-    ensures taken { IsTrue M.tells → TakesAtMost 134999 (M.taken machine.old) (M.taken machine.new) }
+    ensures taken { IsTrue M.tells → TakesAtMost image_limit (M.taken machine.old) (M.taken machine.new) }
 {
     let head = Pe::read_head_of_size(alloc, machine, file, size)?;
     let range = osrel_range(&head)?;
@@ -117,7 +118,7 @@ fn range_named(head: &Pe, name: &[u8]) -> LoadedRange
 /// to 65,536 of them.
 pub(crate) fn osrel_range(head: &Pe) -> Result<LoadedRange, Missing>
     ensures finds { (file : List ℕ) → pe_of file ≡ Ok (headers_of head.now) → FindsOsrel file result }
-    ensures small { IfOk result (λ range. (range.place < 2 ^ 32) × (range.length + range.zeros ≤ 65536)) }
+    ensures small { IfOk result (λ range. (range.place < 2 ^ 32) × (range.length + range.zeros ≤ text_limit)) }
 {
     let linux = range_named(head, b".linux");
     if linux.length + linux.zeros == 0 {
@@ -139,13 +140,13 @@ pub(crate) fn range_bytes<M: Machine>(
     range: LoadedRange,
 ) -> Result<Vec<u8>, ItemFault>
     requires place { range.place < 2 ^ 32 }
-    requires short { range.length + range.zeros ≤ 65536 }
+    requires short { range.length + range.zeros ≤ text_limit }
     ensures bytes { IfOk result (λ bytes. IsTrue M.tells
         → range.length ≤ length (drop range.place (contents (M.state machine.old).files file.now))
         → bytes.items ≡ bytes_in (contents (M.state machine.old).files file.now) range) }
     ensures unread { IfErr result IsUnread }
     ensures looks { Looks M.tells M.time M.state M.counts (CountsItem result) machine.old machine.new }
-    ensures taken { IsTrue M.tells → TakesAtMost 65536 (M.taken machine.old) (M.taken machine.new) }
+    ensures taken { IsTrue M.tells → TakesAtMost text_limit (M.taken machine.old) (M.taken machine.new) }
 {
     let mut bytes = zeros(alloc, range.length as usize)?;
     read_part(machine, file, range.place, &mut bytes)?;

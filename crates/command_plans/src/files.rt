@@ -1,7 +1,7 @@
 //! Files that a command names.
 ghost use Rattle.std.specs.Prelude.{◌≡◌, ◌≤◌, ◌<◌, ◌+◌, ◌^◌, IfOk, IsTrue, OnOk, Ok, Result, drop, length, true};
 ghost use Rattle.boot_machine.specs.Prelude.{Counts, Looks, TakesAtMost, contents, fill_with_zeros, has, seen};
-ghost use Rattle.pe_reader.specs.Prelude.{Headers, pe_of, CountsHead, FailsFrom, GivesFrom, ReadFrom, head_counts, headers_of, pe_reason_text};
+ghost use Rattle.pe_reader.specs.Prelude.{Headers, pe_of, CountsHead, FailsFrom, GivesFrom, ReadFrom, head_counts, head_limit, headers_of, pe_reason_text};
 ghost use Rattle.pe_reader.specs.declared.fault.FailedCheck.{FailedCheck};
 ghost use Rattle.command_plans.specs.Prelude.{printed_path, bytes_at, headers_or, image_at, CountsUnsaid, Says, UnsaidFor, unsaid_counts};
 ghost use Rattle.boot_base.specs.Limits.{file_limit};
@@ -79,13 +79,10 @@ pub fn image_head<M: Machine>(alloc: Global, path: &BootPath, machine: &mut M) -
     ensures head { IfOk result (λ head. IsTrue M.tells
         → pe_of (contents (M.state machine.old).files path.now) ≡ Ok (headers_of head)) }
     ensures looks { Looks M.tells M.time M.state M.counts (CountsUnsaid result) machine.old machine.new }
-    ensures taken { IsTrue M.tells → TakesAtMost 69463 (M.taken machine.old) (M.taken machine.new) }
+    ensures taken { IsTrue M.tells → TakesAtMost head_limit (M.taken machine.old) (M.taken machine.new) }
 {
     let size = readable_size(alloc, path, machine)?;
-    match Pe::read_head_of_size(alloc, machine, path, size) {
-        Ok(head) => Ok(head),
-        Err(fault) => Err(head_unsaid(alloc, fault)),
-    }
+    sized_head(alloc, path, size, machine)
 }
 
 /// The headers of the file of `size` bytes at a path: of its bytes they alone are read, which are at most 69,463.
@@ -95,13 +92,13 @@ pub fn head_of_size<M: Machine>(
     size: u64,
     machine: &mut M,
 ) -> Result<Pe, HeadFault>
-    requires small { size ≤ 268435456 }
+    requires small { size ≤ file_limit }
     requires size { IsTrue M.tells → size ≡ length (contents (seen (M.state machine.old)) path.now) }
     ensures exact { IsTrue M.tells → GivesFrom headers_of result
         (pe_of (contents (seen (M.state machine.old)) path.now)) }
     ensures read { IfOk result (λ head. ReadFrom head size) }
     ensures looks { Looks M.tells M.time M.state M.counts (CountsHead result) machine.old machine.new }
-    ensures taken { IsTrue M.tells → TakesAtMost 69463 (M.taken machine.old) (M.taken machine.new) }
+    ensures taken { IsTrue M.tells → TakesAtMost head_limit (M.taken machine.old) (M.taken machine.new) }
 {
     path.know();
     Pe::read_head_of_size(alloc, machine, path, size)
@@ -114,7 +111,7 @@ pub fn sized_head<M: Machine>(
     size: u64,
     machine: &mut M,
 ) -> Result<Pe, Unsaid>
-    requires small { size ≤ 268435456 }
+    requires small { size ≤ file_limit }
     requires size { IsTrue M.tells → size ≡ length (contents (seen (M.state machine.old)) path.now) }
     ensures says { IsTrue M.tells → Says headers_of result
         (headers_or (pe_of (contents (seen (M.state machine.old)) path.now))) }
@@ -122,7 +119,7 @@ pub fn sized_head<M: Machine>(
         → pe_of (contents (seen (M.state machine.old)) path.now) ≡ Ok (headers_of head)) }
     ensures read { IfOk result (λ head. ReadFrom head size) }
     ensures looks { Looks M.tells M.time M.state M.counts (CountsUnsaid result) machine.old machine.new }
-    ensures taken { IsTrue M.tells → TakesAtMost 69463 (M.taken machine.old) (M.taken machine.new) }
+    ensures taken { IsTrue M.tells → TakesAtMost head_limit (M.taken machine.old) (M.taken machine.new) }
 {
     match head_of_size(alloc, path, size, machine) {
         Ok(head) => Ok(head),

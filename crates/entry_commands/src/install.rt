@@ -7,6 +7,7 @@ ghost use Rattle.menu_order.specs.declared.counted.Suffix.TheVariants.{Efi};
 ghost use Rattle.boot_folder.specs.Items.{FailsAs, item_counts};
 ghost use Rattle.boot_folder.specs.Missing.{missing_text};
 ghost use Rattle.boot_folder.specs.Records.{Unfit, uki_of};
+ghost use Rattle.boot_folder.specs.Scanning.{image_limit};
 ghost use Rattle.boot_machine.specs.Prelude.{Counts, Looks, State, TakesAtMost, contents, seen};
 ghost use Rattle.command_plans.specs.Prelude.{CanCopy, CountsStop, CountsUnsaid, DeclinesWords, Means, Plans, PlansAs, RefusesWords, Says, UnsaidFor, if_given, unsaid_counts};
 ghost use Rattle.entry_commands.specs.Counts.{count_in};
@@ -130,7 +131,7 @@ fn check_entry<M: Machine>(
     ensures says { IsTrue M.tells → ShowsEntry result
         (entry_or (uki_of words.now.target (contents (M.state machine.old).files words.now.from))) }
     ensures looks { Looks M.tells M.time M.state M.counts (CountsUnsaid result) machine.old machine.new }
-    ensures taken { IsTrue M.tells → TakesAtMost 134999 (M.taken machine.old) (M.taken machine.new) }
+    ensures taken { IsTrue M.tells → TakesAtMost image_limit (M.taken machine.old) (M.taken machine.new) }
 {
     let target = words.target.copy(alloc)?;
     match uki_item(alloc, machine, &words.from, size, target) {
@@ -153,7 +154,7 @@ fn check_image<M: Machine>(
         (installed_image (seen (M.state machine.old)) words.now) }
     ensures can { OnOk result (IsTrue M.tells → CanCopy (M.state machine.old) words.now.from) }
     ensures looks { Looks M.tells M.time M.state M.counts (CountsUnsaid result) machine.old machine.new }
-    ensures taken { IsTrue M.tells → TakesAtMost 134999 (M.taken machine.old) (M.taken machine.new) }
+    ensures taken { IsTrue M.tells → TakesAtMost image_limit (M.taken machine.old) (M.taken machine.new) }
 {
     let size = readable_size(alloc, &words.from, machine)?;
     check_entry(alloc, words, size, machine)
@@ -182,7 +183,7 @@ fn install<M: Machine>(
         (install_result (seen (M.state machine.old)) file.now name.now
         (option_map (λ text. text.now) tries.entry) esp.now) }
     ensures looks { Looks M.tells M.time M.state M.counts (CountsUnsaid result) machine.old machine.new }
-    ensures taken { IsTrue M.tells → TakesAtMost 134999 (M.taken machine.old) (M.taken machine.new) }
+    ensures taken { IsTrue M.tells → TakesAtMost image_limit (M.taken machine.old) (M.taken machine.new) }
     ensures words { DeclinesWords
         (installation_of file.now name.now (option_map (λ text. text.now) tries.entry) esp.now) result }
 {
@@ -206,7 +207,7 @@ pub fn plan_install<M: Machine>(
         (install_answer (seen (M.state machine.old)) file.now name.now
         (option_map (λ text. text.now) tries.entry) esp.now)) }
     ensures looks { Looks M.tells M.time M.state M.counts (CountsStop result) machine.old machine.new }
-    ensures taken { IsTrue M.tells → TakesAtMost 134999 (M.taken machine.old) (M.taken machine.new) }
+    ensures taken { IsTrue M.tells → TakesAtMost image_limit (M.taken machine.old) (M.taken machine.new) }
     ensures words { RefusesWords
         (installation_of file.now name.now (option_map (λ text. text.now) tries.entry) esp.now) result }
 {

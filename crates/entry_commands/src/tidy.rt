@@ -1,5 +1,5 @@
 //! `tidy`.
-ghost use Rattle.std.specs.Prelude.{◌≡◌, All, Contains, IfOk, IsTrue, bytes_eq, codes, true};
+ghost use Rattle.std.specs.Prelude.{◌≡◌, All, Contains, IfOk, IsTrue, bytes_eq, true};
 ghost use Rattle.std.specs.List.{IsDistinct};
 ghost use Rattle.boot_base.specs.Paths.{Path};
 ghost use Rattle.boot_machine.specs.Prelude.{Files, Looks, State, TakesAtMost, has, seen};
@@ -79,19 +79,6 @@ fn leftovers<M: Machine>(
     Ok(each_once(temps))
 }
 
-fn tidy_plan(alloc: Global, temps: Vec<TempPath>) -> Result<Plan, AllocError>
-    requires distinct { IsDistinct bytes_eq temps.items }
-    ensures { IfOk result (λ plan. (plan.change ≡ Change.Leftovers temps) × (plan.outcome ≡ Outcome.Done)
-        × (plan.text ≡ codes "cleaned\n")) }
-{
-    let text = Bytes::of(alloc, b"cleaned\n")?;
-    Ok(Plan {
-        change: Change::Leftovers(temps),
-        outcome: Outcome::Done,
-        text,
-    })
-}
-
 // What the tidying of two folders is going to do.
 fn tidy<M: Machine>(alloc: Global, folders: &Folders, machine: &mut M) -> Result<Plan, Stop>
     ensures plans { IfOk result (λ plan. IsTrue M.tells → Plans (M.state machine.old) plan
@@ -102,7 +89,12 @@ fn tidy<M: Machine>(alloc: Global, folders: &Folders, machine: &mut M) -> Result
     ensures taken { IsTrue M.tells → TakesAtMost 0 (M.taken machine.old) (M.taken machine.new) }
 {
     let temps = leftovers(alloc, folders, machine)?;
-    Ok(tidy_plan(alloc, temps)?)
+    let text = Bytes::of(alloc, b"cleaned\n")?;
+    Ok(Plan {
+        change: Change::Leftovers(temps),
+        outcome: Outcome::Done,
+        text,
+    })
 }
 
 /// What the tidying of an EFI system partition is going to do.

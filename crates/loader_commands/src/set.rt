@@ -126,23 +126,6 @@ fn conf_update<M: Machine>(
     Ok(change_of(alloc, key, value, path, bytes)?)
 }
 
-// The plan that writes the change.
-fn plan_of(change: ConfChange) -> Plan
-    requires { IsFree change.target.path }
-    ensures change { result.change ≡ Change.Put change.target change.bytes }
-    ensures outcome { result.outcome ≡ Outcome.Done }
-    ensures text { result.text ≡ change.text }
-{
-    Plan {
-        change: Change::Put {
-            target: change.target,
-            bytes: change.bytes,
-        },
-        outcome: Outcome::Done,
-        text: change.text,
-    }
-}
-
 // The plan that gives the key of the partition's loader.conf the value.
 fn set_plan<M: Machine>(
     alloc: Global,
@@ -158,7 +141,14 @@ fn set_plan<M: Machine>(
     ensures words { DeclinesWords (conf_words key value.now esp.now) result }
 {
     let change = conf_update(alloc, key, value, esp, machine)?;
-    Ok(plan_of(change))
+    Ok(Plan {
+        change: Change::Put {
+            target: change.target,
+            bytes: change.bytes,
+        },
+        outcome: Outcome::Done,
+        text: change.text,
+    })
 }
 
 /// What is going to be done where the pattern of the default entry is set in the loader.conf of an EFI system

@@ -3,6 +3,7 @@ use Rattle.std.specs.Prelude.{◌≡◌, Bool, ℕ, ◌+◌, ◌*◌, ◌||◌, 
 use Rattle.std.specs.Int.{next_multiple_of}
 use Rattle.std.specs.List.{list_any, AllByRecursion}
 use Rattle.std.specs.Str.{bytes_eq}
+use Rattle.boot_base.specs.Limits.{file_limit}
 use Rattle.pe_reader.specs.declared.section.Section.{Section}
 use Rattle.pe_reader.specs.LoadedBytes.{is_named, section_at_index}
 use Rattle.pe_reader.specs.Grammar.{Headers}
@@ -75,7 +76,7 @@ size_refusal h stub_length parts =
     refuse (nat_lt (have h) (need h parts)) (NoHeaderSpace (need h parts) (have h)) (
     refuse (nat_le 4294967296 (image_size h parts)) (AddressSpace (image_size h parts)) (
     refuse (nat_le 4294967296 (initialized_size h parts)) (AddressSpace (initialized_size h parts)) (
-    refuse (nat_lt 268435456 (length_after h.head stub_length parts))
+    refuse (nat_lt file_limit (length_after h.head stub_length parts))
     (ImageTooLarge (length_after h.head stub_length parts)) None)))
 
 -- The first refusal for a stub of that length with these headers, parts of these sizes, and a new `.sbat` of that

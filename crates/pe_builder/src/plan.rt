@@ -3,6 +3,7 @@
 ghost use Rattle.std.specs.Prelude.{◌≡◌, ◌+◌, ◌*◌, ◌<◌, ◌≤◌, ◌^◌, length, map, Some, None, IfOk, IfSome, sum_by};
 ghost use Rattle.std.specs.Int.{next_multiple_of};
 ghost use Rattle.std.specs.List.{AllByRecursion};
+ghost use Rattle.boot_base.specs.Limits.{file_limit};
 ghost use Rattle.pe_reader.specs.Prelude.{ReadFrom, headers_of, section_at_index};
 ghost use Rattle.pe_builder.specs.Layout.{end_after, address_after, FitsPart};
 ghost use Rattle.pe_builder.specs.Replaced.{sbat_index, with_sbat_size, MayReplace};
@@ -204,7 +205,7 @@ fn head_after(head: &Head, start: u32, parts: &[WideSize]) -> Head
 // Where the stub's `.sbat` stands, that is replaced by one of that length.
 fn sbat_place(stub: &Pe, sbat_in_place: Option<u32>) -> Option<SbatPlace>
     requires sbat { MayReplace (headers_of stub.now) sbat_in_place }
-    requires small { (headers_of stub.now).head.table_place + 40 * length (headers_of stub.now).sections ≤ 268435456 }
+    requires small { (headers_of stub.now).head.table_place + 40 * length (headers_of stub.now).sections ≤ file_limit }
     ensures { result ≡ sbat_place (headers_of stub.now) sbat_in_place }
 {
     let length = sbat_in_place?;

@@ -1,6 +1,7 @@
 //! Why there is no image of a stub and parts.
 
 ghost use Rattle.std.specs.Prelude.{◌≡◌, ◌<◌, ◌≤◌, ◌^◌, [], length, nat_le, sum_by, IfOk};
+ghost use Rattle.boot_base.specs.Limits.{file_limit};
 ghost use Rattle.pe_reader.specs.Prelude.{ReadFrom, headers_of};
 ghost use Rattle.pe_builder.specs.Layout.{length_after};
 ghost use Rattle.pe_builder.specs.Replaced.{with_sbat_size, MayReplace};
@@ -114,7 +115,7 @@ fn size_refusal(
     requires memory_unit { 0 < (headers_of stub.now).head.section_alignment }
     requires units { (headers_of stub.now).head.file_alignment ≤ (headers_of stub.now).head.section_alignment }
     requires small_unit { (headers_of stub.now).head.section_alignment ≤ 65536 }
-    requires table { (headers_of stub.now).head.table_place ≤ 268435456 }
+    requires table { (headers_of stub.now).head.table_place ≤ file_limit }
     requires few { length parts.now ≤ 16777216 }
     requires total { sum_by (λ p. p.length) parts.now ≤ 2 ^ 62 }
     requires sbat { MayReplace (headers_of stub.now) sbat_in_place }

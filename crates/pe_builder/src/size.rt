@@ -22,13 +22,14 @@ pub struct PartSize {
 
 impl PartSize {
     ghost use Rattle.std.specs.Prelude.{◌≡◌, ◌≤◌};
+    ghost use Rattle.boot_base.specs.Limits.{file_limit};
     ghost use Rattle.pe_builder.specs.Sizes.{size_of};
 
     /// The size of a part of at most 268,435,456 bytes. By its name alone a part is the kernel, whose section is
     /// flagged as code that is read, as ukify does; the sections of all others are flagged as initialized data that
     /// are read (Microsoft PE/COFF).
     pub fn of(part: &Part) -> PartSize
-        requires { part.now.length ≤ 268435456 }
+        requires { part.now.length ≤ file_limit }
         ensures { result ≡ size_of part.now }
     {
         PartSize {

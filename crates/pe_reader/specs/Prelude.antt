@@ -3,5 +3,5 @@ pub use Rattle.pe_reader.specs.Facts.{Describes, IsPe}
 pub use Rattle.pe_reader.specs.Fields.{part, u16_at, u32_at}
 pub use Rattle.pe_reader.specs.Grammar.{Headers, check_section, coff_of, head_of, is_apart, is_in_file, optional_of, other_kind, pe_of, pe_place_of, section_at, sections_of}
 pub use Rattle.pe_reader.specs.LoadedBytes.{bytes_in, is_named, loaded_bytes, range_of, section_at_index}
-pub use Rattle.pe_reader.specs.Reads.{CountsHead, FailsFrom, FromBytes, GivesFrom, HeadFrom, ReadFrom, ReturnsRead, head_counts, head_fault, headers_of}
+pub use Rattle.pe_reader.specs.Reads.{CountsHead, FailsFrom, FromBytes, GivesFrom, HeadFrom, ReadFrom, ReturnsRead, head_counts, head_fault, head_limit, headers_of}
 pub use Rattle.pe_reader.specs.Reasons.{pe_reason_text}

@@ -1,5 +1,6 @@
 -- What a reading function returned, unless memory ran out, and what a `Pe` was read from.
-use Rattle.std.specs.Prelude.{◌≡◌, ℕ, List, ◌++◌, ◌≤◌, length, Result, Ok, Err, MatchResult}
+use Rattle.std.specs.Prelude.{◌≡◌, ℕ, ◌+◌, ◌*◌, List, ◌++◌, ◌≤◌, length, Result, Ok, Err, MatchResult}
+use Rattle.boot_base.specs.Limits.{file_limit}
 use Rattle.boot_machine.specs.Counts.{Counts, DiskFailed}
 use Rattle.pe_reader.specs.declared.fault.FailedCheck.{FailedCheck}
 use Rattle.pe_reader.specs.declared.fault.PeFault.{PeFault}
@@ -9,6 +10,10 @@ use Rattle.pe_reader.specs.declared.fault.HeadFault.TheVariants as heads
 use Rattle.pe_reader.specs.declared.head.Head.{Head}
 use Rattle.pe_reader.specs.declared.pe.Pe.{Pe}
 use Rattle.pe_reader.specs.Grammar.{Headers, head_of, pe_of}
+
+-- the most bytes that the headers of a file have: its first 64, the COFF header, an optional header and 96 sections
+abbrev pub head_limit : ℕ
+head_limit = 64 + 24 + 65535 + 96 * 40
 
 -- the fault is the first check that fails, or want of memory
 abbrev pub Fails : {Y : Type 0} → PeFault → Result Y FailedCheck → Type 0
@@ -64,7 +69,7 @@ headers_of pe = record { head = pe.head; sections = pe.sections.items }
 
 -- a `Pe` was read from a file of that size, which is at most the limit of a file
 pub record ReadFrom (pe : Pe) (size : ℕ) : Type 0 where
-  pub small : size ≤ 268435456
+  pub small : size ≤ file_limit
   pub bytes : List ℕ
   pub length_is : length bytes ≡ size
   pub reads : pe_of bytes ≡ Ok (headers_of pe)
