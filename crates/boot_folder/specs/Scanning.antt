@@ -12,13 +12,11 @@ use Rattle.boot_machine.specs.Counts.{Counts, DiskFailed}
 use Rattle.boot_machine.specs.Disk.{Files, has, path_cmp}
 use Rattle.std.specs.Ordering.{on}
 use Rattle.std.specs.declared.cmp.Ordering.{Ordering}
-use Rattle.boot_machine.specs.declared.machine.NamesFault.{NamesFault}
-use Rattle.boot_machine.specs.declared.machine.NamesFault.TheVariants as names
+use Rattle.boot_machine.specs.declared.fault.ReadFault.{ReadFault}
+use Rattle.boot_machine.specs.declared.fault.ReadFault.TheVariants as reads
 use Rattle.menu_order.specs.declared.item.MenuItem.{MenuItem}
 use Rattle.pe_reader.specs.Reads.{head_limit}
 use Rattle.boot_folder.specs.Entries.{entry_if, type_count}
-use Rattle.boot_folder.specs.declared.fault.ReadFault.{ReadFault}
-use Rattle.boot_folder.specs.declared.fault.ReadFault.TheVariants as reads
 use Rattle.boot_folder.specs.declared.fault.ScanFault.{ScanFault}
 use Rattle.boot_folder.specs.declared.fault.ScanFault.TheVariants as faults
 use Rattle.boot_folder.specs.declared.folders.Folders.{Folders}
@@ -56,15 +54,6 @@ abbrev pub scan_limit : Files → Option Folders → ℕ
 scan_limit files None = 0
 scan_limit files (Some folders) =
     read_limit Conf * type_count files folders Conf + read_limit Efi * type_count files folders Efi
-
--- a fault of the disk has its cause, and every other answer leaves the counts
-abbrev pub read_counts : ReadFault → Counts → Counts → Type 0
-read_counts reads.Memory old new = new ≡ old
-read_counts reads.Disk old new = DiskFailed old new
-
--- the counts after the reading of entries: a fault of the disk has its cause, and every other answer leaves them
-abbrev pub CountsRead : {X : Type 0} → Result X ReadFault → Counts → Counts → Type 0
-CountsRead result old new = MatchResult result (λ _. new ≡ old) (λ fault. read_counts fault old new)
 
 -- the same of a scan
 abbrev pub scan_counts : ScanFault → Counts → Counts → Type 0
@@ -104,11 +93,6 @@ scan_fault reads.Disk = faults.Disk
 abbrev pub path_fault : PathFault → ScanFault
 path_fault paths.Memory = faults.Memory
 path_fault paths.BadPath = faults.LongEsp
-
--- what a fault of listing names comes to
-abbrev pub listing_fault : NamesFault → ReadFault
-listing_fault names.Memory = reads.Memory
-listing_fault names.Disk = reads.Disk
 
 -- entries in the order of their paths
 abbrev pub path_order : MenuItem → MenuItem → Ordering

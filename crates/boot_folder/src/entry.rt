@@ -8,15 +8,15 @@ ghost use Rattle.menu_order.specs.declared.counted.Suffix.TheVariants.{Conf, Efi
 ghost use Rattle.boot_folder.specs.Entries.{entry_at, entry_if, own_path};
 ghost use Rattle.boot_folder.specs.Items.{CountsItem, GivesItem};
 ghost use Rattle.boot_folder.specs.Records.{Unfit, value_if_ok, type1_entry, type1_item};
-ghost use Rattle.boot_folder.specs.Scanning.{CountsRead, image_limit, read_limit, size_within};
-ghost use Rattle.boot_machine.specs.Prelude.{Counts, CountsDisk, Looks, TakesAtMost, contents};
+ghost use Rattle.boot_folder.specs.Scanning.{image_limit, read_limit, size_within};
+ghost use Rattle.boot_machine.specs.Prelude.{Counts, CountsDisk, Looks, TakesAtMost, contents, CountsRead};
 ghost use Rattle.menu_order.specs.declared.item.MenuItem.{MenuItem};
 
-use crate::fault::{ItemFault, ReadFault};
+use crate::fault::ItemFault;
 use crate::name::split_name;
 use crate::uki::uki_item;
 use boot_base::{BootPath, FILE_LIMIT, FileName, PathFault, TEXT_LIMIT};
-use boot_machine::{DiskFault, Machine, read_part, zeros};
+use boot_machine::{DiskFault, Machine, ReadFault, read_part, zeros};
 use boot_texts::{EntryFault, Type1};
 use menu_order::{MenuItem, Suffix};
 use std::alloc::{AllocError, Global};

@@ -2,13 +2,12 @@
 ghost use Rattle.std.specs.Prelude.{◌≡◌};
 ghost use Rattle.boot_folder.specs.Items.{item_fault};
 ghost use Rattle.boot_folder.specs.Missing.{missing_text};
-ghost use Rattle.boot_folder.specs.Scanning.{listing_fault, path_fault, scan_fault};
+ghost use Rattle.boot_folder.specs.Scanning.{path_fault, scan_fault};
 ghost use Rattle.boot_folder.specs.declared.fault.ItemFault.TheVariants as faults;
-ghost use Rattle.boot_folder.specs.declared.fault.ReadFault.TheVariants as reads;
 ghost use Rattle.boot_folder.specs.declared.fault.ScanFault.TheVariants as scans;
 
 use boot_base::PathFault;
-use boot_machine::{DiskFault, NamesFault};
+use boot_machine::{DiskFault, ReadFault};
 use pe_reader::{HeadFault, PeReason};
 use std::alloc::AllocError;
 use thiserror::Error;
@@ -86,42 +85,6 @@ impl From<HeadFault> for ItemFault {
             HeadFault::Memory => ItemFault::Memory,
             HeadFault::Disk => ItemFault::Disk,
             HeadFault::NotPe { reason, offset } => ItemFault::NotPe { reason, offset },
-        }
-    }
-}
-
-/// Why the files of a folder weren't read.
-#[derive(Clone, Copy, Debug, PartialEq, Eq)]
-pub(crate) enum ReadFault {
-    /// There was no memory for an entry.
-    Memory,
-    /// The disk failed, and the machine has counted it.
-    Disk,
-}
-
-impl From<AllocError> for ReadFault {
-    ghost from_gives = { λ _ fault. fault ≡ reads.Memory };
-
-    fn from(_error: AllocError) -> ReadFault {
-        ReadFault::Memory
-    }
-}
-
-impl From<DiskFault> for ReadFault {
-    ghost from_gives = { λ _ fault. fault ≡ reads.Disk };
-
-    fn from(_fault: DiskFault) -> ReadFault {
-        ReadFault::Disk
-    }
-}
-
-impl From<NamesFault> for ReadFault {
-    ghost from_gives = { λ error fault. fault ≡ listing_fault error };
-
-    fn from(error: NamesFault) -> ReadFault {
-        match error {
-            NamesFault::Memory => ReadFault::Memory,
-            NamesFault::Disk => ReadFault::Disk,
         }
     }
 }

@@ -4,14 +4,14 @@ ghost use Rattle.std.specs.List.{IsDistinct};
 ghost use Rattle.menu_order.specs.Splits.{has_suffix};
 ghost use Rattle.menu_order.specs.declared.counted.Suffix.TheVariants.{Conf, Efi};
 ghost use Rattle.boot_folder.specs.Entries.{entry_count};
-ghost use Rattle.boot_folder.specs.Scanning.{AreEntryNames, CountsRead, CountsScan, FindsFolders, fault_many};
-ghost use Rattle.boot_machine.specs.Prelude.{Looks};
+ghost use Rattle.boot_folder.specs.Scanning.{AreEntryNames, CountsScan, FindsFolders, fault_many};
+ghost use Rattle.boot_machine.specs.Prelude.{Looks, CountsRead};
 
-use crate::fault::{ReadFault, ScanFault};
+use crate::fault::ScanFault;
 use crate::folders::Folders;
 use crate::once::each_name_once;
 use boot_base::{BootPath, FileName};
-use boot_machine::Machine;
+use boot_machine::{Machine, ReadFault};
 use menu_order::Suffix;
 use std::alloc::Global;
 

@@ -4,18 +4,18 @@ ghost use Rattle.boot_base.specs.Paths.{under};
 ghost use Rattle.menu_order.specs.Splits.{has_suffix};
 ghost use Rattle.menu_order.specs.declared.counted.Suffix.TheVariants.{Conf, Efi};
 ghost use Rattle.boot_folder.specs.Entries.{IsEntry, boot_menu, entry_count, entry_if, esp_folders};
-ghost use Rattle.boot_folder.specs.Scanning.{AreEntryNames, CountsRead, CountsScan, FindsFolders, entries_named, fault_many, read_limit, scan_limit};
-ghost use Rattle.boot_machine.specs.Prelude.{Looks, TakesAtMost, seen};
+ghost use Rattle.boot_folder.specs.Scanning.{AreEntryNames, CountsScan, FindsFolders, entries_named, fault_many, read_limit, scan_limit};
+ghost use Rattle.boot_machine.specs.Prelude.{Looks, TakesAtMost, seen, CountsRead};
 ghost use Rattle.menu_order.specs.Menu.{HaveOwnPaths, IsMenu};
 ghost use Rattle.menu_order.specs.declared.item.MenuItem.{MenuItem};
 
 use crate::entry::entry_named;
-use crate::fault::{ReadFault, ScanFault};
+use crate::fault::ScanFault;
 use crate::folders::Folders;
 use crate::names::{EntryNames, entry_names};
 use crate::once::menu_of;
 use boot_base::{BootPath, FileName};
-use boot_machine::Machine;
+use boot_machine::{Machine, ReadFault};
 use menu_order::{MenuItem, Suffix};
 use std::alloc::{AllocError, Global};
 

@@ -1,5 +1,5 @@
 -- What clauses cite of this crate, handed on from one place. It defines nothing.
-pub use Rattle.boot_machine.specs.Counts.{Counts, CountsDisk, CountsNames, CountsPipe, DiskFailed, DiskFailsOnce, PipeFailed, PipeFailsOnce, one_more}
+pub use Rattle.boot_machine.specs.Counts.{Counts, CountsDisk, CountsPipe, CountsRead, DiskFailed, DiskFailsOnce, PipeFailed, PipeFailsOnce, one_more, read_counts}
 pub use Rattle.boot_machine.specs.Disk.{Files, HasNoHalfRename, HasOneCandidate, IsRested, IsSound, State, has, intent_names, path_cmp, recovered_view, view}
 pub use Rattle.boot_machine.specs.Images.{IsFirm, IsImage, IsSettled}
 pub use Rattle.boot_machine.specs.Listed.{is_listed}

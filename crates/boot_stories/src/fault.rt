@@ -1,6 +1,6 @@
 //! Why a story isn't told to its end, or a line of it isn't understood.
 use boot_base::PathFault;
-use boot_machine::{DiskFault, NamesFault};
+use boot_machine::{DiskFault, ReadFault};
 use install_steps::RecoverFault;
 use std::alloc::{AllocError, AllocFailed};
 use std::io;
@@ -57,11 +57,11 @@ impl From<RecoverFault> for StoryFault {
     }
 }
 
-impl From<NamesFault> for StoryFault {
-    fn from(fault: NamesFault) -> Self {
+impl From<ReadFault> for StoryFault {
+    fn from(fault: ReadFault) -> Self {
         match fault {
-            NamesFault::Memory => StoryFault::Memory,
-            NamesFault::Disk => StoryFault::Disk,
+            ReadFault::Memory => StoryFault::Memory,
+            ReadFault::Disk => StoryFault::Disk,
         }
     }
 }

@@ -16,8 +16,7 @@ pub struct TextLines<'a> {
 }
 
 impl<'a> Model for TextLines<'a> {
-    ghost use Rattle.std.specs.Prelude.{List, ℕ};
-    ghost use Rattle.std.specs.Option.{option_copied};
+    ghost use Rattle.std.specs.Prelude.{List, ℕ, option_copied};
     ghost use Rattle.boot_texts.specs.TextLines.{counted_lines, pieces_of};
 
     ghost Value = { List (List ℕ) };

@@ -5,8 +5,8 @@ use Rattle.boot_machine.specs.Images.{IsFirm}
 use Rattle.boot_machine.specs.Moments.{Timeline, EachSince}
 use Rattle.boot_machine.specs.Counts.{Counts, DiskFailed, PipeFailed}
 use Rattle.boot_machine.specs.Sent.{Adds, recovered_views}
-use Rattle.boot_machine.specs.declared.machine.NamesFault.{NamesFault}
-use Rattle.boot_machine.specs.declared.machine.NamesFault.TheVariants as names
+use Rattle.boot_machine.specs.declared.fault.ReadFault.{ReadFault}
+use Rattle.boot_machine.specs.declared.fault.ReadFault.TheVariants as reads
 use Rattle.install_steps.specs.Steps.{NoNewTemp}
 use Rattle.command_plans.specs.Deeds.{Deed, End, Stopped, NoMemory, DiskFails, PipeFails, left_by, Breaks}
 use Rattle.command_plans.specs.declared.outcome.Outcome.{Outcome}
@@ -26,10 +26,10 @@ abbrev pub stop_of : MachineFault → Stop
 stop_of faults.Disk = stops.Disk
 stop_of faults.Pipe = stops.Pipe
 
--- a failure to list names, as a stop
-abbrev pub names_stop : NamesFault → Stop
-names_stop names.Memory = stops.Memory
-names_stop names.Disk = stops.Disk
+-- a failure to read, as a stop
+abbrev pub read_stop : ReadFault → Stop
+read_stop reads.Memory = stops.Memory
+read_stop reads.Disk = stops.Disk
 
 -- the end that a fault of the machine makes of a command
 abbrev pub end_by : MachineFault → End

@@ -2,6 +2,8 @@
 use Rattle.std.specs.Prelude.{◌≡◌, Result, Ok, Err, MatchResult}
 use Rattle.boot_base.specs.declared.refusal.Refusal.{Refusal}
 use Rattle.boot_machine.specs.Counts.{Counts, DiskFailed}
+use Rattle.boot_machine.specs.declared.fault.ReadFault.{ReadFault}
+use Rattle.boot_machine.specs.declared.fault.ReadFault.TheVariants as reads
 use Rattle.command_plans.specs.declared.declined.Declined.{Declined}
 use Rattle.command_plans.specs.declared.declined.Declined.TheVariants as declines
 use Rattle.command_plans.specs.declared.unsaid.Unsaid.{Unsaid}
@@ -11,6 +13,11 @@ use Rattle.command_plans.specs.declared.unsaid.Unsaid.TheVariants as unsaid
 abbrev pub unsaid_of : Declined → Unsaid
 unsaid_of declines.Memory = unsaid.Memory
 unsaid_of (declines.Refused why) = unsaid.Refused why
+
+-- why there is nothing to say, of what isn't read
+abbrev pub unsaid_read : ReadFault → Unsaid
+unsaid_read reads.Memory = unsaid.Memory
+unsaid_read reads.Disk = unsaid.Disk
 
 -- what is meant is this refusal, unless memory ran out or the disk failed
 abbrev pub UnsaidFor : {X : Type 0} → Unsaid → Result X Refusal → Type 0

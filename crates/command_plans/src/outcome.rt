@@ -2,7 +2,7 @@
 ghost use Rattle.std.specs.Prelude.{◌≡◌};
 ghost use Rattle.command_plans.specs.Prelude.{channel_of};
 
-use boot_machine::{Channel, DiskFault, NamesFault, PipeFault};
+use boot_machine::{Channel, DiskFault, PipeFault, ReadFault};
 use std::alloc::AllocError;
 
 /// Whether a command was done, or refused with that number.
@@ -113,16 +113,16 @@ impl From<AllocError> for Stop {
     }
 }
 
-impl From<NamesFault> for Stop {
+impl From<ReadFault> for Stop {
     ghost use Rattle.std.specs.Prelude.{◌≡◌};
-    ghost use Rattle.command_plans.specs.Performs.{names_stop};
+    ghost use Rattle.command_plans.specs.Performs.{read_stop};
 
-    ghost from_gives = { λ fault stop. stop ≡ names_stop fault };
+    ghost from_gives = { λ fault stop. stop ≡ read_stop fault };
 
-    fn from(fault: NamesFault) -> Stop {
+    fn from(fault: ReadFault) -> Stop {
         match fault {
-            NamesFault::Memory => Stop::Memory,
-            NamesFault::Disk => Stop::Disk,
+            ReadFault::Memory => Stop::Memory,
+            ReadFault::Disk => Stop::Disk,
         }
     }
 }

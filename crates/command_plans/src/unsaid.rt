@@ -2,7 +2,7 @@
 
 use crate::declined::Declined;
 use boot_base::Refusal;
-use boot_machine::DiskFault;
+use boot_machine::{DiskFault, ReadFault};
 use std::alloc::{AllocError, AllocFailed};
 
 /// Why a command that only reads has nothing to say.
@@ -46,6 +46,20 @@ impl From<DiskFault> for Unsaid {
 
     fn from(_: DiskFault) -> Unsaid {
         Unsaid::Disk
+    }
+}
+
+impl From<ReadFault> for Unsaid {
+    ghost use Rattle.std.specs.Prelude.{◌≡◌};
+    ghost use Rattle.command_plans.specs.Unsaying.{unsaid_read};
+
+    ghost from_gives = { λ read fault. fault ≡ unsaid_read read };
+
+    fn from(read: ReadFault) -> Unsaid {
+        match read {
+            ReadFault::Memory => Unsaid::Memory,
+            ReadFault::Disk => Unsaid::Disk,
+        }
     }
 }
 

@@ -4,8 +4,8 @@ use Rattle.std.specs.FinMap as map
 use Rattle.std.specs.FinSet as set
 use Rattle.boot_machine.specs.Counts.{Counts, DiskFailsOnce, PipeFailsOnce}
 use Rattle.boot_machine.specs.Disk.{State}
-use Rattle.boot_machine.specs.declared.machine.NamesFault.{NamesFault}
-use Rattle.boot_machine.specs.declared.machine.NamesFault.TheVariants.{Memory, Disk}
+use Rattle.boot_machine.specs.declared.fault.ReadFault.{ReadFault}
+use Rattle.boot_machine.specs.declared.fault.ReadFault.TheVariants.{Memory, Disk}
 use Rattle.host_machine.specs.declared.faults.Faults.{Faults}
 
 -- the counts of faults, as the clauses of a machine speak of them
@@ -21,12 +21,12 @@ abbrev pub CountsPipeOnce : {T E : Type 0} → Result T E → Counts → Counts 
 CountsPipeOnce result old new = MatchResult result (λ _. new ≡ old) (λ _. PipeFailsOnce old new)
 
 -- a failure to list names: of the disk, which is counted once, or of memory, which leaves the counts
-abbrev pub names_fault_once : NamesFault → Counts → Counts → Type 0
+abbrev pub names_fault_once : ReadFault → Counts → Counts → Type 0
 names_fault_once Memory old new = new ≡ old
 names_fault_once Disk old new = DiskFailsOnce old new
 
 -- the counts after a call that lists names
-abbrev pub CountsNamesOnce : {T : Type 0} → Result T NamesFault → Counts → Counts → Type 0
+abbrev pub CountsNamesOnce : {T : Type 0} → Result T ReadFault → Counts → Counts → Type 0
 CountsNamesOnce result old new = MatchResult result (λ _. new ≡ old) (λ fault. names_fault_once fault old new)
 
 -- the state that no clause speaks of

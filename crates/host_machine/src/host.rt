@@ -93,9 +93,7 @@ impl<R: Runtime<File = File> + AllocGlobal, E: Print + Drop> HostMachine<R, E> {
 
 impl<R: Runtime<File = File> + AllocGlobal, E: Print + Drop> Machine for HostMachine<R, E> {
     ghost use Rattle.std.specs.Prelude.{◌≤◌, false, length};
-    ghost use Rattle.boot_machine.specs.Prelude.{CountsDisk, CountsPipe};
-    ghost use Rattle.boot_machine.specs.Counts.{CountsNames};
-    ghost use Rattle.boot_machine.specs.Moments.{Timeline};
+    ghost use Rattle.boot_machine.specs.Prelude.{CountsDisk, CountsPipe, CountsRead, Timeline};
     ghost use Rattle.host_machine.specs.Hosts.{counts_of, no_state, CountsDiskOnce, CountsPipeOnce, CountsNamesOnce};
     ghost use Rattle.host_machine.specs.proofs.Silence.{silent};
 
@@ -133,7 +131,7 @@ impl<R: Runtime<File = File> + AllocGlobal, E: Print + Drop> Machine for HostMac
     }
 
     fn names(&mut self, alloc: Global, folder: &BootPath) -> Result<Vec<FileName>, NamesFault>
-        ensures counts { CountsNames result (counts_of self.old.faults) (counts_of self.new.faults) }
+        ensures counts { CountsRead result (counts_of self.old.faults) (counts_of self.new.faults) }
         ensures once { CountsNamesOnce result (counts_of self.old.faults) (counts_of self.new.faults) }
     {
         match self.system.names_in(alloc, folder.as_str()) {

@@ -1,11 +1,11 @@
 -- What each call of a machine in memory says beside its row.
 use Rattle.std.specs.Prelude.{◌≡◌, ℕ, List, Result, IfErr}
-use Rattle.boot_machine.specs.Counts.{Counts, CountsDisk, CountsPipe, CountsNames, DiskFailsOnce, PipeFailsOnce}
+use Rattle.boot_machine.specs.Counts.{Counts, CountsDisk, CountsPipe, CountsRead, DiskFailsOnce, PipeFailsOnce}
 use Rattle.boot_machine.specs.Disk.{State}
 use Rattle.boot_machine.specs.Moments.{Elapses}
 use Rattle.boot_machine.specs.Taken.{TakesNone}
-use Rattle.boot_machine.specs.declared.machine.NamesFault.{NamesFault}
-use Rattle.boot_machine.specs.declared.machine.NamesFault.TheVariants.{Memory, Disk}
+use Rattle.boot_machine.specs.declared.fault.ReadFault.{ReadFault}
+use Rattle.boot_machine.specs.declared.fault.ReadFault.TheVariants.{Memory, Disk}
 use Rattle.memory_machine.specs.Memory.{mem_state, mem_time, mem_counts, mem_reads, mem_taken, mem_starved, mem_calls, mem_plan, TellsTheSame, FailsOnly, names_answer, IsNextCall, IsStarved, RecordsCall, AsTold}
 use Rattle.memory_machine.specs.declared.memory.MemMachine.{MemMachine}
 use Rattle.memory_machine.specs.declared.memory.ReadSeen.{ReadSeen}
@@ -25,13 +25,13 @@ abbrev pub pipe_call : {T E : Type 0} → CallKind T E
 pipe_call = record { says = λ _. FailsOnly; counts = CountsPipe; once = λ _. PipeFailsOnce }
 
 -- a failure to list names is counted once if the disk failed, and not at all if memory was wanting
-abbrev pub names_once : NamesFault → Counts → Counts → Type 0
+abbrev pub names_once : ReadFault → Counts → Counts → Type 0
 names_once Memory old new = new ≡ old
 names_once Disk old new = DiskFailsOnce old new
 
 -- a call that lists names
-abbrev pub names_call : {T : Type 0} → CallKind T NamesFault
-names_call = record { says = names_answer; counts = CountsNames; once = names_once }
+abbrev pub names_call : {T : Type 0} → CallKind T ReadFault
+names_call = record { says = names_answer; counts = CountsRead; once = names_once }
 
 -- the effect of a call that changes nothing
 abbrev pub no_effect : State → State

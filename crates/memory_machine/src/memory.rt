@@ -138,12 +138,9 @@ fn mode_at(failures: &[Failure], call: u64) -> Option<FailMode>
 impl MemMachine {
     ghost use Rattle.memory_machine.specs.Memory.{mem_start, mem_events, mem_input, mem_state, mem_clock, mem_time, mem_counts, mem_reads, mem_starved, mem_calls, mem_plan, next_mode, SameOrders, TellsTheSame, TellsOneMore, IsStarved, RecordsCall};
     ghost use Rattle.memory_machine.specs.Calls.{KeepsNone, MemCall, MemFails, SkipsCall, StarvesCall, disk_call, pipe_call, no_effect};
-    ghost use Rattle.boot_machine.specs.Taken.{TakesNone};
     ghost use Rattle.memory_machine.specs.Events.{step, say, start_state, after_stop};
-    ghost use Rattle.boot_machine.specs.Moments.{Elapses};
     ghost use Rattle.boot_machine.specs.Rows.{DoneOrNot, AppendRow, after_append};
-    ghost use Rattle.boot_machine.specs.Prelude.{DiskFailsOnce, PipeFailsOnce};
-    ghost use Rattle.boot_machine.specs.Counts.{DiskFailed, PipeFailed};
+    ghost use Rattle.boot_machine.specs.Prelude.{DiskFailsOnce, PipeFailsOnce, TakesNone, Elapses, DiskFailed, PipeFailed};
     ghost use Rattle.memory_machine.specs.declared.event.Event.TheVariants.{Look as look};
 
     /// A machine with these files and nothing else: all of them synced, nothing printed, no input, and no
@@ -475,8 +472,7 @@ impl Machine for MemMachine {
     ghost use Rattle.memory_machine.specs.Memory.{mem_start, mem_events, mem_input, mem_state, mem_time, mem_counts, mem_taken, KeepsRead};
     ghost use Rattle.memory_machine.specs.Calls.{KeepsNone, MemCall, disk_call, names_call, pipe_call, no_effect};
     ghost use Rattle.memory_machine.specs.proofs.EventLaws.{now_counts, now_only, sound_held, sound-input, image-input, image_input};
-    ghost use Rattle.boot_machine.specs.Rows.{SizeRow, ReadRow, NamesRow, CreateRow, AppendRow, SyncFileRow, RenameRow, UnlinkRow, SyncNamesRow, PrintRow, InputRow, after_create, after_append, after_rename, after_unlink, with_printed};
-    ghost use Rattle.boot_machine.specs.Taken.{TakesNone, TakesRead};
+    ghost use Rattle.boot_machine.specs.Prelude.{SizeRow, ReadRow, NamesRow, CreateRow, AppendRow, SyncFileRow, RenameRow, UnlinkRow, SyncNamesRow, PrintRow, InputRow, after_create, after_append, after_rename, after_unlink, with_printed, TakesNone, TakesRead};
 
     ghost tells = { true };
 

@@ -12,7 +12,7 @@ ghost use Rattle.type1_install.specs.Unnamed.{IsNoRefusal};
 use crate::naming::unnamed;
 use crate::place::payload_folder;
 use boot_base::{BootPath, FileName};
-use boot_machine::{Machine, NamesFault};
+use boot_machine::Machine;
 use command_plans::{Unsaid, folders_in, menu_at, path_in, push};
 use menu_order::MenuItem;
 use std::alloc::{AllocError, Global};
@@ -29,11 +29,7 @@ fn names_in<M: Machine>(
     ensures faults { IfErr result IsNoRefusal }
     ensures looks { Looks M.tells M.time M.state M.counts (CountsUnsaid result) machine.old machine.new }
 {
-    match machine.names(alloc, folder) {
-        Ok(names) => Ok(names),
-        Err(NamesFault::Memory) => Err(Unsaid::Memory),
-        Err(NamesFault::Disk) => Err(Unsaid::Disk),
-    }
+    Ok(machine.names(alloc, folder)?)
 }
 
 // The payloads of an ESP that none of the entries names, in the order of their paths.

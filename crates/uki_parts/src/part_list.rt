@@ -18,8 +18,7 @@ pub struct PartList {
 }
 
 impl Model for PartList {
-    ghost use Rattle.std.specs.Prelude.{List};
-    ghost use Rattle.std.specs.List.{All};
+    ghost use Rattle.std.specs.Prelude.{List, All};
     ghost use Rattle.std.specs.List.Sorted.{IsNonDecreasingBy};
     ghost use Rattle.uki_parts.specs.declared.part.Part.{Part};
     ghost use Rattle.uki_parts.specs.Parts.{part_place, HasBytes};
