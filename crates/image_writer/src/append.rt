@@ -1,10 +1,10 @@
 //! Appends zeros to a temporary file.
 
-ghost use Rattle.std.specs.Prelude.{◌≡◌, ◌<◌, true, length, replicate, IsTrue, OnOk};
+ghost use Rattle.std.specs.Prelude.{◌≡◌, true, length, replicate, IsTrue, OnOk};
 ghost use Rattle.boot_machine.specs.Prelude.{CountsDisk, TakesNone, has};
-ghost use Rattle.install_steps.specs.Appends.{AppendsOnly, IsGrown};
+ghost use Rattle.install_steps.specs.Appends.{Appends, IsGrown};
 
-use boot_base::TempPath;
+use boot_base::{Buffer, TempPath};
 use boot_machine::{DiskFault, Machine};
 use install_steps::append;
 
@@ -13,15 +13,12 @@ pub fn write_zeros<M: Machine>(
     machine: &mut M,
     temp: &TempPath,
     count: u64,
-    buffer: &mut [u8],
+    buffer: &mut Buffer,
 ) -> Result<(), DiskFault>
     requires there { IsTrue M.tells → has (M.state machine.old).files temp.now ≡ true }
-    requires room { 0 < length buffer.old }
-    ensures length { length buffer.new ≡ length buffer.old }
-    ensures appends { IsTrue M.tells → AppendsOnly M.time M.state temp.now machine.old machine.new }
+    ensures appends { Appends M.tells M.time M.state M.counts (CountsDisk result) temp.now machine.old machine.new }
     ensures grows { OnOk result (IsTrue M.tells
         → IsGrown temp.now (replicate count 0) (M.state machine.old) (M.state machine.new)) }
-    ensures counts { CountsDisk result (M.counts machine.old) (M.counts machine.new) }
     ensures taken { IsTrue M.tells → TakesNone (M.taken machine.old) (M.taken machine.new) }
 {
     buffer.fill(0);
@@ -33,15 +30,13 @@ fn append_zeros<M: Machine>(
     machine: &mut M,
     temp: &TempPath,
     count: u64,
-    zeros: &[u8],
+    zeros: &Buffer,
 ) -> Result<(), DiskFault>
     requires there { IsTrue M.tells → has (M.state machine.old).files temp.now ≡ true }
-    requires room { 0 < length zeros.now }
     requires zeros { zeros.now ≡ replicate (length zeros.now) 0 }
-    ensures appends { IsTrue M.tells → AppendsOnly M.time M.state temp.now machine.old machine.new }
+    ensures appends { Appends M.tells M.time M.state M.counts (CountsDisk result) temp.now machine.old machine.new }
     ensures grows { OnOk result (IsTrue M.tells
         → IsGrown temp.now (replicate count 0) (M.state machine.old) (M.state machine.new)) }
-    ensures counts { CountsDisk result (M.counts machine.old) (M.counts machine.new) }
     ensures taken { IsTrue M.tells → TakesNone (M.taken machine.old) (M.taken machine.new) }
 {
     let mut done = 0;

@@ -1,8 +1,8 @@
 //! The whole of an image.
 
-ghost use Rattle.std.specs.Prelude.{◌≡◌, ◌<◌, [], true, length, IsTrue, OnOk};
+ghost use Rattle.std.specs.Prelude.{◌≡◌, [], true, IsTrue, OnOk};
 ghost use Rattle.boot_machine.specs.Prelude.{CountsDisk, TakesAtMost, contents, has, view};
-ghost use Rattle.install_steps.specs.Appends.{AppendsOnly, IsGrown};
+ghost use Rattle.install_steps.specs.Appends.{Appends, IsGrown};
 ghost use Rattle.image_writer.specs.Chunks.{chunk_bytes, chunks_bytes, headers_bytes, new_stub_bytes};
 ghost use Rattle.image_writer.specs.Sourced.{IsSourced, IsPlannedImage, stub_path, new_sbat};
 ghost use Rattle.image_writer.specs.Taken.{chunk_length, chunks_length, kept_length, writing_length};
@@ -38,8 +38,7 @@ pub fn write_image<M: Machine>(
     ensures image { OnOk result (IsTrue M.tells
         → IsPlannedImage plan.now sources.now (view (M.state machine.old).files)
         (contents (M.state machine.new).files temp.now)) }
-    ensures appends { IsTrue M.tells → AppendsOnly M.time M.state temp.now machine.old machine.new }
-    ensures counts { CountsDisk result (M.counts machine.old) (M.counts machine.new) }
+    ensures appends { Appends M.tells M.time M.state M.counts (CountsDisk result) temp.now machine.old machine.new }
     ensures taken { IsTrue M.tells → TakesAtMost (writing_length plan.now sources.now)
         (M.taken machine.old) (M.taken machine.new) }
 {
@@ -64,16 +63,13 @@ fn write_stub<M: Machine>(
     temp: &TempPath,
     plan: &Plan,
     sources: &Sources,
-    buffer: &mut [u8],
+    buffer: &mut Buffer,
 ) -> Result<(), DiskFault>
     requires there { IsTrue M.tells → has (M.state machine.old).files temp.now ≡ true }
-    requires room { 0 < length buffer.old }
-    ensures length { length buffer.new ≡ length buffer.old }
-    ensures appends { IsTrue M.tells → AppendsOnly M.time M.state temp.now machine.old machine.new }
+    ensures appends { Appends M.tells M.time M.state M.counts (CountsDisk result) temp.now machine.old machine.new }
     ensures grows { OnOk result (IsTrue M.tells → IsGrown temp.now
         (new_stub_bytes plan.now (contents (M.state machine.old).files (stub_path sources.now)) (new_sbat sources.now))
         (M.state machine.old) (M.state machine.new)) }
-    ensures counts { CountsDisk result (M.counts machine.old) (M.counts machine.new) }
     ensures taken { IsTrue M.tells → TakesAtMost (kept_length plan.now) (M.taken machine.old) (M.taken machine.new) }
 {
     sources.stub.know();
@@ -90,17 +86,14 @@ fn write_headers<M: Machine>(
     temp: &TempPath,
     sources: &Sources,
     sections: &[Section],
-    buffer: &mut [u8],
+    buffer: &mut Buffer,
 ) -> Result<(), DiskFault>
     requires there { IsTrue M.tells → has (M.state machine.old).files temp.now ≡ true }
-    requires room { 0 < length buffer.old }
-    ensures length { length buffer.new ≡ length buffer.old }
-    ensures appends { IsTrue M.tells → AppendsOnly M.time M.state temp.now machine.old machine.new }
+    ensures appends { Appends M.tells M.time M.state M.counts (CountsDisk result) temp.now machine.old machine.new }
     ensures grows { OnOk result (IsTrue M.tells → IsGrown temp.now
         (headers_bytes (contents (M.state machine.old).files (stub_path sources.now))
         (new_sbat sources.now) sections.now)
         (M.state machine.old) (M.state machine.new)) }
-    ensures counts { CountsDisk result (M.counts machine.old) (M.counts machine.new) }
     ensures taken { IsTrue M.tells → TakesAtMost 0 (M.taken machine.old) (M.taken machine.new) }
 {
     sources.stub.know();
@@ -117,16 +110,13 @@ fn write_chunks<M: Machine>(
     temp: &TempPath,
     sources: &Sources,
     chunks: &[Chunk],
-    buffer: &mut [u8],
+    buffer: &mut Buffer,
 ) -> Result<(), DiskFault>
     requires there { IsTrue M.tells → has (M.state machine.old).files temp.now ≡ true }
-    requires room { 0 < length buffer.old }
-    ensures length { length buffer.new ≡ length buffer.old }
-    ensures appends { IsTrue M.tells → AppendsOnly M.time M.state temp.now machine.old machine.new }
+    ensures appends { Appends M.tells M.time M.state M.counts (CountsDisk result) temp.now machine.old machine.new }
     ensures grows { OnOk result (IsTrue M.tells → IsGrown temp.now
         (chunks_bytes (contents (M.state machine.old).files (stub_path sources.now)) (new_sbat sources.now) chunks.now)
         (M.state machine.old) (M.state machine.new)) }
-    ensures counts { CountsDisk result (M.counts machine.old) (M.counts machine.new) }
     ensures taken { IsTrue M.tells → TakesAtMost (chunks_length chunks.now)
         (M.taken machine.old) (M.taken machine.new) }
 {
@@ -144,16 +134,13 @@ fn write_chunk<M: Machine>(
     temp: &TempPath,
     sources: &Sources,
     chunk: Chunk,
-    buffer: &mut [u8],
+    buffer: &mut Buffer,
 ) -> Result<(), DiskFault>
     requires there { IsTrue M.tells → has (M.state machine.old).files temp.now ≡ true }
-    requires room { 0 < length buffer.old }
-    ensures length { length buffer.new ≡ length buffer.old }
-    ensures appends { IsTrue M.tells → AppendsOnly M.time M.state temp.now machine.old machine.new }
+    ensures appends { Appends M.tells M.time M.state M.counts (CountsDisk result) temp.now machine.old machine.new }
     ensures grows { OnOk result (IsTrue M.tells → IsGrown temp.now
         (chunk_bytes (contents (M.state machine.old).files (stub_path sources.now)) (new_sbat sources.now) chunk)
         (M.state machine.old) (M.state machine.new)) }
-    ensures counts { CountsDisk result (M.counts machine.old) (M.counts machine.new) }
     ensures taken { IsTrue M.tells → TakesAtMost (chunk_length chunk) (M.taken machine.old) (M.taken machine.new) }
 {
     match chunk {

@@ -1,14 +1,14 @@
 //! The parts of an image behind its stub.
 
-ghost use Rattle.std.specs.Prelude.{◌≡◌, ◌<◌, true, length, replicate, sum_by, IsTrue, OnOk, flat_map};
+ghost use Rattle.std.specs.Prelude.{◌≡◌, ◌<◌, true, replicate, sum_by, IsTrue, OnOk, flat_map};
 ghost use Rattle.boot_machine.specs.Prelude.{CountsDisk, TakesAtMost, has};
 ghost use Rattle.uki_parts.specs.Pieces.{Reading, file_length};
-ghost use Rattle.install_steps.specs.Appends.{AppendsOnly, IsGrown};
+ghost use Rattle.install_steps.specs.Appends.{Appends, IsGrown};
 ghost use Rattle.image_writer.specs.Chunks.{Agrees, behind_stub, gap, given_bytes, padded_part};
 ghost use Rattle.image_writer.specs.Taken.{part_reading};
 
 use crate::append::write_zeros;
-use boot_base::TempPath;
+use boot_base::{Buffer, TempPath};
 use boot_machine::{DiskFault, Machine};
 use install_steps::{append, copy_part};
 use uki_parts::{Part, Piece};
@@ -20,16 +20,13 @@ pub fn write_parts<M: Machine>(
     stub_length: u64,
     unit: u32,
     parts: &[Part],
-    buffer: &mut [u8],
+    buffer: &mut Buffer,
 ) -> Result<(), DiskFault>
     requires there { IsTrue M.tells → has (M.state machine.old).files temp.now ≡ true }
-    requires room { 0 < length buffer.old }
-    ensures length { length buffer.new ≡ length buffer.old }
-    ensures appends { IsTrue M.tells → AppendsOnly M.time M.state temp.now machine.old machine.new }
+    ensures appends { Appends M.tells M.time M.state M.counts (CountsDisk result) temp.now machine.old machine.new }
     ensures grows { OnOk result (IsTrue M.tells → 0 < unit → (files : Reading)
         → Agrees files (M.state machine.old).files
         → IsGrown temp.now (behind_stub files unit stub_length parts.now) (M.state machine.old) (M.state machine.new)) }
-    ensures counts { CountsDisk result (M.counts machine.old) (M.counts machine.new) }
     ensures taken { IsTrue M.tells → TakesAtMost (sum_by part_reading parts.now)
         (M.taken machine.old) (M.taken machine.new) }
 {
@@ -47,16 +44,13 @@ fn write_each_part<M: Machine>(
     temp: &TempPath,
     unit: u32,
     parts: &[Part],
-    buffer: &mut [u8],
+    buffer: &mut Buffer,
 ) -> Result<(), DiskFault>
     requires there { IsTrue M.tells → has (M.state machine.old).files temp.now ≡ true }
-    requires room { 0 < length buffer.old }
-    ensures length { length buffer.new ≡ length buffer.old }
-    ensures appends { IsTrue M.tells → AppendsOnly M.time M.state temp.now machine.old machine.new }
+    ensures appends { Appends M.tells M.time M.state M.counts (CountsDisk result) temp.now machine.old machine.new }
     ensures grows { OnOk result (IsTrue M.tells → 0 < unit → (files : Reading)
         → Agrees files (M.state machine.old).files
         → IsGrown temp.now (flat_map (padded_part files unit) parts.now) (M.state machine.old) (M.state machine.new)) }
-    ensures counts { CountsDisk result (M.counts machine.old) (M.counts machine.new) }
     ensures taken { IsTrue M.tells → TakesAtMost (sum_by part_reading parts.now)
         (M.taken machine.old) (M.taken machine.new) }
 {
@@ -73,16 +67,13 @@ fn write_part<M: Machine>(
     temp: &TempPath,
     unit: u32,
     part: &Part,
-    buffer: &mut [u8],
+    buffer: &mut Buffer,
 ) -> Result<(), DiskFault>
     requires there { IsTrue M.tells → has (M.state machine.old).files temp.now ≡ true }
-    requires room { 0 < length buffer.old }
-    ensures length { length buffer.new ≡ length buffer.old }
-    ensures appends { IsTrue M.tells → AppendsOnly M.time M.state temp.now machine.old machine.new }
+    ensures appends { Appends M.tells M.time M.state M.counts (CountsDisk result) temp.now machine.old machine.new }
     ensures grows { OnOk result (IsTrue M.tells → 0 < unit → (files : Reading)
         → Agrees files (M.state machine.old).files
         → IsGrown temp.now (padded_part files unit part.now) (M.state machine.old) (M.state machine.new)) }
-    ensures counts { CountsDisk result (M.counts machine.old) (M.counts machine.new) }
     ensures taken { IsTrue M.tells → TakesAtMost (part_reading part.now) (M.taken machine.old) (M.taken machine.new) }
 {
     write_pieces(machine, temp, &part.pieces, buffer)?;
@@ -94,15 +85,12 @@ fn write_pieces<M: Machine>(
     machine: &mut M,
     temp: &TempPath,
     pieces: &[Piece],
-    buffer: &mut [u8],
+    buffer: &mut Buffer,
 ) -> Result<(), DiskFault>
     requires there { IsTrue M.tells → has (M.state machine.old).files temp.now ≡ true }
-    requires room { 0 < length buffer.old }
-    ensures length { length buffer.new ≡ length buffer.old }
-    ensures appends { IsTrue M.tells → AppendsOnly M.time M.state temp.now machine.old machine.new }
+    ensures appends { Appends M.tells M.time M.state M.counts (CountsDisk result) temp.now machine.old machine.new }
     ensures grows { OnOk result (IsTrue M.tells → (files : Reading) → Agrees files (M.state machine.old).files
         → IsGrown temp.now (flat_map (given_bytes files) pieces.now) (M.state machine.old) (M.state machine.new)) }
-    ensures counts { CountsDisk result (M.counts machine.old) (M.counts machine.new) }
     ensures taken { IsTrue M.tells → TakesAtMost (sum_by file_length pieces.now)
         (M.taken machine.old) (M.taken machine.new) }
 {
@@ -118,15 +106,12 @@ fn write_piece<M: Machine>(
     machine: &mut M,
     temp: &TempPath,
     piece: &Piece,
-    buffer: &mut [u8],
+    buffer: &mut Buffer,
 ) -> Result<(), DiskFault>
     requires there { IsTrue M.tells → has (M.state machine.old).files temp.now ≡ true }
-    requires room { 0 < length buffer.old }
-    ensures length { length buffer.new ≡ length buffer.old }
-    ensures appends { IsTrue M.tells → AppendsOnly M.time M.state temp.now machine.old machine.new }
+    ensures appends { Appends M.tells M.time M.state M.counts (CountsDisk result) temp.now machine.old machine.new }
     ensures grows { OnOk result (IsTrue M.tells → (files : Reading) → Agrees files (M.state machine.old).files
         → IsGrown temp.now (given_bytes files piece.now) (M.state machine.old) (M.state machine.new)) }
-    ensures counts { CountsDisk result (M.counts machine.old) (M.counts machine.new) }
     ensures taken { IsTrue M.tells → TakesAtMost (file_length piece.now) (M.taken machine.old) (M.taken machine.new) }
 {
     match piece {

@@ -1,4 +1,5 @@
 pub mod AppendLemmas
+pub mod Appending
 pub mod CopyLemmas
 pub mod KeepLemmas
 pub mod LeftoverLemmas

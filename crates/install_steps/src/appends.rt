@@ -1,9 +1,9 @@
 //! Appends to a temporary file: bytes at hand, and some of a file's bytes.
-ghost use Rattle.std.specs.Prelude.{◌≡◌, ◌<◌, ◌-◌, true, length, IsTrue, OnOk};
+ghost use Rattle.std.specs.Prelude.{◌≡◌, ◌-◌, true, IsTrue, OnOk};
 ghost use Rattle.boot_machine.specs.Prelude.{CountsDisk, TakesAtMost, TakesNone, bytes_between, contents, has};
-ghost use Rattle.install_steps.specs.Appends.{AppendsOnly, IsGrown};
+ghost use Rattle.install_steps.specs.Appends.{Appends, IsGrown};
 
-use boot_base::{BootPath, TempPath};
+use boot_base::{BootPath, Buffer, TempPath};
 use boot_machine::{ByteSink, DiskFault, Machine, stream_range};
 
 /// A temporary file that grows by the bytes that it takes.
@@ -40,10 +40,9 @@ impl<M: Machine> ByteSink<M> for Growing<'_> {
 /// Appends these bytes.
 pub fn append<M: Machine>(machine: &mut M, temp: &TempPath, bytes: &[u8]) -> Result<(), DiskFault>
     requires there { IsTrue M.tells → has (M.state machine.old).files temp.now ≡ true }
-    ensures appends { IsTrue M.tells → AppendsOnly M.time M.state temp.now machine.old machine.new }
+    ensures appends { Appends M.tells M.time M.state M.counts (CountsDisk result) temp.now machine.old machine.new }
     ensures grows { OnOk result (IsTrue M.tells
         → IsGrown temp.now bytes.now (M.state machine.old) (M.state machine.new)) }
-    ensures counts { CountsDisk result (M.counts machine.old) (M.counts machine.new) }
     ensures taken { IsTrue M.tells → TakesNone (M.taken machine.old) (M.taken machine.new) }
 {
     machine.append(temp, bytes)?;
@@ -58,16 +57,13 @@ pub fn copy_part<M: Machine>(
     file: &BootPath,
     from: u64,
     to: u64,
-    buffer: &mut [u8],
+    buffer: &mut Buffer,
 ) -> Result<(), DiskFault>
     requires there { IsTrue M.tells → has (M.state machine.old).files temp.now ≡ true }
-    requires room { 0 < length buffer.old }
-    ensures length { length buffer.new ≡ length buffer.old }
-    ensures appends { IsTrue M.tells → AppendsOnly M.time M.state temp.now machine.old machine.new }
+    ensures appends { Appends M.tells M.time M.state M.counts (CountsDisk result) temp.now machine.old machine.new }
     ensures grows { OnOk result (IsTrue M.tells
         → IsGrown temp.now (bytes_between (contents (M.state machine.old).files file.now) from to) (M.state machine.old)
         (M.state machine.new)) }
-    ensures counts { CountsDisk result (M.counts machine.old) (M.counts machine.new) }
     ensures taken { IsTrue M.tells → TakesAtMost (to - from) (M.taken machine.old) (M.taken machine.new) }
 {
     file.know();

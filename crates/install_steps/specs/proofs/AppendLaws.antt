@@ -183,9 +183,9 @@ moment_stays p s t m o left moment = (
 
 module _ {D : Type 0} (time : Timeline D) (state : D → State) (p : Path) where
   -- no call is made
-  pub appends_none : (old : D) → ((m : Files) (o : List Printed) → time.since old (time.clock old) m o
+  pub only_none : (old : D) → ((m : Files) (o : List Printed) → time.since old (time.clock old) m o
       → IsIdleMoment (state old) m o) → AppendsOnly time state p old old
-  appends_none old only_now = record {
+  only_none old only_now = record {
     left = inl refl;
     moments =
         at_once time state (IsIdleMoment (with_soft_path p (state old))) old
@@ -193,8 +193,8 @@ module _ {D : Type 0} (time : Timeline D) (state : D → State) (p : Path) where
   }
 
   -- reads are made
-  pub appends_reads : (old new : D) → OnlyReads time state old new → AppendsOnly time state p old new
-  appends_reads old new reads = record {
+  pub only_reads : (old new : D) → OnlyReads time state old new → AppendsOnly time state p old new
+  only_reads old new reads = record {
     left = inl reads.same;
     moments =
         weaken time state (IsIdleMoment (state old)) (IsIdleMoment (with_soft_path p (state old))) old new
@@ -202,11 +202,11 @@ module _ {D : Type 0} (time : Timeline D) (state : D → State) (p : Path) where
   }
 
   -- one append, whatever its answer
-  pub appends_once : {E : Type 0} (old new : D) (bytes : List ℕ) (r : Result Unit E)
+  pub only_once : {E : Type 0} (old new : D) (bytes : List ℕ) (r : Result Unit E)
       → ((m : Files) (o : List Printed) → time.since old (time.clock old) m o → IsIdleMoment (state old) m o)
       → Elapses time state old new → AppendRow (state old) (state new) p bytes r
       → AppendsOnly time state p old new
-  appends_once old new bytes r only_now elapsed row =
+  only_once old new bytes r only_now elapsed row =
       let left : HasAppended p (state old) (state new) =
       by_append (λ (t : State). HasAppended p (state old) t) (state old) (state new) p bytes r (inl refl)
       (λ b. inr (b, refl)) row in
@@ -219,9 +219,9 @@ module _ {D : Type 0} (time : Timeline D) (state : D → State) (p : Path) where
       }
 
   -- two parts of a run
-  pub appends_on : (old mid new : D) → AppendsOnly time state p old mid
+  pub only_on : (old mid new : D) → AppendsOnly time state p old mid
       → AppendsOnly time state p mid new → AppendsOnly time state p old new
-  appends_on old mid new first second = record {
+  only_on old mid new first second = record {
     left = has_appended_on p (state old) (state mid) (state new) first.left second.left;
     moments = joined time state (IsIdleMoment (with_soft_path p (state old))) old mid new first.moments
         (weaken time state (IsIdleMoment (with_soft_path p (state mid)))
@@ -230,15 +230,15 @@ module _ {D : Type 0} (time : Timeline D) (state : D → State) (p : Path) where
   }
 
   -- the path is there still
-  pub appends-there : (old new : D) → AppendsOnly time state p old new → has (state old).files p ≡ true
+  pub only-there : (old new : D) → AppendsOnly time state p old new → has (state old).files p ≡ true
       → has (state new).files p ≡ true
-  appends-there old new appends there = after_append-there p (state old) (state new) p appends.left ∙ there
+  only-there old new appends there = after_append-there p (state old) (state new) p appends.left ∙ there
 
   -- a boot file is as it was
-  pub appends-source : (old new : D) (q : Path) → is_temp p ≡ true → is_temp q ≡ false
+  pub only-source : (old new : D) (q : Path) → is_temp p ≡ true → is_temp q ≡ false
       → AppendsOnly time state p old new
       → contents (state new).files q ≡ contents (state old).files q
-  appends-source old new q temp shown appends = after_append-source p (state old) (state new) q temp shown appends.left
+  only-source old new q temp shown appends = after_append-source p (state old) (state new) q temp shown appends.left
 
 -- bytes behind bytes
 pub grown_none : (p : Path) (s : State) → IsGrown p [] s s

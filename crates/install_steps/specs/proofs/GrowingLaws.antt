@@ -7,7 +7,7 @@ use Rattle.boot_machine.specs.Moments.{Timeline}
 use Rattle.boot_machine.specs.Reading.{OnlyReads}
 use Rattle.boot_machine.specs.Rows.{contents}
 use Rattle.install_steps.specs.Appends.{HasAppended, AppendsOnly, IsGrown, GrowsBy, CanGrow, GrowsAlone}
-use Rattle.install_steps.specs.proofs.AppendLaws.{appends_reads, appends_on, appends-there, appends-source, grown_none, grown_on, grown_once}
+use Rattle.install_steps.specs.proofs.AppendLaws.{only_reads, only_on, only-there, only-source, grown_none, grown_on, grown_once}
 
 grown_left : (p : Path) (s t : State) → has s.files p ≡ true → HasAppended p s t → (more : List ℕ) × IsGrown p more s t
 grown_left p s t there (inl is) = ([], subst (λ (v : State). IsGrown p [] s v) (sym is) (grown_none p s))
@@ -20,7 +20,7 @@ module _ {D : Type 0} (tells : Bool) (time : Timeline D) (state : D → State) w
   grows_reads p old new reads = (
     refl,
     λ told. record {
-      appends = appends_reads time state p old new (reads told);
+      appends = only_reads time state p old new (reads told);
       grown = subst (λ (v : State). IsGrown p [] (state old) v) (sym (reads told).same) (grown_none p (state old));
     },
   )
@@ -36,7 +36,7 @@ module _ {D : Type 0} (tells : Bool) (time : Timeline D) (state : D → State) w
         let back : GrowsBy time state p b mid new =
         subst (λ (x : Path). GrowsBy time state x b mid new) first.0 (second.1 told) in
         record {
-          appends = appends_on time state p old mid new front.appends back.appends;
+          appends = only_on time state p old mid new front.appends back.appends;
           grown = grown_on p a b (state old) (state mid) (state new) front.grown back.grown;
         },
   )
@@ -46,7 +46,7 @@ module _ {D : Type 0} (tells : Bool) (time : Timeline D) (state : D → State) w
       → GrowsAlone tells time state bytes p old q new → CanGrow tells state q new
   grows_on bytes p q old new can grows told =
       let there : (is_temp p ≡ true) × (has (state new).files p ≡ true) =
-      ((can told).0, appends-there time state p old new (grows.1 told).appends (can told).1) in
+      ((can told).0, only-there time state p old new (grows.1 told).appends (can told).1) in
       subst (λ (x : Path). (is_temp x ≡ true) × (has (state new).files x ≡ true)) (sym grows.0) there
 
   -- boot files are as they were
@@ -54,7 +54,7 @@ module _ {D : Type 0} (tells : Bool) (time : Timeline D) (state : D → State) w
       → GrowsAlone tells time state bytes p old q new
       → IsTrue tells → is_temp path ≡ false → contents (state new).files path ≡ contents (state old).files path
   grows_source bytes p q old new path can grows told shown =
-      appends-source time state p old new path (can told).0 shown (grows.1 told).appends
+      only-source time state p old new path (can told).0 shown (grows.1 told).appends
 
   -- a call that may have appended less
   pub grows_some : (p : Path) (old new : D) → has (state old).files p ≡ true → AppendsOnly time state p old new

@@ -1,9 +1,9 @@
-use Rattle.std.proofs.Common.{◌≡◌, IsTrue, length, take}
+use Rattle.std.proofs.Common.{◌≡◌, IsTrue, take}
 use Rattle.std.specs.Prelude.{sum_by}
 use Rattle.std.specs.List.{flat_map}
 use Rattle.boot_machine.specs.Reading.{TakesAtMost}
 use Rattle.boot_machine.specs.Rows.{contents}
-use Rattle.install_steps.specs.Appends.{AppendsOnly, IsGrown}
+use Rattle.install_steps.specs.Appends.{Appends, IsGrown}
 use Rattle.image_writer.specs.Chunks.{chunk_bytes}
 use Rattle.image_writer.specs.Sourced.{stub_path, new_sbat}
 use Rattle.image_writer.specs.Taken.{chunk_length}
@@ -11,9 +11,7 @@ use Rattle.image_writer.proofs.image.write_chunks.Given as goal
 
 abbrev pub invariant-loop-chunk : goal.invariant-loop-chunk
 invariant-loop-chunk g l = record {
-  room : length l.buffer ≡ length l.initial.buffer;
-  appends : IsTrue g.M.Machine.tells → AppendsOnly g.M.Machine.time g.M.Machine.state l.temp l.initial.machine l.machine;
+  appends : Appends g.M.Machine.tells g.M.Machine.time g.M.Machine.state g.M.Machine.counts (λ before now. now ≡ before) l.temp l.initial.machine l.machine;
   grown : IsTrue g.M.Machine.tells → IsGrown l.temp (flat_map (chunk_bytes (contents (g.M.Machine.state l.initial.machine).files (stub_path l.sources)) (new_sbat l.sources)) (take l.chunk-index l.chunks)) (g.M.Machine.state l.initial.machine) (g.M.Machine.state l.machine);
   taken : IsTrue g.M.Machine.tells → TakesAtMost (sum_by chunk_length (take l.chunk-index l.chunks)) (g.M.Machine.taken l.initial.machine) (g.M.Machine.taken l.machine);
-  counts : g.M.Machine.counts l.machine ≡ g.M.Machine.counts l.initial.machine;
 }

@@ -6,18 +6,21 @@ use Rattle.pe_reader.specs.declared.head.Head.{Head}
 use Rattle.pe_builder.specs.Known.{planned_before, planned_stub_length}
 use Rattle.image_writer.specs.Chunks.{behind_stub, new_stub_bytes}
 use Rattle.image_writer.specs.Sourced.{new_sbat, part_list, parts_bytes, stub_path}
-use Rattle.install_steps.specs.proofs.AppendLaws.{appends_on, appends-there, appends-source, contents-view, grown_as, grown_from_none, ok_then}
+use Rattle.install_steps.proofs.Appending.{appends_on, appends-there, appends-source}
+use Rattle.install_steps.specs.proofs.AppendLaws.{contents-view, grown_as, grown_from_none, ok_then}
 use Rattle.std.specs.Prelude.{sum_by}
 use Rattle.uki_parts.specs.declared.part.Part.{Part}
 use Rattle.image_writer.specs.Taken.{kept_length, part_reading}
 use Rattle.image_writer.proofs.Assembled.{aligned, finished_bytes, kept_within}
 use Rattle.image_writer.proofs.image.write_image.Goals as goal
 
-pub write_parts-requires-clause-there : goal.write_parts-requires-clause-there
-write_parts-requires-clause-there g c told = appends-there g.M.Machine.time g.M.Machine.state c.args.temp.now c.args.machine.now c.write_stub.new.machine (c.write_stub.ensures.appends told) (c.requires.there told)
+pub write_parts-requires : goal.write_parts-requires
+write_parts-requires g c = record {
+  there = appends-there c.write_stub.ensures.appends c.requires.there;
+}
 
 pub returns-clause-appends : goal.returns-clause-appends
-returns-clause-appends g c told = appends_on g.M.Machine.time g.M.Machine.state c.args.temp.now _ _ _ (c.write_stub.ensures.appends told) (c.write_parts.ensures.appends told)
+returns-clause-appends g c = appends_on c.in_ok-write_stub.ensures.appends c.write_parts.ensures.appends
 
 pub returns-clause-image : goal.returns-clause-image
 returns-clause-image g c = ok_then c.write_parts.result c.write_parts.ensures.grows (λ parts told h sizes in_place reads plans len.
@@ -29,7 +32,7 @@ returns-clause-image g c = ok_then c.write_parts.result c.write_parts.ensures.gr
     let is = c.requires.sourced told in
     let unit : 0 < c.stub_head.result.now.file_alignment =
     subst (λ (head : Head). 0 < head.file_alignment) (sym c.stub_head.ensures) (aligned plan stub (new_sbat sources) (parts_bytes files (part_list sources)) is.plan_is) in
-    let back = parts told unit files (λ (q : Path) shown. contents-view m q shown ∙ sym (appends-source g.M.Machine.time g.M.Machine.state c.args.temp.now c.args.machine.now c.write_stub.new.machine q c.know-2.ensures shown (c.write_stub.ensures.appends told))) in
+    let back = parts told unit files (λ (q : Path) shown. contents-view m q shown ∙ sym (appends-source q c.know-2.ensures shown c.write_stub.ensures.appends told)) in
     let same : behind_stub files c.stub_head.result.now.file_alignment c.stub_length-stub_length.result c.parts.result.now
     ≡ behind_stub files (planned_before plan).file_alignment (planned_stub_length plan) (part_list sources) =
     ap (λ (head : Head). behind_stub files head.file_alignment c.stub_length-stub_length.result c.parts.result.now) c.stub_head.ensures

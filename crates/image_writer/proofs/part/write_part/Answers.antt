@@ -3,14 +3,17 @@ use Rattle.std.specs.Prelude.{replicate}
 use Rattle.std.specs.List.{flat_map}
 use Rattle.uki_parts.specs.declared.piece.Piece.{Piece}
 use Rattle.image_writer.specs.Chunks.{given_bytes}
-use Rattle.install_steps.specs.proofs.AppendLaws.{appends_on, appends-there, grown_on, grown_as, ok_then}
+use Rattle.install_steps.proofs.Appending.{appends_on, appends-there}
+use Rattle.install_steps.specs.proofs.AppendLaws.{grown_on, grown_as, ok_then}
 use Rattle.image_writer.proofs.part.write_part.Goals as goal
 
-pub write_zeros-requires-clause-there : goal.write_zeros-requires-clause-there
-write_zeros-requires-clause-there g c told = appends-there g.M.Machine.time g.M.Machine.state c.args.temp.now c.args.machine.now c.write_pieces.new.machine (c.write_pieces.ensures.appends told) (c.requires.there told)
+pub write_zeros-requires : goal.write_zeros-requires
+write_zeros-requires g c = record {
+  there = appends-there c.write_pieces.ensures.appends c.requires.there;
+}
 
 pub returns-clause-appends : goal.returns-clause-appends
-returns-clause-appends g c told = appends_on g.M.Machine.time g.M.Machine.state c.args.temp.now _ _ _ (c.write_pieces.ensures.appends told) (c.write_zeros.ensures.appends told)
+returns-clause-appends g c = appends_on c.in_ok-write_pieces.ensures.appends c.write_zeros.ensures.appends
 
 pub returns-clause-grows : goal.returns-clause-grows
 returns-clause-grows g c = ok_then c.write_zeros.result c.write_zeros.ensures.grows (λ zeros told unit files agrees.

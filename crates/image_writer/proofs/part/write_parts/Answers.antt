@@ -1,21 +1,24 @@
-use Rattle.std.proofs.Common.{sym, ◌∙◌}
+use Rattle.std.proofs.Common.{refl, sym, ◌∙◌}
 use Rattle.boot_base.specs.Paths.{Path}
-use Rattle.install_steps.specs.proofs.AppendLaws.{appends_none, appends_on, appends-there, appends-source, grown_on, grown_as, ok_then}
+use Rattle.install_steps.proofs.Appending.{appends_none, appends_on, appends-there, appends-source}
+use Rattle.install_steps.specs.proofs.AppendLaws.{grown_on, grown_as, ok_then}
 use Rattle.image_writer.proofs.Filled.{behind_some}
 use Rattle.image_writer.proofs.part.write_parts.Goals as goal
 
 pub returns-then-is_empty-clause-appends : goal.returns-then-is_empty-clause-appends
-returns-then-is_empty-clause-appends g c told = appends_none g.M.Machine.time g.M.Machine.state c.args.temp.now c.args.machine.now (λ m o left. g.met.M.Machine.only_now c.args.machine.now m o told left)
+returns-then-is_empty-clause-appends g c = appends_none (g.met.M.Machine.only_now c.args.machine.now) refl
 
-pub write_each_part-requires-clause-there : goal.write_each_part-requires-clause-there
-write_each_part-requires-clause-there g c told = appends-there g.M.Machine.time g.M.Machine.state c.args.temp.now c.args.machine.now c.write_zeros.new.machine (c.write_zeros.ensures.appends told) (c.requires.there told)
+pub write_each_part-requires : goal.write_each_part-requires
+write_each_part-requires g c = record {
+  there = appends-there c.write_zeros.ensures.appends c.requires.there;
+}
 
 pub returns-clause-appends : goal.returns-clause-appends
-returns-clause-appends g c told = appends_on g.M.Machine.time g.M.Machine.state c.args.temp.now _ _ _ (c.write_zeros.ensures.appends told) (c.write_each_part.ensures.appends told)
+returns-clause-appends g c = appends_on c.in_ok-write_zeros.ensures.appends c.write_each_part.ensures.appends
 
 pub returns-clause-grows : goal.returns-clause-grows
 returns-clause-grows g c = ok_then c.write_each_part.result c.write_each_part.ensures.grows (λ each told unit files agrees.
     grown_as _ _ _ _ _
     (behind_some files c.args.unit c.args.stub_length c.gap.result c.args.parts.now (sym c.is_empty.ensures ∙ c.if-is_empty.false) (c.gap.ensures unit))
     (grown_on _ _ _ _ _ _ (c.in_ok-write_zeros.ensures.grows told) (each told unit files
-    (λ (q : Path) shown. agrees q shown ∙ sym (appends-source g.M.Machine.time g.M.Machine.state c.args.temp.now c.args.machine.now c.write_zeros.new.machine q c.know.ensures shown (c.write_zeros.ensures.appends told))))))
+    (λ (q : Path) shown. agrees q shown ∙ sym (appends-source q c.know.ensures shown c.write_zeros.ensures.appends told)))))

@@ -1,12 +1,12 @@
-use Rattle.std.proofs.Common.{◌≡◌, true, [], refl, sym, ap, ◌∙◌, subst, rules}
+use Rattle.std.proofs.Common.{◌≡◌, [], refl, sym, ap, ◌∙◌, subst, rules}
 use Rattle.std.specs.FinMap as map
-use Rattle.boot_machine.specs.Disk.{Files, has, recovered_view, view}
+use Rattle.boot_machine.specs.Disk.{Files, recovered_view, view}
 use Rattle.boot_machine.specs.Rows.{contents, move_in}
 use Rattle.boot_machine.proofs.Going.{goes-create}
 use Rattle.boot_machine.proofs.Views.{view-insert_temp}
 use Rattle.boot_machine.proofs.Written.{has-created}
 use Rattle.image_writer.specs.Sourced.{IsSourced, IsPlannedImage, new_sbat, part_list, parts_bytes, stub_path}
-use Rattle.install_steps.specs.proofs.AppendLaws.{appends-there}
+use Rattle.install_steps.proofs.Appending.{appends-there}
 use Rattle.image_writer.proofs.Assembled.{one_image}
 use Rattle.install_steps.specs.Steps.{StepsTo, IsDone}
 use Rattle.install_steps.proofs.AppendLemmas.{goes-appends, contents-created, sees_written, calm_left, temps_left}
@@ -36,21 +36,19 @@ pub returns-in_err-write_image-clause-step : goal.returns-in_err-write_image-cla
 returns-in_err-write_image-clause-step g c told firm image finished =
     let start = begins_same g.M.Machine.time g.M.Machine.state c.args.machine.now (λ m o. g.met.M.Machine.only_now c.args.machine.now m o told) (g.met.M.Machine.sound c.args.machine.now told) firm (c.requires.ready told).one in
     let made = goes-create _ _ _ _ _ _ c.create.result start (c.create.ensures.moments told) c.args.target.now.temp c.know-2.ensures (c.create.ensures.row told) in
-    let written = goes-appends _ _ _ _ _ _ made c.args.target.now.temp c.know-2.ensures (c.write_image.ensures.appends told) in
+    let written = goes-appends _ _ _ _ _ _ made c.args.target.now.temp c.know-2.ensures (c.write_image.ensures.appends.only told) in
     steps_same _ _ _ _ _ written
 
 pub put_in_place-requires : goal.put_in_place-requires
 put_in_place-requires g c = record {
-  there = λ told.
-      let there : has (g.M.Machine.state c.create.new.self).files c.args.target.now.temp ≡ true = rw (c.in_ok-create.ensures.row told) (has-created (g.M.Machine.state c.args.machine.now).files c.args.target.now.temp) in
-      appends-there g.M.Machine.time g.M.Machine.state c.args.target.now.temp c.create.new.self c.write_image.new.machine (c.write_image.ensures.appends told) there;
+  there = appends-there c.write_image.ensures.appends (λ told. rw (c.in_ok-create.ensures.row told) (has-created (g.M.Machine.state c.args.machine.now).files c.args.target.now.temp));
 }
 
 pub returns-clause-step : goal.returns-clause-step
 returns-clause-step g c told firm image finished =
     let start = begins_same g.M.Machine.time g.M.Machine.state c.args.machine.now (λ m o. g.met.M.Machine.only_now c.args.machine.now m o told) (g.met.M.Machine.sound c.args.machine.now told) firm (c.requires.ready told).one in
     let made = goes-create _ _ _ _ _ _ c.create.result start (c.create.ensures.moments told) c.args.target.now.temp c.know-2.ensures (c.create.ensures.row told) in
-    let written = goes-appends _ _ _ _ _ _ made c.args.target.now.temp c.know-2.ensures (c.write_image.ensures.appends told) in
+    let written = goes-appends _ _ _ _ _ _ made c.args.target.now.temp c.know-2.ensures (c.write_image.ensures.appends.only told) in
     let created : (g.M.Machine.state c.create.new.self).files ≡ map.insert (g.M.Machine.state c.args.machine.now).files c.args.target.now.temp [] = rw (c.in_ok-create.ensures.row told) refl in
     let seen : view (g.M.Machine.state c.create.new.self).files ≡ view (g.M.Machine.state c.args.machine.now).files = ap view created ∙ view-insert_temp (g.M.Machine.state c.args.machine.now).files c.args.target.now.temp [] c.know-2.ensures in
     let files = view (g.M.Machine.state c.args.machine.now).files in
@@ -60,7 +58,7 @@ returns-clause-step g c told firm image finished =
     let same : bytes ≡ image =
     one_image c.args.plan.now stub (new_sbat c.args.sources.now) (parts_bytes (contents files) (part_list c.args.sources.now)) bytes image (c.requires.sourced told).plan_is is_image finished in
     let is : recovered_view (move_in c.args.target.now.temp c.args.target.now.path (g.M.Machine.state c.write_image.new.machine).files) ≡ map.insert (recovered_view (g.M.Machine.state c.args.machine.now).files) c.args.target.now.path image =
-    sees_written (g.M.Machine.state c.args.machine.now).files c.args.target.now.temp c.args.target.now.path (g.M.Machine.state c.create.new.self) (g.M.Machine.state c.write_image.new.machine) image (c.requires.ready told).rested (off_intent c.args.target.now.path c.requires.free) c.know-2.ensures c.know.ensures created (c.write_image.ensures.appends told).left same in
+    sees_written (g.M.Machine.state c.args.machine.now).files c.args.target.now.temp c.args.target.now.path (g.M.Machine.state c.create.new.self) (g.M.Machine.state c.write_image.new.machine) image (c.requires.ready told).rested (off_intent c.args.target.now.path c.requires.free) c.know-2.ensures c.know.ensures created (c.write_image.ensures.appends.only told).left same in
     let finishes = c.put_in_place.ensures.step told (firm_so_far _ _ _ _ _ written) (settled_so_far _ _ _ _ written) in
     steps_on _ _ _ _ _ _ written (subst (λ (v : Files). StepsTo g.M.Machine.time g.M.Machine.state v c.write_image.new.machine c.put_in_place.new.machine) is finishes)
 
@@ -68,7 +66,7 @@ pub returns-clause-done : goal.returns-clause-done
 returns-clause-done g c = ok_then c.put_in_place.result c.put_in_place.ensures.done (λ done told firm image finished.
     let start = begins_same g.M.Machine.time g.M.Machine.state c.args.machine.now (λ m o. g.met.M.Machine.only_now c.args.machine.now m o told) (g.met.M.Machine.sound c.args.machine.now told) firm (c.requires.ready told).one in
     let made = goes-create _ _ _ _ _ _ c.create.result start (c.create.ensures.moments told) c.args.target.now.temp c.know-2.ensures (c.create.ensures.row told) in
-    let written = goes-appends _ _ _ _ _ _ made c.args.target.now.temp c.know-2.ensures (c.write_image.ensures.appends told) in
+    let written = goes-appends _ _ _ _ _ _ made c.args.target.now.temp c.know-2.ensures (c.write_image.ensures.appends.only told) in
     let created : (g.M.Machine.state c.create.new.self).files ≡ map.insert (g.M.Machine.state c.args.machine.now).files c.args.target.now.temp [] = rw (c.in_ok-create.ensures.row told) refl in
     let seen : view (g.M.Machine.state c.create.new.self).files ≡ view (g.M.Machine.state c.args.machine.now).files = ap view created ∙ view-insert_temp (g.M.Machine.state c.args.machine.now).files c.args.target.now.temp [] c.know-2.ensures in
     let files = view (g.M.Machine.state c.args.machine.now).files in
@@ -78,7 +76,7 @@ returns-clause-done g c = ok_then c.put_in_place.result c.put_in_place.ensures.d
     let same : bytes ≡ image =
     one_image c.args.plan.now stub (new_sbat c.args.sources.now) (parts_bytes (contents files) (part_list c.args.sources.now)) bytes image (c.requires.sourced told).plan_is is_image finished in
     let is : recovered_view (move_in c.args.target.now.temp c.args.target.now.path (g.M.Machine.state c.write_image.new.machine).files) ≡ map.insert (recovered_view (g.M.Machine.state c.args.machine.now).files) c.args.target.now.path image =
-    sees_written (g.M.Machine.state c.args.machine.now).files c.args.target.now.temp c.args.target.now.path (g.M.Machine.state c.create.new.self) (g.M.Machine.state c.write_image.new.machine) image (c.requires.ready told).rested (off_intent c.args.target.now.path c.requires.free) c.know-2.ensures c.know.ensures created (c.write_image.ensures.appends told).left same in
+    sees_written (g.M.Machine.state c.args.machine.now).files c.args.target.now.temp c.args.target.now.path (g.M.Machine.state c.create.new.self) (g.M.Machine.state c.write_image.new.machine) image (c.requires.ready told).rested (off_intent c.args.target.now.path c.requires.free) c.know-2.ensures c.know.ensures created (c.write_image.ensures.appends.only told).left same in
     subst (IsDone (g.M.Machine.state c.put_in_place.new.machine)) is (done told (firm_so_far _ _ _ _ _ written) (settled_so_far _ _ _ _ written)))
 
 pub returns-in_err-create-clause-alone : goal.returns-in_err-create-clause-alone
@@ -90,13 +88,13 @@ pub returns-in_err-write_image-clause-alone : goal.returns-in_err-write_image-cl
 returns-in_err-write_image-clause-alone g c = alone_by (λ told.
     let start = quiet_start g.M.Machine.time g.M.Machine.state c.args.machine.now (λ m o. g.met.M.Machine.only_now c.args.machine.now m o told) in
     let made = quiet-create _ _ _ _ _ start (λ m o. g.met.M.Machine.only_now c.args.machine.now m o told) (c.create.ensures.moments told) c.create.result c.args.target.now.temp (c.create.ensures.row told) in
-    quiet_appends _ _ c.args.target.now.temp _ _ _ made (c.write_image.ensures.appends told)) (search rules)
+    quiet_appends _ _ c.args.target.now.temp _ _ _ made (c.write_image.ensures.appends.only told)) (search rules)
 
 pub returns-clause-alone : goal.returns-clause-alone
 returns-clause-alone g c = alone_by (λ told.
     let start = quiet_start g.M.Machine.time g.M.Machine.state c.args.machine.now (λ m o. g.met.M.Machine.only_now c.args.machine.now m o told) in
     let made = quiet-create _ _ _ _ _ start (λ m o. g.met.M.Machine.only_now c.args.machine.now m o told) (c.create.ensures.moments told) c.create.result c.args.target.now.temp (c.create.ensures.row told) in
-    let written = quiet_appends _ _ c.args.target.now.temp _ _ _ made (c.write_image.ensures.appends told) in
+    let written = quiet_appends _ _ c.args.target.now.temp _ _ _ made (c.write_image.ensures.appends.only told) in
     quiet_then _ _ _ _ _ written (quiet_of c.put_in_place.ensures.alone told)) (search rules)
 
 pub returns-clause-ready : goal.returns-clause-ready
@@ -109,7 +107,7 @@ returns-clause-ready g c = ok_both c.put_in_place.result c.put_in_place.ensures.
       next = record {
         one = one told;
         rested = rw (files told)
-            (calm_left m c.args.target.now.temp c.args.target.now.path mid last (c.requires.ready told).rested (off_intent c.args.target.now.path c.requires.free) c.know-2.ensures created (c.write_image.ensures.appends told).left);
+            (calm_left m c.args.target.now.temp c.args.target.now.path mid last (c.requires.ready told).rested (off_intent c.args.target.now.path c.requires.free) c.know-2.ensures created (c.write_image.ensures.appends.only told).left);
       };
-      temps = λ q temp there. temps_left m c.args.target.now.temp c.args.target.now.path mid last c.know-2.ensures c.know.ensures created (c.write_image.ensures.appends told).left q temp (rw (files told) at there);
+      temps = λ q temp there. temps_left m c.args.target.now.temp c.args.target.now.path mid last c.know-2.ensures c.know.ensures created (c.write_image.ensures.appends.only told).left q temp (rw (files told) at there);
     })

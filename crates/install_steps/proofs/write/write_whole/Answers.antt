@@ -1,4 +1,4 @@
-use Rattle.std.proofs.Common.{◌≡◌, ◌≤◌, true, false, length, [], refl, ◌∙◌, subst, rules, arith}
+use Rattle.std.proofs.Common.{◌≡◌, ◌≤◌, false, length, [], refl, ◌∙◌, subst, rules, arith}
 use Rattle.std.specs.FinMap as map
 use Rattle.boot_machine.specs.Disk.{Files, has}
 use Rattle.boot_machine.specs.Rows.{contents}
@@ -6,7 +6,7 @@ use Rattle.boot_machine.proofs.Going.{goes-create, goes-read}
 use Rattle.boot_machine.proofs.Recovering.{has-recovered_view}
 use Rattle.boot_machine.proofs.Written.{has-created}
 use Rattle.install_steps.specs.Steps.{StepsTo, IsDone}
-use Rattle.install_steps.specs.proofs.AppendLaws.{appends-there}
+use Rattle.install_steps.proofs.Appending.{appends-there}
 use Rattle.install_steps.proofs.AppendLemmas.{calm_left, copied_file, goes-appends, temps_left}
 use Rattle.install_steps.proofs.CopyLemmas.{sees_copy, size_there, size_within}
 use Rattle.install_steps.proofs.KeepLemmas.{takes_first, takes_later, takes_nothing, takes_part}
@@ -39,23 +39,22 @@ returns-in_err-create-clause-step g c told firm =
     let made = goes-create _ _ _ _ _ _ c.create.result looked (c.create.ensures.moments told) c.args.target.now.temp c.know-3.ensures (c.create.ensures.row told) in
     steps_same _ _ _ _ _ made
 
-pub copy_part-requires-clause-there : goal.copy_part-requires-clause-there
-copy_part-requires-clause-there g c told =
-    rw (c.in_ok-create.ensures.row told) (has-created (g.M.Machine.state c.size.new.self).files c.args.target.now.temp)
+pub copy_part-requires : goal.copy_part-requires
+copy_part-requires g c = record {
+  there = λ told. rw (c.in_ok-create.ensures.row told) (has-created (g.M.Machine.state c.size.new.self).files c.args.target.now.temp);
+}
 
 pub returns-in_err-copy_part-clause-step : goal.returns-in_err-copy_part-clause-step
 returns-in_err-copy_part-clause-step g c told firm =
     let start = begins_same g.M.Machine.time g.M.Machine.state c.args.machine.now (λ m o left. g.met.M.Machine.only_now c.args.machine.now m o told left) (g.met.M.Machine.sound c.args.machine.now told) firm (c.requires.ready told).one in
     let looked = goes-read _ _ _ _ _ _ start (c.size.ensures.moments told) (c.size.ensures.row told).same in
     let made = goes-create _ _ _ _ _ _ c.create.result looked (c.create.ensures.moments told) c.args.target.now.temp c.know-3.ensures (c.create.ensures.row told) in
-    let written = goes-appends _ _ _ _ _ _ made c.args.target.now.temp c.know-3.ensures (c.copy_part.ensures.appends told) in
+    let written = goes-appends _ _ _ _ _ _ made c.args.target.now.temp c.know-3.ensures (c.copy_part.ensures.appends.only told) in
     steps_same _ _ _ _ _ written
 
 pub put_in_place-requires : goal.put_in_place-requires
 put_in_place-requires g c = record {
-  there = λ told.
-      let there : has (g.M.Machine.state c.create.new.self).files c.args.target.now.temp ≡ true = rw (c.in_ok-create.ensures.row told) (has-created (g.M.Machine.state c.size.new.self).files c.args.target.now.temp) in
-      appends-there g.M.Machine.time g.M.Machine.state c.args.target.now.temp c.create.new.self c.copy_part.new.machine (c.copy_part.ensures.appends told) there;
+  there = appends-there c.copy_part.ensures.appends (λ told. rw (c.in_ok-create.ensures.row told) (has-created (g.M.Machine.state c.size.new.self).files c.args.target.now.temp));
 }
 
 pub returns-in_err-put_in_place-clause-step : goal.returns-in_err-put_in_place-clause-step
@@ -63,11 +62,11 @@ returns-in_err-put_in_place-clause-step g c told firm =
     let start = begins_same g.M.Machine.time g.M.Machine.state c.args.machine.now (λ m o left. g.met.M.Machine.only_now c.args.machine.now m o told left) (g.met.M.Machine.sound c.args.machine.now told) firm (c.requires.ready told).one in
     let looked = goes-read _ _ _ _ _ _ start (c.size.ensures.moments told) (c.size.ensures.row told).same in
     let made = goes-create _ _ _ _ _ _ c.create.result looked (c.create.ensures.moments told) c.args.target.now.temp c.know-3.ensures (c.create.ensures.row told) in
-    let written = goes-appends _ _ _ _ _ _ made c.args.target.now.temp c.know-3.ensures (c.copy_part.ensures.appends told) in
+    let written = goes-appends _ _ _ _ _ _ made c.args.target.now.temp c.know-3.ensures (c.copy_part.ensures.appends.only told) in
     let s = g.M.Machine.state c.args.machine.now in
     let created : (g.M.Machine.state c.create.new.self).files ≡ map.insert (g.M.Machine.state c.args.machine.now).files c.args.target.now.temp [] = rw (c.in_ok-create.ensures.row told, (c.size.ensures.row told).same) refl in
     let long = size_within s.files c.args.from.now c.in_ok-size.field-0 c.in-Some.size c.min-size.result (c.requires.ready told).rested c.know.ensures (c.requires.small told) (c.in_ok-size.ensures.row told).answer c.in-Some.is (λ small. omega (arith, small, c.min-size.ensures)) in
-    let all = copied_file s.files c.args.target.now.temp c.args.from.now (g.M.Machine.state c.create.new.self) (g.M.Machine.state c.copy_part.new.machine) c.min-size.result c.know-3.ensures c.know.ensures created (c.copy_part.ensures.appends told).left (c.in_ok-copy_part.ensures.grows told) long in
+    let all = copied_file s.files c.args.target.now.temp c.args.from.now (g.M.Machine.state c.create.new.self) (g.M.Machine.state c.copy_part.new.machine) c.min-size.result c.know-3.ensures c.know.ensures created (c.copy_part.ensures.appends.only told).left (c.in_ok-copy_part.ensures.grows told) long in
     let is = sees_copy s.files (g.M.Machine.state c.copy_part.new.machine).files c.args.target.now.temp c.args.from.now c.args.target.now.path (c.requires.ready told).rested (off_intent c.args.target.now.path c.requires.free) c.know-3.ensures c.know.ensures c.know-2.ensures (size_there s.files c.args.from.now c.in_ok-size.field-0 c.in-Some.size (c.in_ok-size.ensures.row told).answer c.in-Some.is).1 all in
     steps_on _ _ _ _ _ _ written (subst (λ (v : Files). StepsTo g.M.Machine.time g.M.Machine.state v c.copy_part.new.machine c.put_in_place.new.machine) is (c.put_in_place.ensures.step told (firm_so_far _ _ _ _ _ written) (settled_so_far _ _ _ _ written)))
 
@@ -76,11 +75,11 @@ returns-clause-step g c told firm =
     let start = begins_same g.M.Machine.time g.M.Machine.state c.args.machine.now (λ m o left. g.met.M.Machine.only_now c.args.machine.now m o told left) (g.met.M.Machine.sound c.args.machine.now told) firm (c.requires.ready told).one in
     let looked = goes-read _ _ _ _ _ _ start (c.size.ensures.moments told) (c.size.ensures.row told).same in
     let made = goes-create _ _ _ _ _ _ c.create.result looked (c.create.ensures.moments told) c.args.target.now.temp c.know-3.ensures (c.create.ensures.row told) in
-    let written = goes-appends _ _ _ _ _ _ made c.args.target.now.temp c.know-3.ensures (c.copy_part.ensures.appends told) in
+    let written = goes-appends _ _ _ _ _ _ made c.args.target.now.temp c.know-3.ensures (c.copy_part.ensures.appends.only told) in
     let s = g.M.Machine.state c.args.machine.now in
     let created : (g.M.Machine.state c.create.new.self).files ≡ map.insert (g.M.Machine.state c.args.machine.now).files c.args.target.now.temp [] = rw (c.in_ok-create.ensures.row told, (c.size.ensures.row told).same) refl in
     let long = size_within s.files c.args.from.now c.in_ok-size.field-0 c.in-Some.size c.min-size.result (c.requires.ready told).rested c.know.ensures (c.requires.small told) (c.in_ok-size.ensures.row told).answer c.in-Some.is (λ small. omega (arith, small, c.min-size.ensures)) in
-    let all = copied_file s.files c.args.target.now.temp c.args.from.now (g.M.Machine.state c.create.new.self) (g.M.Machine.state c.copy_part.new.machine) c.min-size.result c.know-3.ensures c.know.ensures created (c.copy_part.ensures.appends told).left (c.in_ok-copy_part.ensures.grows told) long in
+    let all = copied_file s.files c.args.target.now.temp c.args.from.now (g.M.Machine.state c.create.new.self) (g.M.Machine.state c.copy_part.new.machine) c.min-size.result c.know-3.ensures c.know.ensures created (c.copy_part.ensures.appends.only told).left (c.in_ok-copy_part.ensures.grows told) long in
     let is = sees_copy s.files (g.M.Machine.state c.copy_part.new.machine).files c.args.target.now.temp c.args.from.now c.args.target.now.path (c.requires.ready told).rested (off_intent c.args.target.now.path c.requires.free) c.know-3.ensures c.know.ensures c.know-2.ensures (size_there s.files c.args.from.now c.in_ok-size.field-0 c.in-Some.size (c.in_ok-size.ensures.row told).answer c.in-Some.is).1 all in
     steps_on _ _ _ _ _ _ written (subst (λ (v : Files). StepsTo g.M.Machine.time g.M.Machine.state v c.copy_part.new.machine c.put_in_place.new.machine) is (c.put_in_place.ensures.step told (firm_so_far _ _ _ _ _ written) (settled_so_far _ _ _ _ written)))
 
@@ -89,11 +88,11 @@ returns-clause-done g c told firm =
     let start = begins_same g.M.Machine.time g.M.Machine.state c.args.machine.now (λ m o left. g.met.M.Machine.only_now c.args.machine.now m o told left) (g.met.M.Machine.sound c.args.machine.now told) firm (c.requires.ready told).one in
     let looked = goes-read _ _ _ _ _ _ start (c.size.ensures.moments told) (c.size.ensures.row told).same in
     let made = goes-create _ _ _ _ _ _ c.create.result looked (c.create.ensures.moments told) c.args.target.now.temp c.know-3.ensures (c.create.ensures.row told) in
-    let written = goes-appends _ _ _ _ _ _ made c.args.target.now.temp c.know-3.ensures (c.copy_part.ensures.appends told) in
+    let written = goes-appends _ _ _ _ _ _ made c.args.target.now.temp c.know-3.ensures (c.copy_part.ensures.appends.only told) in
     let s = g.M.Machine.state c.args.machine.now in
     let created : (g.M.Machine.state c.create.new.self).files ≡ map.insert (g.M.Machine.state c.args.machine.now).files c.args.target.now.temp [] = rw (c.in_ok-create.ensures.row told, (c.size.ensures.row told).same) refl in
     let long = size_within s.files c.args.from.now c.in_ok-size.field-0 c.in-Some.size c.min-size.result (c.requires.ready told).rested c.know.ensures (c.requires.small told) (c.in_ok-size.ensures.row told).answer c.in-Some.is (λ small. omega (arith, small, c.min-size.ensures)) in
-    let all = copied_file s.files c.args.target.now.temp c.args.from.now (g.M.Machine.state c.create.new.self) (g.M.Machine.state c.copy_part.new.machine) c.min-size.result c.know-3.ensures c.know.ensures created (c.copy_part.ensures.appends told).left (c.in_ok-copy_part.ensures.grows told) long in
+    let all = copied_file s.files c.args.target.now.temp c.args.from.now (g.M.Machine.state c.create.new.self) (g.M.Machine.state c.copy_part.new.machine) c.min-size.result c.know-3.ensures c.know.ensures created (c.copy_part.ensures.appends.only told).left (c.in_ok-copy_part.ensures.grows told) long in
     let is = sees_copy s.files (g.M.Machine.state c.copy_part.new.machine).files c.args.target.now.temp c.args.from.now c.args.target.now.path (c.requires.ready told).rested (off_intent c.args.target.now.path c.requires.free) c.know-3.ensures c.know.ensures c.know-2.ensures (size_there s.files c.args.from.now c.in_ok-size.field-0 c.in-Some.size (c.in_ok-size.ensures.row told).answer c.in-Some.is).1 all in
     subst (IsDone (g.M.Machine.state c.put_in_place.new.machine)) is (c.in_ok-put_in_place.ensures.done told (firm_so_far _ _ _ _ _ written) (settled_so_far _ _ _ _ written))
 
@@ -112,9 +111,9 @@ returns-clause-ready g c told =
       next = record {
         one = c.in_ok-put_in_place.ensures.one told;
         rested = rw (c.in_ok-put_in_place.ensures.files told)
-            (calm_left m c.args.target.now.temp c.args.target.now.path mid last (c.requires.ready told).rested (off_intent c.args.target.now.path c.requires.free) c.know-3.ensures created (c.copy_part.ensures.appends told).left);
+            (calm_left m c.args.target.now.temp c.args.target.now.path mid last (c.requires.ready told).rested (off_intent c.args.target.now.path c.requires.free) c.know-3.ensures created (c.copy_part.ensures.appends.only told).left);
       };
-      temps = λ q temp there. temps_left m c.args.target.now.temp c.args.target.now.path mid last c.know-3.ensures c.know-2.ensures created (c.copy_part.ensures.appends told).left q temp
+      temps = λ q temp there. temps_left m c.args.target.now.temp c.args.target.now.path mid last c.know-3.ensures c.know-2.ensures created (c.copy_part.ensures.appends.only told).left q temp
           (rw (c.in_ok-put_in_place.ensures.files told) at there);
     }
 
@@ -139,14 +138,14 @@ returns-in_err-copy_part-clause-alone g c = alone_by (λ told.
     let start = quiet_start g.M.Machine.time g.M.Machine.state c.args.machine.now (λ m o left. g.met.M.Machine.only_now c.args.machine.now m o told left) in
     let looked = quiet-read _ _ _ _ _ start (λ m o left. g.met.M.Machine.only_now c.args.machine.now m o told left) (c.size.ensures.moments told) (c.size.ensures.row told).same in
     let made = quiet-create _ _ _ _ _ looked (λ m o. g.met.M.Machine.only_now c.size.new.self m o told) (c.create.ensures.moments told) c.create.result c.args.target.now.temp (c.create.ensures.row told) in
-    quiet_appends _ _ c.args.target.now.temp _ _ _ made (c.copy_part.ensures.appends told)) (search rules)
+    quiet_appends _ _ c.args.target.now.temp _ _ _ made (c.copy_part.ensures.appends.only told)) (search rules)
 
 pub returns-in_err-put_in_place-clause-alone : goal.returns-in_err-put_in_place-clause-alone
 returns-in_err-put_in_place-clause-alone g c = alone_by (λ told.
     let start = quiet_start g.M.Machine.time g.M.Machine.state c.args.machine.now (λ m o left. g.met.M.Machine.only_now c.args.machine.now m o told left) in
     let looked = quiet-read _ _ _ _ _ start (λ m o left. g.met.M.Machine.only_now c.args.machine.now m o told left) (c.size.ensures.moments told) (c.size.ensures.row told).same in
     let made = quiet-create _ _ _ _ _ looked (λ m o. g.met.M.Machine.only_now c.size.new.self m o told) (c.create.ensures.moments told) c.create.result c.args.target.now.temp (c.create.ensures.row told) in
-    let written = quiet_appends _ _ c.args.target.now.temp _ _ _ made (c.copy_part.ensures.appends told) in
+    let written = quiet_appends _ _ c.args.target.now.temp _ _ _ made (c.copy_part.ensures.appends.only told) in
     quiet_then _ _ _ _ _ written (quiet_of c.put_in_place.ensures.alone told)) (search rules)
 
 pub returns-clause-alone : goal.returns-clause-alone
@@ -154,7 +153,7 @@ returns-clause-alone g c = alone_by (λ told.
     let start = quiet_start g.M.Machine.time g.M.Machine.state c.args.machine.now (λ m o left. g.met.M.Machine.only_now c.args.machine.now m o told left) in
     let looked = quiet-read _ _ _ _ _ start (λ m o left. g.met.M.Machine.only_now c.args.machine.now m o told left) (c.size.ensures.moments told) (c.size.ensures.row told).same in
     let made = quiet-create _ _ _ _ _ looked (λ m o. g.met.M.Machine.only_now c.size.new.self m o told) (c.create.ensures.moments told) c.create.result c.args.target.now.temp (c.create.ensures.row told) in
-    let written = quiet_appends _ _ c.args.target.now.temp _ _ _ made (c.copy_part.ensures.appends told) in
+    let written = quiet_appends _ _ c.args.target.now.temp _ _ _ made (c.copy_part.ensures.appends.only told) in
     quiet_then _ _ _ _ _ written (quiet_of c.put_in_place.ensures.alone told)) (search rules)
 
 pub returns-in_err-size-clause-taken : goal.returns-in_err-size-clause-taken
