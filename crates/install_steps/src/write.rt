@@ -2,6 +2,7 @@
 ghost use Rattle.std.specs.Prelude.{◌≡◌, ◌≤◌, ℕ, List, true, false, length, IsTrue, OnOk, IsErrOf};
 ghost use Rattle.std.specs.FinMap as map;
 ghost use Rattle.boot_machine.specs.Prelude.{CountsDisk, HasOneCandidate, IsFirm, IsSettled, TakesAtMost, TakesNone, contents, has, move_in, recovered_view};
+ghost use Rattle.boot_base.specs.Limits.{file_limit};
 ghost use Rattle.boot_base.specs.Paths.{IsFree};
 ghost use Rattle.install_steps.specs.Steps.{CanStep, CountsStep, IsDone, LeavesAlone, LeavesReady, ReadyUnless, StepsTo, after_copy};
 
@@ -50,7 +51,7 @@ pub fn write_whole<M: Machine>(
     requires free { IsFree target.now.path }
     requires ready { IsTrue M.tells → CanStep (M.state machine.old) }
     requires small { IsTrue M.tells
-        → length (contents (recovered_view (M.state machine.old).files) from.now) ≤ 268435456 }
+        → length (contents (recovered_view (M.state machine.old).files) from.now) ≤ file_limit }
     ensures done { OnOk result (IsTrue M.tells → IsFirm (M.state machine.old)
         → IsDone (M.state machine.new)
         (after_copy from.now target.now.path (recovered_view (M.state machine.old).files))) }

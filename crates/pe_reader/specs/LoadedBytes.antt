@@ -1,5 +1,5 @@
 -- The bytes that a loader puts in memory for a section (Microsoft PE/COFF; the first section of a name counts).
-use Rattle.std.specs.Prelude.{ℕ, ◌-◌, ◌==◌, Bool, List, [], ◌++◌, take, min, replicate, get_or, Option, Some, None, Result, Ok, Err, unwrap_or, position}
+use Rattle.std.specs.Prelude.{ℕ, ◌-◌, Bool, List, [], ◌++◌, min, replicate, get_or, Option, Some, None, Result, Ok, Err}
 use Rattle.std.specs.List.{find}
 use Rattle.std.specs.Str.{bytes_eq}
 use Rattle.boot_base.specs.Names.{short_name}
