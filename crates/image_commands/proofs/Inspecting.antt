@@ -1,9 +1,11 @@
 -- What is told of sections, one after the other.
-use Rattle.std.proofs.Common.{◌≡◌, ◌<◌, ◌≤◌, ◌+◌, ℕ, List, [], ◌∷◌, ◌++◌, length, map, take, drop, get_or, Ok, sym, ap, ◌∙◌, subst, arith}
+use Rattle.std.proofs.Common.{◌≡◌, ◌<◌, ◌≤◌, ◌+◌, ℕ, Bool, List, [], ◌∷◌, ◌++◌, length, map, take, drop, get_or, Ok, sym, ap, ◌∙◌, subst, arith}
 use Rattle.std.specs.List.{All}
 use Rattle.std.proofs.lemmas.List.{get_or_default, map-append, take_more}
 use Rattle.std.proofs.lemmas.List.Elements.{All-append, All-cons, All-nil}
+use Rattle.boot_base.specs.Paths.{Path}
 use Rattle.boot_base.specs.declared.refusal.Refusal.{Refusal}
+use Rattle.boot_machine.specs.Disk.{Files}
 use Rattle.std.specs.Prelude.{Result}
 use Rattle.pcr_values.specs.declared.bank.Bank.TheVariants as banks
 use Rattle.pcr_values.specs.Banks.{digest_of}
@@ -15,7 +17,10 @@ use Rattle.pe_reader.specs.LoadedBytes.{bytes_in, no_section, range_of}
 use Rattle.pe_reader.proofs.Ranges.{length-bytes_in, range_inside}
 use Rattle.list_json.specs.Sections.{SectionFacts, facts_of}
 use Rattle.list_json.specs.declared.inspection.Inspected.{Inspected}
-use Rattle.image_commands.specs.Said.{section_facts}
+use Rattle.command_plans.specs.Files.{image_at}
+use Rattle.command_plans.proofs.Declining.{done_next}
+use Rattle.image_commands.specs.Told.{told_sections}
+use Rattle.image_commands.specs.Said.{inspection, inspection_at, section_facts}
 
 -- the raw data of each section of a PE32+ file lie in it
 pub item_inside : (file now : List ℕ) (h : Headers) (sections : List Section) (i : ℕ) (d : Section) → pe_of file ≡ Ok h → now ≡ file → sections ≡ h.sections → i < length sections
@@ -51,3 +56,15 @@ all_more P before after one all is after_is = subst (All P) (sym after_is) (All-
 
 pub unwrapped : (a b : SectionFacts) (one other : Result SectionFacts Refusal) → one ≡ Ok a → other ≡ Ok b → one ≡ other → a ≡ b
 unwrapped a b one other is_one is_other same = cc
+
+-- what is said of the image at a path is the text of what was found of its sections
+pub inspection_said : (view : Files) (json : Bool) (path : Path) (file now : List ℕ) (h : Headers) (found shown : List Inspected) (text : List ℕ) → image_at view path ≡ Ok (file, h) → now ≡ file
+    → ◌≡◌ {A = Result (List SectionFacts) Refusal} (Ok (map (section_facts now) h.sections)) (Ok (map facts_of found)) → shown ≡ found → text ≡ told_sections json path (map facts_of shown)
+    → inspection_at view json path ≡ Ok text
+inspection_said view json path file now h found shown text is same are shown_are told =
+    let facts : map (section_facts now) h.sections ≡ map facts_of found = cc are in
+    done_next (image_at view path) (file, h) (λ image. Ok (inspection json path image.0 image.1)) is
+    ∙ ap (λ (l : List ℕ). Ok (told_sections json path (map (section_facts l) h.sections))) (sym same)
+    ∙ ap (λ (l : List SectionFacts). Ok (told_sections json path l)) facts
+    ∙ ap (λ (l : List Inspected). Ok (told_sections json path (map facts_of l))) (sym shown_are)
+    ∙ ap Ok (sym told)

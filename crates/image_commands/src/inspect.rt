@@ -1,5 +1,5 @@
 //! `ukify inspect`: the sections of an image.
-ghost use Rattle.std.specs.Prelude.{◌≡◌, ◌<◌, ◌≤◌, ◌+◌, All, IfOk, IsTrue, Ok, drop, length, map, sum_by};
+ghost use Rattle.std.specs.Prelude.{◌≡◌, ◌≤◌, ◌+◌, All, IfOk, IsTrue, Ok, drop, length, map, sum_by};
 ghost use Rattle.boot_machine.specs.Prelude.{Looks, TakesAtMost, contents, seen};
 ghost use Rattle.pcr_values.specs.Prelude.{bank_of};
 ghost use Rattle.pcr_values.specs.declared.bank.Bank.TheVariants as banks;
@@ -12,7 +12,7 @@ ghost use Rattle.stub_replay.specs.Measured.{raw_length};
 ghost use Rattle.image_commands.specs.Taking.{all_raw_length, found_bytes, named_content};
 
 use crate::told::told_sections;
-use boot_base::{BootPath, Bytes, PIECE_SIZE, short_name};
+use boot_base::{BootPath, Buffer, Bytes, PIECE_SIZE, short_name};
 use boot_machine::Machine;
 use command_plans::{Plan, Stop, Unsaid, image_head, path_in, push, text_or_refusal};
 use list_json::Inspected;
@@ -26,11 +26,9 @@ fn inspected_section<M: Machine>(
     alloc: Global,
     section: &Section,
     path: &BootPath,
-    buffer: &mut [u8],
+    buffer: &mut Buffer,
     machine: &mut M,
 ) -> Result<Inspected, Unsaid>
-    requires room { 0 < length buffer.old }
-    ensures room { length buffer.new ≡ length buffer.old }
     ensures sha256 { IfOk result (λ found. bank_of found.digest ≡ banks.Sha256) }
     ensures says { IsTrue M.tells
         → (range_of section.now).length
@@ -54,11 +52,10 @@ fn inspected_sections<M: Machine>(
     alloc: Global,
     path: &BootPath,
     head: &Pe,
-    buffer: &mut [u8],
+    buffer: &mut Buffer,
     machine: &mut M,
 ) -> Result<Vec<Inspected>, Unsaid>
     requires head { IsTrue M.tells → pe_of (contents (M.state machine.old).files path.now) ≡ Ok (headers_of head.now) }
-    requires room { 0 < length buffer.old }
     ensures sha256 { IfOk result (λ found. All (λ section. bank_of section.digest ≡ banks.Sha256) found.items) }
     ensures says { IsTrue M.tells → Says (λ found. map facts_of found.items) result
         (Ok (map (section_facts (contents (M.state machine.old).files path.now)) (headers_of head.now).sections)) }

@@ -86,12 +86,10 @@ fn measure_sections<M: Machine>(
     machine: &mut M,
     path: &BootPath,
     head: &Pe,
-    buffer: &mut [u8],
+    buffer: &mut Buffer,
 ) -> Result<(), DiskFault>
     requires between { AreBetween registers.old }
     requires head { IsTrue M.tells → pe_of (contents (M.state machine.old).files path.now) ≡ Ok (headers_of head.now) }
-    requires room { 0 < length buffer.old }
-    ensures length { length buffer.new ≡ length buffer.old }
     ensures value { OnOk result (ExtendsWhere (IsTrue M.tells)
         (measured_list (contents (M.state machine.old).files path.now)) registers.old registers.new) }
     ensures looks { Looks M.tells M.time M.state M.counts (CountsDisk result) machine.old machine.new }
@@ -112,12 +110,10 @@ fn measure_section<M: Machine>(
     path: &BootPath,
     head: &Pe,
     name: &[u8],
-    buffer: &mut [u8],
+    buffer: &mut Buffer,
 ) -> Result<(), DiskFault>
     requires between { AreBetween registers.old }
     requires head { IsTrue M.tells → pe_of (contents (M.state machine.old).files path.now) ≡ Ok (headers_of head.now) }
-    requires room { 0 < length buffer.old }
-    ensures length { length buffer.new ≡ length buffer.old }
     ensures value { OnOk result (ExtendsWhere (IsTrue M.tells)
         (section_items name.now (loaded_bytes (contents (M.state machine.old).files path.now) name.now)) registers.old
         registers.new) }
@@ -149,12 +145,10 @@ pub fn range_digest<M: Machine>(
     machine: &mut M,
     path: &BootPath,
     range: LoadedRange,
-    buffer: &mut [u8],
+    buffer: &mut Buffer,
 ) -> Result<Digest, DiskFault>
     requires place { range.place < 2 ^ 32 }
     requires size { range.length + range.zeros < 2 ^ 32 }
-    requires room { 0 < length buffer.old }
-    ensures length { length buffer.new ≡ length buffer.old }
     ensures bank { IfOk result (λ digest. bank_of digest ≡ bank) }
     ensures value { IfOk result (λ digest. IsTrue M.tells
         → range.length ≤ length (drop range.place (contents (M.state machine.old).files path.now))

@@ -1,5 +1,5 @@
 //! The bytes of contents, taken into the hashes of registers.
-ghost use Rattle.std.specs.Prelude.{◌≡◌, ◌<◌, ◌≤◌, ◌+◌, ◌^◌, length, take, drop, replicate, sum_by, IfOk, OnOk, IsTrue};
+ghost use Rattle.std.specs.Prelude.{◌≡◌, ◌<◌, ◌≤◌, ◌+◌, ◌^◌, length, take, drop, replicate, sum_by, OnOk, IsTrue};
 ghost use Rattle.std.specs.List.{AllZip};
 ghost use Rattle.boot_machine.specs.Prelude.{CountsDisk, Looks, TakesAtMost, contents, seen};
 ghost use Rattle.pe_reader.specs.Prelude.{bytes_in};
@@ -10,7 +10,7 @@ ghost use Rattle.stub_replay.specs.Taking.{TakesWhere};
 
 use crate::measurable::Content;
 use crate::register::{Hashes, Register, update_all};
-use boot_base::BootPath;
+use boot_base::{BootPath, Buffer};
 use boot_machine::{DiskFault, Machine, stream_range};
 use pe_reader::LoadedRange;
 use uki_parts::Piece;
@@ -21,11 +21,9 @@ pub(crate) fn take_content<M: Machine>(
     registers: &mut [Register],
     machine: &mut M,
     content: &Content,
-    buffer: &mut [u8],
+    buffer: &mut Buffer,
 ) -> Result<(), DiskFault>
     requires placed { IsPlaced content.now }
-    requires room { 0 < length buffer.old }
-    ensures length { length buffer.new ≡ length buffer.old }
     ensures data { OnOk result
         (TakesWhere (IsTrue M.tells × IsWhole (contents (seen (M.state machine.old))) content.now)
         (content_bytes (contents (seen (M.state machine.old))) content.now) registers.old registers.new) }
@@ -47,10 +45,8 @@ fn take_pieces<M: Machine>(
     registers: &mut [Register],
     machine: &mut M,
     pieces: &[Piece],
-    buffer: &mut [u8],
+    buffer: &mut Buffer,
 ) -> Result<(), DiskFault>
-    requires room { 0 < length buffer.old }
-    ensures length { length buffer.new ≡ length buffer.old }
     ensures data { OnOk result
         (TakesWhere (IsTrue M.tells × HasSizes (contents (seen (M.state machine.old))) pieces.now)
         (bytes_of (contents (seen (M.state machine.old))) pieces.now) registers.old registers.new) }
@@ -69,10 +65,8 @@ fn take_piece<M: Machine>(
     registers: &mut [Register],
     machine: &mut M,
     piece: &Piece,
-    buffer: &mut [u8],
+    buffer: &mut Buffer,
 ) -> Result<(), DiskFault>
-    requires room { 0 < length buffer.old }
-    ensures length { length buffer.new ≡ length buffer.old }
     ensures data { OnOk result (TakesWhere (IsTrue M.tells
         × (length (piece_bytes (contents (seen (M.state machine.old))) piece.now) ≡ piece_length piece.now))
         (piece_bytes (contents (seen (M.state machine.old))) piece.now) registers.old registers.new) }
@@ -93,9 +87,7 @@ fn take_piece<M: Machine>(
 }
 
 // Takes so many zeros, through the buffer, which is filled with them once.
-fn take_zeros(registers: &mut [Register], count: u64, buffer: &mut [u8])
-    requires room { 0 < length buffer.old }
-    ensures length { length buffer.new ≡ length buffer.old }
+fn take_zeros(registers: &mut [Register], count: u64, buffer: &mut Buffer)
     ensures data { AllZip (Takes (replicate count 0)) registers.old registers.new }
 {
     let room = buffer.len().min(count as usize);
@@ -124,12 +116,10 @@ pub(crate) fn take_loaded<M: Machine>(
     machine: &mut M,
     path: &BootPath,
     range: LoadedRange,
-    buffer: &mut [u8],
+    buffer: &mut Buffer,
 ) -> Result<(), DiskFault>
     requires place { range.place < 2 ^ 32 }
     requires size { range.length + range.zeros < 2 ^ 32 }
-    requires room { 0 < length buffer.old }
-    ensures length { length buffer.new ≡ length buffer.old }
     ensures data { OnOk result (TakesWhere
         (IsTrue M.tells × (range.length ≤ length (drop range.place (contents (seen (M.state machine.old)) path.now))))
         (bytes_in (contents (seen (M.state machine.old)) path.now) range) registers.old registers.new) }
@@ -148,11 +138,9 @@ fn take_range<M: Machine>(
     path: &BootPath,
     at: u64,
     count: u64,
-    buffer: &mut [u8],
+    buffer: &mut Buffer,
 ) -> Result<(), DiskFault>
     requires end { at + count < 2 ^ 64 }
-    requires room { 0 < length buffer.old }
-    ensures length { length buffer.new ≡ length buffer.old }
     ensures data { OnOk result (TakesWhere
         (IsTrue M.tells × (count ≤ length (drop at (contents (seen (M.state machine.old)) path.now))))
         (take count (drop at (contents (seen (M.state machine.old)) path.now))) registers.old registers.new) }

@@ -1,5 +1,5 @@
 //! The values that registers come to.
-ghost use Rattle.std.specs.Prelude.{◌≡◌, ◌<◌, length, map, All, IfOk, OnOk, IsTrue};
+ghost use Rattle.std.specs.Prelude.{◌≡◌, map, All, IfOk, OnOk, IsTrue};
 ghost use Rattle.boot_machine.specs.Prelude.{CountsDisk, Looks, TakesAtMost, contents, seen};
 ghost use Rattle.pcr_values.specs.Prelude.{fold_pcr, pcr_bank, pcr_value};
 ghost use Rattle.stub_replay.specs.Measured.{section_items};
@@ -11,15 +11,15 @@ use crate::fault::PredictFault;
 use crate::measurable::{Measurable, content_length};
 use crate::pieces::take_content;
 use crate::register::{Register, begin_all, close_all, values};
+use boot_base::Buffer;
 use boot_machine::{DiskFault, Machine};
 use pcr_values::{Bank, Pcr};
 use std::alloc::Global;
 
 /// PCR 11 of each bank, in the order of the banks, after a stub has measured these parts in their order and before
 /// any word of a phase path: each part by its name with one NUL and then by its bytes, and nothing of an empty part
-/// (systemd's TPM2 PCR document, PCR 11). What stands in files is read once for all banks, in pieces of the buffer's
-/// length; nothing is changed, and afterwards the buffer holds anything. Zeros stand for bytes that the machine doesn't
-/// give.
+/// (systemd's TPM2 PCR document, PCR 11). What stands in files is read once for all banks, through the buffer; nothing
+/// is changed, and afterwards the buffer holds anything. Zeros stand for bytes that the machine doesn't give.
 ///
 /// # Errors
 ///
@@ -29,11 +29,9 @@ pub fn predict<M: Machine>(
     machine: &mut M,
     parts: &[Measurable],
     banks: &[Bank],
-    buffer: &mut [u8],
+    buffer: &mut Buffer,
 ) -> Result<Vec<Pcr>, PredictFault>
-    requires room { 0 < length buffer.old }
     requires ranges { All (λ part. IsPlaced part.content) parts.now }
-    ensures length { length buffer.new ≡ length buffer.old }
     ensures banks { IfOk result (λ pcrs. map pcr_bank pcrs.items ≡ banks.now) }
     ensures value { IfOk result (λ pcrs. IsTrue M.tells → HaveSizes (contents (seen (M.state machine.old))) parts.now
         → map pcr_value pcrs.items
@@ -51,12 +49,10 @@ fn measure_all<M: Machine>(
     registers: &mut [Register],
     machine: &mut M,
     parts: &[Measurable],
-    buffer: &mut [u8],
+    buffer: &mut Buffer,
 ) -> Result<(), DiskFault>
     requires between { AreBetween registers.old }
-    requires room { 0 < length buffer.old }
     requires ranges { All (λ part. IsPlaced part.content) parts.now }
-    ensures length { length buffer.new ≡ length buffer.old }
     ensures value { OnOk result (ExtendsWhere
         (IsTrue M.tells × HaveSizes (contents (seen (M.state machine.old))) parts.now)
         (items_of (map (named_bytes (contents (seen (M.state machine.old)))) parts.now)) registers.old registers.new) }
@@ -74,12 +70,10 @@ pub(crate) fn measure_part<M: Machine>(
     registers: &mut [Register],
     machine: &mut M,
     part: &Measurable,
-    buffer: &mut [u8],
+    buffer: &mut Buffer,
 ) -> Result<(), DiskFault>
     requires between { AreBetween registers.old }
-    requires room { 0 < length buffer.old }
     requires range { IsPlaced part.now.content }
-    ensures length { length buffer.new ≡ length buffer.old }
     ensures value { OnOk result (ExtendsWhere
         (IsTrue M.tells × IsWhole (contents (seen (M.state machine.old))) part.now.content)
         (section_items part.now.name.now (content_bytes (contents (seen (M.state machine.old))) part.now.content))

@@ -13,15 +13,11 @@ fn same_piece<M: Machine>(
     at: u64,
     left: u64,
     machine: &mut M,
-    one: &mut [u8],
-    other: &mut [u8],
+    one: &mut Buffer,
+    other: &mut Buffer,
 ) -> Result<u64, DiskFault>
     requires left { 0 < left }
     requires end { at + left < 2 ^ 64 }
-    requires room { 0 < length one.old }
-    requires both { length other.old ≡ length one.old }
-    ensures room { length one.new ≡ length one.old }
-    ensures both { length other.new ≡ length one.old }
     ensures within { IfOk result (λ count. count ≤ left) }
     ensures same { IfOk result (λ count. IsTrue M.tells
         → fill_with_zeros (drop at (contents (M.state machine.old).files first.now)) count

@@ -1,5 +1,5 @@
 //! The payloads that files are, found by reads in pieces.
-ghost use Rattle.std.specs.Prelude.{◌≡◌, ◌<◌, ◌≤◌, true, length, All, IfOk, IsTrue};
+ghost use Rattle.std.specs.Prelude.{◌≡◌, ◌≤◌, true, length, All, IfOk, IsTrue};
 ghost use Rattle.hex.specs.Hex.{encode_lower};
 ghost use Rattle.boot_base.specs.Limits.{file_limit};
 ghost use Rattle.boot_machine.specs.Prelude.{CountsDisk, Looks, contents, seen};
@@ -9,7 +9,7 @@ ghost use Rattle.pcr_values.specs.declared.bank.Bank.TheVariants.{Sha256};
 ghost use Rattle.command_plans.specs.Prelude.{CountsUnsaid, Says, each};
 ghost use Rattle.type1_install.specs.Shown.{HasPayloadName, payload_at};
 
-use boot_base::{BootPath, Text};
+use boot_base::{BootPath, Buffer, Text};
 use boot_machine::{DiskFault, Machine};
 use command_plans::{Unsaid, push, readable_size};
 use pcr_values::{Bank, Digest};
@@ -29,11 +29,9 @@ fn file_digest<M: Machine>(
     path: &BootPath,
     size: u64,
     machine: &mut M,
-    buffer: &mut [u8],
+    buffer: &mut Buffer,
 ) -> Result<Digest, DiskFault>
     requires limit { size ≤ file_limit }
-    requires room { 0 < length buffer.old }
-    ensures room { length buffer.new ≡ length buffer.old }
     ensures bank { IfOk result (λ digest. bank_of digest ≡ Sha256) }
     ensures value { IfOk result (λ digest. IsTrue M.tells
         → length (contents (M.state machine.old).files path.now) ≡ size
@@ -70,10 +68,8 @@ pub(crate) fn payload_at<M: Machine>(
     alloc: Global,
     file: &BootPath,
     machine: &mut M,
-    buffer: &mut [u8],
+    buffer: &mut Buffer,
 ) -> Result<Payload, Unsaid>
-    requires room { 0 < length buffer.old }
-    ensures room { length buffer.new ≡ length buffer.old }
     ensures says { IsTrue M.tells
         → Says (λ payload. payload) result (payload_at (seen (M.state machine.old)) file.now) }
     ensures name { IfOk result HasPayloadName }
@@ -91,10 +87,8 @@ pub(crate) fn payloads_at<M: Machine>(
     alloc: Global,
     files: &[BootPath],
     machine: &mut M,
-    buffer: &mut [u8],
+    buffer: &mut Buffer,
 ) -> Result<Vec<Payload>, Unsaid>
-    requires room { 0 < length buffer.old }
-    ensures room { length buffer.new ≡ length buffer.old }
     ensures says { IsTrue M.tells → Says (λ payloads. payloads.items) result
         (each (payload_at (seen (M.state machine.old))) files.now) }
     ensures names { IfOk result (λ payloads. All HasPayloadName payloads.items) }

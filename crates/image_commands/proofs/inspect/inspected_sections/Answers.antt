@@ -1,4 +1,4 @@
-use Rattle.std.proofs.Common.{◌≡◌, rules, refl, ap, arith, ◌∙◌}
+use Rattle.std.proofs.Common.{◌≡◌, rules, refl, ap, arith}
 use Rattle.boot_machine.specs.Disk.{State}
 use Rattle.boot_machine.specs.Rows.{contents}
 use Rattle.pe_reader.specs.Reads.{headers_of}
@@ -13,7 +13,6 @@ use Rattle.image_commands.proofs.inspect.inspected_sections.Goals as goal
 
 pub loop-section-init : goal.loop-section-init
 loop-section-init g c = record {
-  room = refl;
   found = λ told. search rules;
   sha256 = search rules;
   reads = λ told. reads_none g.M.Machine.time g.M.Machine.state c.args.machine.now (λ m o left. g.met.M.Machine.only_now c.args.machine.now m o told left);
@@ -38,7 +37,6 @@ pub loop-section-preserved : goal.loop-section-preserved
 loop-section-preserved g c =
     let before = c.loop-section.invariant in
     record {
-      room = c.inspected_section.ensures.room ∙ before.room;
       found = λ told.
           let same = ap (λ (s : State). contents s.files c.args.path.now) (before.reads told).same in
           facts_more (contents (g.M.Machine.state c.args.machine.now).files c.args.path.now) _ c.sections-section-items.result.now c.loop-section.section-index _ c.loop-section.found.items c.push.new.items.items c.in_ok-section.section c.loop-section-test.true same (before.found told) (search rules)

@@ -1,4 +1,4 @@
-use Rattle.std.proofs.Common.{◌≡◌, All, IsTrue, length, map, take}
+use Rattle.std.proofs.Common.{◌≡◌, All, IsTrue, map, take}
 use Rattle.std.specs.Prelude.{sum_by}
 use Rattle.boot_machine.specs.Reading.{OnlyReads, TakesAtMost}
 use Rattle.boot_machine.specs.Rows.{contents}
@@ -11,7 +11,6 @@ use Rattle.image_commands.proofs.inspect.inspected_sections.Given as goal
 
 abbrev pub invariant-loop-section : goal.invariant-loop-section
 invariant-loop-section g l = record {
-  room : length l.buffer ≡ length l.initial.buffer;
   found : IsTrue g.M.Machine.tells → map facts_of l.found.items ≡ map (section_facts (contents (g.M.Machine.state l.initial.machine).files l.path)) (take l.section-index l.section-items);
   sha256 : All (λ section. bank_of section.digest ≡ banks.Sha256) l.found.items;
   reads : IsTrue g.M.Machine.tells → OnlyReads g.M.Machine.time g.M.Machine.state l.initial.machine l.machine;

@@ -1,8 +1,10 @@
-use Rattle.std.proofs.Common.{rules}
+use Rattle.std.proofs.Common.{ap, rules}
+use Rattle.boot_machine.specs.Disk.{State}
 use Rattle.boot_machine.proofs.Reading.{looks_on}
 use Rattle.boot_machine.specs.Rows.{contents}
 use Rattle.boot_machine.specs.Sent.{seen}
 use Rattle.pe_reader.specs.Reads.{headers_of}
+use Rattle.image_commands.proofs.Inspecting.{inspection_said}
 use Rattle.image_commands.proofs.Taking.{inspected_taken}
 use Rattle.image_commands.proofs.inspect.inspection.Goals as goal
 
@@ -21,6 +23,12 @@ pub returns-in_err-told_sections-clause-taken : goal.returns-in_err-told_section
 returns-in_err-told_sections-clause-taken g c told =
     inspected_taken (seen (g.M.Machine.state c.args.machine.now)) c.args.path.now (contents (g.M.Machine.state c.args.machine.now).files c.args.path.now) (headers_of c.in_ok-head.head) _ _ _
     (c.in_ok-head.ensures.image told) (c.image_head.ensures.taken told) (c.inspected_sections.ensures.taken told)
+
+pub returns-clause-says : goal.returns-clause-says
+returns-clause-says g c told =
+    inspection_said (seen (g.M.Machine.state c.args.machine.now)) c.args.json c.args.path.now (contents (g.M.Machine.state c.args.machine.now).files c.args.path.now) _ (headers_of c.in_ok-head.head)
+    c.in_ok-found.found.items c.deref.result.now c.in_ok-told_sections.field-0.items
+    (c.in_ok-head.ensures.image told) (ap (λ (s : State). contents s.files c.args.path.now) (c.image_head.ensures.looks.reads told).same) (c.in_ok-found.ensures.says told) c.deref.ensures.value c.in_ok-told_sections.ensures
 
 pub returns-clause-looks : goal.returns-clause-looks
 returns-clause-looks g c = looks_on c.image_head.ensures.looks c.inspected_sections.ensures.looks (search rules)

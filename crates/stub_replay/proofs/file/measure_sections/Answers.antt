@@ -9,7 +9,6 @@ use Rattle.stub_replay.proofs.file.measure_sections.Goals as goal
 
 pub loop-name-init : goal.loop-name-init
 loop-name-init g c = record {
-  room = refl;
   measured = measured_none (IsTrue g.M.Machine.tells) c.args.registers.now;
   reads = λ told. reads_none g.M.Machine.time g.M.Machine.state c.args.machine.now (λ m o left. g.met.M.Machine.only_now c.args.machine.now m o told left);
   counts = refl;
@@ -42,7 +41,6 @@ loop-name-preserved g c =
     let same : IsTrue g.M.Machine.tells → contents (g.M.Machine.state c.loop-name.machine).files c.args.path.now ≡ file = λ told. ap (λ (s : State). contents s.files c.args.path.now) (before.reads told).same in
     let at = name_at c.measured_names-name-items.result.now c.loop-name.name-index _ c.measured_names-name-items.ensures (omega arith) in
     record {
-      room = search rules;
       measured = sections_more (IsTrue g.M.Machine.tells) file _ _ c.loop-name.name-index c.args.registers.now c.loop-name.registers c.measure_section.new.registers same at before.measured section.value;
       reads = λ told. reads_on g.M.Machine.time g.M.Machine.state _ _ _ (before.reads told) (c.measure_section.ensures.looks.reads told);
       counts = search rules;

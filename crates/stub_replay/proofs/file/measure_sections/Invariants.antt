@@ -1,4 +1,4 @@
-use Rattle.std.proofs.Common.{◌≡◌, IsTrue, length}
+use Rattle.std.proofs.Common.{◌≡◌, IsTrue}
 use Rattle.boot_machine.specs.Rows.{contents}
 use Rattle.boot_machine.specs.Reading.{OnlyReads, TakesAtMost}
 use Rattle.stub_replay.specs.Taking.{ExtendsWhere}
@@ -7,7 +7,6 @@ use Rattle.stub_replay.proofs.file.measure_sections.Given as goal
 
 abbrev pub invariant-loop-name : goal.invariant-loop-name
 invariant-loop-name g l = record {
-  room : length l.buffer ≡ length l.initial.buffer;
   measured : ExtendsWhere (IsTrue g.M.Machine.tells) (items_until (contents (g.M.Machine.state l.initial.machine).files l.path) l.name-index) l.initial.registers l.registers;
   reads : IsTrue g.M.Machine.tells → OnlyReads g.M.Machine.time g.M.Machine.state l.initial.machine l.machine;
   counts : g.M.Machine.counts l.machine ≡ g.M.Machine.counts l.initial.machine;

@@ -10,7 +10,6 @@ use Rattle.stub_replay.proofs.pieces.take_pieces.Goals as goal
 
 pub loop-piece-init : goal.loop-piece-init
 loop-piece-init g c = record {
-  room = refl;
   hashed = where_none _ c.args.registers.now;
   reads = λ told. reads_none g.M.Machine.time g.M.Machine.state c.args.machine.now (λ m o left. g.met.M.Machine.only_now c.args.machine.now m o told left);
   counts = refl;
@@ -28,7 +27,6 @@ loop-piece-preserved g c =
     let before = c.loop-piece.invariant in
     let piece = c.in_ok-take_piece.ensures in
     record {
-      room = search rules;
       hashed = pieces_more g.M.Machine.tells (contents (seen (g.M.Machine.state c.args.machine.now))) (contents (seen (g.M.Machine.state c.loop-piece.machine)))
           c.args.pieces.now c.loop-piece.piece-index c.piece-item.result c.args.registers.now c.loop-piece.registers c.take_piece.new.registers
           (λ told. ap (λ (s : State). contents (seen s)) (before.reads told).same) (omega arith) c.piece-item.is before.hashed piece.data;

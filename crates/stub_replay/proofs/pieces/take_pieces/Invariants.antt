@@ -1,4 +1,4 @@
-use Rattle.std.proofs.Common.{◌≡◌, IsTrue, length, take}
+use Rattle.std.proofs.Common.{◌≡◌, IsTrue, take}
 use Rattle.std.specs.Prelude.{sum_by}
 use Rattle.boot_machine.specs.Rows.{contents}
 use Rattle.boot_machine.specs.Sent.{seen}
@@ -9,7 +9,6 @@ use Rattle.stub_replay.proofs.pieces.take_pieces.Given as goal
 
 abbrev pub invariant-loop-piece : goal.invariant-loop-piece
 invariant-loop-piece g l = record {
-  room : length l.buffer ≡ length l.initial.buffer;
   hashed : TakesWhere (IsTrue g.M.Machine.tells × HasSizes (contents (seen (g.M.Machine.state l.initial.machine))) l.pieces)
       (bytes_of (contents (seen (g.M.Machine.state l.initial.machine))) (take l.piece-index l.pieces)) l.initial.registers l.registers;
   reads : IsTrue g.M.Machine.tells → OnlyReads g.M.Machine.time g.M.Machine.state l.initial.machine l.machine;

@@ -11,7 +11,6 @@ use Rattle.stub_replay.proofs.prediction.measure_all.Goals as goal
 
 pub loop-part-init : goal.loop-part-init
 loop-part-init g c = record {
-  room = refl;
   value = measured_none _ c.args.registers.now;
   reads = λ told. reads_none g.M.Machine.time g.M.Machine.state c.args.machine.now (λ m o left. g.met.M.Machine.only_now c.args.machine.now m o told left);
   counts = refl;
@@ -33,7 +32,6 @@ loop-part-preserved g c =
     let before = c.loop-part.invariant in
     let part = c.in_ok-measure_part.ensures in
     record {
-      room = search rules;
       value = parts_more g.M.Machine.tells (contents (seen (g.M.Machine.state c.args.machine.now))) (contents (seen (g.M.Machine.state c.loop-part.machine)))
           c.args.parts.now c.loop-part.part-index c.part-item.result c.args.registers.now c.loop-part.registers c.measure_part.new.registers
           (λ told. ap (λ (s : State). contents (seen s)) (before.reads told).same) (omega arith) c.part-item.is before.value part.value;

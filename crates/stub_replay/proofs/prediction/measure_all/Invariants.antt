@@ -1,4 +1,4 @@
-use Rattle.std.proofs.Common.{◌≡◌, IsTrue, length, take, map}
+use Rattle.std.proofs.Common.{◌≡◌, IsTrue, take, map}
 use Rattle.boot_machine.specs.Rows.{contents}
 use Rattle.boot_machine.specs.Sent.{seen}
 use Rattle.boot_machine.specs.Reading.{OnlyReads, TakesAtMost}
@@ -8,7 +8,6 @@ use Rattle.stub_replay.proofs.prediction.measure_all.Given as goal
 
 abbrev pub invariant-loop-part : goal.invariant-loop-part
 invariant-loop-part g l = record {
-  room : length l.buffer ≡ length l.initial.buffer;
   value : ExtendsWhere (IsTrue g.M.Machine.tells × HaveSizes (contents (seen (g.M.Machine.state l.initial.machine))) l.parts)
       (items_of (map (named_bytes (contents (seen (g.M.Machine.state l.initial.machine)))) (take l.part-index l.parts))) l.initial.registers l.registers;
   reads : IsTrue g.M.Machine.tells → OnlyReads g.M.Machine.time g.M.Machine.state l.initial.machine l.machine;

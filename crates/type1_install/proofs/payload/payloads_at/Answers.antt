@@ -13,7 +13,6 @@ use Rattle.type1_install.proofs.payload.payloads_at.Goals as goal
 
 pub loop-file-init : goal.loop-file-init
 loop-file-init g c = record {
-  room = refl;
   found = λ told. each_none _ ∙ ap Ok (sym c.new-payloads.ensures.items);
   names = subst (All HasPayloadName) (sym c.new-payloads.ensures.items) (All-nil HasPayloadName);
   count = ap length c.new-payloads.ensures.items;
@@ -46,7 +45,6 @@ loop-file-preserved g c =
     let before = c.loop-file.invariant in
     let first = g.M.Machine.state c.args.machine.now in
     record {
-      room = c.payload_at.ensures.room ∙ before.room;
       found = λ told.
           each_taken (payload_at (seen first)) c.args.files.now c.loop-file.file-index c.loop-file.payloads.items c.push.new.items.items c.file-item.result c.file-item.result c.in_ok-payload.payload c.loop-file-test.true (before.found told) c.file-item.is
           (subst (λ (s : State). payload_at (seen s) c.file-item.result ≡ Ok c.in_ok-payload.payload) (before.reads told).same (c.in_ok-payload.ensures.says told))

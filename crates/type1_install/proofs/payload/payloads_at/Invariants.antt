@@ -8,7 +8,6 @@ use Rattle.type1_install.proofs.payload.payloads_at.Given as goal
 
 abbrev pub invariant-loop-file : goal.invariant-loop-file
 invariant-loop-file g l = record {
-  room : length l.buffer ≡ length l.initial.buffer;
   found : IsTrue g.M.Machine.tells → each (payload_at (seen (g.M.Machine.state l.initial.machine))) (take l.file-index l.files) ≡ Ok l.payloads.items;
   names : All HasPayloadName l.payloads.items;
   count : length l.payloads.items ≡ l.file-index;
