@@ -1,5 +1,6 @@
 //! What rows are about.
 ghost use Rattle.std.specs.Prelude.{◌≤◌, length};
+ghost use Rattle.boot_base.specs.Limits.{file_limit};
 
 use crate::fault::RowFault;
 use boot_base::{BootPath, FILE_LIMIT, PathFault};
@@ -13,7 +14,7 @@ pub(crate) struct Case {
     pub(crate) sbat: Vec<u8>,
     /// Which call of the next machine fails.
     pub(crate) failing: Option<u64>,
-    ghost small: { length file.items ≤ 268435456 },
+    ghost small: { length file.items ≤ file_limit },
 }
 
 /// Where the file stands in a machine.
@@ -33,7 +34,7 @@ impl Case {
 
     /// The file's bytes.
     pub(crate) fn file(&self) -> &[u8]
-        ensures { length result.now ≤ 268435456 }
+        ensures { length result.now ≤ file_limit }
     {
         &self.file
     }

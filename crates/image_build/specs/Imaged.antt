@@ -1,6 +1,7 @@
 -- The plan of an image that is built of parts whose files are read.
 use Rattle.std.specs.Prelude.{◌≡◌, ℕ, ◌≤◌, ◌<◌, ◌-◌, ◌==◌, ◌^◌, Bool, not, List, ◌∷◌, [], codes, length, map, min, All, count_by, sum_by, option_map, Option, Some, Result, Ok, Err}
 use Rattle.std.specs.List.Sorted.{IsNonDecreasingBy}
+use Rattle.boot_base.specs.Limits.{file_limit}
 use Rattle.boot_base.specs.Paths.{Path}
 use Rattle.boot_base.specs.declared.refusal.Refusal.{Refusal}
 use Rattle.boot_machine.specs.Disk.{Files}
@@ -42,7 +43,7 @@ pub record AreOrdered (parts : List Part) (linux : Part) : Type 0 where
   pub early : All (λ part. part_place part ≤ append_place kinds.Extra) parts
   pub kind : linux.kind ≡ kinds.Linux
   pub name : linux.name ≡ padded_name (codes ".linux")
-  pub small : linux.length ≤ 268435456
+  pub small : linux.length ≤ file_limit
 
 -- The numbers of an image hold so many parts that add a section, so many bytes, and an SBAT text of that length.
 pub record IsCountable (parts : List Part) (sbat : List ℕ) : Type 0 where

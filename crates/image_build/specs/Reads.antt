@@ -4,7 +4,7 @@ use Rattle.boot_base.specs.Paths.{Path}
 use Rattle.pe_reader.specs.Grammar.{pe_of}
 use Rattle.pe_builder.specs.Replaced.{sbat_name}
 use Rattle.std.specs.List.{AllZip}
-use Rattle.pe_reader.specs.Reads.{ReadFrom, headers_of}
+use Rattle.pe_reader.specs.Reads.{ReadFrom, head_limit, headers_of}
 use Rattle.stub_replay.specs.Measured.{named_raw_length}
 use Rattle.uki_parts.specs.Names.{padded_name}
 use Rattle.uki_parts.specs.Pieces.{HasSizes, Reading, bytes_of, total_length}
@@ -115,5 +115,5 @@ loaded_sbat_length files path = named_raw_length sbat_name (pe_of (files path))
 abbrev pub reading_length : Reading → NamedFiles → ℕ
 reading_length files named =
     source_file_length files named.sbat
-    + (69463 + loaded_sbat_length files named.stub)
-    + (69463 + loaded_sbat_length files named.linux)
+    + (head_limit + loaded_sbat_length files named.stub)
+    + (head_limit + loaded_sbat_length files named.linux)

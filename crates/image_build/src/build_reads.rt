@@ -3,7 +3,7 @@ ghost use Rattle.std.specs.Prelude.{◌≡◌, ◌≤◌, ◌<◌, ◌+◌, ◌-
 ghost use Rattle.std.specs.List.{AllZip};
 ghost use Rattle.boot_machine.specs.Prelude.{Looks, TakesAtMost, contents, seen};
 ghost use Rattle.pe_builder.specs.Replaced.{sbat_name};
-ghost use Rattle.pe_reader.specs.Prelude.{pe_of, part, loaded_bytes, headers_of};
+ghost use Rattle.pe_reader.specs.Prelude.{pe_of, part, head_limit, loaded_bytes, headers_of};
 ghost use Rattle.uki_parts.specs.Pieces.{HasSizes, Reading, bytes_of, piece_bytes, piece_length, total_length};
 ghost use Rattle.uki_parts.specs.Sbat.{sbat_entries};
 ghost use Rattle.image_build.specs.Building.{contents_of, given_sbat, material_of, named_as, part_bytes, part_named, sbat_of, source_bytes};
@@ -197,13 +197,13 @@ fn kernel_sbat<M: Machine>(
     size: u64,
     machine: &mut M,
 ) -> Result<Vec<u8>, Unsaid>
-    requires small { size ≤ 268435456 }
+    requires small { size ≤ file_limit }
     requires size { IsTrue M.tells → size ≡ length (contents (seen (M.state machine.old)) path.now) }
     ensures says { IsTrue M.tells → Says (λ content. sbat_entries content.items) result
         (Ok (sbat_entries (loaded_bytes (contents (seen (M.state machine.old)) path.now) sbat_name))) }
     ensures looks { Looks M.tells M.time M.state M.counts (CountsUnsaid result) machine.old machine.new }
     ensures taken { IsTrue M.tells → TakesAtMost
-        (69463 + loaded_sbat_length (contents (seen (M.state machine.old))) path.now)
+        (head_limit + loaded_sbat_length (contents (seen (M.state machine.old))) path.now)
         (M.taken machine.old) (M.taken machine.new) }
 {
     match head_of_size(alloc, path, size, machine) {
@@ -278,7 +278,7 @@ fn image_sbat<M: Machine>(
     head: &Pe,
     machine: &mut M,
 ) -> Result<Vec<u8>, Unsaid>
-    requires small { found.now.linux_length ≤ 268435456 }
+    requires small { found.now.linux_length ≤ file_limit }
     requires size { IsTrue M.tells → found.now.linux_length
         ≡ length (contents (seen (M.state machine.old)) found.now.linux) }
     requires head { IsTrue M.tells → pe_of (contents (seen (M.state machine.old)) found.now.stub)
@@ -288,7 +288,7 @@ fn image_sbat<M: Machine>(
     ensures looks { Looks M.tells M.time M.state M.counts (CountsUnsaid result) machine.old machine.new }
     ensures taken { IsTrue M.tells → TakesAtMost
         (loaded_sbat_length (contents (seen (M.state machine.old))) found.now.stub
-        + (69463 + loaded_sbat_length (contents (seen (M.state machine.old))) found.now.linux))
+        + (head_limit + loaded_sbat_length (contents (seen (M.state machine.old))) found.now.linux))
         (M.taken machine.old) (M.taken machine.new) }
 {
     let stub = loaded_sbat(alloc, &found.stub, head, machine)?;
@@ -298,7 +298,7 @@ fn image_sbat<M: Machine>(
 
 // The kernel of that size as a part.
 fn kernel_part(alloc: Global, path: BootPath, size: u64) -> Result<Part, AllocError>
-    requires { size ≤ 268435456 }
+    requires { size ≤ file_limit }
     ensures kernel { IfOk result IsKernel }
     ensures bytes { IfOk result (λ part. (files : Reading) → bytes_of files part.pieces.items ≡ files path) }
     ensures sizes { IfOk result (λ part. (files : Reading) → length (files path) ≡ size → PartHasSizes files part) }

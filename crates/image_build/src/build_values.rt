@@ -18,7 +18,7 @@ use command_plans::{Unsaid, banks_of, paths_of};
 use pcr_values::{Bank, Pcr, result_lines};
 use pe_reader::Pe;
 use std::alloc::{AllocError, Global};
-use stub_replay::{Content, Measurable, PredictFault, measured_names, predict, push_part};
+use stub_replay::{Content, Measurable, measured_names, predict, push_part};
 use uki_parts::Part;
 
 // The first part of that name.
@@ -105,11 +105,7 @@ fn registers<M: Machine>(
 {
     let mut buffer = [0; PIECE_SIZE];
     let parts = measured_parts(alloc, plan)?;
-    match predict(alloc, machine, &parts, banks, &mut buffer) {
-        Ok(registers) => Ok(registers),
-        Err(PredictFault::Memory) => Err(Unsaid::Memory),
-        Err(PredictFault::Disk) => Err(Unsaid::Disk),
-    }
+    Ok(predict(alloc, machine, &parts, banks, &mut buffer)?)
 }
 
 /// The lines of what a stub comes to that measures the planned image, in all banks and after the usual phase paths.

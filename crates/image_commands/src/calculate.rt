@@ -20,7 +20,7 @@ use command_plans::{
 use pcr_values::{Bank, Pcr};
 use std::alloc::{AllocError, Global};
 use std::slice;
-use stub_replay::{Content, Measurable, PredictFault, predict};
+use stub_replay::{Content, Measurable, predict};
 use tool_words::CalculateWords;
 use uki_parts::Piece;
 
@@ -152,11 +152,7 @@ fn registers<M: Machine>(
 {
     let mut buffer = [0; PIECE_SIZE];
     let parts = file_parts(alloc, files)?;
-    match predict(alloc, machine, &parts, banks, &mut buffer) {
-        Ok(registers) => Ok(registers),
-        Err(PredictFault::Memory) => Err(Unsaid::Memory),
-        Err(PredictFault::Disk) => Err(Unsaid::Disk),
-    }
+    Ok(predict(alloc, machine, &parts, banks, &mut buffer)?)
 }
 
 // What the calculation says, or why there is nothing to say.

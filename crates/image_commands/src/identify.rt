@@ -1,7 +1,7 @@
 //! `bootctl kernel-identify`.
 ghost use Rattle.std.specs.Prelude.{◌≡◌, IfOk, IsTrue, List, Ok, ℕ};
 ghost use Rattle.boot_machine.specs.Prelude.{Looks, TakesAtMost, seen};
-ghost use Rattle.pe_reader.specs.Prelude.{pe_of, headers_of};
+ghost use Rattle.pe_reader.specs.Prelude.{pe_of, head_limit, headers_of};
 ghost use Rattle.command_plans.specs.Prelude.{CountsStop, CountsUnsaid, DeclinesWords, Plans, RefusesWords, Says, answer_of_read, path_in};
 ghost use Rattle.command_plans.specs.declared.plan.Change.TheVariants.{Nothing};
 ghost use Rattle.image_commands.specs.Said.{has_loaded, identify_result, kind_at, kind_of};
@@ -39,7 +39,7 @@ fn pe_kind(head: &Pe) -> &'static str
 fn kind<M: Machine>(alloc: Global, path: &BootPath, machine: &mut M) -> Result<&'static str, Unsaid>
     ensures kind { IsTrue M.tells → Says (λ text. text.now) result (kind_at (seen (M.state machine.old)) path.now) }
     ensures looks { Looks M.tells M.time M.state M.counts (CountsUnsaid result) machine.old machine.new }
-    ensures taken { IsTrue M.tells → TakesAtMost 69463 (M.taken machine.old) (M.taken machine.new) }
+    ensures taken { IsTrue M.tells → TakesAtMost head_limit (M.taken machine.old) (M.taken machine.new) }
 {
     let size = readable_size(alloc, path, machine)?;
     match Pe::read_head_of_size(alloc, machine, path, size) {
@@ -60,7 +60,7 @@ fn identify_result<M: Machine>(
         (identify_result (seen (M.state machine.old)) file.now) }
     ensures looks { Looks M.tells M.time M.state M.counts (CountsUnsaid result) machine.old machine.new }
     ensures words { DeclinesWords (path_in file.now) result }
-    ensures taken { IsTrue M.tells → TakesAtMost 69463 (M.taken machine.old) (M.taken machine.new) }
+    ensures taken { IsTrue M.tells → TakesAtMost head_limit (M.taken machine.old) (M.taken machine.new) }
 {
     let path = path_in(alloc, file)?;
     let kind = kind(alloc, &path, machine)?;
@@ -75,7 +75,7 @@ pub fn plan_identify<M: Machine>(alloc: Global, file: &str, machine: &mut M) -> 
     ensures idle { IfOk result (λ plan. plan.change ≡ Nothing) }
     ensures looks { Looks M.tells M.time M.state M.counts (CountsStop result) machine.old machine.new }
     ensures words { RefusesWords (path_in file.now) result }
-    ensures taken { IsTrue M.tells → TakesAtMost 69463 (M.taken machine.old) (M.taken machine.new) }
+    ensures taken { IsTrue M.tells → TakesAtMost head_limit (M.taken machine.old) (M.taken machine.new) }
 {
     let text = identify_result(alloc, file, machine);
     text_or_refusal(alloc, text)

@@ -2,7 +2,7 @@
 ghost use Rattle.std.specs.Prelude.{◌≡◌, ◌+◌, IfOk, IsTrue, Ok, map};
 ghost use Rattle.boot_machine.specs.Prelude.{Looks, TakesAtMost, contents, seen};
 ghost use Rattle.pcr_values.specs.Prelude.{fold_pcr, pcr_bank, pcr_value};
-ghost use Rattle.pe_reader.specs.Prelude.{pe_of, headers_of};
+ghost use Rattle.pe_reader.specs.Prelude.{pe_of, head_limit, headers_of};
 ghost use Rattle.stub_replay.specs.Measured.{measured_raw_length, measured_list};
 ghost use Rattle.command_plans.specs.Prelude.{CountsStop, CountsUnsaid, DeclinesWords, Plans, RefusesWords, Says, answer_of_read, bytes_at, path_in};
 ghost use Rattle.command_plans.specs.declared.plan.Change.TheVariants.{Nothing};
@@ -16,7 +16,7 @@ use command_plans::{Plan, Stop, Unsaid, banks_of, image_head, path_in, paths_of,
 use pcr_values::{Bank, Pcr};
 use pe_reader::Pe;
 use std::alloc::Global;
-use stub_replay::{PredictFault, replay_all};
+use stub_replay::replay_all;
 
 // The register of each bank after the image's stub has measured it.
 fn registers<M: Machine>(
@@ -36,11 +36,7 @@ fn registers<M: Machine>(
         (M.taken machine.old) (M.taken machine.new) }
 {
     let mut buffer = [0; PIECE_SIZE];
-    match replay_all(alloc, machine, path, head, banks, &mut buffer) {
-        Ok(registers) => Ok(registers),
-        Err(PredictFault::Memory) => Err(Unsaid::Memory),
-        Err(PredictFault::Disk) => Err(Unsaid::Disk),
-    }
+    Ok(replay_all(alloc, machine, path, head, banks, &mut buffer)?)
 }
 
 // The lines of the image at a path.
@@ -56,7 +52,7 @@ fn values<M: Machine>(
         (values_at (seen (M.state machine.old)) banks.now phases.now json path.now) }
     ensures looks { Looks M.tells M.time M.state M.counts (CountsUnsaid result) machine.old machine.new }
     ensures taken { IsTrue M.tells → TakesAtMost
-        (69463 + measured_raw_length (found_bytes (bytes_at (seen (M.state machine.old)) path.now)))
+        (head_limit + measured_raw_length (found_bytes (bytes_at (seen (M.state machine.old)) path.now)))
         (M.taken machine.old) (M.taken machine.new) }
 {
     let head = image_head(alloc, path, machine)?;
@@ -80,7 +76,7 @@ fn measure_result<M: Machine>(
     ensures looks { Looks M.tells M.time M.state M.counts (CountsUnsaid result) machine.old machine.new }
     ensures words { DeclinesWords (path_in file.now) result }
     ensures taken { IsTrue M.tells → TakesAtMost
-        (69463 + measured_raw_length (named_content (seen (M.state machine.old)) file.now))
+        (head_limit + measured_raw_length (named_content (seen (M.state machine.old)) file.now))
         (M.taken machine.old) (M.taken machine.new) }
 {
     let path = path_in(alloc, file)?;
@@ -105,7 +101,7 @@ pub fn plan_image<M: Machine>(
     ensures looks { Looks M.tells M.time M.state M.counts (CountsStop result) machine.old machine.new }
     ensures words { RefusesWords (path_in file.now) result }
     ensures taken { IsTrue M.tells → TakesAtMost
-        (69463 + measured_raw_length (named_content (seen (M.state machine.old)) file.now))
+        (head_limit + measured_raw_length (named_content (seen (M.state machine.old)) file.now))
         (M.taken machine.old) (M.taken machine.new) }
 {
     let text = measure_result(alloc, file, banks, phases, json, machine);

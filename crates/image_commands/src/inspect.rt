@@ -3,7 +3,7 @@ ghost use Rattle.std.specs.Prelude.{◌≡◌, ◌≤◌, ◌+◌, All, IfOk, Is
 ghost use Rattle.boot_machine.specs.Prelude.{Looks, TakesAtMost, contents, seen};
 ghost use Rattle.pcr_values.specs.Prelude.{bank_of};
 ghost use Rattle.pcr_values.specs.declared.bank.Bank.TheVariants as banks;
-ghost use Rattle.pe_reader.specs.Prelude.{pe_of, range_of, headers_of};
+ghost use Rattle.pe_reader.specs.Prelude.{pe_of, range_of, head_limit, headers_of};
 ghost use Rattle.list_json.specs.Sections.{facts_of};
 ghost use Rattle.command_plans.specs.Prelude.{CountsStop, CountsUnsaid, DeclinesWords, Plans, RefusesWords, Says, answer_of_read, bytes_at, path_in};
 ghost use Rattle.command_plans.specs.declared.plan.Change.TheVariants.{Nothing};
@@ -82,7 +82,7 @@ fn inspection<M: Machine>(
         (inspection_at (seen (M.state machine.old)) json path.now) }
     ensures looks { Looks M.tells M.time M.state M.counts (CountsUnsaid result) machine.old machine.new }
     ensures taken { IsTrue M.tells → TakesAtMost
-        (69463 + all_raw_length (pe_of (found_bytes (bytes_at (seen (M.state machine.old)) path.now))))
+        (head_limit + all_raw_length (pe_of (found_bytes (bytes_at (seen (M.state machine.old)) path.now))))
         (M.taken machine.old) (M.taken machine.new) }
 {
     let head = image_head(alloc, path, machine)?;
@@ -103,7 +103,7 @@ fn inspect_result<M: Machine>(
     ensures looks { Looks M.tells M.time M.state M.counts (CountsUnsaid result) machine.old machine.new }
     ensures words { DeclinesWords (path_in file.now) result }
     ensures taken { IsTrue M.tells → TakesAtMost
-        (69463 + all_raw_length (pe_of (named_content (seen (M.state machine.old)) file.now)))
+        (head_limit + all_raw_length (pe_of (named_content (seen (M.state machine.old)) file.now)))
         (M.taken machine.old) (M.taken machine.new) }
 {
     let path = path_in(alloc, file)?;
@@ -125,7 +125,7 @@ pub fn plan_inspect<M: Machine>(
     ensures looks { Looks M.tells M.time M.state M.counts (CountsStop result) machine.old machine.new }
     ensures words { RefusesWords (path_in file.now) result }
     ensures taken { IsTrue M.tells → TakesAtMost
-        (69463 + all_raw_length (pe_of (named_content (seen (M.state machine.old)) file.now)))
+        (head_limit + all_raw_length (pe_of (named_content (seen (M.state machine.old)) file.now)))
         (M.taken machine.old) (M.taken machine.new) }
 {
     let text = inspect_result(alloc, file, json, machine);

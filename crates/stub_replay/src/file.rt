@@ -1,20 +1,18 @@
 //! What a stub measures of the image in a machine's file, read in pieces.
 ghost use Rattle.std.specs.Prelude.{◌≡◌, ◌+◌, ◌<◌, ◌≤◌, ◌^◌, Ok, length, drop, map, IfOk, IsTrue, OnOk};
-ghost use Rattle.boot_machine.specs.Prelude.{CountsDisk, Looks, TakesAtMost, contents};
+ghost use Rattle.boot_machine.specs.Prelude.{CountsDisk, Looks, TakesAtMost, contents, CountsRead};
 ghost use Rattle.pe_reader.specs.Prelude.{pe_of, loaded_bytes, bytes_in, headers_of};
 ghost use Rattle.pcr_values.specs.Prelude.{digest_of, fold_of, fold_pcr, bank_of, bytes_of_digest, pcr_bank, pcr_bytes, pcr_value};
-ghost use Rattle.stub_replay.specs.Faults.{CountsPredict};
 ghost use Rattle.stub_replay.specs.Measured.{measured_list, measured_raw_length, named_raw_length, section_items};
 ghost use Rattle.stub_replay.specs.Taking.{AreBetween, ExtendsWhere};
 
-use crate::fault::PredictFault;
 use crate::measurable::{Content, Measurable};
 use crate::measured::measured_names;
 use crate::pieces::take_loaded;
 use crate::prediction::measure_part;
 use crate::register::{Register, begin_all, values};
 use boot_base::{BootPath, Buffer};
-use boot_machine::{DiskFault, Machine};
+use boot_machine::{DiskFault, Machine, ReadFault};
 use pcr_values::{Bank, Digest, Pcr};
 use pe_reader::{LoadedRange, Pe};
 use std::alloc::Global;
@@ -63,13 +61,13 @@ pub fn replay_all<M: Machine>(
     head: &Pe,
     banks: &[Bank],
     buffer: &mut Buffer,
-) -> Result<Vec<Pcr>, PredictFault>
+) -> Result<Vec<Pcr>, ReadFault>
     requires { IsTrue M.tells → pe_of (contents (M.state machine.old).files path.now) ≡ Ok (headers_of head.now) }
     ensures banks { IfOk result (λ pcrs. map pcr_bank pcrs.items ≡ banks.now) }
     ensures value { IfOk result (λ pcrs. IsTrue M.tells
         → map pcr_value pcrs.items
         ≡ map (fold_pcr (measured_list (contents (M.state machine.old).files path.now))) banks.now) }
-    ensures looks { Looks M.tells M.time M.state M.counts (CountsPredict result) machine.old machine.new }
+    ensures looks { Looks M.tells M.time M.state M.counts (CountsRead result) machine.old machine.new }
     ensures taken { IsTrue M.tells
         → TakesAtMost (measured_raw_length (contents (M.state machine.old).files path.now)) (M.taken machine.old)
         (M.taken machine.new) }

@@ -8,7 +8,6 @@
 #![tactic(auto)]
 
 mod bytes;
-mod fault;
 mod file;
 mod laws;
 mod measurable;
@@ -18,7 +17,6 @@ mod prediction;
 mod register;
 
 pub use bytes::replay_bytes;
-pub use fault::PredictFault;
 pub use file::{range_digest, replay, replay_all};
 pub use laws::{
     image_shows_its_parts, prediction_is_replay, prediction_of_ordered_parts,

@@ -1,18 +1,16 @@
 //! The values that registers come to.
 ghost use Rattle.std.specs.Prelude.{◌≡◌, map, All, IfOk, OnOk, IsTrue};
-ghost use Rattle.boot_machine.specs.Prelude.{CountsDisk, Looks, TakesAtMost, contents, seen};
+ghost use Rattle.boot_machine.specs.Prelude.{CountsDisk, Looks, TakesAtMost, contents, seen, CountsRead};
 ghost use Rattle.pcr_values.specs.Prelude.{fold_pcr, pcr_bank, pcr_value};
 ghost use Rattle.stub_replay.specs.Measured.{section_items};
-ghost use Rattle.stub_replay.specs.Faults.{CountsPredict};
 ghost use Rattle.stub_replay.specs.Parts.{IsPlaced, IsWhole, content_bytes, named_bytes, items_of, HaveSizes, read_length, files_length};
 ghost use Rattle.stub_replay.specs.Taking.{ExtendsWhere, AreBetween};
 
-use crate::fault::PredictFault;
 use crate::measurable::{Measurable, content_length};
 use crate::pieces::take_content;
 use crate::register::{Register, begin_all, close_all, values};
 use boot_base::Buffer;
-use boot_machine::{DiskFault, Machine};
+use boot_machine::{DiskFault, Machine, ReadFault};
 use pcr_values::{Bank, Pcr};
 use std::alloc::Global;
 
@@ -30,13 +28,13 @@ pub fn predict<M: Machine>(
     parts: &[Measurable],
     banks: &[Bank],
     buffer: &mut Buffer,
-) -> Result<Vec<Pcr>, PredictFault>
+) -> Result<Vec<Pcr>, ReadFault>
     requires ranges { All (λ part. IsPlaced part.content) parts.now }
     ensures banks { IfOk result (λ pcrs. map pcr_bank pcrs.items ≡ banks.now) }
     ensures value { IfOk result (λ pcrs. IsTrue M.tells → HaveSizes (contents (seen (M.state machine.old))) parts.now
         → map pcr_value pcrs.items
         ≡ map (fold_pcr (items_of (map (named_bytes (contents (seen (M.state machine.old)))) parts.now))) banks.now) }
-    ensures looks { Looks M.tells M.time M.state M.counts (CountsPredict result) machine.old machine.new }
+    ensures looks { Looks M.tells M.time M.state M.counts (CountsRead result) machine.old machine.new }
     ensures taken { IsTrue M.tells → TakesAtMost (files_length parts.now) (M.taken machine.old) (M.taken machine.new) }
 {
     let mut registers = begin_all(alloc, banks)?;
