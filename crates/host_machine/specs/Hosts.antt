@@ -29,6 +29,12 @@ names_fault_once Disk old new = DiskFailsOnce old new
 abbrev pub CountsNamesOnce : {T : Type 0} → Result T ReadFault → Counts → Counts → Type 0
 CountsNamesOnce result old new = MatchResult result (λ _. new ≡ old) (λ fault. names_fault_once fault old new)
 
+-- A fault has its cause, and a failed call has raised its own count by one and the other not at all. Each call that may
+-- fail says this.
+pub record CountsCall (causes once : Counts → Counts → Type 0) (old new : Faults) : Type 0 where
+  pub counted : causes (counts_of old) (counts_of new)
+  pub apart : once (counts_of old) (counts_of new)
+
 -- the state that no clause speaks of
 abbrev pub no_state : State
 no_state = record { files = map.empty; earlier = []; soft = set.empty; printed = []; input = [] }

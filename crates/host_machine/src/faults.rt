@@ -1,7 +1,7 @@
 //! How often the system has failed.
 ghost use Rattle.std.specs.Prelude.{◌≡◌, IfOk};
 ghost use Rattle.boot_machine.specs.Prelude.{CountsDisk, CountsPipe, DiskFailsOnce, PipeFailsOnce, DiskFailed, PipeFailed};
-ghost use Rattle.host_machine.specs.Hosts.{counts_of, CountsDiskOnce, CountsPipeOnce};
+ghost use Rattle.host_machine.specs.Hosts.{CountsCall, CountsDiskOnce, CountsPipeOnce};
 
 use boot_machine::{DiskFault, PipeFault};
 use std::io;
@@ -16,24 +16,21 @@ pub(crate) struct Faults {
 impl Faults {
     // Counts a failure of the disk.
     pub(crate) fn disk_failed(&mut self)
-        ensures failed { DiskFailed (counts_of self.old) (counts_of self.new) }
-        ensures once { DiskFailsOnce (counts_of self.old) (counts_of self.new) }
+        ensures call { CountsCall DiskFailed DiskFailsOnce self.old self.new }
     {
         self.disk = self.disk.saturating_add(1);
     }
 
     // Counts a failure of a pipe.
     fn pipe_failed(&mut self)
-        ensures failed { PipeFailed (counts_of self.old) (counts_of self.new) }
-        ensures once { PipeFailsOnce (counts_of self.old) (counts_of self.new) }
+        ensures call { CountsCall PipeFailed PipeFailsOnce self.old self.new }
     {
         self.pipe = self.pipe.saturating_add(1);
     }
 
     // Passes an answer of the disk on, and counts a failure.
     pub(crate) fn disk<T: Drop>(&mut self, answer: io::Result<T>) -> Result<T, DiskFault>
-        ensures counted { CountsDisk result (counts_of self.old) (counts_of self.new) }
-        ensures once { CountsDiskOnce result (counts_of self.old) (counts_of self.new) }
+        ensures call { CountsCall (CountsDisk result) (CountsDiskOnce result) self.old self.new }
         ensures value { IfOk result (λ value. answer ≡ Ok value) }
     {
         match answer {
@@ -47,8 +44,7 @@ impl Faults {
 
     // The same of a pipe.
     pub(crate) fn pipe<T: Drop>(&mut self, answer: io::Result<T>) -> Result<T, PipeFault>
-        ensures counted { CountsPipe result (counts_of self.old) (counts_of self.new) }
-        ensures once { CountsPipeOnce result (counts_of self.old) (counts_of self.new) }
+        ensures call { CountsCall (CountsPipe result) (CountsPipeOnce result) self.old self.new }
         ensures value { IfOk result (λ value. answer ≡ Ok value) }
     {
         match answer {

@@ -26,7 +26,7 @@ pub struct HostMachine<R: Runtime<File = File> + AllocGlobal, E: Print + Drop> {
 
 impl<R: Runtime<File = File> + AllocGlobal, E: Print + Drop> HostMachine<R, E> {
     ghost use Rattle.boot_machine.specs.Prelude.{CountsDisk, CountsPipe};
-    ghost use Rattle.host_machine.specs.Hosts.{counts_of, CountsDiskOnce, CountsPipeOnce};
+    ghost use Rattle.host_machine.specs.Hosts.{CountsCall, CountsDiskOnce, CountsPipeOnce};
 
     /// The machine over a runtime, with `err` for what is printed on Err. No call has failed yet, and none
     /// that fails is told of.
@@ -67,8 +67,7 @@ impl<R: Runtime<File = File> + AllocGlobal, E: Print + Drop> HostMachine<R, E> {
         path: &str,
         answer: io::Result<T>,
     ) -> Result<T, DiskFault>
-        ensures counted { CountsDisk result (counts_of self.old.faults) (counts_of self.new.faults) }
-        ensures once { CountsDiskOnce result (counts_of self.old.faults) (counts_of self.new.faults) }
+        ensures call { CountsCall (CountsDisk result) (CountsDiskOnce result) self.old.faults self.new.faults }
         ensures value { IfOk result (λ value. answer ≡ Ok value) }
     {
         let answer = self.reports.report(call, path, answer);
@@ -82,8 +81,7 @@ impl<R: Runtime<File = File> + AllocGlobal, E: Print + Drop> HostMachine<R, E> {
         path: &str,
         answer: io::Result<T>,
     ) -> Result<T, PipeFault>
-        ensures counted { CountsPipe result (counts_of self.old.faults) (counts_of self.new.faults) }
-        ensures once { CountsPipeOnce result (counts_of self.old.faults) (counts_of self.new.faults) }
+        ensures call { CountsCall (CountsPipe result) (CountsPipeOnce result) self.old.faults self.new.faults }
         ensures value { IfOk result (λ value. answer ≡ Ok value) }
     {
         let answer = self.reports.report(call, path, answer);
@@ -94,7 +92,7 @@ impl<R: Runtime<File = File> + AllocGlobal, E: Print + Drop> HostMachine<R, E> {
 impl<R: Runtime<File = File> + AllocGlobal, E: Print + Drop> Machine for HostMachine<R, E> {
     ghost use Rattle.std.specs.Prelude.{◌≤◌, false, length};
     ghost use Rattle.boot_machine.specs.Prelude.{CountsDisk, CountsPipe, CountsRead, Timeline};
-    ghost use Rattle.host_machine.specs.Hosts.{counts_of, no_state, CountsDiskOnce, CountsPipeOnce, CountsNamesOnce};
+    ghost use Rattle.host_machine.specs.Hosts.{counts_of, no_state, CountsCall, CountsDiskOnce, CountsPipeOnce, CountsNamesOnce};
     ghost use Rattle.host_machine.specs.proofs.Silence.{silent};
 
     ghost tells = { false };
@@ -114,8 +112,7 @@ impl<R: Runtime<File = File> + AllocGlobal, E: Print + Drop> Machine for HostMac
     ghost only_now = { λ m files printed told left. absurd (silent told) };
 
     fn size(&mut self, path: &BootPath) -> Result<Option<u64>, DiskFault>
-        ensures counts { CountsDisk result (counts_of self.old.faults) (counts_of self.new.faults) }
-        ensures once { CountsDiskOnce result (counts_of self.old.faults) (counts_of self.new.faults) }
+        ensures call { CountsCall (CountsDisk result) (CountsDiskOnce result) self.old.faults self.new.faults }
     {
         let answer = self.system.size_of(path.as_str());
         self.disk("size", path.as_str(), answer)
@@ -123,16 +120,14 @@ impl<R: Runtime<File = File> + AllocGlobal, E: Print + Drop> Machine for HostMac
 
     fn read_at(&mut self, path: &BootPath, at: u64, into: &mut [u8]) -> Result<usize, DiskFault>
         ensures within { IfOk result (λ n. n ≤ length into.new) }
-        ensures counts { CountsDisk result (counts_of self.old.faults) (counts_of self.new.faults) }
-        ensures once { CountsDiskOnce result (counts_of self.old.faults) (counts_of self.new.faults) }
+        ensures call { CountsCall (CountsDisk result) (CountsDiskOnce result) self.old.faults self.new.faults }
     {
         let answer = self.system.read_some(path.as_str(), at, into);
         self.disk("read", path.as_str(), answer)
     }
 
     fn names(&mut self, alloc: Global, folder: &BootPath) -> Result<Vec<FileName>, NamesFault>
-        ensures counts { CountsRead result (counts_of self.old.faults) (counts_of self.new.faults) }
-        ensures once { CountsNamesOnce result (counts_of self.old.faults) (counts_of self.new.faults) }
+        ensures call { CountsCall (CountsRead result) (CountsNamesOnce result) self.old.faults self.new.faults }
     {
         match self.system.names_in(alloc, folder.as_str()) {
             Ok(names) => Ok(names),
@@ -145,72 +140,63 @@ impl<R: Runtime<File = File> + AllocGlobal, E: Print + Drop> Machine for HostMac
     }
 
     fn create(&mut self, path: &TempPath) -> Result<(), DiskFault>
-        ensures counts { CountsDisk result (counts_of self.old.faults) (counts_of self.new.faults) }
-        ensures once { CountsDiskOnce result (counts_of self.old.faults) (counts_of self.new.faults) }
+        ensures call { CountsCall (CountsDisk result) (CountsDiskOnce result) self.old.faults self.new.faults }
     {
         let answer = self.system.create_file(path.as_str());
         self.disk("create", path.as_str(), answer)
     }
 
     fn append(&mut self, path: &TempPath, bytes: &[u8]) -> Result<(), DiskFault>
-        ensures counts { CountsDisk result (counts_of self.old.faults) (counts_of self.new.faults) }
-        ensures once { CountsDiskOnce result (counts_of self.old.faults) (counts_of self.new.faults) }
+        ensures call { CountsCall (CountsDisk result) (CountsDiskOnce result) self.old.faults self.new.faults }
     {
         let answer = self.system.append_bytes(path.as_str(), bytes);
         self.disk("write", path.as_str(), answer)
     }
 
     fn sync_file(&mut self, path: &TempPath) -> Result<(), DiskFault>
-        ensures counts { CountsDisk result (counts_of self.old.faults) (counts_of self.new.faults) }
-        ensures once { CountsDiskOnce result (counts_of self.old.faults) (counts_of self.new.faults) }
+        ensures call { CountsCall (CountsDisk result) (CountsDiskOnce result) self.old.faults self.new.faults }
     {
         let answer = self.system.sync_contents(path.as_str());
         self.disk("sync", path.as_str(), answer)
     }
 
     fn rename_temp(&mut self, from: &TempPath, to: &BootPath) -> Result<(), DiskFault>
-        ensures counts { CountsDisk result (counts_of self.old.faults) (counts_of self.new.faults) }
-        ensures once { CountsDiskOnce result (counts_of self.old.faults) (counts_of self.new.faults) }
+        ensures call { CountsCall (CountsDisk result) (CountsDiskOnce result) self.old.faults self.new.faults }
     {
         let answer = self.system.move_temp(from.as_str(), to.as_str());
         self.disk("rename", from.as_str(), answer)
     }
 
     fn rename_name(&mut self, from: &BootPath, to: &BootPath) -> Result<(), DiskFault>
-        ensures counts { CountsDisk result (counts_of self.old.faults) (counts_of self.new.faults) }
-        ensures once { CountsDiskOnce result (counts_of self.old.faults) (counts_of self.new.faults) }
+        ensures call { CountsCall (CountsDisk result) (CountsDiskOnce result) self.old.faults self.new.faults }
     {
         let answer = self.system.move_file(from.as_str(), to.as_str());
         self.disk("rename", from.as_str(), answer)
     }
 
     fn unlink(&mut self, path: &BootPath) -> Result<(), DiskFault>
-        ensures counts { CountsDisk result (counts_of self.old.faults) (counts_of self.new.faults) }
-        ensures once { CountsDiskOnce result (counts_of self.old.faults) (counts_of self.new.faults) }
+        ensures call { CountsCall (CountsDisk result) (CountsDiskOnce result) self.old.faults self.new.faults }
     {
         let answer = self.system.remove_file(path.as_str());
         self.disk("remove", path.as_str(), answer)
     }
 
     fn unlink_temp(&mut self, path: &TempPath) -> Result<(), DiskFault>
-        ensures counts { CountsDisk result (counts_of self.old.faults) (counts_of self.new.faults) }
-        ensures once { CountsDiskOnce result (counts_of self.old.faults) (counts_of self.new.faults) }
+        ensures call { CountsCall (CountsDisk result) (CountsDiskOnce result) self.old.faults self.new.faults }
     {
         let answer = self.system.remove_temp(path.as_str());
         self.disk("remove", path.as_str(), answer)
     }
 
     fn sync_names(&mut self) -> Result<(), DiskFault>
-        ensures counts { CountsDisk result (counts_of self.old.faults) (counts_of self.new.faults) }
-        ensures once { CountsDiskOnce result (counts_of self.old.faults) (counts_of self.new.faults) }
+        ensures call { CountsCall (CountsDisk result) (CountsDiskOnce result) self.old.faults self.new.faults }
     {
         let answer = self.system.sync_names(&self.reports);
         self.faults.disk(answer)
     }
 
     fn print(&mut self, to: Channel, bytes: &[u8]) -> Result<(), PipeFault>
-        ensures counts { CountsPipe result (counts_of self.old.faults) (counts_of self.new.faults) }
-        ensures once { CountsPipeOnce result (counts_of self.old.faults) (counts_of self.new.faults) }
+        ensures call { CountsCall (CountsPipe result) (CountsPipeOnce result) self.old.faults self.new.faults }
     {
         self.system.end_reply();
         match to {
@@ -227,8 +213,7 @@ impl<R: Runtime<File = File> + AllocGlobal, E: Print + Drop> Machine for HostMac
 
     fn input(&mut self, into: &mut [u8]) -> Result<usize, PipeFault>
         ensures within { IfOk result (λ n. n ≤ length into.new) }
-        ensures counts { CountsPipe result (counts_of self.old.faults) (counts_of self.new.faults) }
-        ensures once { CountsPipeOnce result (counts_of self.old.faults) (counts_of self.new.faults) }
+        ensures call { CountsCall (CountsPipe result) (CountsPipeOnce result) self.old.faults self.new.faults }
     {
         let answer = self.system.read_input(into);
         self.pipe("read", "standard input", answer)
