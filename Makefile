@@ -18,10 +18,13 @@ check:
 install:
 	@test -x $(PROGRAM) || { echo "make install: nothing is built at $(PROGRAM): run make first" >&2; exit 1; }
 	install -D -m 755 $(PROGRAM) $(DESTDIR)$(PREFIX)/bin/boot_tools
-	install -D -m 644 -t $(DESTDIR)$(PREFIX)/share/man/man1 share/man/boot_tools.1
+	install -D -m 755 -t $(DESTDIR)$(PREFIX)/bin share/bin/espctl
+	install -D -m 644 -t $(DESTDIR)$(PREFIX)/share/man/man1 share/man/boot_tools.1 share/man/espctl.1
 	install -D -m 644 share/completions/boot_tools.bash $(DESTDIR)$(PREFIX)/share/bash-completion/completions/boot_tools
+	ln -sf boot_tools $(DESTDIR)$(PREFIX)/share/bash-completion/completions/espctl
 	install -D -m 644 -t $(DESTDIR)$(ZSHDIR) share/completions/_boot_tools
 	install -D -m 644 -t $(DESTDIR)$(FISHDIR) share/completions/boot_tools.fish
+	ln -sf boot_tools.fish $(DESTDIR)$(FISHDIR)/espctl.fish
 	install -D -m 755 -t $(DESTDIR)$(HOOKDIR) share/kernel-install/60-boot_tools.install share/kernel-install/90-boot_tools.install
 	install -D -m 755 -t $(DESTDIR)$(PREFIX)/lib/boot_tools share/systemd/bless-boot
 	install -D -m 644 -t $(DESTDIR)$(PREFIX)/lib/systemd/system share/systemd/boot_tools-bless.service

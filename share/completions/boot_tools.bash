@@ -1,4 +1,4 @@
-# Completion of boot_tools for bash, with the functions of bash-completion.
+# Completion of boot_tools, and of its front espctl, for bash, with the functions of bash-completion.
 #
 # A row is `WORDS|OPERANDS|OPTIONS`: the operands by their kinds, each option as `TEXT:TAKEN:KIND`.
 
@@ -85,7 +85,8 @@ _boot_tools_entries() {
 
 # What may stand for a value: of a kind, and with the folder of boot files.
 _boot_tools_texts() {
-  local esp=./${2#/}
+  local esp=$2
+  [[ $front ]] || esp=./${2#/}
   case $1 in
     bank) printf '%s\n' "${_boot_tools_banks[@]}" ;;
     phase) printf '%s\n' "${_boot_tools_phases[@]}" ;;
@@ -98,10 +99,11 @@ _boot_tools_texts() {
   esac
 }
 
-# Offers files below the folder that the program starts in, which is what a leading `/` means too. $1 is what stands before the
-# path in the word, $2 the path as far as it is typed, $3 the kind of files for compgen.
+# Offers files below the folder that the program starts in, which is what a leading `/` means too. The front takes paths as they are. $1 is
+# what stands before the path in the word, $2 the path as far as it is typed, $3 the kind of files for compgen.
 _boot_tools_offer_files() {
-  local slashes=${2%%[!/]*} it
+  local slashes='' it
+  [[ $front ]] || slashes=${2%%[!/]*}
   compopt -o filenames
   while IFS= read -r it; do
     [[ -d $it ]] && it+=/
@@ -167,9 +169,14 @@ _boot_tools_read_words() {
   done
 }
 
-# The folder of boot files that the line names, without a slash behind it.
+# The folder of boot files that the line names, without a slash behind it. The front takes the mounted partition otherwise.
 _boot_tools_esp() {
   local at esp=efi
+  if [[ $front ]]; then
+    for esp in /efi /boot /boot/efi; do
+      [[ $(stat -f -c %T "$esp" 2>/dev/null) == msdos ]] && break
+    done
+  fi
   for ((at = 1; at < ${#words[@]}; at++)); do
     case ${words[at]} in
       --esp-path=*) esp=${words[at]#*=} ;;
@@ -181,10 +188,11 @@ _boot_tools_esp() {
 
 _boot_tools() {
   # shellcheck disable=SC2034  # prev is set by _init_completion
-  local cur prev words cword row options kinds first=2
+  local cur prev words cword row options kinds first=2 front=''
   _init_completion -n =:@ || return
+  [[ ${words[0]##*/} != espctl ]] || front='--help --version'
   if ((cword == 1)); then
-    mapfile -t COMPREPLY < <(compgen -W "$(_boot_tools_next_words)" -- "$cur")
+    mapfile -t COMPREPLY < <(compgen -W "$(_boot_tools_next_words) $front" -- "$cur")
     return
   fi
   if ! row=$(_boot_tools_row_of "${words[1]}"); then
@@ -214,4 +222,4 @@ _boot_tools() {
   fi
   _boot_tools_finish "$cur"
 } &&
-  complete -F _boot_tools boot_tools
+  complete -F _boot_tools boot_tools espctl

@@ -1,4 +1,4 @@
-# Completion of boot_tools for fish.
+# Completion of boot_tools, and of its front espctl, for fish.
 #
 # A row is `WORDS|OPERANDS|OPTIONS`: the operands by their kinds, each option as `TEXT:TAKEN:KIND`.
 
@@ -60,10 +60,16 @@ function __boot_tools_of_option
     end
 end
 
+# Whether the line is one of the front, which takes paths as they are.
+function __boot_tools_is_front
+    string match -qr -- '(^|/)espctl$' (commandline -opc)[1]
+end
+
 # Files below the folder that the program starts in, which is what a leading `/` means too. What stands before the path in the word, the
 # path as far as it is typed, and `folder` for folders alone.
 function __boot_tools_files
-    set -l slashes (string match -r '^/*' -- $argv[2])
+    set -l slashes ''
+    __boot_tools_is_front; or set slashes (string match -r '^/*' -- $argv[2])
     set -l base (string sub -s (math (string length -- "$slashes") + 1) -- $argv[2])
     for it in $base*
         if test -d $it
@@ -76,7 +82,8 @@ end
 
 # What may stand for a value: its kind, what stands before it in the word, the value as far as it is typed, and the folder of boot files.
 function __boot_tools_value
-    set -l esp ./(string replace -r '^/' '' -- $argv[4])
+    set -l esp $argv[4]
+    __boot_tools_is_front; or set esp ./(string replace -r '^/' '' -- $argv[4])
     set -l files
     for it in $esp/EFI/Linux/*.efi $esp/loader/entries/*.conf
         test -f $it; and set -a files (string sub -s (math (string length -- $esp) + 1) -- $it)
@@ -125,9 +132,15 @@ function __boot_tools_options
     end
 end
 
-# The folder of boot files that the words name, without a slash behind it.
+# The folder of boot files that the words name, without a slash behind it. The front takes the mounted partition otherwise.
 function __boot_tools_esp
     set -l esp efi
+    if __boot_tools_is_front
+        for it in /efi /boot /boot/efi
+            set esp $it
+            test "$(stat -f -c %T $it 2>/dev/null)" = msdos; and break
+        end
+    end
     for at in (seq (count $argv))
         switch $argv[$at]
             case '--esp-path=*'
@@ -146,6 +159,7 @@ function __boot_tools_complete
     set -l first 3
     if test (count $words) -eq 1
         string replace -r '[ |].*' '' -- $__boot_tools_rows | sort -u
+        __boot_tools_is_front; and printf '%s\n' --help --version
         return
     end
     set -l row (__boot_tools_row_of $words[2])
@@ -192,3 +206,4 @@ function __boot_tools_complete
 end
 
 complete -c boot_tools -f -a '(__boot_tools_complete)'
+complete -c espctl -f -a '(__boot_tools_complete)'
