@@ -1,11 +1,15 @@
 # What people type: `make` proves and builds, `make try` builds unproved, `make check` is the merge gate, and `make install` puts
-# what `make` has built where Debian's and Fedora's tools look for it, below DESTDIR. The program names its commit: `make COMMIT=..` says
-# which that is if neither git nor the archive does.
+# what `make` has built where Debian's and Fedora's tools look for it, below DESTDIR. `make uninstall` with the same words takes that away
+# again, and `make dist` packs the sources. The program names its commit: `make COMMIT=..` says which that is if neither git nor the archive
+# does.
 PREFIX ?= /usr/local
 PROGRAM ?= crates/boot_tools/out/boot_tools
 ZSHDIR ?= $(PREFIX)/share/zsh/$(if $(and $(filter /usr,$(PREFIX)),$(wildcard /etc/debian_version)),vendor-completions,site-functions)
 FISHDIR ?= $(if $(filter /usr,$(PREFIX)),/usr/share/fish/vendor_completions.d,/etc/fish/completions)
 HOOKDIR ?= $(if $(filter /usr,$(PREFIX)),/usr/lib,/etc)/kernel/install.d
+DOCDIR ?= $(PREFIX)/share/doc/boot-tools
+PAGES = README.md docs/DISK.md docs/REFUSALS.md docs/SYSTEMD.md
+WANTED = $(DESTDIR)/etc/systemd/system/basic.target.wants/boot_tools-bless.service
 SHOWN = measure calculate --linux=data/k --bank=sha256 --phase=
 
 all:
@@ -29,4 +33,19 @@ install:
 	install -D -m 755 -t $(DESTDIR)$(PREFIX)/lib/boot_tools share/systemd/bless-boot
 	install -D -m 644 -t $(DESTDIR)$(PREFIX)/lib/systemd/system share/systemd/boot_tools-bless.service
 	sed -i 's|/usr/lib/boot_tools|$(PREFIX)/lib/boot_tools|' $(DESTDIR)$(PREFIX)/lib/systemd/system/boot_tools-bless.service
-.PHONY: all try check install
+	install -D -m 644 -t $(DESTDIR)$(DOCDIR) $(PAGES)
+	sed -i 's|/usr/share/doc/boot-tools|$(DOCDIR)|' $(DESTDIR)$(PREFIX)/share/man/man1/boot_tools.1
+uninstall:
+	rm -f $(DESTDIR)$(PREFIX)/bin/boot_tools $(DESTDIR)$(PREFIX)/bin/espctl
+	rm -f $(DESTDIR)$(PREFIX)/share/man/man1/boot_tools.1 $(DESTDIR)$(PREFIX)/share/man/man1/espctl.1
+	rm -f $(DESTDIR)$(PREFIX)/share/bash-completion/completions/boot_tools $(DESTDIR)$(PREFIX)/share/bash-completion/completions/espctl
+	rm -f $(DESTDIR)$(ZSHDIR)/_boot_tools $(DESTDIR)$(FISHDIR)/boot_tools.fish $(DESTDIR)$(FISHDIR)/espctl.fish
+	rm -f $(DESTDIR)$(HOOKDIR)/60-boot_tools.install $(DESTDIR)$(HOOKDIR)/90-boot_tools.install
+	rm -f $(DESTDIR)$(PREFIX)/lib/boot_tools/bless-boot $(DESTDIR)$(PREFIX)/lib/systemd/system/boot_tools-bless.service $(WANTED)
+	rm -f $(addprefix $(DESTDIR)$(DOCDIR)/,$(notdir $(PAGES)))
+	rmdir --ignore-fail-on-non-empty $(wildcard $(DESTDIR)$(PREFIX)/lib/boot_tools $(DESTDIR)$(DOCDIR))
+	@! grep -qs '^uki_generator=.*boot_tools' $(DESTDIR)/etc/kernel/install.conf || echo "make uninstall: $(DESTDIR)/etc/kernel/install.conf \
+	still has uki_generator=boot_tools. New kernels get no entry until that line and layout=uki are gone"
+dist:
+	tools/package --dist
+.PHONY: all try check install uninstall dist
