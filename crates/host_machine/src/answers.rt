@@ -1,6 +1,7 @@
 //! What answers of the system mean, and reads and writes that are repeated where they are interrupted.
 ghost use Rattle.std.specs.Prelude.{◌≤◌, length, IfOk};
 
+use std::alloc::Global;
 use std::fs::File;
 use std::io;
 use std::io::{ErrorKind, Read, Write};
@@ -18,6 +19,19 @@ pub(crate) fn if_there<T: Drop>(answer: io::Result<T>) -> io::Result<Option<T>> 
             _ => Err(error),
         },
     }
+}
+
+// Another run is met at a path. If there is no memory for the path the words stand alone.
+pub(crate) fn met_fault(alloc: Global, words: &str, path: &str) -> io::Error {
+    match format!(in alloc; "{words}: {path}") {
+        Ok(text) => io::Error::new(ErrorKind::WouldBlock, text.as_str()),
+        Err(_) => io::Error::new(ErrorKind::WouldBlock, words),
+    }
+}
+
+// What stands at a path isn't what this run has read there.
+pub(crate) fn changed_fault(alloc: Global, path: &str) -> io::Error {
+    met_fault(alloc, "another run has changed", path)
 }
 
 // None where an entry of a folder has a name that isn't UTF-8.

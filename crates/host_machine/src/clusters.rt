@@ -1,23 +1,25 @@
 //! Files that may have the same clusters on FAT.
 //!
-//! FAT makes a rename in steps. A power cut between two of them can leave two of these names over the same clusters:
-//! the old name, the new one, and a short alias, which is a name of 8 and 3 letters whose long name isn't on the
-//! disk. Who then removes, cuts or replaces the one file frees the clusters of the other. Only a check of the file
-//! system parts them. So a file is changed only if it has one name.
-use crate::answers::{if_there, if_utf8};
+//! FAT makes a rename in steps. A power cut between two of them can leave two names over the same clusters: the old one,
+//! the new one, or a short alias whose long name isn't on the disk. Who then removes, cuts or replaces the one file frees
+//! the clusters of the other. Only a check of the file system parts them. So a file is changed only if its folder shows
+//! it as it is spelled, and no other name there may be the same file.
+use crate::aliases::{is_in_capitals, may_be_of_one_file};
+use crate::answers::read_once_at;
+use crate::calls::{link_metadata_at, unlink_path};
 use crate::intent::parted;
 use crate::kept::{copy_path, is_same};
+use crate::listing::names_in;
 use boot_base::TEMP_SUFFIX;
 use std::alloc::Global;
-use std::fs::{DirEntry, Metadata};
+use std::fs::{File, Metadata};
+use std::io::ErrorKind;
 use std::os::unix::fs::MetadataExt;
 use std::rt::{Files, Runtime};
 use std::{fs, io};
 
-// Why a file that may have another's clusters is left as it is.
-pub(crate) fn may_share_fault() -> io::Error {
-    io::Error::other("may be one file under two names: run fsck.vfat -a, then this command again")
-}
+/// How many bytes of two files are compared at a time.
+const PIECE: usize = 4096;
 
 // FAT keeps whole seconds, and even ones.
 pub(crate) fn has_time_of_fat(found: &Metadata) -> bool {
@@ -25,7 +27,7 @@ pub(crate) fn has_time_of_fat(found: &Metadata) -> bool {
 }
 
 // Two names over the same clusters have one length and one time of change. A link more is no work of FAT.
-pub(crate) fn may_share(one: &Metadata, other: &Metadata) -> bool {
+fn may_share(one: &Metadata, other: &Metadata) -> bool {
     one.len() > 0
         && one.len() == other.len()
         && one.mtime() == other.mtime()
@@ -33,42 +35,144 @@ pub(crate) fn may_share(one: &Metadata, other: &Metadata) -> bool {
         && has_time_of_fat(other)
         && one.nlink() == 1
         && other.nlink() == 1
+        && !is_same(one, other)
 }
 
 // A file, and None for what is no regular file and for nothing.
 pub(crate) fn file_at<R: Files>(rt: &R, path: &str) -> io::Result<Option<Metadata>> {
-    let found = if_there(fs::symlink_metadata(rt, path))?;
-    Ok(found.filter(|found| found.is_file()))
+    Ok(link_metadata_at(rt, path)?.filter(|found| found.is_file()))
 }
 
-// Beside a file there must be no other name that it may have: that of its temporary file, or, of a temporary file,
-// that of its output; or a short alias.
-pub(crate) fn require_one_name<R: Runtime + AllocGlobal>(rt: &R, path: &str) -> io::Result<()> {
-    let found = file_at(rt, path)?.filter(|found| found.len() > 0 && has_time_of_fat(found));
-    let Some(found) = found else {
+// The same if it may stand on FAT.
+pub(crate) fn fat_file_at<R: Files>(rt: &R, path: &str) -> io::Result<Option<Metadata>> {
+    Ok(file_at(rt, path)?.filter(has_time_of_fat))
+}
+
+/// How a folder shows a file that is there.
+#[derive(Clone, Copy, PartialEq, Eq)]
+pub(crate) enum Spelling {
+    /// As the path spells it.
+    AsGiven,
+    /// In capitals: FAT has its short alias alone.
+    InCapitals,
+}
+
+/// Two paths that may be those of one file.
+#[derive(Drop)]
+pub(crate) struct Twins {
+    pub(crate) path: String,
+    pub(crate) other: String,
+}
+
+// A file that is to be cut, replaced, moved or removed must be shown by its folder. If another name there may be of the
+// same file, that is its twin.
+pub(crate) fn twins_at<R: Runtime + AllocGlobal>(rt: &R, path: &str) -> io::Result<Option<Twins>> {
+    let Some(found) = fat_file_at(rt, path)? else {
+        return Ok(None);
+    };
+    let (_, name) = parted(path);
+    let names = names_in(rt, folder_of(path))?;
+    let is_in_capitals = spelling_in(&names, name)? == Spelling::InCapitals;
+    for other in names {
+        let other = other.as_str();
+        if is_in_capitals || may_be_of_one_file(name, other) {
+            let other = path_beside(rt.alloc(), path, other)?;
+            if is_twin(rt, &found, other.as_str())? {
+                let path = copy_path(rt.alloc(), path)?;
+                return Ok(Some(Twins { path, other }));
+            }
+        }
+    }
+    Ok(None)
+}
+
+fn is_twin<R: Files>(rt: &R, found: &Metadata, other: &str) -> io::Result<bool> {
+    Ok(file_at(rt, other)?.is_some_and(|other| may_share(found, &other)))
+}
+
+// How the folder of a file that is there shows it.
+pub(crate) fn spelling_at<R: Runtime + AllocGlobal>(rt: &R, path: &str) -> io::Result<Spelling> {
+    let (_, name) = parted(path);
+    spelling_in(&names_in(rt, folder_of(path))?, name)
+}
+
+// How a folder with these names shows a file that is found by a name. Another spelling is a fault: it is the name of
+// another file.
+fn spelling_in(names: &Vec<String>, name: &str) -> io::Result<Spelling> {
+    if names.iter().any(|other| other.as_str() == name) {
+        return Ok(Spelling::AsGiven);
+    }
+    if names
+        .iter()
+        .any(|other| is_in_capitals(other.as_str(), name))
+    {
+        return Ok(Spelling::InCapitals);
+    }
+    Err(io::Error::other("is there under another spelling: type that, or rename it in two steps"))
+}
+
+// Before a file gets a name, what the folder shows there in capitals goes: FAT would hand that spelling on. It has no
+// bytes, or those of the file, as a cut leaves it. Otherwise it is somebody's own, and a fault.
+pub(crate) fn clear_capitals<R: Runtime<File = File> + AllocGlobal>(
+    rt: &R,
+    from: &str,
+    to: &str,
+) -> io::Result<()> {
+    let Some(found) = fat_file_at(rt, to)? else {
         return Ok(());
     };
-    let other = other_name(rt.alloc(), path)?;
-    if let Some(other) = file_at(rt, other.as_str())? {
-        require_apart(&found, &other)?;
+    if spelling_at(rt, to)? == Spelling::AsGiven {
+        return Ok(());
     }
-    for alias in aliases_beside(rt, path)? {
-        require_apart(&found, &alias.found)?;
+    let length = found.len();
+    if length > 0 && !have_same_start(&fs::open(rt, from)?, &fs::open(rt, to)?, length)? {
+        return Err(io::Error::other(
+            "is there in capitals: rename that in two steps, by way of another name",
+        ));
+    }
+    unlink_path(rt, to)
+}
+
+// Whether two files have the same bytes up to a length.
+fn have_same_start(file: &File, other: &File, length: u64) -> io::Result<bool> {
+    let (mut piece, mut other_piece) = ([0; PIECE], [0; PIECE]);
+    let mut at = 0;
+    for _ in 0..u64::MAX {
+        if at >= length {
+            break;
+        }
+        let count = read_once_at(file, at, &mut piece)?;
+        let other_count = read_once_at(other, at, &mut other_piece)?;
+        if count == 0 || piece[..count] != other_piece[..other_count] {
+            return Ok(false);
+        }
+        at = at.saturating_add(count as u64);
+    }
+    Ok(true)
+}
+
+// A file that has just got its name is shown as it is spelled.
+pub(crate) fn require_spelled<R: Runtime + AllocGlobal>(rt: &R, path: &str) -> io::Result<()> {
+    if fat_file_at(rt, path)?.is_some() && spelling_at(rt, path)? != Spelling::AsGiven {
+        return Err(io::Error::other("has got its name in capitals alone"));
     }
     Ok(())
 }
 
-fn require_apart(one: &Metadata, other: &Metadata) -> io::Result<()> {
-    if may_share(one, other) && !is_same(one, other) {
-        return Err(may_share_fault());
+// Whether a file that was found by a path is shown as the path spells it. In a folder that can't be listed it counts as
+// such.
+pub(crate) fn is_spelled<R: Runtime + AllocGlobal>(
+    rt: &R,
+    path: &str,
+    found: &Metadata,
+) -> io::Result<bool> {
+    if !has_time_of_fat(found) {
+        return Ok(true);
     }
-    Ok(())
-}
-
-fn other_name(alloc: Global, path: &str) -> io::Result<String> {
-    match path.strip_suffix(TEMP_SUFFIX) {
-        Some(output) => Ok(copy_path(alloc, output)?),
-        None => temp_of(alloc, path),
+    match spelling_at(rt, path) {
+        Ok(spelling) => Ok(spelling == Spelling::AsGiven),
+        Err(error) if error.kind() == ErrorKind::PermissionDenied => Ok(true),
+        Err(error) => Err(error),
     }
 }
 
@@ -79,57 +183,17 @@ pub(crate) fn temp_of(alloc: Global, path: &str) -> io::Result<String> {
     Ok(temp)
 }
 
-/// A short alias that has bytes.
-#[derive(Drop)]
-pub(crate) struct Alias {
-    pub(crate) path: String,
-    pub(crate) found: Metadata,
-}
-
-// The short aliases with bytes in the folder of a file.
-pub(crate) fn aliases_beside<R: Runtime + AllocGlobal>(
-    rt: &R,
-    path: &str,
-) -> io::Result<Vec<Alias>> {
-    let mut aliases = Vec::new(rt.alloc());
-    let Some(entries) = if_there(fs::read_dir(rt, folder_of(path)))? else {
-        return Ok(aliases);
-    };
-    for entry in entries {
-        if let Some(entry) = if_utf8(entry)?
-            && let Some(alias) = alias_in(rt.alloc(), &entry)?
-        {
-            aliases.push(alias)?;
-        }
-    }
-    Ok(aliases)
-}
-
 // The folder of a file, as the system takes it.
 pub(crate) fn folder_of(path: &str) -> &str {
     let (folder, _) = parted(path);
     if folder.is_empty() { "." } else { folder }
 }
 
-fn alias_in<R: Files>(alloc: Global, entry: &DirEntry<R, Global>) -> io::Result<Option<Alias>> {
-    if !is_short_alias(entry.file_name()) {
-        return Ok(None);
+// The path of another name in the folder of a file.
+pub(crate) fn path_beside(alloc: Global, path: &str, name: &str) -> io::Result<String> {
+    let (folder, _) = parted(path);
+    if folder.is_empty() {
+        return Ok(copy_path(alloc, name)?);
     }
-    let Some(found) = if_there(entry.metadata())? else {
-        return Ok(None);
-    };
-    if !found.is_file() || found.len() == 0 {
-        return Ok(None);
-    }
-    let path = copy_path(alloc, entry.path().as_str())?;
-    Ok(Some(Alias { path, found }))
-}
-
-// Whether a name is in the form that FAT gives to a long one: `FEDORA~1.EFI`.
-fn is_short_alias(name: &str) -> bool {
-    let (stem, extension) = name.rsplit_once('.').unwrap_or((name, ""));
-    stem.len() <= 8
-        && extension.len() <= 3
-        && stem.contains('~')
-        && !name.bytes().any(|byte| byte.is_ascii_lowercase())
+    Ok(format!(in alloc; "{folder}/{name}")?)
 }

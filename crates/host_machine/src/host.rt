@@ -71,6 +71,10 @@ impl<R: Runtime<File = File> + AllocGlobal, E: Print + Drop> HostMachine<R, E> {
         ensures value { IfOk result (λ value. answer ≡ Ok value) }
     {
         let answer = self.reports.report(call, path, answer);
+        if let Some(twins) = self.system.take_twins() {
+            self.reports
+                .report_twins(twins.path.as_str(), twins.other.as_str());
+        }
         self.faults.disk(answer)
     }
 

@@ -1,16 +1,20 @@
 //! The intent of a move: the file that names the two paths of a rename while it is made. It is locked from its creation
 //! until it is gone, and believed only if this program can have written it.
-use crate::answers::{if_there, read_once_at};
+use crate::answers::read_once_at;
+use crate::calls::{link_metadata_at, lock_file, metadata_at, metadata_of, open_file};
 use crate::kept::is_same;
 use crate::named::Folders;
 use boot_base::{INTENT, INTENT_LIMIT, IntentNames};
 use menu_order::Counted;
 use std::alloc::Global;
-use std::fs::{File, TryLockError};
+use std::fs::File;
+use std::io;
 use std::io::ErrorKind;
 use std::os::unix::fs::MetadataExt;
 use std::rt::Files;
-use std::{fs, io};
+
+/// Why the intent of another run is left as it is.
+const OTHER_MOVE: &str = "another run is moving a boot file";
 
 // The paths that an intent's file names.
 fn read_from(alloc: Global, file: &File) -> io::Result<Option<IntentNames>> {
@@ -34,7 +38,7 @@ pub(crate) fn parted(path: &str) -> (&str, &str) {
 }
 
 // The name of an entry's file without its counter and its suffix, and the suffix.
-fn entry_name(name: &str) -> Option<(&str, &str)> {
+pub(crate) fn entry_name(name: &str) -> Option<(&str, &str)> {
     if let Some(counted) = Counted::split(name) {
         let base = name.get(..counted.base_length)?;
         return Some((base, counted.suffix.as_str()));
@@ -79,7 +83,7 @@ impl HeldIntent {
     }
 
     pub(crate) fn length(&self) -> io::Result<u64> {
-        Ok(self.file.metadata()?.len())
+        Ok(metadata_of(&self.file)?.len())
     }
 
     pub(crate) fn left(&self) -> Option<&IntentNames> {
@@ -88,68 +92,53 @@ impl HeldIntent {
 }
 
 fn open_locked_intent<R: Files<File = File>>(rt: &R) -> io::Result<Option<File>> {
-    let Some(file) = open_file(rt, INTENT)? else {
+    let Some((file, opened)) = open_file(rt, INTENT)? else {
         return Ok(None);
     };
-    lock_intent(&file)?;
+    lock_file(&file, OTHER_MOVE)?;
     // Its run may have ended between opening and locking.
-    match if_there(fs::metadata(rt, INTENT))? {
-        Some(found) if is_same(&found, &file.metadata()?) => Ok(Some(file)),
+    match metadata_at(rt, INTENT)? {
+        Some(found) if is_same(&found, &opened) => Ok(Some(file)),
         Some(_) => Err(other_move_fault()),
         None => Ok(None),
     }
 }
 
-fn lock_intent(file: &File) -> io::Result<()> {
-    match file.try_lock() {
-        Ok(()) => Ok(()),
-        Err(TryLockError::WouldBlock) => Err(other_move_fault()),
-        Err(TryLockError::Error(error)) => Err(error),
-    }
-}
-
-// Opens a regular file to read it.
-pub(crate) fn open_file<R: Files<File = File>>(rt: &R, path: &str) -> io::Result<Option<File>> {
-    match if_there(fs::metadata(rt, path))? {
-        Some(found) if found.is_file() => if_there(fs::open(rt, path)),
-        _ => Ok(None),
-    }
-}
-
 fn other_move_fault() -> io::Error {
-    io::Error::new(ErrorKind::WouldBlock, "another run is moving a boot file")
+    io::Error::new(ErrorKind::WouldBlock, OTHER_MOVE)
 }
 
 // After the recovery of this run an intent that it doesn't hold is that of another run.
 pub(crate) fn require_no_other_move<R: Files>(rt: &R, held: Option<&HeldIntent>) -> io::Result<()> {
-    match if_there(fs::metadata(rt, INTENT))? {
+    match metadata_at(rt, INTENT)? {
         Some(found) if held.is_none() && found.is_file() => Err(other_move_fault()),
         _ => Ok(()),
     }
 }
 
-// This run's own intent is put in its place only if a later run will believe it, and no other one stands there.
+// This run's own intent is put in its place only if a later run will believe it, and no other one stands there. It gives
+// the paths in it.
 pub(crate) fn require_intent<R: Files<File = File>>(
     rt: &R,
     alloc: Global,
     temp: &str,
-) -> io::Result<()> {
+) -> io::Result<IntentNames> {
     require_no_other_move(rt, None)?;
-    let Some(file) = open_file(rt, temp)? else {
+    let Some((file, _)) = open_file(rt, temp)? else {
         return Err(io::Error::from(ErrorKind::NotFound));
     };
-    match read_from(alloc, &file)? {
-        Some(names) => require_own(rt, alloc, temp, &names),
-        None => Err(io::Error::new(ErrorKind::InvalidData, "names no move")),
-    }
+    let Some(names) = read_from(alloc, &file)? else {
+        return Err(io::Error::new(ErrorKind::InvalidData, "names no move"));
+    };
+    require_own(rt, alloc, temp, &names)?;
+    Ok(names)
 }
 
 // The intent at a path is this program's: a regular file with one link, for two names of one entry, in a folder that no
 // link leads to.
 fn require_own<R: Files>(rt: &R, alloc: Global, path: &str, names: &IntentNames) -> io::Result<()> {
-    let found = fs::symlink_metadata(rt, path)?;
-    if found.is_file()
-        && found.nlink() == 1
+    let found = link_metadata_at(rt, path)?;
+    if found.is_some_and(|found| found.is_file() && found.nlink() == 1)
         && are_of_one_entry(names)
         && !is_below_a_link(rt, alloc, names.from.as_str())?
     {
@@ -166,7 +155,7 @@ fn is_below_a_link<R: Files>(rt: &R, alloc: Global, path: &str) -> io::Result<bo
     let mut folders = Folders::new(alloc);
     folders.add_above(path)?;
     for folder in folders.below.as_slice() {
-        let found = if_there(fs::symlink_metadata(rt, folder))?;
+        let found = link_metadata_at(rt, folder)?;
         if found.is_some_and(|found| found.is_symlink()) {
             return Ok(true);
         }

@@ -4,7 +4,9 @@
 //! and to count each failure once; what its calls do is shown by tests.
 #![tactic(auto)]
 
+mod aliases;
 mod answers;
+mod calls;
 mod clusters;
 mod faults;
 mod half;
@@ -12,9 +14,9 @@ mod host;
 mod intent;
 mod kept;
 mod listing;
+mod locks;
 mod looks;
 mod named;
-mod payloads;
 mod reports;
 mod streams;
 mod syncs;

@@ -1,41 +1,54 @@
-//! The names of the files in a folder.
+//! The names in a folder.
 use crate::answers::{if_there, if_utf8};
+use crate::calls::{link_metadata_at, metadata_at, repeated};
 use boot_base::{FileName, PathFault};
 use std::alloc::Global;
-use std::fs::DirEntry;
 use std::io::ErrorKind;
 use std::rt::{Files, Runtime};
 use std::{fs, io};
 
-// The names of the regular files, after links, directly in a folder. Names that are not UTF-8 are passed
-// over.
-pub(crate) fn names_in<R: Runtime + AllocGlobal>(
-    rt: &R,
-    alloc: Global,
-    folder: &str,
-) -> io::Result<Vec<FileName>> {
-    let mut names = Vec::new(alloc);
+// All names in a folder, in order. Names that are not UTF-8 are passed over.
+pub(crate) fn names_in<R: Runtime + AllocGlobal>(rt: &R, folder: &str) -> io::Result<Vec<String>> {
+    repeated(|| read_names(rt, folder))
+}
+
+fn read_names<R: Runtime + AllocGlobal>(rt: &R, folder: &str) -> io::Result<Vec<String>> {
+    let mut names = Vec::new(rt.alloc());
     let Some(entries) = if_there(fs::read_dir(rt, folder))? else {
         return Ok(names);
     };
     for entry in entries {
-        if let Some(entry) = if_utf8(entry)?
-            && is_file(rt, &entry)?
-        {
-            add_name(alloc, &mut names, entry.file_name())?;
+        if let Some(entry) = if_utf8(entry)? {
+            names.push(String::from_str(rt.alloc(), entry.file_name())?)?;
         }
     }
+    names.sort_unstable();
     Ok(names)
 }
 
-fn is_file<R: Files>(rt: &R, entry: &DirEntry<R, Global>) -> io::Result<bool> {
-    let Some(kind) = if_there(entry.file_type())? else {
-        return Ok(false);
-    };
-    if !kind.is_symlink() {
-        return Ok(kind.is_file());
+// Those of a folder's names that are the names of regular files, after links.
+pub(crate) fn files_among<R: Files>(
+    rt: &R,
+    alloc: Global,
+    folder: &str,
+    names: &[String],
+) -> io::Result<Vec<FileName>> {
+    let mut files = Vec::new(alloc);
+    for name in names {
+        let name = name.as_str();
+        let path = format!(in alloc; "{folder}/{name}")?;
+        if is_file(rt, path.as_str())? {
+            add_name(alloc, &mut files, name)?;
+        }
     }
-    let found = if_there(fs::metadata(rt, entry.path()))?;
+    Ok(files)
+}
+
+fn is_file<R: Files>(rt: &R, path: &str) -> io::Result<bool> {
+    let found = match link_metadata_at(rt, path)? {
+        Some(found) if found.is_symlink() => metadata_at(rt, path)?,
+        found => found,
+    };
     Ok(found.is_some_and(|found| found.is_file()))
 }
 

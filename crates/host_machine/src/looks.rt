@@ -1,14 +1,20 @@
-//! Which file stood at a path as it was looked at, and which names a folder had. What another run has changed since
+//! What a run has looked at: which file stood at a path, and which names a folder had. What another run has changed since
 //! isn't taken for what it was.
-use crate::answers::if_there;
+//!
+//! What is found the same at two moments was so at each moment between them. So a run makes its looks once more, before
+//! it changes something and before it says what it has read.
+use crate::answers::changed_fault;
+use crate::calls::metadata_at;
+use crate::intent::parted;
 use crate::listing::names_in;
-use boot_base::{FileName, ends_as_temp};
+use crate::locks::{Hold, Locks};
+use boot_base::ends_as_temp;
 use std::alloc::{AllocError, Global};
-use std::fs::Metadata;
-use std::io::ErrorKind;
+use std::collections::HashMap;
+use std::fs::{File, Metadata};
+use std::io;
 use std::os::unix::fs::MetadataExt;
 use std::rt::{Files, Runtime};
-use std::{fs, io, mem};
 
 /// What tells a file from another one, and from itself after a change.
 #[derive(Clone, Copy, PartialEq, Eq)]
@@ -32,163 +38,200 @@ impl Identity {
     }
 }
 
-/// A path, and the file that stood there.
-#[derive(Drop)]
-struct Look {
-    path: String,
-    found: Option<Identity>,
+// What is no regular file isn't there.
+fn identity_of(found: Option<&Metadata>) -> Option<Identity> {
+    found.filter(|found| found.is_file()).map(Identity::of)
 }
 
-/// A folder, and a mark of the names that it had: two folders with other names have the same one by chance alone.
+/// The file that stood at a path, and after how many replies it was looked at last.
+#[derive(Clone, Copy)]
+struct Look {
+    found: Option<Identity>,
+    reply: u64,
+}
+
+/// The names that a folder had, in order, and after how many replies it was listed last.
 #[derive(Drop)]
 struct Listing {
-    folder: String,
-    mark: u64,
+    names: Vec<String>,
+    reply: u64,
 }
 
-/// What was looked at since the last sync of names but one. A command reads, then syncs the names, and then makes its
-/// change.
+/// What was looked at in this run, and hasn't been changed by it since.
 #[derive(Drop)]
 pub(crate) struct Looks {
-    before_sync: Vec<Look>,
-    since_sync: Vec<Look>,
-    listings_before_sync: Vec<Listing>,
-    listings_since_sync: Vec<Listing>,
+    alloc: Global,
+    files: HashMap<String, Look>,
+    /// the paths that were looked at since the last reply
+    recent: Vec<String>,
+    /// whether one of them, or a listing, came since all were last found the same
+    has_unchecked: bool,
+    listings: HashMap<String, Listing>,
+    /// how many replies were given so far
+    reply: u64,
 }
 
 impl Looks {
     pub(crate) fn new(alloc: Global) -> Self {
         Looks {
-            before_sync: Vec::new(alloc),
-            since_sync: Vec::new(alloc),
-            listings_before_sync: Vec::new(alloc),
-            listings_since_sync: Vec::new(alloc),
+            alloc,
+            files: HashMap::new(alloc),
+            recent: Vec::new(alloc),
+            has_unchecked: false,
+            listings: HashMap::new(alloc),
+            reply: 0,
         }
     }
 
-    // This stands at a path, or nothing. A file that has come or gone since the reads before the sync is a fault. Of
-    // two looks in a row at one path the first counts.
-    pub(crate) fn add(&mut self, path: &str, found: Option<&Metadata>) -> io::Result<()> {
-        if let Some(look) = look_at(&self.before_sync, path)
-            && look.found.is_some() != found.is_some()
-        {
-            return Err(changed_fault());
+    // This stands at a path, or nothing. It must be what an earlier look of this run has found there. Whether there was
+    // one.
+    pub(crate) fn add(&mut self, path: &str, found: Option<&Metadata>) -> io::Result<bool> {
+        let found = identity_of(found);
+        let reply = self.reply;
+        let Some(first) = self.files.get_mut(path) else {
+            self.add_recent(path)?;
+            let path = String::from_str(self.alloc, path)?;
+            self.files.insert(path, Look { found, reply })?;
+            return Ok(false);
+        };
+        let is_same = first.found == found;
+        let was_recent = first.reply == reply;
+        first.reply = reply;
+        if !was_recent {
+            self.add_recent(path)?;
         }
-        if self
-            .since_sync
-            .last()
-            .is_some_and(|last| last.path.as_str() == path)
-        {
-            return Ok(());
-        }
-        let path = String::from_str(*self.since_sync.allocator(), path)?;
-        let found = found.map(Identity::of);
-        self.since_sync.push(Look { path, found })?;
+        self.require(path, is_same)?;
+        Ok(true)
+    }
+
+    // Whether this run has listed a folder.
+    pub(crate) fn has_names_of(&self, folder: &str) -> bool {
+        self.listings.contains_key(folder)
+    }
+
+    // Whether this run has found that name in its folder.
+    pub(crate) fn has_listed(&self, path: &str) -> bool {
+        let (folder, name) = parted(path);
+        self.listings.get(folder).is_some_and(|listing| {
+            listing
+                .names
+                .binary_search_by(|other| other.as_str().cmp(name))
+                .is_ok()
+        })
+    }
+
+    // The first look at a path since the last reply.
+    fn add_recent(&mut self, path: &str) -> Result<(), AllocError> {
+        self.has_unchecked = true;
+        self.recent.push(String::from_str(self.alloc, path)?)?;
         Ok(())
     }
 
-    // Whether the look before the last sync of names has found the same at that path.
-    pub(crate) fn was_same(&self, path: &str, found: Option<&Metadata>) -> bool {
-        look_at(&self.before_sync, path).is_some_and(|look| look.found == found.map(Identity::of))
+    // Whether a regular file was found at that path since the last reply.
+    pub(crate) fn is_known_file(&self, path: &str) -> bool {
+        self.files
+            .get(path)
+            .is_some_and(|look| look.reply == self.reply && look.found.is_some())
     }
 
-    // A folder has these names.
-    pub(crate) fn add_names(&mut self, folder: &str, names: &[FileName]) -> Result<(), AllocError> {
-        let folder = String::from_str(*self.listings_since_sync.allocator(), folder)?;
-        let mark = mark_of(names);
-        self.listings_since_sync.push(Listing { folder, mark })?;
+    // A folder has these names, in order. They must be those that this run has found there first.
+    pub(crate) fn add_names(&mut self, folder: &str, mut names: Vec<String>) -> io::Result<()> {
+        drop_temps(&mut names);
+        if let Some(first) = self.listings.get(folder) {
+            self.require(folder, first.names == names)?;
+        }
+        self.has_unchecked = true;
+        let reply = self.reply;
+        let folder = String::from_str(self.alloc, folder)?;
+        self.listings.insert(folder, Listing { names, reply })?;
+        Ok(())
+    }
+
+    // Holds the folders that were listed, and the files that were looked at since the last reply.
+    pub(crate) fn hold<R: Files<File = File>>(&self, rt: &R, locks: &mut Locks) -> io::Result<()> {
+        for folder in self.listings.keys() {
+            locks.hold_folder(rt, folder.as_str(), Hold::Alone)?;
+        }
+        for path in self.recent.as_slice() {
+            let path = path.as_str();
+            if self.is_known_file(path) && !ends_as_temp(path) {
+                locks.hold_read(rt, path)?;
+            }
+        }
         Ok(())
     }
 
     // This run itself changes what stands at a path, and the names of its folder.
     pub(crate) fn forget(&mut self, path: &str) {
-        self.before_sync.retain(|look| look.path.as_str() != path);
-        self.since_sync.retain(|look| look.path.as_str() != path);
-        self.listings_before_sync.clear();
-        self.listings_since_sync.clear();
-    }
-
-    // The names are synced.
-    pub(crate) fn sync(&mut self) {
-        mem::swap(&mut self.before_sync, &mut self.since_sync);
-        self.since_sync.clear();
-        mem::swap(
-            &mut self.listings_before_sync,
-            &mut self.listings_since_sync,
-        );
-        self.listings_since_sync.clear();
-    }
-
-    // A file that was looked at must still be the same before another one takes its place, and none may stand where
-    // none was.
-    pub(crate) fn require_same<R: Files>(&self, rt: &R, path: &str) -> io::Result<()> {
-        match look_at(&self.since_sync, path).or(look_at(&self.before_sync, path)) {
-            Some(look) => require_found(rt, look),
-            None => Ok(()),
+        let _ = self.files.remove(path);
+        if !ends_as_temp(path) {
+            self.forget_name(path);
         }
     }
 
-    // The folders that were listed before the sync must still have the same names before a change begins.
-    pub(crate) fn require_same_names<R: Runtime + AllocGlobal>(&self, rt: &R) -> io::Result<()> {
-        require_listed(rt, self.listings_before_sync.as_slice())
+    // This run itself changes the names of the folder that a path is in.
+    pub(crate) fn forget_name(&mut self, path: &str) {
+        let (folder, _) = parted(path);
+        drop(self.listings.remove(folder));
     }
 
-    // All files and folders that were looked at since the last sync must still be the same.
+    // A reply is given.
+    pub(crate) fn end_reply(&mut self) {
+        self.reply = self.reply.saturating_add(1);
+        self.recent.clear();
+    }
+
+    // Whether something was looked at since all was last found the same.
+    pub(crate) fn has_unchecked(&self) -> bool {
+        self.has_unchecked
+    }
+
+    // What was looked at since the last reply must still be the same.
+    pub(crate) fn require_same<R: Runtime + AllocGlobal>(&mut self, rt: &R) -> io::Result<()> {
+        for path in self.recent.as_slice() {
+            if let Some(look) = self.files.get(path.as_str()) {
+                self.require_found(rt, path.as_str(), look)?;
+            }
+        }
+        self.require_listed(rt, self.reply)?;
+        self.has_unchecked = false;
+        Ok(())
+    }
+
+    // All that was looked at must still be the same.
     pub(crate) fn require_all_same<R: Runtime + AllocGlobal>(&self, rt: &R) -> io::Result<()> {
-        for look in self.since_sync.as_slice() {
-            require_found(rt, look)?;
+        for (path, look) in self.files.iter() {
+            self.require_found(rt, path.as_str(), look)?;
         }
-        require_listed(rt, self.listings_since_sync.as_slice())
+        self.require_listed(rt, 0)
     }
-}
 
-// What was found at a path stands there still.
-fn require_found<R: Files>(rt: &R, look: &Look) -> io::Result<()> {
-    let found = if_there(fs::metadata(rt, look.path.as_str()))?;
-    if found.as_ref().map(Identity::of) == look.found {
-        return Ok(());
+    fn require_found<R: Files>(&self, rt: &R, path: &str, look: &Look) -> io::Result<()> {
+        let found = metadata_at(rt, path)?;
+        self.require(path, identity_of(found.as_ref()) == look.found)
     }
-    Err(changed_fault())
-}
 
-// Folders that were listed have the same names still.
-fn require_listed<R: Runtime + AllocGlobal>(rt: &R, listings: &[Listing]) -> io::Result<()> {
-    for listing in listings {
-        let names = names_in(rt, rt.alloc(), listing.folder.as_str())?;
-        if mark_of(names.as_slice()) != listing.mark {
-            return Err(changed_fault());
+    // The folders that were listed after so many replies must have the same names still.
+    fn require_listed<R: Runtime + AllocGlobal>(&self, rt: &R, reply: u64) -> io::Result<()> {
+        for (folder, listing) in self.listings.iter() {
+            if listing.reply >= reply {
+                let mut names = names_in(rt, folder.as_str())?;
+                drop_temps(&mut names);
+                self.require(folder.as_str(), names == listing.names)?;
+            }
         }
+        Ok(())
     }
-    Ok(())
-}
 
-fn changed_fault() -> io::Error {
-    io::Error::new(
-        ErrorKind::WouldBlock,
-        "another run has changed it since it was read",
-    )
-}
-
-fn look_at<'a>(looks: &'a Vec<Look>, path: &str) -> Option<&'a Look> {
-    looks.iter().find(|look| look.path.as_str() == path)
-}
-
-// The sum of the names' hashes (FNV-1a), in whatever order they stand. Temporary files are left out: they come and go
-// with every run that writes.
-fn mark_of(names: &[FileName]) -> u64 {
-    let mut mark = 0u64;
-    for name in names {
-        if !ends_as_temp(name.as_str()) {
-            mark = mark.wrapping_add(hash_of(name.as_str()));
+    fn require(&self, path: &str, is_same: bool) -> io::Result<()> {
+        if is_same {
+            return Ok(());
         }
+        Err(changed_fault(self.alloc, path))
     }
-    mark
 }
 
-fn hash_of(name: &str) -> u64 {
-    let mut hash = 0xcbf2_9ce4_8422_2325u64;
-    for byte in name.bytes() {
-        hash = (hash ^ u64::from(byte)).wrapping_mul(0x0000_0100_0000_01b3);
-    }
-    hash
+// Leaves the names of temporary files out: they come and go with every run that writes.
+fn drop_temps(names: &mut Vec<String>) {
+    names.retain(|name| !ends_as_temp(name.as_str()));
 }

@@ -4,7 +4,7 @@ use crate::intent::parted;
 use std::alloc::{AllocError, Global};
 
 /// The most components that a path may have, and so the most folders above a file.
-const DEPTH_LIMIT: usize = 1024;
+pub(crate) const DEPTH_LIMIT: usize = 1024;
 
 /// Paths in the order in which they came, each once.
 #[derive(Drop)]
@@ -95,7 +95,7 @@ impl Folders {
         self.below.add(folder)
     }
 
-    fn has(&self, folder: &str) -> bool {
+    pub(crate) fn has(&self, folder: &str) -> bool {
         if folder.is_empty() {
             return self.has_root;
         }
@@ -113,6 +113,8 @@ impl Folders {
 pub(crate) struct Named {
     pub(crate) renamed: Paths,
     pub(crate) changed: Folders,
+    /// those of them in which this run has changed a name
+    pub(crate) own: Folders,
     pub(crate) seen: Folders,
     /// the folders that were there and were synced since the last reply
     pub(crate) settled: Folders,
@@ -124,6 +126,7 @@ impl Named {
         Named {
             renamed: Paths::new(alloc),
             changed: Folders::new(alloc),
+            own: Folders::new(alloc),
             seen: Folders::new(alloc),
             settled: Folders::new(alloc),
         }
@@ -152,13 +155,21 @@ impl Named {
 
     // A name comes or goes, or a folder above it.
     pub(crate) fn change(&mut self, path: &str) -> Result<(), AllocError> {
+        self.own.add(parted(path).0)?;
         self.changed.add_above(path)
+    }
+
+    // A folder is made.
+    pub(crate) fn make(&mut self, folder: &str) -> Result<(), AllocError> {
+        self.own.add(parted(folder).0)
     }
 
     // A file gets a new name. The folder in which that name comes is synced before the one in which the old
     // one goes.
     pub(crate) fn rename(&mut self, from: &str, to: &str) -> Result<(), AllocError> {
         self.renamed.add(to)?;
+        self.own.add(parted(to).0)?;
+        self.own.add(parted(from).0)?;
         self.changed.add_above(to)?;
         self.changed.add_above(from)
     }
@@ -167,12 +178,15 @@ impl Named {
     // synced since the last reply need no second sync.
     pub(crate) fn rename_known(&mut self, from: &str, to: &str) -> Result<(), AllocError> {
         self.renamed.add(to)?;
+        self.own.add(parted(to).0)?;
+        self.own.add(parted(from).0)?;
         self.changed.add_unsettled(to, &self.settled)?;
         self.changed.add_unsettled(from, &self.settled)
     }
 
     // A file goes. The folders above its own that were synced since the last reply need no second sync.
     pub(crate) fn remove(&mut self, path: &str) -> Result<(), AllocError> {
+        self.own.add(parted(path).0)?;
         self.changed.add_unsettled(path, &self.settled)
     }
 
@@ -180,6 +194,7 @@ impl Named {
     pub(crate) fn clear(&mut self) {
         self.renamed.clear();
         self.changed.clear();
+        self.own.clear();
         self.seen.clear();
     }
 

@@ -60,4 +60,13 @@ impl<E: Print + Drop> Reports<E> {
         }
         answer
     }
+
+    // Names the two files for which a call has failed, and says what to do if they only look like one.
+    pub(crate) fn report_twins(&self, path: &str, other: &str) {
+        if self.are_wanted {
+            let _ = self.err.println(format_args!(
+                "boot_tools: {path} and {other}: if the check finds nothing to mend, touch one of them"
+            ));
+        }
+    }
 }

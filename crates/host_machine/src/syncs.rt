@@ -4,12 +4,14 @@
 //! On FAT a name's start and length are written with the file and not with the folder, so a renamed file is
 //! synced at its new path before the folders are.
 use crate::answers::if_there;
+use crate::calls::{open_file, open_folder, rename_path};
 use crate::kept::KeptFile;
 use crate::named::{Folders, Named};
 use crate::reports::Reports;
 use std::fs::File;
+use std::io;
+use std::io::ErrorKind;
 use std::rt::Files;
-use std::{fs, io};
 
 // Syncs the renamed files, of which one may still be open, and the changed folders. One that isn't there any
 // longer needs none.
@@ -29,11 +31,12 @@ pub(crate) fn sync_changed<R: Files<File = File>, E: Print + Drop>(
     }
     for folder in named.changed.below.as_slice() {
         let folder = folder.as_str();
-        let answer = settle_folder(rt, folder, &mut named.settled);
+        let answer = settle_changed(rt, folder, &named.own, &mut named.settled);
         reports.report("sync", folder, answer)?;
     }
     if named.changed.has_root {
-        reports.report("sync", ".", settle_folder(rt, "", &mut named.settled))?;
+        let answer = settle_changed(rt, "", &named.own, &mut named.settled);
+        reports.report("sync", ".", answer)?;
     }
     Ok(())
 }
@@ -56,33 +59,43 @@ fn settle_folder<R: Files<File = File>>(
     folder: &str,
     settled: &mut Folders,
 ) -> io::Result<()> {
-    let path = if folder.is_empty() { "." } else { folder };
-    if sync_folder(rt, path)? {
+    if sync_folder(rt, folder)? {
         let _ = settled.add(folder);
     }
     Ok(())
 }
 
+// The same of a changed folder. One above those in which this run has changed names may be of a file system that syncs
+// no folders, as a read-only one is.
+fn settle_changed<R: Files<File = File>>(
+    rt: &R,
+    folder: &str,
+    own: &Folders,
+    settled: &mut Folders,
+) -> io::Result<()> {
+    match settle_folder(rt, folder, settled) {
+        Err(error) if syncs_no_folders(&error) && !own.has(folder) => Ok(()),
+        answer => answer,
+    }
+}
+
+fn syncs_no_folders(error: &io::Error) -> bool {
+    matches!(
+        error.kind(),
+        ErrorKind::InvalidInput | ErrorKind::Unsupported | ErrorKind::ReadOnlyFilesystem
+    )
+}
+
 pub(crate) fn sync_file<R: Files<File = File>>(rt: &R, path: &str) -> io::Result<()> {
-    match if_there(fs::metadata(rt, path))? {
-        Some(found) if found.is_file() => {
-            sync_path(rt, path)?;
-            Ok(())
-        }
-        _ => Ok(()),
+    match open_file(rt, path)? {
+        Some((file, _)) => file.sync_all(),
+        None => Ok(()),
     }
 }
 
 // Whether a folder was there and is synced.
-pub(crate) fn sync_folder<R: Files<File = File>>(rt: &R, path: &str) -> io::Result<bool> {
-    match if_there(fs::metadata(rt, path))? {
-        Some(found) if found.is_dir() => sync_path(rt, path),
-        _ => Ok(false),
-    }
-}
-
-fn sync_path<R: Files<File = File>>(rt: &R, path: &str) -> io::Result<bool> {
-    let Some(file) = if_there(fs::open(rt, path))? else {
+pub(crate) fn sync_folder<R: Files<File = File>>(rt: &R, folder: &str) -> io::Result<bool> {
+    let Some(file) = open_folder(rt, folder)? else {
         return Ok(false);
     };
     file.sync_all()?;
@@ -101,6 +114,6 @@ pub(crate) fn require_writable<R: Files, E: Print + Drop>(
         return Ok(());
     };
     let path = removed.as_str();
-    reports.report("sync", path, if_there(fs::rename(rt, path, path)))?;
+    reports.report("sync", path, if_there(rename_path(rt, path, path)))?;
     Ok(())
 }

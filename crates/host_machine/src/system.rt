@@ -4,23 +4,32 @@
 //! directory" and a loop of links mean that no such file is there.
 ghost use Rattle.std.specs.Prelude.{◌≤◌, length, IfOk};
 
-use crate::answers::{if_there, read_once, read_once_at, write_whole};
-use crate::clusters::{folder_of, require_one_name, temp_of};
-use crate::half::{Removal, removal_of_old, rescue_of};
-use crate::intent::{HeldIntent, open_file, require_intent, require_no_other_move};
-use crate::kept::{KeptFile, copy_path, open_locked, require_not_written, require_replaceable};
-use crate::listing::names_in;
+use crate::answers::{read_once, read_once_at, write_whole};
+use crate::calls::{
+    link_metadata_at, make_folder, metadata_at, metadata_of, open_file, open_known, rename_path,
+    unlink_path,
+};
+use crate::clusters::{
+    Twins, clear_capitals, fat_file_at, has_time_of_fat, is_spelled, require_spelled, temp_of,
+    twins_at,
+};
+use crate::half::{Removal, Rescue, removal_of_old, rescue_of};
+use crate::intent::{HeldIntent, parted, require_intent, require_no_other_move};
+use crate::kept::{
+    KeptFile, PRIVATE, PUBLIC, copy_path, create_locked, mode_of, open_locked, require_not_written,
+    require_replaceable, set_mode,
+};
+use crate::listing::{files_among, names_in};
+use crate::locks::{Hold, Locks, is_payload};
 use crate::looks::Looks;
-use crate::named::Named;
-use crate::payloads::{is_payload_folder, lock_folder};
+use crate::named::{DEPTH_LIMIT, Named};
 use crate::reports::Reports;
 use crate::syncs::{require_writable, sync_changed, sync_file, sync_folder, sync_seen};
 use boot_base::{FileName, INTENT, IntentNames, TEMP_SUFFIX};
 use std::alloc::Global;
 use std::fs::{File, Metadata, OpenOptions};
-use std::io::ErrorKind;
+use std::io;
 use std::rt::Runtime;
-use std::{fs, io};
 
 /// The files below the folder that the program starts in.
 #[derive(Drop)]
@@ -28,18 +37,21 @@ pub(crate) struct System<R: Runtime<File = File> + AllocGlobal> {
     rt: R,
     named: Named,
     looks: Looks,
+    locks: Locks,
     /// the intent of this run's move, or the one that a stop has left, with its lock
     intent: Option<HeldIntent>,
-    /// the folder of payloads that this run has listed or changed, with its lock
-    payloads: Option<KeptFile>,
     /// the file that was removed last, until the names are synced
     removed: Option<String>,
     /// the temporary file that is written, with its lock
     written: Option<KeptFile>,
     /// the same after its rename, until it is synced there
     moved: Option<KeptFile>,
+    /// the mode that the file gets in its place if it replaces none
+    new_mode: u32,
     /// the file that was read last
     looked: Option<KeptFile>,
+    /// two names that may be of one file, for which a call has failed
+    twins: Option<Twins>,
     /// A sync has failed. The system tells of lost bytes once, so no later sync can make good for it.
     has_lost: bool,
 }
@@ -48,16 +60,19 @@ impl<R: Runtime<File = File> + AllocGlobal> System<R> {
     pub(crate) fn new(rt: R) -> Self {
         let named = Named::new(rt.alloc());
         let looks = Looks::new(rt.alloc());
+        let locks = Locks::new(rt.alloc());
         System {
             rt,
             named,
             looks,
+            locks,
             intent: None,
-            payloads: None,
             removed: None,
             written: None,
             moved: None,
+            new_mode: PRIVATE,
             looked: None,
+            twins: None,
             has_lost: false,
         }
     }
@@ -69,26 +84,48 @@ impl<R: Runtime<File = File> + AllocGlobal> System<R> {
             self.named.look_at(path)?;
             return self.size_of_intent();
         }
-        let found = if_there(fs::metadata(&self.rt, path))?;
+        let found = metadata_at(&self.rt, path)?;
         if found.is_none() {
             require_no_other_move(&self.rt, self.intent.as_ref())?;
         }
         self.note_look(path, found.as_ref())?;
-        Ok(
-            found
-                .filter(|found| found.is_file())
-                .map(|found| found.len()),
-        )
+        match found {
+            Some(found) if found.is_file() && self.is_own(path, &found)? => Ok(Some(found.len())),
+            _ => Ok(None),
+        }
+    }
+
+    // Whether a file that is found at a path is the one of that name. What FAT shows in capitals alone isn't there, but for
+    // a recovery. A payload that is there isn't written again, so its bytes must be its own.
+    fn is_own(&mut self, path: &str, found: &Metadata) -> io::Result<bool> {
+        if is_payload(path) {
+            self.require_one_name(path)?;
+        }
+        if self.is_left(path) || self.looks.has_listed(path) {
+            return Ok(true);
+        }
+        is_spelled(&self.rt, path, found)
+    }
+
+    // Whether an intent that a stop has left names this path.
+    fn is_left(&self, path: &str) -> bool {
+        self.left_names().is_some_and(|names| names.from.as_str() == path
+            || names.to.as_str() == path)
     }
 
     // This stands at a path, or nothing. Its folder is to be synced, unless it was after a look that found the same.
+    // An intent has a lock of its own.
     fn note_look(&mut self, path: &str, found: Option<&Metadata>) -> io::Result<()> {
-        if self.looks.was_same(path, found) {
+        if path == INTENT {
+            return Ok(());
+        }
+        if self.looks.add(path, found)? {
             self.named.look_again(path)?;
         } else {
             self.named.look_at(path)?;
         }
-        self.looks.add(path, found)
+        self.locks.look_at(path)?;
+        Ok(())
     }
 
     // The length of the intent, which this run holds from then on.
@@ -106,6 +143,9 @@ impl<R: Runtime<File = File> + AllocGlobal> System<R> {
     pub(crate) fn read_some(&mut self, path: &str, at: u64, into: &mut [u8]) -> io::Result<usize>
         ensures { IfOk result (λ n. n ≤ length into.new) }
     {
+        if let Some(file) = self.locks.file_at(path) {
+            return read_once_at(file, at, into);
+        }
         let Some(looked) = self.take_looked(path)? else {
             return Ok(0);
         };
@@ -124,12 +164,20 @@ impl<R: Runtime<File = File> + AllocGlobal> System<R> {
 
     fn open_looked(&mut self, path: &str) -> io::Result<Option<KeptFile>> {
         let kept = copy_path(self.rt.alloc(), path)?;
-        let Some(file) = open_file(&self.rt, path)? else {
+        let opened = if self.looks.is_known_file(path) {
+            open_known(&self.rt, path)?
+        } else {
+            open_file(&self.rt, path)?
+        };
+        let Some((file, found)) = opened else {
             require_no_other_move(&self.rt, self.intent.as_ref())?;
             self.note_look(path, None)?;
             return Ok(None);
         };
-        self.note_look(path, Some(&file.metadata()?))?;
+        self.note_look(path, Some(&found))?;
+        if !self.is_own(path, &found)? {
+            return Ok(None);
+        }
         Ok(Some(KeptFile::new(kept, file)))
     }
 
@@ -137,23 +185,28 @@ impl<R: Runtime<File = File> + AllocGlobal> System<R> {
     // file its names may come and go, so that is a fault.
     pub(crate) fn names_in(&mut self, alloc: Global, folder: &str) -> io::Result<Vec<FileName>> {
         self.named.look_into(folder)?;
-        self.hold_payloads(folder)?;
-        let names = names_in(&self.rt, alloc, folder)?;
+        let names = names_in(&self.rt, folder)?;
+        let files = files_among(&self.rt, alloc, folder, names.as_slice())?;
         require_no_other_move(&self.rt, self.intent.as_ref())?;
-        self.looks.add_names(folder, names.as_slice())?;
-        Ok(names)
+        self.looks.add_names(folder, names)?;
+        Ok(files)
     }
 
-    // This run holds a folder of payloads to its end.
-    fn hold_payloads(&mut self, folder: &str) -> io::Result<()> {
-        let is_held = self
-            .payloads
-            .as_ref()
-            .is_some_and(|held| held.is_at(folder));
-        if is_payload_folder(folder) && !is_held {
-            self.payloads = lock_folder(&self.rt, folder)?;
+    // Before a change at a path this run takes its locks, and what it has looked at must still be the same.
+    // The folder of the change comes first: another run that has it already goes on then, and this one has disturbed none.
+    fn begin_change(&mut self, path: &str) -> io::Result<()> {
+        let (folder, _) = parted(path);
+        if self.looks.has_names_of(folder) {
+            self.locks.hold_folder(&self.rt, folder, Hold::Alone)?;
         }
-        Ok(())
+        self.locks.hold_changed(&self.rt, path)?;
+        self.locks.hold_payloads(&self.rt)?;
+        self.looks.hold(&self.rt, &mut self.locks)?;
+        if self.locks.take_new_folder() {
+            self.looks.require_all_same(&self.rt)
+        } else {
+            self.looks.require_same(&self.rt)
+        }
     }
 
     // An empty temporary file, in folders that are made if they are missing. Nothing is changed if the path that it is
@@ -164,19 +217,30 @@ impl<R: Runtime<File = File> + AllocGlobal> System<R> {
         let kept = copy_path(self.rt.alloc(), path)?;
         let output = path.strip_suffix(TEMP_SUFFIX).unwrap_or(path);
         require_replaceable(&self.rt, output)?;
-        require_one_name(&self.rt, output)?;
-        require_one_name(&self.rt, path)?;
+        self.require_one_name(output)?;
+        self.require_one_name(path)?;
         require_no_other_move(&self.rt, self.intent.as_ref())?;
-        self.looks.require_same_names(&self.rt)?;
-        self.looks.forget(path);
+        self.locks.require_free(&self.rt, output)?;
         self.named.change(path)?;
         self.make_folders(path)?;
-        self.hold_payloads(folder_of(path))?;
-        let file = open_locked(&self.rt, path, OpenOptions::new().append(true).create(true))?;
-        if file.metadata()?.len() > 0 {
-            file.set_len(0)?;
+        self.begin_change(path)?;
+        self.looks.forget(path);
+        let mode = if is_private(path) { PRIVATE } else { PUBLIC };
+        let created = create_locked(&self.rt, path, mode)?;
+        self.sync_growth(path, &created.file)?;
+        self.new_mode = created.given;
+        self.written = Some(KeptFile::new(kept, created.file));
+        Ok(())
+    }
+
+    // Syncs the folder on FAT in which a new file has come. If that made it grow, it shows old bytes of the disk until
+    // then, so nothing else is to be written before.
+    fn sync_growth(&mut self, path: &str, file: &File) -> io::Result<()> {
+        if has_time_of_fat(&metadata_of(file)?) {
+            let answer = sync_folder(&self.rt, parted(path).0);
+            self.has_lost |= answer.is_err();
+            answer?;
         }
-        self.written = Some(KeptFile::new(kept, file));
         Ok(())
     }
 
@@ -217,24 +281,73 @@ impl<R: Runtime<File = File> + AllocGlobal> System<R> {
         let kept = copy_path(self.rt.alloc(), to)?;
         let written = self.take_written(from)?;
         if to == INTENT {
-            require_intent(&self.rt, self.rt.alloc(), from)?;
+            self.begin_intended(from)?;
         } else {
             require_no_other_move(&self.rt, self.intent.as_ref())?;
-            self.looks.require_same(&self.rt, to)?;
+            self.begin_change(to)?;
         }
+        self.give_mode(&written.file, to)?;
         self.named.rename(from, to)?;
         self.rename(from, to)?;
         self.moved = Some(written.with_path(kept));
         Ok(())
     }
 
+    // Before an intent is put in place, what it says must be a move that may begin. Else its temporary file goes.
+    fn begin_intended(&mut self, temp: &str) -> io::Result<()> {
+        let answer = self.begin_move_of(temp);
+        if answer.is_err() {
+            let _ = unlink_path(&self.rt, temp);
+        }
+        answer
+    }
+
+    fn begin_move_of(&mut self, temp: &str) -> io::Result<()> {
+        let names = require_intent(&self.rt, self.rt.alloc(), temp)?;
+        self.begin_move(names.from.as_str(), names.to.as_str())
+    }
+
+    // What is put in place has the mode of the file that it replaces.
+    fn give_mode(&self, file: &File, to: &str) -> io::Result<()> {
+        if is_private(to) {
+            return Ok(());
+        }
+        let mode = match link_metadata_at(&self.rt, to)? {
+            Some(found) if found.is_file() => mode_of(&found),
+            _ => self.new_mode,
+        };
+        set_mode(file, mode_of(&metadata_of(file)?), mode)
+    }
+
     // Renames a boot file, unless another run is about to put a file in place at the new path.
     pub(crate) fn move_file(&mut self, from: &str, to: &str) -> io::Result<()> {
-        require_one_name(&self.rt, from)?;
+        self.begin_move(from, to)?;
+        self.make_room(from, to)?;
+        self.rename_known(from, to)
+    }
+
+    // The same before a boot file is moved, and before the intent that says so.
+    fn begin_move(&mut self, from: &str, to: &str) -> io::Result<()> {
+        self.require_one_name(from)?;
         let temp = temp_of(self.rt.alloc(), to)?;
         require_not_written(&self.rt, temp.as_str())?;
-        self.looks.require_same(&self.rt, to)?;
-        self.rename_known(from, to)
+        // No other run may put a file at the new path: while there is none it has no lock.
+        self.locks.hold_folder(&self.rt, parted(to).0, Hold::Alone)?;
+        self.locks.hold_changed(&self.rt, from)?;
+        self.begin_change(to)
+    }
+
+    // On FAT the folder grows for a new name before that comes, if it has to: an empty file with a longer name comes and
+    // goes. A leftover stays as it is.
+    fn make_room(&mut self, from: &str, to: &str) -> io::Result<()> {
+        let temp = temp_of(self.rt.alloc(), to)?;
+        let temp = temp.as_str();
+        if fat_file_at(&self.rt, from)?.is_none() || link_metadata_at(&self.rt, temp)?.is_some() {
+            return Ok(());
+        }
+        let created = create_locked(&self.rt, temp, PRIVATE)?;
+        self.sync_growth(temp, &created.file)?;
+        unlink_path(&self.rt, temp)
     }
 
     fn rename_known(&mut self, from: &str, to: &str) -> io::Result<()> {
@@ -250,15 +363,20 @@ impl<R: Runtime<File = File> + AllocGlobal> System<R> {
         self.make_folders(to)?;
         self.looks.forget(from);
         self.looks.forget(to);
-        fs::rename(&self.rt, from, to)
+        clear_capitals(&self.rt, from, to)?;
+        rename_path(&self.rt, from, to)?;
+        self.locks.close_file(from);
+        self.locks.close_file(to);
+        require_spelled(&self.rt, to)
     }
 
     // Removes a temporary file that no other run holds, under its lock. A link isn't one.
     pub(crate) fn remove_temp(&mut self, path: &str) -> io::Result<()> {
-        let found = if_there(fs::symlink_metadata(&self.rt, path))?;
+        self.begin_change(path)?;
+        let found = link_metadata_at(&self.rt, path)?;
         let _held = match found {
             Some(found) if found.is_file() => {
-                require_one_name(&self.rt, path)?;
+                self.require_one_name(path)?;
                 Some(self.take_removed(path)?)
             }
             _ => None,
@@ -275,14 +393,31 @@ impl<R: Runtime<File = File> + AllocGlobal> System<R> {
 
     // Removes a boot file. The old name of a rename that a stop has left half done goes as its bytes allow.
     pub(crate) fn remove_file(&mut self, path: &str) -> io::Result<()> {
-        require_one_name(&self.rt, path)?;
+        self.require_one_name(path)?;
         if path == INTENT {
             return self.remove_intent();
         }
+        self.begin_change(path)?;
         match self.emptied_name(path)? {
             Some(to) => self.rename_known(path, to.as_str()),
             None => self.unlink(path),
         }
+    }
+
+    // A file is changed only if no other name may be of it too. If one is, the two are kept to be told of.
+    fn require_one_name(&mut self, path: &str) -> io::Result<()> {
+        self.twins = twins_at(&self.rt, path)?;
+        if self.twins.is_none() {
+            return Ok(());
+        }
+        Err(io::Error::other(
+            "may be one file under two names: run fsck.vfat -a, then this command again",
+        ))
+    }
+
+    // The two names for which the last call has failed, if it has for such.
+    pub(crate) fn take_twins(&mut self) -> Option<Twins> {
+        self.twins.take()
     }
 
     fn left_names(&self) -> Option<&IntentNames> {
@@ -306,22 +441,57 @@ impl<R: Runtime<File = File> + AllocGlobal> System<R> {
 
     // Removes the intent, once the file that it names has its bytes on the disk.
     fn remove_intent(&mut self) -> io::Result<()> {
-        self.rescue_left()?;
+        let answer = self.rescue_left();
+        self.has_lost |= answer.is_err();
+        answer?;
         self.unlink(INTENT)?;
         self.intent = None;
         Ok(())
     }
 
-    fn rescue_left(&self) -> io::Result<()> {
+    fn rescue_left(&mut self) -> io::Result<()> {
+        self.require_one_name_left()?;
+        match self.find_rescue()? {
+            Some(rescue) => self.rescue(rescue),
+            None => Ok(()),
+        }
+    }
+
+    fn find_rescue(&self) -> io::Result<Option<Rescue>> {
+        match self.left_names() {
+            Some(names) => rescue_of(&self.rt, names),
+            None => Ok(None),
+        }
+    }
+
+    fn rescue(&mut self, rescue: Rescue) -> io::Result<()> {
+        let Rescue { path, by, name } = rescue;
+        let Some(by) = by else {
+            return self.rename_left(path.as_str(), name.as_str());
+        };
+        self.rename_left(path.as_str(), by.as_str())?;
+        self.rename_left(by.as_str(), name.as_str())
+    }
+
+    // No other name than those of the intent may be of its file.
+    fn require_one_name_left(&mut self) -> io::Result<()> {
+        let alloc = self.rt.alloc();
         let Some(names) = self.left_names() else {
             return Ok(());
         };
-        let Some(rescue) = rescue_of(&self.rt, names)? else {
-            return Ok(());
-        };
-        fs::rename(&self.rt, rescue.alias.as_str(), rescue.name)?;
-        sync_file(&self.rt, rescue.name)?;
-        sync_folder(&self.rt, folder_of(rescue.name))?;
+        let from = copy_path(alloc, names.from.as_str())?;
+        let to = copy_path(alloc, names.to.as_str())?;
+        self.require_one_name(from.as_str())?;
+        self.require_one_name(to.as_str())
+    }
+
+    // Gives the file of an intent another name, and syncs both.
+    fn rename_left(&mut self, from: &str, to: &str) -> io::Result<()> {
+        self.locks.hold_changed(&self.rt, from)?;
+        self.locks.hold_changed(&self.rt, to)?;
+        self.rename(from, to)?;
+        sync_file(&self.rt, to)?;
+        sync_folder(&self.rt, parted(to).0)?;
         Ok(())
     }
 
@@ -330,20 +500,36 @@ impl<R: Runtime<File = File> + AllocGlobal> System<R> {
         let removed = copy_path(self.rt.alloc(), path)?;
         self.named.remove(path)?;
         self.looks.forget(path);
-        fs::remove_file(&self.rt, path)?;
+        unlink_path(&self.rt, path)?;
+        self.locks.close_file(path);
         self.removed = Some(removed);
         Ok(())
     }
 
     // Makes the folders above a file that aren't there.
-    fn make_folders(&self, path: &str) -> io::Result<()> {
+    fn make_folders(&mut self, path: &str) -> io::Result<()> {
         let Some((folder, _)) = path.rsplit_once('/') else {
             return Ok(());
         };
-        if if_there(fs::metadata(&self.rt, folder))?.is_some() {
+        if metadata_at(&self.rt, folder)?.is_some() {
             return Ok(());
         }
-        fs::create_dir_all(&self.rt, folder)
+        self.note_made(folder)?;
+        make_folder(&self.rt, folder)
+    }
+
+    // A folder is about to be made, and each above it that isn't there.
+    fn note_made(&mut self, folder: &str) -> io::Result<()> {
+        let mut missing = folder;
+        for _ in 0..DEPTH_LIMIT {
+            if missing.is_empty() || metadata_at(&self.rt, missing)?.is_some() {
+                break;
+            }
+            self.named.make(missing)?;
+            self.looks.forget_name(missing);
+            missing = parted(missing).0;
+        }
+        Ok(())
     }
 
     // Syncs each renamed file, then each changed folder with those above it, and last, as far as it can be
@@ -351,16 +537,17 @@ impl<R: Runtime<File = File> + AllocGlobal> System<R> {
     pub(crate) fn sync_names<E: Print + Drop>(&mut self, reports: &Reports<E>) -> io::Result<()> {
         self.looked = None;
         reports.report("sync", ".", self.require_no_loss())?;
-        reports.report("sync", ".", self.require_same_entries())?;
         let answer = sync_changed(&self.rt, &mut self.named, self.moved.as_ref(), reports);
         self.has_lost = answer.is_err();
         answer?;
         require_writable(&self.rt, self.removed.as_ref(), reports)?;
         sync_seen(&self.rt, &mut self.named);
+        if self.has_changed_nothing() && self.looks.has_unchecked() {
+            reports.report("look", ".", self.looks.require_same(&self.rt))?;
+        }
         self.keep_intent();
         self.removed = None;
         self.named.clear();
-        self.looks.sync();
         Ok(())
     }
 
@@ -373,13 +560,9 @@ impl<R: Runtime<File = File> + AllocGlobal> System<R> {
         }
     }
 
-    // Who holds a folder of payloads goes on only if all that it has read is as it was: no other run has changed which of
-    // them the entries name.
-    fn require_same_entries(&self) -> io::Result<()> {
-        match &self.payloads {
-            Some(_) => self.looks.require_all_same(&self.rt),
-            None => Ok(()),
-        }
+    // Whether no name came or went since the last sync: then what was looked at may be said, or changed after a look more.
+    fn has_changed_nothing(&self) -> bool {
+        self.named.renamed.as_slice().is_empty() && self.removed.is_none()
     }
 
     fn require_no_loss(&self) -> io::Result<()> {
@@ -392,6 +575,8 @@ impl<R: Runtime<File = File> + AllocGlobal> System<R> {
     // A reply is printed, or a part of one: no later command relies on a sync before it.
     pub(crate) fn end_reply(&mut self) {
         self.named.end_reply();
+        self.looks.end_reply();
+        self.locks.end_reply();
     }
 
     // Prints all of the bytes.
@@ -405,4 +590,9 @@ impl<R: Runtime<File = File> + AllocGlobal> System<R> {
     {
         read_once(&mut self.rt.reader(), into)
     }
+}
+
+// Whether only its owner may ever open a file: an intent, which holds up other runs, or a payload, which may have keys.
+fn is_private(path: &str) -> bool {
+    path.strip_suffix(TEMP_SUFFIX).unwrap_or(path) == INTENT || is_payload(path)
 }

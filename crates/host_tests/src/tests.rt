@@ -40,6 +40,7 @@ enum Act {
 enum Change {
     MakeFolder(&'static str),
     RemoveFolder(&'static str),
+    Remove(&'static str),
     // A link to the first path at the second.
     Link(&'static str, &'static str),
     Write(&'static str, &'static [u8]),
@@ -64,7 +65,7 @@ enum Step {
     // How many names are in a folder.
     Names(&'static str, usize),
     HasNames(&'static str),
-    // How often the disk has failed. The pipes never have.
+    // How often the disk has failed in the calls of the machine itself. The pipes never have.
     Faults(u64),
     Beside(Change),
     // A file has these bytes.
@@ -73,7 +74,8 @@ enum Step {
     Lacks(&'static str),
     // Two files have the same bytes.
     Same(&'static str, &'static str),
-    // The program runs on these words, which single spaces part, and ends with that status.
+    // The program runs on these words, which single spaces part, and ends with that status. Each is a run of its own, over
+    // another machine.
     Runs(&'static str, u8),
 }
 
@@ -242,6 +244,7 @@ fn make_change(rt: &HostRuntime, change: Change) -> io::Result<()> {
     match change {
         Change::MakeFolder(path) => fs::create_dir_all(rt, path),
         Change::RemoveFolder(path) => fs::remove_dir_all(rt, path),
+        Change::Remove(path) => fs::remove_file(rt, path),
         Change::Link(to, path) => symlink(rt, to, path),
         Change::Write(path, bytes) => fs::write(rt, path, bytes),
         Change::WriteAt(path, bytes, seconds) => write_at(rt, path, bytes, seconds),
@@ -274,14 +277,10 @@ fn status_of<M: Machine>(alloc: Global, words: &Vec<String>, machine: &mut M) ->
 }
 
 // Whether the program ends on the words of this line with that status.
-fn ends_with<R: Runtime<File = File> + AllocGlobal>(
-    machine: &mut HostMachine<R, Stderr>,
-    alloc: Global,
-    line: &str,
-    status: u8,
-) -> Result<bool, Fail> {
-    let words = words_of(alloc, line)?;
-    Ok(status_of(alloc, &words, machine) == status)
+fn ends_with(rt: &HostRuntime, line: &str, status: u8) -> Result<bool, Fail> {
+    let words = words_of(rt.alloc(), line)?;
+    let mut machine = HostMachine::new(*rt, rt.stderr());
+    Ok(status_of(rt.alloc(), &words, &mut machine) == status)
 }
 
 // Whether what the step looks at is as it must be. A step of another kind isn't one of these.
@@ -315,7 +314,7 @@ fn is_right<R: Runtime<File = File> + AllocGlobal>(
         Step::Puts(path, first, second) => is_put(machine, rt.alloc(), path, [first, second]),
         Step::Faults(wanted) => Ok(machine.disk_faults() == wanted && machine.pipe_faults() == 0),
         Step::Beside(change) => Ok(make_change(rt, change).is_ok()),
-        Step::Runs(words, wanted) => ends_with(machine, rt.alloc(), words, wanted),
+        Step::Runs(words, wanted) => ends_with(rt, words, wanted),
         _ => is_seen(rt, machine, step),
     }
 }

@@ -1,7 +1,7 @@
 // The intent of a move: which one is believed, who holds it, and what a power cut on FAT leaves of the names in it.
 use super::Act::{Append, Create, Rename, RenameTemp, SyncFile, Unlink, UnlinkTemp};
-use super::Change::{Link, MakeFolder, RemoveFolder, Write, WriteAt};
-use super::Step::{Beside, Does, Fails, Faults, HasNames, Holds, Lacks, Puts, Runs, Size, Syncs};
+use super::Change::{Link, MakeFolder, Remove, Write, WriteAt};
+use super::Step::{Beside, Does, Fails, Faults, HasNames, Holds, Lacks, Runs, Size, Syncs};
 use super::runs::run_both;
 use super::{Step, run};
 use boot_base::INTENT;
@@ -19,13 +19,12 @@ const OF_MOVE: &[u8] = b"efi/EFI/Linux/e+3.efi\0efi/EFI/Linux/e+2-1.efi\0";
 
 // Two names that may have the same clusters stay until a check of the file system has emptied one. The bytes come under
 // the new name, whichever that is. The times of change are those that FAT keeps.
-static BOTH_NAMES: [Step; 22] = [
+static BOTH_NAMES: [Step; 20] = [
     Beside(MakeFolder(FOLDER)),
     Beside(WriteAt(OLD, b"abc", 1_000_000)),
     Beside(WriteAt(NEW, b"abc", 1_000_000)),
     Beside(Write(INTENT, OF_MOVE)),
     Runs("bootctl list", 3),
-    Faults(1),
     Runs("tidy", 3),
     Holds(OLD, b"abc"),
     Holds(NEW, b"abc"),
@@ -43,7 +42,6 @@ static BOTH_NAMES: [Step; 22] = [
     Lacks(OLD),
     Holds(NEW, b"abc"),
     Lacks(INTENT),
-    Faults(2),
 ];
 
 #[test]
@@ -74,7 +72,7 @@ fn of_two_files_the_new_one_counts(rt: HostRuntime) -> Result<(), Fail> {
 }
 
 // A short alias without its long name may have the bytes of the name beside it, or those that the name has lost.
-static ALIASES: [Step; 26] = [
+static ALIASES: [Step; 27] = [
     Beside(MakeFolder(FOLDER)),
     Beside(WriteAt(NEW, b"abc", 1_000_000)),
     Beside(WriteAt(ALIAS, b"abc", 1_000_000)),
@@ -98,12 +96,13 @@ static ALIASES: [Step; 26] = [
     Beside(WriteAt(NEW, b"", 1_000_000)),
     Beside(Write(INTENT, OF_MOVE)),
     Runs("tidy", 3),
-    // neither name, beside an alias
-    Does(NEW, Unlink),
+    // neither name, beside an alias of the old one
+    Beside(Remove(NEW)),
     Beside(WriteAt(ALIAS, b"abc", 1_000_000)),
-    Runs("tidy", 3),
-    Holds(ALIAS, b"abc"),
-    Holds(INTENT, OF_MOVE),
+    Runs("tidy", 0),
+    Holds(NEW, b"abc"),
+    Lacks(ALIAS),
+    Lacks(INTENT),
 ];
 
 #[test]
@@ -111,15 +110,68 @@ fn bytes_under_a_short_alias_are_kept(rt: HostRuntime) -> Result<(), Fail> {
     run(&rt, rt, &ALIASES)
 }
 
+// If neither name of an intent is there, its folder must be, and at most one alias that either can have.
+static NEITHER_NAME: [Step; 17] = [
+    Beside(Write(INTENT, OF_MOVE)),
+    Runs("tidy", 3),
+    Runs("measure calculate --linux=k", 3),
+    Holds(INTENT, OF_MOVE),
+    Beside(MakeFolder(FOLDER)),
+    Beside(WriteAt(ALIAS, b"abc", 1_000_000)),
+    Beside(WriteAt("efi/EFI/Linux/E_2-1~1.EFI", b"abcd", 1_000_000)),
+    Runs("tidy", 3),
+    Holds(ALIAS, b"abc"),
+    Holds(INTENT, OF_MOVE),
+    Beside(Remove(ALIAS)),
+    Beside(Remove("efi/EFI/Linux/E_2-1~1.EFI")),
+    // aliases of other names
+    Beside(WriteAt("efi/EFI/Linux/SETUP~1.EFI", b"abc", 1_000_000)),
+    Beside(WriteAt("efi/EFI/Linux/E_3~1.CON", b"abc", 1_000_000)),
+    Runs("tidy", 0),
+    Lacks(INTENT),
+    Holds("efi/EFI/Linux/SETUP~1.EFI", b"abc"),
+];
+
+#[test]
+fn an_intent_stays_without_its_folder(rt: HostRuntime) -> Result<(), Fail> {
+    run(&rt, rt, &NEITHER_NAME)
+}
+
+// Nothing is changed beside another name that the file may have after a cut rename that no intent tells of: that of its
+// entry with another counter, or itself in capitals. If the times differ, these are two files.
+static NAMES_OF_ONE_ENTRY: [Step; 17] = [
+    Beside(MakeFolder(FOLDER)),
+    Beside(WriteAt(OLD, b"abc", 1_000_000)),
+    Beside(WriteAt(NEW, b"abc", 1_000_000)),
+    Fails(OLD, Unlink),
+    Fails(NEW, Unlink),
+    Fails(NEW, Create),
+    Holds(OLD, b"abc"),
+    Holds(NEW, b"abc"),
+    Beside(WriteAt(NEW, b"abc", 1_000_002)),
+    Does(OLD, Unlink),
+    Beside(WriteAt("efi/EFI/Linux/E.efi", b"abc", 1_000_002)),
+    Fails(NEW, Unlink),
+    Beside(WriteAt("h.efi", b"abcd", 1_000_000)),
+    Beside(WriteAt("H.EFI", b"abcd", 1_000_000)),
+    Fails("h.efi", Unlink),
+    Fails("H.EFI", Create),
+    Faults(6),
+];
+
+#[test]
+fn names_of_one_entry_stay(rt: HostRuntime) -> Result<(), Fail> {
+    run(&rt, rt, &NAMES_OF_ONE_ENTRY)
+}
+
 // A file is neither removed, moved nor replaced beside a second name that it may have: its temporary file's, or a short
 // alias. A temporary file isn't cut then either.
-static SECOND_NAMES: [Step; 17] = [
+static SECOND_NAMES: [Step; 16] = [
     Beside(MakeFolder(FOLDER)),
     Beside(WriteAt(OLD, b"abc", 1_000_000)),
     Beside(WriteAt("efi/EFI/Linux/e+3.efi.tmp", b"abc", 1_000_000)),
     Fails(OLD, Unlink),
     Fails(OLD, Rename(NEW)),
-    Runs("bootctl unlink e+3.efi", 3),
     Holds(OLD, b"abc"),
     Beside(WriteAt("f.efi", b"abcd", 1_000_000)),
     Beside(WriteAt("F~1.TMP", b"abcd", 1_000_000)),
@@ -130,7 +182,7 @@ static SECOND_NAMES: [Step; 17] = [
     Beside(WriteAt("G~1.EFI", b"abcde", 1_000_000)),
     Fails("g.efi", Create),
     Fails("g.efi", UnlinkTemp),
-    Faults(7),
+    Faults(6),
 ];
 
 #[test]
@@ -140,7 +192,7 @@ fn a_file_with_a_second_name_stays(rt: HostRuntime) -> Result<(), Fail> {
 
 // An intent that no move of this program writes: a link on the way, two folders, two entries, names that are no
 // entry's, and an intent with a link to it. One that names nothing is removed.
-static FOREIGN: [Step; 28] = [
+static FOREIGN: [Step; 27] = [
     Beside(MakeFolder("victim")),
     Beside(Write("victim/e+3.efi", b"a")),
     Beside(Write("victim/e+2-1.efi", b"b")),
@@ -159,7 +211,6 @@ static FOREIGN: [Step; 28] = [
     Runs("tidy", 3),
     Beside(Write(INTENT, b"victim/e+3.efi\0victim/e.conf\0")),
     Runs("tidy", 3),
-    Faults(5),
     Holds("victim/e+3.efi", b"a"),
     Holds("victim/shadow", b"a"),
     Holds("victim/e.conf", b"c"),
@@ -185,7 +236,7 @@ static BEHIND_LINKS: [Step; 12] = [
     Beside(Link("elsewhere", INTENT)),
     Runs("tidy", 3),
     Holds(OLD, b"a"),
-    Does(INTENT, Unlink),
+    Beside(Remove(INTENT)),
     Beside(Link("efi", "boot")),
     Runs("bless bad /EFI/Linux/e+2-1.efi --esp-path=boot", 3),
     Holds(NEW, b"b"),
@@ -221,7 +272,7 @@ static ONE_MOVES: [(u8, Step); 25] = [
     (1, Syncs(true)),
     (2, Runs("tidy", 0)),
     (1, Faults(0)),
-    (2, Faults(7)),
+    (2, Faults(3)),
     (2, Holds(NEW, b"a")),
     (2, Lacks(OLD)),
 ];
@@ -231,27 +282,25 @@ fn a_move_is_not_disturbed(rt: HostRuntime) -> Result<(), Fail> {
     run_both(&rt, &ONE_MOVES)
 }
 
-// A move and a file that is put in place at its new name: each sees the other.
-static ONE_PUTS: [(u8, Step); 12] = [
+// A move and a file that is put in place at its new name: the move ends before its intent stands.
+static ONE_PUTS: [(u8, Step); 17] = [
     (1, Beside(MakeFolder(FOLDER))),
     (1, Beside(Write(OLD, b"a"))),
     (2, Does(NEW, Create)),
     (2, Does(NEW, Append(b"b"))),
     (2, Does(NEW, SyncFile)),
-    (
-        1,
-        Puts(
-            INTENT,
-            b"efi/EFI/Linux/e+3.efi\0",
-            b"efi/EFI/Linux/e+2-1.efi\0",
-        ),
-    ),
+    (1, Does(INTENT, Create)),
+    (1, Does(INTENT, Append(OF_MOVE))),
+    (1, Does(INTENT, SyncFile)),
+    (1, Fails(INTENT, RenameTemp)),
+    (1, Lacks("boot_tools.intent.tmp")),
     (1, Fails(OLD, Rename(NEW))),
-    (2, Fails(NEW, RenameTemp)),
-    (1, Does(INTENT, Unlink)),
+    (2, Does(NEW, RenameTemp)),
+    (2, Syncs(true)),
     (1, Holds(OLD, b"a")),
-    (1, Faults(1)),
-    (2, Faults(1)),
+    (1, Holds(NEW, b"b")),
+    (1, Faults(2)),
+    (2, Faults(0)),
 ];
 
 #[test]
@@ -259,9 +308,8 @@ fn a_move_and_a_write_see_each_other(rt: HostRuntime) -> Result<(), Fail> {
     run_both(&rt, &ONE_PUTS)
 }
 
-// A folder that was listed must have the same names as a change begins, and a file that was there must be there
-// still. What this run changes itself doesn't count.
-static LISTED: [Step; 20] = [
+// A folder that was listed must have the same names as a change begins.
+static LISTED: [Step; 9] = [
     Beside(MakeFolder("d")),
     Beside(Write("d/a", b"a")),
     HasNames("d"),
@@ -270,17 +318,6 @@ static LISTED: [Step; 20] = [
     Beside(Write("d/b", b"b")),
     Fails("e", Create),
     Lacks("e.tmp"),
-    Syncs(true),
-    HasNames("d"),
-    Size("d/b", Some(1)),
-    Syncs(true),
-    Does("e", Create),
-    Does("d/b", Unlink),
-    Syncs(true),
-    Size("d/b", None),
-    Size("d/a", Some(1)),
-    Syncs(true),
-    Beside(RemoveFolder("d")),
     Faults(1),
 ];
 
@@ -289,29 +326,102 @@ fn a_folder_that_another_run_changed_is_a_fault(rt: HostRuntime) -> Result<(), F
     run(&rt, rt, &LISTED)
 }
 
-// What was read is what is replaced, also if nothing was there. One sync of names stands between the reading and the
-// change.
-static REPLACED: [Step; 17] = [
+// What this run changes itself doesn't count.
+static OWN: [Step; 12] = [
+    Beside(MakeFolder("d")),
+    Beside(Write("d/a", b"a")),
+    Beside(Write("d/b", b"b")),
+    HasNames("d"),
+    Size("d/b", Some(1)),
+    Syncs(true),
+    Does("e", Create),
+    Does("d/b", Unlink),
+    Syncs(true),
+    Size("d/b", None),
+    Size("d/a", Some(1)),
+    Faults(0),
+];
+
+#[test]
+fn what_this_run_changes_is_no_fault(rt: HostRuntime) -> Result<(), Fail> {
+    run(&rt, rt, &OWN)
+}
+
+// What was read must be as it was when it is read again, when nothing was changed, and before it is replaced.
+static REPLACED: [Step; 12] = [
     Beside(Write("c", b"old")),
     Size("c", Some(3)),
     Syncs(true),
     Beside(Write("c", b"other")),
-    Does("c", Create),
-    Does("c", SyncFile),
-    Fails("c", RenameTemp),
-    Holds("c", b"other"),
-    Size("d", None),
-    Syncs(true),
-    Beside(Write("d", b"other")),
-    Does("d", Create),
-    Does("d", SyncFile),
-    Fails("d", RenameTemp),
-    Holds("d", b"other"),
+    Fails("c", Create),
+    Lacks("c.tmp"),
+    Fails("c", Unlink),
     Fails("c", Rename("d")),
-    Faults(3),
+    Size("e", None),
+    Syncs(false),
+    Holds("c", b"other"),
+    Faults(4),
 ];
 
 #[test]
 fn a_file_that_another_run_changed_is_not_replaced(rt: HostRuntime) -> Result<(), Fail> {
     run(&rt, rt, &REPLACED)
+}
+
+// The same of a path at which nothing was, and after the temporary file is written.
+static APPEARED: [Step; 7] = [
+    Size("c", None),
+    Syncs(true),
+    Does("c", Create),
+    Does("c", SyncFile),
+    Beside(Write("c", b"other")),
+    Fails("c", RenameTemp),
+    Holds("c", b"other"),
+];
+
+#[test]
+fn a_file_that_another_run_has_made_is_not_replaced(rt: HostRuntime) -> Result<(), Fail> {
+    run(&rt, rt, &APPEARED)
+}
+
+// Who has listed a folder and changes something in it holds it. Others may read there, and change other folders.
+static ONE_HOLDS: [(u8, Step); 12] = [
+    (1, Beside(MakeFolder("d"))),
+    (1, Beside(Write("d/a", b"a"))),
+    (1, Beside(Write("d/b", b"b"))),
+    (1, HasNames("d")),
+    (1, Does("d/a", Unlink)),
+    (2, HasNames("d")),
+    (2, Size("d/b", Some(1))),
+    (2, Syncs(true)),
+    (2, Fails("d/c", Create)),
+    (2, Fails("d/b", Unlink)),
+    (1, Syncs(true)),
+    (1, Faults(0)),
+];
+
+#[test]
+fn a_listed_folder_is_held(rt: HostRuntime) -> Result<(), Fail> {
+    run_both(&rt, &ONE_HOLDS)
+}
+
+// Two runs that put other files into one folder go on beside each other. Who has read a file for that holds it.
+static BOTH_PUT: [(u8, Step); 12] = [
+    (1, Beside(Write("k", b"k"))),
+    (1, Size("k", Some(1))),
+    (1, Does("d/a", Create)),
+    (2, Does("d/b", Create)),
+    (2, Fails("k", Create)),
+    (2, Fails("k", Unlink)),
+    (1, Does("d/a", SyncFile)),
+    (1, Does("d/a", RenameTemp)),
+    (1, Syncs(true)),
+    (1, Faults(0)),
+    (2, Holds("k", b"k")),
+    (2, Faults(2)),
+];
+
+#[test]
+fn writes_into_one_folder_go_on_beside_each_other(rt: HostRuntime) -> Result<(), Fail> {
+    run_both(&rt, &BOTH_PUT)
 }

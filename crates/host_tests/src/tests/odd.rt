@@ -1,18 +1,16 @@
 // A system with a folder that can't be synced, and a file that is renamed before it is locked.
-use super::Act::Create;
+use super::Act::{Create, Unlink};
 use super::Change::{MakeFolder, Write};
-use super::Step::{Beside, Does, Fails, Faults, Holds, Names, Syncs};
+use super::Step::{Beside, Does, Fails, Faults, Holds, Names, Puts, Syncs};
 use super::noted::NotedSystem;
 use super::{Step, run};
 use std::test::Fail;
 
-static CHANGED: [Step; 7] = [
-    Beside(MakeFolder("odd/folder")),
+static CHANGED: [Step; 6] = [
+    Beside(MakeFolder("odd")),
     Names("odd", 0),
     Syncs(true),
-    // a change anywhere below it
-    Does("odd/folder/a", Create),
-    Faults(0),
+    Does("odd/a", Create),
     Syncs(false),
     Faults(1),
 ];
@@ -20,6 +18,34 @@ static CHANGED: [Step; 7] = [
 #[test]
 fn a_changed_folder_must_be_synced(rt: HostRuntime) -> Result<(), Fail> {
     run(&rt, NotedSystem { rt }, &CHANGED)
+}
+
+static ABOVE: [Step; 6] = [
+    Beside(MakeFolder("odd/folder")),
+    Puts("odd/folder/a", b"a", b""),
+    Syncs(true),
+    Does("odd/folder/a", Unlink),
+    Syncs(true),
+    Faults(0),
+];
+
+#[test]
+fn a_folder_above_a_changed_one_may_be_of_a_file_system_without_syncs(
+    rt: HostRuntime,
+) -> Result<(), Fail> {
+    run(&rt, NotedSystem { rt }, &ABOVE)
+}
+
+static MADE: [Step; 4] = [
+    Beside(MakeFolder("odd")),
+    Does("odd/folder/a", Create),
+    Syncs(false),
+    Faults(1),
+];
+
+#[test]
+fn a_folder_in_which_one_is_made_must_be_synced(rt: HostRuntime) -> Result<(), Fail> {
+    run(&rt, NotedSystem { rt }, &MADE)
 }
 
 static RENAMED: [Step; 4] = [

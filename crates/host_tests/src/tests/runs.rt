@@ -8,7 +8,7 @@ use std::io::Stderr;
 use std::test::Fail;
 
 // The steps of two runs, and which of them makes each.
-static TWO_RUNS: [(u8, Step); 16] = [
+static TWO_RUNS: [(u8, Step); 17] = [
     (1, Does("x/a", Create)),
     (1, Does("x/a", Append(b"abc"))),
     (2, Fails("x/a", Create)),
@@ -20,12 +20,13 @@ static TWO_RUNS: [(u8, Step); 16] = [
     (1, Does("x/a", Append(b"d"))),
     (1, Does("x/a", SyncFile)),
     (1, Does("x/a", RenameTemp)),
-    // the renamed file isn't the second run's temporary file
-    (2, Does("x/a", Create)),
+    // the renamed file has its lock until it is synced
+    (2, Fails("x/a", Create)),
     (1, Syncs(true)),
+    (2, Does("x/a", Create)),
     (1, Holds("x/a", b"abcd")),
     (1, Faults(0)),
-    (2, Faults(5)),
+    (2, Faults(6)),
 ];
 
 fn go_through_both(
