@@ -2,15 +2,17 @@
 //! changes a boot folder, as `ukify`, `bootctl`, `systemd-measure` and `systemd-bless-boot` do.
 //!
 //! `run` is the whole program over any machine, and carries the theorem; `main` calls it on the folder
-//! that the program starts in and its standard streams. Before that it says which build this is, if the environment
-//! asks for a log.
+//! that the program starts in and its standard streams. If the environment asks for a log, it says before that which
+//! build this is, and behind a list which files are no entries.
 #![tactic(auto)]
 
 mod build;
+mod passed;
 
 use boot_run::{Ended, run};
-use build::{COMMIT, VERSION};
-use host_machine::{HostMachine, report_build, reports_are_wanted};
+use build::report_build;
+use host_machine::{HostMachine, reports_are_wanted};
+use passed::report_passed_over;
 use std::io::ErrorKind;
 use std::process::ExitCode;
 use std::rt::Env;
@@ -19,13 +21,18 @@ use std::{env, io};
 fn main(rt: HostRuntime) -> ExitCode {
     let are_wanted = reports_are_wanted(&rt);
     if are_wanted {
-        report_build(&rt.stderr(), VERSION, COMMIT);
+        report_build(&rt, &rt.stderr());
     }
     let Ok(words) = given_words(&rt) else {
         return ExitCode::from(Ended::Memory.status());
     };
     let mut machine = HostMachine::new(rt, rt.stderr()).with_reports(are_wanted);
-    ExitCode::from(run(rt.alloc(), &words, &mut machine))
+    let status = run(rt.alloc(), &words, &mut machine);
+    drop(machine);
+    if are_wanted && status <= 1 {
+        report_passed_over(rt, &words);
+    }
+    ExitCode::from(status)
 }
 
 // The words behind the program's name. If one of them isn't UTF-8 they are a single word that is no
