@@ -23,7 +23,7 @@ install:
 	@test -x $(PROGRAM) || { echo "make install: nothing is built at $(PROGRAM): run make first" >&2; exit 1; }
 	install -D -m 755 $(PROGRAM) $(DESTDIR)$(PREFIX)/bin/boot_tools
 	install -D -m 755 -t $(DESTDIR)$(PREFIX)/bin share/bin/espctl
-	install -D -m 644 -t $(DESTDIR)$(PREFIX)/share/man/man1 share/man/boot_tools.1 share/man/espctl.1
+	install -D -m 644 -t $(DESTDIR)$(PREFIX)/share/man/man1 share/man/boot_tools.1 share/man/espctl.1 share/man/sign-values.1
 	install -D -m 644 share/completions/boot_tools.bash $(DESTDIR)$(PREFIX)/share/bash-completion/completions/boot_tools
 	ln -sf boot_tools $(DESTDIR)$(PREFIX)/share/bash-completion/completions/espctl
 	install -D -m 644 -t $(DESTDIR)$(ZSHDIR) share/completions/_boot_tools
@@ -34,10 +34,10 @@ install:
 	install -D -m 644 -t $(DESTDIR)$(PREFIX)/lib/systemd/system share/systemd/boot_tools-bless.service
 	sed -i 's|/usr/lib/boot_tools|$(PREFIX)/lib/boot_tools|' $(DESTDIR)$(PREFIX)/lib/systemd/system/boot_tools-bless.service
 	install -D -m 644 -t $(DESTDIR)$(DOCDIR) $(PAGES)
-	sed -i 's|/usr/share/doc/boot-tools|$(DOCDIR)|' $(DESTDIR)$(PREFIX)/share/man/man1/boot_tools.1
+	sed -i 's|/usr/share/doc/boot-tools|$(DOCDIR)|; s|/usr/lib/boot_tools|$(PREFIX)/lib/boot_tools|' $(DESTDIR)$(PREFIX)/share/man/man1/*.1
 uninstall:
 	rm -f $(DESTDIR)$(PREFIX)/bin/boot_tools $(DESTDIR)$(PREFIX)/bin/espctl
-	rm -f $(DESTDIR)$(PREFIX)/share/man/man1/boot_tools.1 $(DESTDIR)$(PREFIX)/share/man/man1/espctl.1
+	rm -f $(addprefix $(DESTDIR)$(PREFIX)/share/man/man1/,boot_tools.1 espctl.1 sign-values.1)
 	rm -f $(DESTDIR)$(PREFIX)/share/bash-completion/completions/boot_tools $(DESTDIR)$(PREFIX)/share/bash-completion/completions/espctl
 	rm -f $(DESTDIR)$(ZSHDIR)/_boot_tools $(DESTDIR)$(FISHDIR)/boot_tools.fish $(DESTDIR)$(FISHDIR)/espctl.fish
 	rm -f $(DESTDIR)$(HOOKDIR)/60-boot_tools.install $(DESTDIR)$(HOOKDIR)/90-boot_tools.install

@@ -192,8 +192,12 @@ _boot_tools() {
   _init_completion -n =:@ || return
   [[ ${words[0]##*/} != espctl ]] || front='--help --version'
   if ((cword == 1)); then
-    mapfile -t COMPREPLY < <(compgen -W "$(_boot_tools_next_words) $front" -- "$cur")
+    mapfile -t COMPREPLY < <(compgen -W "$(_boot_tools_next_words) ${front:+$front $(_boot_tools_next_words bootctl)}" -- "$cur")
     return
+  fi
+  if [[ $front ]] && _boot_tools_row_of "bootctl ${words[1]}" >/dev/null; then # the front lets one leave that word out
+    words=("${words[0]}" bootctl "${words[@]:1}")
+    cword=$((cword + 1))
   fi
   if ! row=$(_boot_tools_row_of "${words[1]}"); then
     if ((cword == 2)); then

@@ -159,8 +159,14 @@ function __boot_tools_complete
     set -l first 3
     if test (count $words) -eq 1
         string replace -r '[ |].*' '' -- $__boot_tools_rows | sort -u
-        __boot_tools_is_front; and printf '%s\n' --help --version
+        if __boot_tools_is_front
+            printf '%s\n' --help --version
+            string match -- 'bootctl *' $__boot_tools_rows | string replace -r '^\S+ ([^|]*).*' '$1'
+        end
         return
+    end
+    if __boot_tools_is_front; and __boot_tools_row_of "bootctl $words[2]" >/dev/null # the front lets one leave that word out
+        set words $words[1] bootctl $words[2..]
     end
     set -l row (__boot_tools_row_of $words[2])
     if test -z "$row"
