@@ -23,4 +23,4 @@ mod syncs;
 mod system;
 
 pub use host::HostMachine;
-pub use reports::{report_build, reports_are_wanted};
+pub use reports::reports_are_wanted;

@@ -1,20 +1,14 @@
-//! What is told on standard error: which build runs, and each call that failed.
+//! What is told on standard error: each call that failed.
 ghost use Rattle.std.specs.Prelude.{◌≡◌};
 
 use std::io;
 use std::rt::Env;
 
-/// Whether the environment asks for a log on Err, of the build and of each call that fails: `BOOT_TOOLS_LOG` is `1`.
+/// Whether the environment asks for a log on Err: `BOOT_TOOLS_LOG` is `1`.
 /// It takes no memory.
 pub fn reports_are_wanted<R: Env>(rt: &R) -> bool {
     let mut value = [0u8; 1];
     rt.var("BOOT_TOOLS_LOG", &mut value).is_ok() && value == *b"1"
-}
-
-/// Prints the log's first line, which says which build runs. It takes no memory, and whether it can be printed
-/// changes nothing.
-pub fn report_build<E: Print>(err: &E, version: &str, commit: &str) {
-    let _ = err.println(format_args!("boot_tools {version} (commit {commit})"));
 }
 
 /// Standard error, and whether each failure is told there.

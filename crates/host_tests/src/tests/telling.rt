@@ -1,7 +1,7 @@
-// What the log tells: the build, and each call that failed.
+// What the log tells of each call that failed.
 use super::Act::{self, Create, RenameTemp, Unlink};
 use super::{enter_own_folder, holds, is_done, remove_own_folder};
-use host_machine::{HostMachine, report_build, reports_are_wanted};
+use host_machine::{HostMachine, reports_are_wanted};
 use std::env::FillError;
 use std::fmt::Display;
 use std::fs::OpenOptions;
@@ -63,16 +63,6 @@ fn failures_are_told_where_it_is_wanted(rt: HostRuntime) -> Result<(), Fail> {
     assert!(rt; !fs::exists(&rt, "notes")?);
     assert_eq!(rt; count_failing(rt, true)?, 3);
     assert!(rt; holds(&rt, "notes", TOLD.as_bytes())?);
-    remove_own_folder(&rt)?;
-    Ok(())
-}
-
-#[test]
-fn the_build_is_told_on_one_line(rt: HostRuntime) -> Result<(), Fail> {
-    enter_own_folder(&rt)?;
-    report_build(&Notes { rt }, "0.20261129", "1d39ad0");
-    let told = b"boot_tools 0.20261129 (commit 1d39ad0)\n";
-    assert!(rt; holds(&rt, "notes", told)?);
     remove_own_folder(&rt)?;
     Ok(())
 }
