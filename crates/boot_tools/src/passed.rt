@@ -136,18 +136,21 @@ fn image_reason<M: Machine>(
     path: &BootPath,
 ) -> io::Result<Option<String>> {
     match plan_install(alloc, path.as_str(), "x", None, "x", machine) {
-        Ok(plan) => refusal_of(alloc, plan),
+        Ok(plan) => {
+            let reason = refusal_of(alloc, &plan);
+            drop(plan);
+            reason
+        }
         Err(_) => Ok(None),
     }
 }
 
 // The text of a plan's refusal, without its number.
-fn refusal_of(alloc: Global, plan: Plan) -> io::Result<Option<String>> {
-    let Plan { outcome, text, .. } = plan;
-    if outcome == Outcome::Done {
+fn refusal_of(alloc: Global, plan: &Plan) -> io::Result<Option<String>> {
+    if plan.outcome == Outcome::Done {
         return Ok(None);
     }
-    match str::from_utf8(text.as_slice()) {
+    match str::from_utf8(plan.text.as_slice()) {
         Ok(line) => match line.trim_end().split_once(": ") {
             Some((_, reason)) => said(alloc, reason),
             None => Ok(None),
@@ -167,7 +170,11 @@ fn text_reason<M: Machine>(
             Err(EntryFault::NothingToBoot) => said(alloc, "it has no line linux or efi"),
             _ => Ok(None),
         },
-        Err(Unsaid::Refused(refusal)) => Ok(Some(refusal.to_string(alloc)?)),
+        Err(Unsaid::Refused(refusal)) => {
+            let reason = refusal.to_string(alloc);
+            drop(refusal);
+            Ok(Some(reason?))
+        }
         Err(_) => Ok(None),
     }
 }
