@@ -45,7 +45,12 @@ pub(crate) fn file_at<R: Files>(rt: &R, path: &str) -> io::Result<Option<Metadat
 
 // The same if it may stand on FAT.
 pub(crate) fn fat_file_at<R: Files>(rt: &R, path: &str) -> io::Result<Option<Metadata>> {
-    Ok(file_at(rt, path)?.filter(has_time_of_fat))
+    Ok(link_metadata_at(rt, path)?.filter(is_fat_file))
+}
+
+// Whether what was found is a regular file that may stand on FAT.
+fn is_fat_file(found: &Metadata) -> bool {
+    found.is_file() && has_time_of_fat(found)
 }
 
 /// How a folder shows a file that is there.
@@ -65,9 +70,13 @@ pub(crate) struct Twins {
 }
 
 // A file that is to be cut, replaced, moved or removed must be shown by its folder. If another name there may be of the
-// same file, that is its twin.
-pub(crate) fn twins_at<R: Runtime + AllocGlobal>(rt: &R, path: &str) -> io::Result<Option<Twins>> {
-    let Some(found) = fat_file_at(rt, path)? else {
+// same file, that is its twin. What stands at the path was found before.
+pub(crate) fn twins_of<R: Runtime + AllocGlobal>(
+    rt: &R,
+    path: &str,
+    found: Option<Metadata>,
+) -> io::Result<Option<Twins>> {
+    let Some(found) = found.filter(is_fat_file) else {
         return Ok(None);
     };
     let (_, name) = parted(path);
@@ -117,8 +126,9 @@ pub(crate) fn clear_capitals<R: Runtime<File = File> + AllocGlobal>(
     rt: &R,
     from: &str,
     to: &str,
+    replaced: Option<Metadata>,
 ) -> io::Result<()> {
-    let Some(found) = fat_file_at(rt, to)? else {
+    let Some(found) = replaced.filter(is_fat_file) else {
         return Ok(());
     };
     if spelling_at(rt, to)? == Spelling::AsGiven {
@@ -161,14 +171,7 @@ pub(crate) fn require_spelled<R: Runtime + AllocGlobal>(rt: &R, path: &str) -> i
 
 // Whether a file that was found by a path is shown as the path spells it. In a folder that can't be listed it counts as
 // such.
-pub(crate) fn is_spelled<R: Runtime + AllocGlobal>(
-    rt: &R,
-    path: &str,
-    found: &Metadata,
-) -> io::Result<bool> {
-    if !has_time_of_fat(found) {
-        return Ok(true);
-    }
+pub(crate) fn is_spelled<R: Runtime + AllocGlobal>(rt: &R, path: &str) -> io::Result<bool> {
     match spelling_at(rt, path) {
         Ok(spelling) => Ok(spelling == Spelling::AsGiven),
         Err(error) if error.kind() == ErrorKind::PermissionDenied => Ok(true),

@@ -80,11 +80,13 @@ fn lock_named<R: Files>(rt: &R, path: &str, file: &File, opened: &Metadata) -> i
     Ok(found.is_some_and(|found| is_same(&found, opened)))
 }
 
-/// A temporary file with its lock, and the mode that the system gave it before it was for its owner alone.
+/// A new temporary file with its lock.
 #[derive(Drop)]
 pub(crate) struct Created {
     pub(crate) file: File,
-    pub(crate) given: u32,
+    pub(crate) found: Metadata,
+    /// the mode that the system gave it before it was for its owner alone; None on a file system without modes
+    pub(crate) given: Option<u32>,
 }
 
 // Makes a temporary file, and locks it. Another run may take a file for a leftover before it is locked, so if it is gone
@@ -98,9 +100,10 @@ pub(crate) fn create_locked<R: Files<File = File>>(
         let file = create_anew(rt, path, mode)?;
         let found = metadata_of(&file)?;
         let given = mode_of(&found);
-        set_mode(&file, given, PRIVATE)?;
+        let has_modes = given == PRIVATE || set_mode(&file, PRIVATE)?;
         if lock_named(rt, path, &file, &found)? {
-            return Ok(Created { file, given });
+            let given = if has_modes { Some(given) } else { None };
+            return Ok(Created { file, found, given });
         }
     }
     Err(held_fault())
@@ -131,18 +134,16 @@ pub(crate) fn mode_of(found: &Metadata) -> u32 {
     found.permissions().mode() & RIGHTS
 }
 
-// Gives a file another mode than it has. A file system without modes refuses that, and it is no failure.
-pub(crate) fn set_mode(file: &File, old: u32, mode: u32) -> io::Result<()> {
-    if old == mode {
-        return Ok(());
-    }
+// Gives a file a mode, and tells whether its file system has modes. One without them refuses, and that is no failure.
+pub(crate) fn set_mode(file: &File, mode: u32) -> io::Result<bool> {
     match file.set_permissions(Permissions::from_mode(mode)) {
+        Ok(()) => Ok(true),
         Err(error)
             if matches!(
                 error.kind(),
                 ErrorKind::PermissionDenied | ErrorKind::Unsupported
-            ) => { Ok(()) }
-        answer => answer,
+            ) => { Ok(false) }
+        Err(error) => Err(error),
     }
 }
 
@@ -150,9 +151,9 @@ pub(crate) fn is_same(named: &Metadata, opened: &Metadata) -> bool {
     named.dev() == opened.dev() && named.ino() == opened.ino()
 }
 
-// A file, or a link to one, may be replaced by a rename, and nothing else.
-pub(crate) fn require_replaceable<R: Files>(rt: &R, path: &str) -> io::Result<()> {
-    match link_metadata_at(rt, path)? {
+// A file, or a link to one, may be replaced by a rename, and nothing else that is found at a path.
+pub(crate) fn require_replaceable(found: Option<&Metadata>) -> io::Result<()> {
+    match found {
         Some(found) if found.is_dir() => Err(io::Error::from(ErrorKind::IsADirectory)),
         Some(found) if !found.is_file() && !found.is_symlink() => {
             Err(io::Error::new(ErrorKind::InvalidInput, "not a regular file"))

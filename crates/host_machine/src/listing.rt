@@ -7,7 +7,7 @@ use std::io::ErrorKind;
 use std::rt::{Files, Runtime};
 use std::{fs, io};
 
-// All names in a folder, in order. Names that are not UTF-8 are passed over.
+// All names in a folder. Those that are not UTF-8 are passed over.
 pub(crate) fn names_in<R: Runtime + AllocGlobal>(rt: &R, folder: &str) -> io::Result<Vec<String>> {
     repeated(|| read_names(rt, folder))
 }
@@ -22,7 +22,6 @@ fn read_names<R: Runtime + AllocGlobal>(rt: &R, folder: &str) -> io::Result<Vec<
             names.push(String::from_str(rt.alloc(), entry.file_name())?)?;
         }
     }
-    names.sort_unstable();
     Ok(names)
 }
 

@@ -24,9 +24,12 @@ const BAD_DESCRIPTOR: i32 = 9;
 
 // Whether a path is that of a payload, or of its temporary file.
 pub(crate) fn is_payload(path: &str) -> bool {
-    let (folder, _) = parted(path);
-    let (_, name) = parted(folder);
-    name == PAYLOADS
+    is_payload_folder(parted(path).0)
+}
+
+// Whether payloads stand in a folder.
+pub(crate) fn is_payload_folder(folder: &str) -> bool {
+    parted(folder).1 == PAYLOADS
 }
 
 /// Who else may hold the same.

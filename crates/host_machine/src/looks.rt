@@ -10,7 +10,7 @@ use crate::listing::names_in;
 use crate::locks::{Hold, Locks};
 use boot_base::ends_as_temp;
 use std::alloc::{AllocError, Global};
-use std::collections::HashMap;
+use std::collections::{HashMap, HashSet};
 use std::fs::{File, Metadata};
 use std::io;
 use std::os::unix::fs::MetadataExt;
@@ -50,10 +50,11 @@ struct Look {
     reply: u64,
 }
 
-/// The names that a folder had, in order, and after how many replies it was listed last.
+/// The names that a folder had, and after how many replies it was listed last. Temporary files are left out: they come and
+/// go with every run that writes.
 #[derive(Drop)]
 struct Listing {
-    names: Vec<String>,
+    names: HashSet<String>,
     reply: u64,
 }
 
@@ -112,12 +113,9 @@ impl Looks {
     // Whether this run has found that name in its folder.
     pub(crate) fn has_listed(&self, path: &str) -> bool {
         let (folder, name) = parted(path);
-        self.listings.get(folder).is_some_and(|listing| {
-            listing
-                .names
-                .binary_search_by(|other| other.as_str().cmp(name))
-                .is_ok()
-        })
+        self.listings
+            .get(folder)
+            .is_some_and(|listing| listing.names.contains(name))
     }
 
     // The first look at a path since the last reply.
@@ -134,9 +132,9 @@ impl Looks {
             .is_some_and(|look| look.reply == self.reply && look.found.is_some())
     }
 
-    // A folder has these names, in order. They must be those that this run has found there first.
-    pub(crate) fn add_names(&mut self, folder: &str, mut names: Vec<String>) -> io::Result<()> {
-        drop_temps(&mut names);
+    // A folder has these names. They must be those that this run has found there first.
+    pub(crate) fn add_names(&mut self, folder: &str, names: Vec<String>) -> io::Result<()> {
+        let names = lasting_names(self.alloc, names)?;
         if let Some(first) = self.listings.get(folder) {
             self.require(folder, first.names == names)?;
         }
@@ -215,8 +213,7 @@ impl Looks {
     fn require_listed<R: Runtime + AllocGlobal>(&self, rt: &R, reply: u64) -> io::Result<()> {
         for (folder, listing) in self.listings.iter() {
             if listing.reply >= reply {
-                let mut names = names_in(rt, folder.as_str())?;
-                drop_temps(&mut names);
+                let names = lasting_names(self.alloc, names_in(rt, folder.as_str())?)?;
                 self.require(folder.as_str(), names == listing.names)?;
             }
         }
@@ -231,7 +228,13 @@ impl Looks {
     }
 }
 
-// Leaves the names of temporary files out: they come and go with every run that writes.
-fn drop_temps(names: &mut Vec<String>) {
-    names.retain(|name| !ends_as_temp(name.as_str()));
+// The names of a folder without those of temporary files.
+fn lasting_names(alloc: Global, names: Vec<String>) -> Result<HashSet<String>, AllocError> {
+    let mut lasting = HashSet::new(alloc);
+    for name in names {
+        if !ends_as_temp(name.as_str()) {
+            lasting.insert(name)?;
+        }
+    }
+    Ok(lasting)
 }

@@ -132,8 +132,13 @@ impl Named {
         }
     }
 
-    // A file was looked at: a name above it that another process changed is synced too.
+    // A file was looked at: a name above it that another process changed is synced too. Each folder that was seen came with
+    // those above it.
     pub(crate) fn look_at(&mut self, path: &str) -> Result<(), AllocError> {
+        let (folder, _) = parted(path);
+        if self.seen.has(folder) {
+            return Ok(());
+        }
         self.seen.add_above(path)
     }
 

@@ -10,8 +10,8 @@ use crate::calls::{
     unlink_path,
 };
 use crate::clusters::{
-    Twins, clear_capitals, fat_file_at, has_time_of_fat, is_spelled, require_spelled, temp_of,
-    twins_at,
+    Twins, clear_capitals, fat_file_at, file_at, has_time_of_fat, is_spelled, require_spelled,
+    temp_of, twins_of,
 };
 use crate::half::{Removal, Rescue, removal_of_old, rescue_of};
 use crate::intent::{HeldIntent, parted, require_intent, require_no_other_move};
@@ -20,16 +20,17 @@ use crate::kept::{
     require_replaceable, set_mode,
 };
 use crate::listing::{files_among, names_in};
-use crate::locks::{Hold, Locks, is_payload};
+use crate::locks::{Hold, Locks, is_payload, is_payload_folder};
 use crate::looks::Looks;
 use crate::named::{DEPTH_LIMIT, Named};
 use crate::reports::Reports;
 use crate::syncs::{require_writable, sync_changed, sync_file, sync_folder, sync_seen};
-use boot_base::{FileName, INTENT, IntentNames, TEMP_SUFFIX};
+use boot_base::{FileName, INTENT, IntentNames, TEMP_SUFFIX, ends_as_temp};
 use std::alloc::Global;
 use std::fs::{File, Metadata, OpenOptions};
-use std::io;
+use std::io::ErrorKind;
 use std::rt::Runtime;
+use std::{io, mem};
 
 /// The files below the folder that the program starts in.
 #[derive(Drop)]
@@ -40,14 +41,16 @@ pub(crate) struct System<R: Runtime<File = File> + AllocGlobal> {
     locks: Locks,
     /// the intent of this run's move, or the one that a stop has left, with its lock
     intent: Option<HeldIntent>,
+    /// the temporary files beside payloads that were listed since the last sync of names
+    leftovers: Vec<String>,
     /// the file that was removed last, until the names are synced
     removed: Option<String>,
     /// the temporary file that is written, with its lock
     written: Option<KeptFile>,
     /// the same after its rename, until it is synced there
     moved: Option<KeptFile>,
-    /// the mode that the file gets in its place if it replaces none
-    new_mode: u32,
+    /// the mode that the file gets in its place if it replaces none; None on a file system without modes
+    new_mode: Option<u32>,
     /// the file that was read last
     looked: Option<KeptFile>,
     /// two names that may be of one file, for which a call has failed
@@ -61,16 +64,18 @@ impl<R: Runtime<File = File> + AllocGlobal> System<R> {
         let named = Named::new(rt.alloc());
         let looks = Looks::new(rt.alloc());
         let locks = Locks::new(rt.alloc());
+        let leftovers = Vec::new(rt.alloc());
         System {
             rt,
             named,
             looks,
             locks,
             intent: None,
+            leftovers,
             removed: None,
             written: None,
             moved: None,
-            new_mode: PRIVATE,
+            new_mode: None,
             looked: None,
             twins: None,
             has_lost: false,
@@ -101,10 +106,10 @@ impl<R: Runtime<File = File> + AllocGlobal> System<R> {
         if is_payload(path) {
             self.require_one_name(path)?;
         }
-        if self.is_left(path) || self.looks.has_listed(path) {
+        if !has_time_of_fat(found) || self.is_left(path) || self.looks.has_listed(path) {
             return Ok(true);
         }
-        is_spelled(&self.rt, path, found)
+        is_spelled(&self.rt, path)
     }
 
     // Whether an intent that a stop has left names this path.
@@ -188,8 +193,52 @@ impl<R: Runtime<File = File> + AllocGlobal> System<R> {
         let names = names_in(&self.rt, folder)?;
         let files = files_among(&self.rt, alloc, folder, names.as_slice())?;
         require_no_other_move(&self.rt, self.intent.as_ref())?;
+        self.note_leftovers(folder, names.as_slice())?;
         self.looks.add_names(folder, names)?;
         Ok(files)
+    }
+
+    // The temporary files among the names of a folder of payloads. A cleanup alone lists such a folder.
+    fn note_leftovers(&mut self, folder: &str, names: &[String]) -> io::Result<()> {
+        for name in names {
+            let name = name.as_str();
+            if ends_as_temp(name) && is_payload_folder(folder) {
+                self.leftovers
+                    .push(format!(in self.rt.alloc(); "{folder}/{name}")?)?;
+            }
+        }
+        Ok(())
+    }
+
+    // Removes the temporary files beside payloads that were listed, unless another run is at work there.
+    fn remove_leftovers<E: Print + Drop>(&mut self, reports: &Reports<E>) -> io::Result<()> {
+        let leftovers = mem::replace(&mut self.leftovers, Vec::new(self.rt.alloc()));
+        for path in leftovers.as_slice() {
+            let path = path.as_str();
+            reports.report("remove", path, self.remove_leftover(path))?;
+        }
+        Ok(())
+    }
+
+    fn remove_leftover(&mut self, path: &str) -> io::Result<()> {
+        match self.take_leftover(path) {
+            Ok(Some(_held)) => self.unlink(path),
+            Ok(None) => Ok(()),
+            Err(error) if error.kind() == ErrorKind::WouldBlock => Ok(()),
+            Err(error) => Err(error),
+        }
+    }
+
+    // Holds a temporary file beside payloads. Who writes one holds their folder.
+    fn take_leftover(&mut self, path: &str) -> io::Result<Option<File>> {
+        self.locks
+            .hold_folder(&self.rt, parted(path).0, Hold::Alone)?;
+        if file_at(&self.rt, path)?.is_none() {
+            return Ok(None);
+        }
+        self.require_one_name(path)?;
+        let file = open_locked(&self.rt, path, OpenOptions::new().read(true))?;
+        Ok(Some(file))
     }
 
     // Before a change at a path this run takes its locks, and what it has looked at must still be the same.
@@ -216,8 +265,9 @@ impl<R: Runtime<File = File> + AllocGlobal> System<R> {
         self.written = None;
         let kept = copy_path(self.rt.alloc(), path)?;
         let output = path.strip_suffix(TEMP_SUFFIX).unwrap_or(path);
-        require_replaceable(&self.rt, output)?;
-        self.require_one_name(output)?;
+        let replaced = link_metadata_at(&self.rt, output)?;
+        require_replaceable(replaced.as_ref())?;
+        self.require_one_name_of(output, replaced)?;
         self.require_one_name(path)?;
         require_no_other_move(&self.rt, self.intent.as_ref())?;
         self.locks.require_free(&self.rt, output)?;
@@ -227,7 +277,7 @@ impl<R: Runtime<File = File> + AllocGlobal> System<R> {
         self.looks.forget(path);
         let mode = if is_private(path) { PRIVATE } else { PUBLIC };
         let created = create_locked(&self.rt, path, mode)?;
-        self.sync_growth(path, &created.file)?;
+        self.sync_growth(path, &created.found)?;
         self.new_mode = created.given;
         self.written = Some(KeptFile::new(kept, created.file));
         Ok(())
@@ -235,8 +285,8 @@ impl<R: Runtime<File = File> + AllocGlobal> System<R> {
 
     // Syncs the folder on FAT in which a new file has come. If that made it grow, it shows old bytes of the disk until
     // then, so nothing else is to be written before.
-    fn sync_growth(&mut self, path: &str, file: &File) -> io::Result<()> {
-        if has_time_of_fat(&metadata_of(file)?) {
+    fn sync_growth(&mut self, path: &str, created: &Metadata) -> io::Result<()> {
+        if has_time_of_fat(created) {
             let answer = sync_folder(&self.rt, parted(path).0);
             self.has_lost |= answer.is_err();
             answer?;
@@ -286,9 +336,10 @@ impl<R: Runtime<File = File> + AllocGlobal> System<R> {
             require_no_other_move(&self.rt, self.intent.as_ref())?;
             self.begin_change(to)?;
         }
-        self.give_mode(&written.file, to)?;
+        let replaced = link_metadata_at(&self.rt, to)?;
+        self.give_mode(&written.file, to, replaced.as_ref())?;
         self.named.rename(from, to)?;
-        self.rename(from, to)?;
+        self.rename_over(from, to, replaced)?;
         self.moved = Some(written.with_path(kept));
         Ok(())
     }
@@ -307,16 +358,19 @@ impl<R: Runtime<File = File> + AllocGlobal> System<R> {
         self.begin_move(names.from.as_str(), names.to.as_str())
     }
 
-    // What is put in place has the mode of the file that it replaces.
-    fn give_mode(&self, file: &File, to: &str) -> io::Result<()> {
-        if is_private(to) {
+    // What is put in place was for its owner alone. It has the mode of the file that it replaces.
+    fn give_mode(&self, file: &File, to: &str, replaced: Option<&Metadata>) -> io::Result<()> {
+        let Some(new_mode) = self.new_mode else {
             return Ok(());
-        }
-        let mode = match link_metadata_at(&self.rt, to)? {
-            Some(found) if found.is_file() => mode_of(&found),
-            _ => self.new_mode,
         };
-        set_mode(file, mode_of(&metadata_of(file)?), mode)
+        let mode = match replaced {
+            Some(found) if found.is_file() => mode_of(found),
+            _ => new_mode,
+        };
+        if !is_private(to) && mode != PRIVATE {
+            set_mode(file, mode)?;
+        }
+        Ok(())
     }
 
     // Renames a boot file, unless another run is about to put a file in place at the new path.
@@ -346,7 +400,7 @@ impl<R: Runtime<File = File> + AllocGlobal> System<R> {
             return Ok(());
         }
         let created = create_locked(&self.rt, temp, PRIVATE)?;
-        self.sync_growth(temp, &created.file)?;
+        self.sync_growth(temp, &created.found)?;
         unlink_path(&self.rt, temp)
     }
 
@@ -355,15 +409,20 @@ impl<R: Runtime<File = File> + AllocGlobal> System<R> {
         self.rename(from, to)
     }
 
-    // Renames a file, into folders that are made if they are missing.
     fn rename(&mut self, from: &str, to: &str) -> io::Result<()> {
+        let replaced = link_metadata_at(&self.rt, to)?;
+        self.rename_over(from, to, replaced)
+    }
+
+    // Renames a file, into folders that are made if they are missing. What it replaces was found before.
+    fn rename_over(&mut self, from: &str, to: &str, replaced: Option<Metadata>) -> io::Result<()> {
         self.looked = None;
         self.moved = None;
-        require_replaceable(&self.rt, to)?;
+        require_replaceable(replaced.as_ref())?;
         self.make_folders(to)?;
         self.looks.forget(from);
         self.looks.forget(to);
-        clear_capitals(&self.rt, from, to)?;
+        clear_capitals(&self.rt, from, to, replaced)?;
         rename_path(&self.rt, from, to)?;
         self.locks.close_file(from);
         self.locks.close_file(to);
@@ -404,9 +463,15 @@ impl<R: Runtime<File = File> + AllocGlobal> System<R> {
         }
     }
 
-    // A file is changed only if no other name may be of it too. If one is, the two are kept to be told of.
+    // A file is changed only if no other name may be of it too.
     fn require_one_name(&mut self, path: &str) -> io::Result<()> {
-        self.twins = twins_at(&self.rt, path)?;
+        let found = link_metadata_at(&self.rt, path)?;
+        self.require_one_name_of(path, found)
+    }
+
+    // The same of what was found at a path. If two names may be of it, they are kept to be told of.
+    fn require_one_name_of(&mut self, path: &str, found: Option<Metadata>) -> io::Result<()> {
+        self.twins = twins_of(&self.rt, path, found)?;
         if self.twins.is_none() {
             return Ok(());
         }
@@ -537,12 +602,14 @@ impl<R: Runtime<File = File> + AllocGlobal> System<R> {
     pub(crate) fn sync_names<E: Print + Drop>(&mut self, reports: &Reports<E>) -> io::Result<()> {
         self.looked = None;
         reports.report("sync", ".", self.require_no_loss())?;
+        let has_changed_nothing = self.has_changed_nothing();
+        self.remove_leftovers(reports)?;
         let answer = sync_changed(&self.rt, &mut self.named, self.moved.as_ref(), reports);
         self.has_lost = answer.is_err();
         answer?;
         require_writable(&self.rt, self.removed.as_ref(), reports)?;
         sync_seen(&self.rt, &mut self.named);
-        if self.has_changed_nothing() && self.looks.has_unchecked() {
+        if has_changed_nothing && self.looks.has_unchecked() {
             reports.report("look", ".", self.looks.require_same(&self.rt))?;
         }
         self.keep_intent();

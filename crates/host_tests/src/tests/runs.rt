@@ -1,7 +1,7 @@
 // Two runs at once, and the leftover of one that was killed.
 use super::Act::{Append, Create, RenameTemp, SyncFile, UnlinkTemp};
-use super::Change::{Write, WriteAt};
-use super::Step::{Beside, Does, Fails, Faults, Holds, Puts, Syncs};
+use super::Change::{MakeFolder, Write, WriteAt};
+use super::Step::{Beside, Does, Fails, Faults, Holds, Lacks, Puts, Runs, Syncs};
 use super::{Step, enter_own_folder, remove_own_folder, require, run};
 use host_machine::HostMachine;
 use std::io::Stderr;
@@ -108,4 +108,30 @@ static LEFT_ALONE: [Step; 19] = [
 #[test]
 fn a_leftover_that_may_be_the_file_itself_is_left_alone(rt: HostRuntime) -> Result<(), Fail> {
     run(&rt, rt, &LEFT_ALONE)
+}
+
+// The kernel `kernel` below its digest, and the temporary file that a stopped installation has left beside it.
+const PAYLOAD: &str =
+    "efi/boot_tools/6923dd1bc0460082c5d55a831908c24a282860b7f1cd6c2b79cf1bc8857c639c";
+
+const LEFT: &str =
+    "efi/boot_tools/6923dd1bc0460082c5d55a831908c24a282860b7f1cd6c2b79cf1bc8857c639c.tmp";
+
+static PAYLOAD_LEFT: [Step; 10] = [
+    Beside(MakeFolder("efi/loader/entries")),
+    Beside(Write("linux", b"kernel")),
+    Runs("type1 install a --linux=linux --esp-path=efi", 0),
+    Beside(Write(LEFT, b"ker")),
+    // who only looks takes nothing
+    Runs("bootctl list --esp-path=efi", 0),
+    Holds(LEFT, b"ker"),
+    Runs("type1 cleanup --esp-path=efi", 0),
+    Lacks(LEFT),
+    Holds(PAYLOAD, b"kernel"),
+    Runs("type1 cleanup --esp-path=efi", 0),
+];
+
+#[test]
+fn a_cleanup_takes_what_is_left_beside_a_payload(rt: HostRuntime) -> Result<(), Fail> {
+    run(&rt, rt, &PAYLOAD_LEFT)
 }
