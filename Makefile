@@ -1,7 +1,7 @@
-# What people type: `make` proves and builds, `make try` builds unproved, `make check` is the merge gate, and `make install` puts
-# what `make` has built where Debian's and Fedora's tools look for it, below DESTDIR. `make uninstall` with the same words takes that away
-# again, and `make dist` packs the sources. The program names its commit: `make COMMIT=..` says which that is if neither git nor the archive
-# does.
+# What people type: `make` proves and builds, `make try` builds unproved, `make check` is the merge gate, `make nightly` is all else that can
+# be tried, and `make install` puts what `make` has built where Debian's and Fedora's tools look for it, below DESTDIR. `make uninstall` with
+# the same words takes that away again, and `make dist` packs the sources. The program names its commit: `make COMMIT=..` says which that is
+# if neither git nor the archive does.
 PREFIX ?= /usr/local
 PROGRAM ?= crates/boot_tools/out/boot_tools
 ZSHDIR ?= $(PREFIX)/share/zsh/$(if $(and $(filter /usr,$(PREFIX)),$(wildcard /etc/debian_version)),vendor-completions,site-functions)
@@ -19,6 +19,8 @@ try:
 	@echo "make try: this was built unproved, and is gone again; make proves it and keeps it"
 check:
 	.ci/run
+nightly:
+	tools/nightly
 install:
 	@test -x $(PROGRAM) || { echo "make install: nothing is built at $(PROGRAM): run make first" >&2; exit 1; }
 	install -D -m 755 $(PROGRAM) $(DESTDIR)$(PREFIX)/bin/boot_tools
@@ -49,4 +51,4 @@ uninstall:
 	still has uki_generator=boot_tools. New kernels get no entry until that line and layout=uki are gone"
 dist:
 	tools/package --dist
-.PHONY: all try check install uninstall dist
+.PHONY: all try check nightly install uninstall dist
