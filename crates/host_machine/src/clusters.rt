@@ -4,13 +4,13 @@
 //! the new one, or a short alias whose long name isn't on the disk. Who then removes, cuts or replaces the one file frees
 //! the clusters of the other. Only a check of the file system parts them. So a file is changed only if its folder shows
 //! it as it is spelled, and no other name there may be the same file.
-use crate::aliases::{is_in_capitals, may_be_of_one_file};
 use crate::answers::read_once_at;
 use crate::calls::{link_metadata_at, unlink_path};
 use crate::intent::parted;
 use crate::kept::{copy_path, is_same};
 use crate::listing::names_in;
 use boot_base::TEMP_SUFFIX;
+use fat_rules::{Facts, fat_time, is_in_capitals, may_be_of_one_file, may_share};
 use std::alloc::Global;
 use std::fs::{File, Metadata};
 use std::io::ErrorKind;
@@ -21,21 +21,23 @@ use std::{fs, io};
 /// How many bytes of two files are compared at a time.
 const PIECE: usize = 4096;
 
-// FAT keeps whole seconds, and even ones.
-pub(crate) fn has_time_of_fat(found: &Metadata) -> bool {
-    found.mtime() % 2 == 0 && found.mtime_nsec() == 0
+// What the rules of FAT look at.
+pub(crate) fn facts_of(found: &Metadata) -> Facts {
+    Facts {
+        length: found.len(),
+        time: fat_time_of(found),
+        links: found.nlink(),
+    }
 }
 
-// Two names over the same clusters have one length and one time of change. A link more is no work of FAT.
-fn may_share(one: &Metadata, other: &Metadata) -> bool {
-    one.len() > 0
-        && one.len() == other.len()
-        && one.mtime() == other.mtime()
-        && has_time_of_fat(one)
-        && has_time_of_fat(other)
-        && one.nlink() == 1
-        && other.nlink() == 1
-        && !is_same(one, other)
+fn fat_time_of(found: &Metadata) -> Option<u64> {
+    let seconds = u64::try_from(found.mtime()).ok()?;
+    let nanoseconds = u64::try_from(found.mtime_nsec()).ok()?;
+    fat_time(seconds, nanoseconds)
+}
+
+pub(crate) fn has_time_of_fat(found: &Metadata) -> bool {
+    fat_time_of(found).is_some()
 }
 
 // A file, and None for what is no regular file and for nothing.
@@ -96,7 +98,9 @@ pub(crate) fn twins_of<R: Runtime + AllocGlobal>(
 }
 
 fn is_twin<R: Files>(rt: &R, found: &Metadata, other: &str) -> io::Result<bool> {
-    Ok(file_at(rt, other)?.is_some_and(|other| may_share(found, &other)))
+    Ok(file_at(rt, other)?.is_some_and(|other| {
+        !is_same(found, &other) && may_share(&facts_of(found), &facts_of(&other))
+    }))
 }
 
 // How the folder of a file that is there shows it.

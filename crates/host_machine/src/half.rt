@@ -2,39 +2,30 @@
 //!
 //! A check of the file system empties one of two names that stand over the same clusters. So bytes are never freed
 //! while two names may have them, and afterwards they are kept under the name that has them.
-use crate::aliases::can_be_alias_of;
 use crate::calls::metadata_at;
-use crate::clusters::{Spelling, file_at, folder_of, has_time_of_fat, path_beside, spelling_at};
+use crate::clusters::{
+    Spelling, facts_of, file_at, folder_of, has_time_of_fat, path_beside, spelling_at,
+};
 use crate::intent::parted;
 use crate::kept::copy_path;
 use crate::listing::names_in;
 use boot_base::IntentNames;
+pub(crate) use fat_rules::Removal;
+use fat_rules::{Facts, Step, can_be_alias_of, removal_of, step_of_none, step_of_one};
 use std::alloc::Global;
 use std::fs::Metadata;
 use std::io;
-use std::os::unix::fs::MetadataExt;
 use std::rt::{Files, Runtime};
-
-/// How the old name of a half-done rename goes.
-#[derive(Clone, Copy)]
-pub(crate) enum Removal {
-    /// It is unlinked.
-    Unlink,
-    /// It is renamed over the new one, which a check of the file system has emptied.
-    RenameOver,
-}
 
 // How the old name goes. The two names have no clusters in common.
 pub(crate) fn removal_of_old<R: Files>(rt: &R, names: &IntentNames) -> io::Result<Removal> {
-    let old = file_at(rt, names.from.as_str())?;
-    let new = file_at(rt, names.to.as_str())?;
-    let has_bytes = old.is_some_and(|old| old.len() > 0);
-    let is_emptied = new.is_some_and(|new| new.len() == 0);
-    Ok(if has_bytes && is_emptied {
-        Removal::RenameOver
-    } else {
-        Removal::Unlink
-    })
+    let old = facts_at(rt, names.from.as_str())?;
+    let new = facts_at(rt, names.to.as_str())?;
+    Ok(removal_of(old, new))
+}
+
+fn facts_at<R: Files>(rt: &R, path: &str) -> io::Result<Option<Facts>> {
+    Ok(file_at(rt, path)?.map(|found| facts_of(&found)))
 }
 
 /// A file that is found by another name than its own, or shown by its alias alone.
@@ -84,15 +75,10 @@ fn rescue_at<R: Runtime + AllocGlobal>(
     if !has_time_of_fat(found) {
         return Ok(None);
     }
-    for alias in aliases_of(rt, name, other)? {
-        if found.len() == 0 && alias.found.mtime() == found.mtime() {
-            return Rescue::of(rt.alloc(), alias.path.as_str(), None, name);
-        }
-    }
-    if found.len() == 0 {
-        return Err(io::Error::other(
-            "names a file that has lost its bytes: look for them, and remove it by hand",
-        ));
+    let aliases = aliases_of(rt, name, other)?;
+    let step = step_of_one(&facts_of(found), aliases.facts.as_slice());
+    if step != Step::Forget {
+        return aliases.rescue_by(rt.alloc(), step, name);
     }
     match spelling_at(rt, name)? {
         Spelling::AsGiven => Ok(None),
@@ -100,46 +86,56 @@ fn rescue_at<R: Runtime + AllocGlobal>(
     }
 }
 
-// The same if neither name is there: one alias that has bytes gets the new name. If none has, the file was removed. If the
-// folder isn't there, nothing can be said of the file.
+// The same if neither name is there.
 fn rescue_alias<R: Runtime + AllocGlobal>(
     rt: &R,
     from: &str,
     to: &str,
 ) -> io::Result<Option<Rescue>> {
-    if !is_folder(rt, folder_of(to))? {
-        return Err(io::Error::other(
-            "names a file in a folder that isn't there: mount its file system",
-        ));
-    }
-    let mut aliases = aliases_of(rt, to, from)?;
-    let Some(alias) = aliases.pop() else {
-        return Ok(None);
-    };
-    if !aliases.is_empty() {
-        return Err(io::Error::other(
-            "only short aliases of its file are left: rename one to its second path",
-        ));
-    }
-    Rescue::of(rt.alloc(), alias.path.as_str(), None, to)
+    let has_folder = is_folder(rt, folder_of(to))?;
+    let aliases = aliases_of(rt, to, from)?;
+    let step = step_of_none(has_folder, aliases.paths.len());
+    aliases.rescue_by(rt.alloc(), step, to)
 }
 
 fn is_folder<R: Files>(rt: &R, path: &str) -> io::Result<bool> {
     Ok(metadata_at(rt, path)?.is_some_and(|found| found.is_dir()))
 }
 
-/// A short alias that has bytes.
+/// Short aliases that have bytes.
 #[derive(Drop)]
-struct Alias {
-    path: String,
-    found: Metadata,
+struct Aliases {
+    paths: Vec<String>,
+    facts: Vec<Facts>,
+}
+
+impl Aliases {
+    // The rename that a step asks for, to that name.
+    fn rescue_by(&self, alloc: Global, step: Step, name: &str) -> io::Result<Option<Rescue>> {
+        match step {
+            Step::Forget => Ok(None),
+            Step::TakeAlias { place } => match self.paths.as_slice().get(place) {
+                Some(path) => Rescue::of(alloc, path.as_str(), None, name),
+                None => Ok(None),
+            },
+            Step::AskForBytes => Err(io::Error::other(
+                "names a file that has lost its bytes: look for them, and remove it by hand",
+            )),
+            Step::AskForFolder => Err(io::Error::other(
+                "names a file in a folder that isn't there: mount its file system",
+            )),
+            Step::AskForName => Err(io::Error::other(
+                "only short aliases of its file are left: rename one to its second path",
+            )),
+        }
+    }
 }
 
 // The short aliases with bytes that one of two names in one folder can have.
-fn aliases_of<R: Runtime + AllocGlobal>(rt: &R, path: &str, other: &str) -> io::Result<Vec<Alias>> {
+fn aliases_of<R: Runtime + AllocGlobal>(rt: &R, path: &str, other: &str) -> io::Result<Aliases> {
     let (_, name) = parted(path);
     let (_, other_name) = parted(other);
-    let mut aliases = Vec::new(rt.alloc());
+    let (mut paths, mut facts) = (Vec::new(rt.alloc()), Vec::new(rt.alloc()));
     for alias in names_in(rt, folder_of(path))? {
         let alias = alias.as_str();
         if can_be_alias_of(alias, name) || can_be_alias_of(alias, other_name) {
@@ -147,9 +143,10 @@ fn aliases_of<R: Runtime + AllocGlobal>(rt: &R, path: &str, other: &str) -> io::
             if let Some(found) = file_at(rt, path.as_str())?
                 && found.len() > 0
             {
-                aliases.push(Alias { path, found })?;
+                facts.push(facts_of(&found))?;
+                paths.push(path)?;
             }
         }
     }
-    Ok(aliases)
+    Ok(Aliases { paths, facts })
 }

@@ -5,7 +5,7 @@ use crate::calls::{link_metadata_at, lock_file, metadata_at, metadata_of, open_f
 use crate::kept::is_same;
 use crate::named::Folders;
 use boot_base::{INTENT, INTENT_LIMIT, IntentNames};
-use menu_order::Counted;
+use fat_rules::is_own_move;
 use std::alloc::Global;
 use std::fs::File;
 use std::io;
@@ -23,33 +23,9 @@ fn read_from(alloc: Global, file: &File) -> io::Result<Option<IntentNames>> {
     Ok(IntentNames::read(alloc, &bytes[..count])?)
 }
 
-// Whether the paths are names of one entry in one folder, which differ in the counter alone. No other rename has an
-// intent.
-fn are_of_one_entry(names: &IntentNames) -> bool {
-    let (folder, name) = parted(names.from.as_str());
-    let (other_folder, other_name) = parted(names.to.as_str());
-    let entry = entry_name(name);
-    folder == other_folder && entry.is_some() && entry == entry_name(other_name)
-}
-
 // The folder of a path, and the name in it.
 pub(crate) fn parted(path: &str) -> (&str, &str) {
     path.rsplit_once('/').unwrap_or(("", path))
-}
-
-// The name of an entry's file without its counter and its suffix, and the suffix.
-pub(crate) fn entry_name(name: &str) -> Option<(&str, &str)> {
-    if let Some(counted) = Counted::split(name) {
-        let base = name.get(..counted.base_length)?;
-        return Some((base, counted.suffix.as_str()));
-    }
-    let suffix = if name.ends_with(".efi") {
-        ".efi"
-    } else {
-        ".conf"
-    };
-    let base = name.strip_suffix(suffix)?;
-    Some((base, suffix))
 }
 
 /// An intent that this run holds by its lock.
@@ -139,7 +115,7 @@ pub(crate) fn require_intent<R: Files<File = File>>(
 fn require_own<R: Files>(rt: &R, alloc: Global, path: &str, names: &IntentNames) -> io::Result<()> {
     let found = link_metadata_at(rt, path)?;
     if found.is_some_and(|found| found.is_file() && found.nlink() == 1)
-        && are_of_one_entry(names)
+        && is_own_move(names)
         && !is_below_a_link(rt, alloc, names.from.as_str())?
     {
         return Ok(());

@@ -4,7 +4,6 @@
 //! and to count each failure once; what its calls do is shown by tests.
 #![tactic(auto)]
 
-mod aliases;
 mod answers;
 mod calls;
 mod clusters;

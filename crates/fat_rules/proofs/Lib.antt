@@ -1,0 +1,4 @@
+pub mod Aliases
+pub mod Entries
+pub mod Slots
+pub mod Twins
