@@ -116,11 +116,9 @@ impl Aliases {
             Step::Forget => Ok(None),
             Step::TakeAlias { place } => match self.paths.as_slice().get(place) {
                 Some(path) => Rescue::of(alloc, path.as_str(), None, name),
-                None => Ok(None),
+                None => Err(lost_fault()),
             },
-            Step::AskForBytes => Err(io::Error::other(
-                "names a file that has lost its bytes: look for them, and remove it by hand",
-            )),
+            Step::AskForBytes => Err(lost_fault()),
             Step::AskForFolder => Err(io::Error::other(
                 "names a file in a folder that isn't there: mount its file system",
             )),
@@ -129,6 +127,10 @@ impl Aliases {
             )),
         }
     }
+}
+
+fn lost_fault() -> io::Error {
+    io::Error::other("names a file that has lost its bytes: look for them, and remove it by hand")
 }
 
 // The short aliases with bytes that one of two names in one folder can have.
