@@ -13,7 +13,6 @@ use menu_order::Suffix;
 use std::alloc::Global;
 use std::fmt::Display;
 use std::io::ErrorKind;
-use std::rt::Stderr;
 use std::{fs, io};
 use tool_words::Command;
 
@@ -42,9 +41,9 @@ fn listed_partition(alloc: Global, words: &Vec<String>) -> Option<Text> {
 }
 
 // Tells of the files in one folder that are no entries, in the order of their names.
-fn report_folder(
+fn report_folder<M: Machine>(
     rt: HostRuntime,
-    machine: &mut HostMachine<HostRuntime, Stderr>,
+    machine: &mut M,
     folder: &BootPath,
     suffix: Suffix,
 ) -> io::Result<()> {
@@ -84,9 +83,9 @@ fn names_in(rt: HostRuntime, folder: &BootPath) -> io::Result<Vec<String>> {
 }
 
 // Why what has that name is no entry, if its name is like that of one and the reason can be found.
-fn reason_of(
+fn reason_of<M: Machine>(
     rt: HostRuntime,
-    machine: &mut HostMachine<HostRuntime, Stderr>,
+    machine: &mut M,
     folder: &BootPath,
     name: &str,
     suffix: Suffix,
