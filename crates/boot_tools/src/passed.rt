@@ -144,15 +144,18 @@ fn image_reason<M: Machine>(
     }
 }
 
-// The text of a plan's refusal, without its number.
+// The text of a plan's refusal, without its number, if it is one of the two that are about the image and not about where it
+// would go.
 fn refusal_of(alloc: Global, plan: &Plan) -> io::Result<Option<String>> {
     if plan.outcome == Outcome::Done {
         return Ok(None);
     }
     match str::from_utf8(plan.text.as_slice()) {
         Ok(line) => match line.trim_end().split_once(": ") {
-            Some((_, reason)) => said(alloc, reason),
-            None => Ok(None),
+            Some((number, reason)) if number.ends_with(" 4") || number.ends_with(" 11") => {
+                said(alloc, reason)
+            }
+            _ => Ok(None),
         },
         Err(_) => Ok(None),
     }
