@@ -49,9 +49,9 @@ returns-in_err-lines-in-Commands g c = record {
   runs = λ told firm.
       let old = c.args.machine.now in
       let found = begins_at (g.M.Machine.state old) c.args.command c.requires.alone in
-      subst (λ (l : List Line). RunsTo g.M.Machine.time g.M.Machine.state old c.find_expansion-found.new.machine l c.from_residual.result) (sym found.whole)
-      (runs_not g.M.Machine.time g.M.Machine.state old c.find_expansion-found.new.machine found.line found.rest c.from_residual.result MemoryStop
-      c.from_residual.ensures.0 c.from_residual.ensures.1 (g.met.M.Machine.sound old told) firm
+      subst (λ (l : List Line). RunsTo g.M.Machine.time g.M.Machine.state old c.find_expansion-found.new.machine l c.from_residual-in_err-lines-in-Commands.result) (sym found.whole)
+      (runs_not g.M.Machine.time g.M.Machine.state old c.find_expansion-found.new.machine found.line found.rest c.from_residual-in_err-lines-in-Commands.result MemoryStop
+      c.from_residual-in_err-lines-in-Commands.ensures.0 c.from_residual-in_err-lines-in-Commands.ensures.1 (g.met.M.Machine.sound old told) firm
       (c.find_expansion-found.ensures.recovers told firm) (c.find_expansion-found.ensures.keeps told).printed);
   synced = λ told firm.
       synced_not g.M.Machine.time g.M.Machine.state c.args.machine.now c.find_expansion-found.new.machine
@@ -60,23 +60,23 @@ returns-in_err-lines-in-Commands g c = record {
   rests = search rules;
   behind = λ told firm.
       clean_none (g.M.Machine.state c.args.machine.now) (g.M.Machine.state c.find_expansion-found.new.machine)
-      (lines_at (g.M.Machine.state c.args.machine.now) c.args.command) (ended_by c.from_residual.result) (c.find_expansion-found.ensures.keeps told).printed;
+      (lines_at (g.M.Machine.state c.args.machine.now) c.args.command) (ended_by c.from_residual-in_err-lines-in-Commands.result) (c.find_expansion-found.ensures.keeps told).printed;
   input = λ told. takes_none c.args.command _ _ _ c.requires.alone (c.find_expansion-found.ensures.keeps told).input;
-  temps = λ told. leaves_none c.from_residual.result (g.M.Machine.state c.args.machine.now) (g.M.Machine.state c.find_expansion-found.new.machine) (c.find_expansion-found.ensures.temps told);
+  temps = λ told. leaves_none c.from_residual-in_err-lines-in-Commands.result (g.M.Machine.state c.args.machine.now) (g.M.Machine.state c.find_expansion-found.new.machine) (c.find_expansion-found.ensures.temps told);
   counted = search rules;
 }
 
 -- ---- the commands were run
 
-pub run_expansion-requires-in-Commands : goal.run_expansion-requires-in-Commands
-run_expansion-requires-in-Commands g c =
-    let commands = c.in-Commands.commands.items in
-    let lines = c.as_slice.ensures.value ∙ c.in_ok-lines-in-Commands.ensures in
-    record {
-      steps = subst (All IsStep) (sym lines) (are_steps commands (subst AreSteps c.in-Commands.is c.in_ok-found.ensures.steps));
-      commands = subst (All (λ line. is_unread line ≡ false)) (sym lines) (are_commands commands);
-      rested = λ told. c.in_ok-found.ensures.rests told;
-    }
+pub run_expansion-requires-clause-steps : goal.run_expansion-requires-clause-steps
+run_expansion-requires-clause-steps g c =
+    subst (All IsStep) (sym (c.as_slice.ensures.value ∙ c.in_ok-lines-in-Commands.ensures))
+    (are_steps c.in-Commands.commands.items (subst AreSteps c.in-Commands.is c.in_ok-found.ensures.steps))
+
+pub run_expansion-requires-clause-commands : goal.run_expansion-requires-clause-commands
+run_expansion-requires-clause-commands g c =
+    subst (All (λ line. is_unread line ≡ false)) (sym (c.as_slice.ensures.value ∙ c.in_ok-lines-in-Commands.ensures))
+    (are_commands c.in-Commands.commands.items)
 
 pub returns-in_ok-lines-in-Commands : goal.returns-in_ok-lines-in-Commands
 returns-in_ok-lines-in-Commands g c =
@@ -125,14 +125,11 @@ returns-in_ok-lines-in-Commands g c =
 
 -- ---- its one reply was given
 
-pub run_plan-requires-in-Reply : goal.run_plan-requires-in-Reply
-run_plan-requires-in-Reply g c = record {
-  rested = λ told. c.in_ok-found.ensures.rests told;
-  there = λ told.
-      let mid = c.find_expansion-found.new.machine in
-      let stands : StandsAlone (g.M.Machine.state mid) c.args.command c.in-Reply.plan = subst (Finds (g.M.Machine.state mid) c.args.command) c.in-Reply.is (c.in_ok-found.ensures.finds told) in
-      stands.plans.can_make;
-}
+pub run_plan-requires-clause-there : goal.run_plan-requires-clause-there
+run_plan-requires-clause-there g c told =
+    let mid = g.M.Machine.state c.find_expansion-found.new.machine in
+    let stands : StandsAlone mid c.args.command c.in-Reply.plan = subst (Finds mid c.args.command) c.in-Reply.is (c.in_ok-found.ensures.finds told) in
+    stands.plans.can_make
 
 pub returns-in-Reply : goal.returns-in-Reply
 returns-in-Reply g c =
