@@ -117,10 +117,10 @@ still_readable : (view : Files) (target : Path) (bytes : List ℕ) → IsSmall b
 unfolding Readable
 still_readable view target bytes small path read = elim (cases_same path target) [
   | inl same ↦ (
-      bytes,
-      ap (λ (p : Path). readable_bytes path (maps.get (maps.insert view target bytes) p)) same
-          ∙ ap (readable_bytes path) (get-insert_here view target bytes) ∙ small_read path bytes small,
-    )
+    bytes,
+    ap (λ (p : Path). readable_bytes path (maps.get (maps.insert view target bytes) p)) same
+        ∙ ap (readable_bytes path) (get-insert_here view target bytes) ∙ small_read path bytes small,
+  )
   | inr apart ↦ (read.0, ap (readable_bytes path) (get-insert_apart view target bytes path apart) ∙ read.1)
 ]
 

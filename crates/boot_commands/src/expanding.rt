@@ -71,10 +71,7 @@ pub fn expand<M: Machine>(
 }
 
 // An installation: its commands, or its refusal.
-fn expand_install(
-    alloc: Global,
-    commands: Result<Vec<Command>, Unsaid>,
-) -> Result<Expanded, Stop>
+fn expand_install(alloc: Global, commands: Result<Vec<Command>, Unsaid>) -> Result<Expanded, Stop>
     requires { IfOk commands (λ commands. All HasFreePath commands.items) }
     ensures finds { IfOk result (λ found. (s : State) (words : Type1Words)
         → Says (λ commands. commands.items) commands (install_expansion (seen s) words)
@@ -103,10 +100,7 @@ fn plan_idle(alloc: Global) -> Result<Plan, Stop>
 }
 
 // A cleanup: its commands, its refusal, or that there is nothing to clean.
-fn expand_cleanup(
-    alloc: Global,
-    commands: Result<Vec<Command>, Unsaid>,
-) -> Result<Expanded, Stop>
+fn expand_cleanup(alloc: Global, commands: Result<Vec<Command>, Unsaid>) -> Result<Expanded, Stop>
     requires { IfOk commands (λ commands. All HasFreePath commands.items) }
     ensures finds { IfOk result (λ found. (s : State) (esp : Path)
         → Says (λ commands. commands.items) commands (cleanup_expansion (seen s) esp)
