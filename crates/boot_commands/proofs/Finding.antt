@@ -29,10 +29,6 @@ use Rattle.boot_commands.specs.Plain.{answer_or_none}
 use Rattle.boot_commands.proofs.Expansions.{no_expansion}
 use Rattle.boot_commands.proofs.Unrefused.{expansion_unrefused}
 
-some_of : {A : Type 0} (xs : List A) → nat_eq (length xs) 0 ≡ false → xs ≢ []
-some_of [] is = cc
-some_of (x ∷ xs) is = λ same. cc
-
 pub stands_for : (s : State) (c : Command) (commands : List Command) → commands ≡ expansion (seen s) c → commands ≢ [] → StandsFor s c commands
 stands_for s c commands are some = record {
   are = are;
@@ -91,9 +87,9 @@ install_unsaid s words (unsaid.Refused why) plan so plans =
 -- ---- a cleanup
 
 pub cleanup_found : (s : State) (esp : List ℕ) (commands : List Command) → cleanup_expansion (seen s) esp ≡ Ok commands
-    → nat_eq (length commands) 0 ≡ false → StandsFor s (command.Type1Cleanup esp) commands
+    → commands ≢ [] → StandsFor s (command.Type1Cleanup esp) commands
 unfolding expansion
-cleanup_found s esp commands is some = stands_for s (command.Type1Cleanup esp) commands (sym (ap ok_commands is)) (some_of commands some)
+cleanup_found s esp commands is some = stands_for s (command.Type1Cleanup esp) commands (sym (ap ok_commands is)) some
 
 cleanup_none : (view : Files) (esp : List ℕ) (found : Result (List Command) Refusal) → ok_commands found ≡ []
     → cleanup_expansion view esp ≡ found → expansion view (command.Type1Cleanup esp) ≡ []
@@ -112,12 +108,12 @@ cleanup_unsaid s esp unsaid.Disk plan so plans = absurd plans
 cleanup_unsaid s esp (unsaid.Refused why) plan so plans =
     stands_alone s (command.Type1Cleanup esp) plan (refusal (seen s) why) (cleanup_none (seen s) esp (Err why) refl so) (cleanup_says (seen s) esp (Err why) so) (λ files. tt) (plans s)
 
-no_commands : (commands : List Command) → nat_eq (length commands) 0 ≡ true → commands ≡ []
+no_commands : (commands : List Command) → length commands ≡ 0 → commands ≡ []
 no_commands [] is = refl
-no_commands (c ∷ commands) is = absurd (omega (arith, eqb-true (length (c ∷ commands)) 0 is))
+no_commands (c ∷ commands) is = absurd (omega (arith, is))
 
 pub cleanup_idle : (s : State) (esp : List ℕ) (commands : List Command) (plan : Plan) → cleanup_expansion (seen s) esp ≡ Ok commands
-    → nat_eq (length commands) 0 ≡ true → Plans s plan (done_answer (seen s) (codes "nothing to clean\n")) → StandsAlone s (command.Type1Cleanup esp) plan
+    → length commands ≡ 0 → Plans s plan (done_answer (seen s) (codes "nothing to clean\n")) → StandsAlone s (command.Type1Cleanup esp) plan
 cleanup_idle s esp commands plan is none plans =
     let idle : cleanup_expansion (seen s) esp ≡ Ok [] = is ∙ ap (λ (l : List Command). Ok l) (no_commands commands none) in
     stands_alone s (command.Type1Cleanup esp) plan (done_answer (seen s) (codes "nothing to clean\n")) (cleanup_none (seen s) esp (Ok []) refl idle) (cleanup_says (seen s) esp (Ok []) idle) (λ files. tt) plans
