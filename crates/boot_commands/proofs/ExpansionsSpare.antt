@@ -46,7 +46,7 @@ use Rattle.type1_install.proofs.Planned.{IsPlanned, planned}
 use Rattle.boot_commands.specs.Commands.{step_reply}
 use Rattle.boot_commands.specs.Expansions.{expansion}
 use Rattle.boot_commands.specs.Plain.{plain_answer}
-use Rattle.boot_commands.proofs.Expanded.{ok_bind}
+use Rattle.boot_commands.proofs.Expansions.{ok_bind}
 use Rattle.boot_commands.proofs.Sparing.{kept}
 
 enter_after : (view : Files) (path : Path) (text : List ℕ) → (step_reply view (command.Enter path text)).after ≡ map_of.insert view path text

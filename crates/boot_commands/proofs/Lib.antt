@@ -1,7 +1,8 @@
 mod Beginning
 pub mod ConfPlaces
-pub mod Expanded
+pub mod Expansions
 pub mod ExpansionsSpare
+mod Finding
 pub mod Later
 mod Numbers
 mod Reading
@@ -10,3 +11,4 @@ pub mod Replies
 pub mod Sparing
 mod Tidies
 mod Turning
+pub mod Unrefused

@@ -3,6 +3,7 @@ pub mod DemoImages
 pub mod DemoRuns
 pub mod Demonstration
 pub mod Draws
+pub mod Expanding
 pub mod Expansions
 pub mod Plain
 pub mod Sparing

@@ -68,13 +68,13 @@ is_wordless (command.Enter path text) = true
 is_wordless (command.Remove path) = true
 is_wordless c = false
 
--- The command can be a step of a run: it isn't `script`, and the paths of one that no words name aren't that of the
--- intent.
+-- The command can be a step of a run: it isn't `script`, it is none that may stand for others, and the paths of one that
+-- no words name aren't that of the intent.
 abbrev pub is_step : Command → Bool
 is_step (command.Put file target) = not (bytes_eq target intent)
 is_step (command.Enter path text) = not (bytes_eq path intent)
 is_step (command.Remove path) = not (bytes_eq path intent)
-is_step c = not (is_script c)
+is_step c = not (is_script c || expands c)
 
 -- the answer; where a command has none of its own, that of a line that is no command. No step is made there
 abbrev pub answer_or_none : Files → Option Answer → Answer

@@ -9,7 +9,7 @@ use boot_machine::Machine;
 use command_plans::{Outcome, Plan, Stop, perform};
 
 /// Carries out a plan, as `perform` does it.
-pub(crate) fn carry_out<M: Machine>(plan: Plan, machine: &mut M) -> Result<Outcome, Stop>
+pub fn carry_out<M: Machine>(plan: Plan, machine: &mut M) -> Result<Outcome, Stop>
     requires rested { IsTrue M.tells → IsRested (M.state machine.old) }
     requires there { IsTrue M.tells → CanMake (M.state machine.old) plan.change }
     ensures performs { IsTrue M.tells → IsFirm (M.state machine.old)

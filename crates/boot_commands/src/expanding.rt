@@ -1,22 +1,35 @@
-//! The commands that a command stands for.
-ghost use Rattle.std.specs.Prelude.{◌≡◌, true, All, IfOk, IsTrue, List, Result, codes};
-ghost use Rattle.boot_base.specs.declared.refusal.Refusal.{Refusal};
+//! What is found of a command: the commands that it stands for, or the plan of its one reply.
+ghost use Rattle.std.specs.Prelude.{◌≡◌, false, All, IfOk, IsTrue, codes};
 ghost use Rattle.boot_machine.specs.Prelude.{Counts, Looks, State, seen};
-ghost use Rattle.boot_commands.specs.Plain.{answer_or_none, is_step};
-ghost use Rattle.command_plans.specs.Prelude.{CountsStop, CountsUnsaid, Plans, Says, done_answer, refusal};
-ghost use Rattle.command_plans.specs.declared.plan.Change.TheVariants.{Nothing};
-ghost use Rattle.tool_words.specs.declared.command.Command.{Command};
-ghost use Rattle.boot_commands.specs.Expansions.{expands, expansion, ok_commands, own_answer, refused_answer};
+ghost use Rattle.boot_commands.specs.Expanding.{AreSteps, Finds};
+ghost use Rattle.boot_commands.specs.Expansions.{expands};
+ghost use Rattle.boot_commands.specs.Plain.{is_script, is_wordless};
+ghost use Rattle.command_plans.specs.Prelude.{CountsStop, CountsUnsaid, Plans, Says, done_answer};
+ghost use Rattle.tool_words.specs.declared.command.Command.TheVariants as asked;
+ghost use Rattle.tool_words.specs.declared.command.Type1Words.{Type1Words};
+ghost use Rattle.boot_base.specs.Paths.{Path};
+ghost use Rattle.type1_install.specs.Cleaning.{cleanup_expansion};
+ghost use Rattle.type1_install.specs.Installing.{install_expansion};
 ghost use Rattle.type1_install.specs.Shown.{HasFreePath};
 
-use crate::keeping::found_removals;
-use boot_base::{Bytes, Refusal};
+use crate::keeping::expand_keep;
+use crate::stepping::plan_of;
+use boot_base::Bytes;
 use boot_machine::Machine;
 use command_plans::{Change, Outcome, Plan, Stop, Unsaid, plan_unsaid};
 use entry_commands::keep_paths;
 use std::alloc::Global;
 use tool_words::Command;
 use type1_install::{cleanup_expansion, install_expansion};
+
+/// What a command comes to on a machine, found by reads alone.
+#[derive(Debug, Drop)]
+pub enum Expanded {
+    /// The commands that it stands for, at least one.
+    Commands(Vec<Command>),
+    /// The plan of its one reply.
+    Reply(Plan),
+}
 
 /// Whether the command may stand for others.
 pub fn expands(command: &Command) -> bool
@@ -28,91 +41,54 @@ pub fn expands(command: &Command) -> bool
     )
 }
 
-/// The commands that a command stands for, found by reads alone; none if it stands for itself, as one that is refused.
-#[tactic(auto, unfolding(crate::specs::Expansions::expansion))]
+/// The commands that a command stands for, or the plan of its one reply, from the same reads.
 pub fn expand<M: Machine>(
     alloc: Global,
     command: &Command,
     machine: &mut M,
-) -> Result<Vec<Command>, Stop>
-    ensures commands { IfOk result (λ commands. IsTrue M.tells
-        → commands.items ≡ expansion (seen (M.state machine.old)) command.now) }
-    ensures steps { IfOk result (λ commands. All (λ c. is_step c ≡ true) commands.items) }
+) -> Result<Expanded, Stop>
+    requires alone { is_script command.now ≡ false }
+    requires worded { is_wordless command.now ≡ false }
+    ensures finds { IfOk result (λ found. IsTrue M.tells → Finds (M.state machine.old) command.now found) }
+    ensures steps { IfOk result AreSteps }
     ensures looks { Looks M.tells M.time M.state M.counts (CountsStop result) machine.old machine.new }
 {
     match command {
         Command::Type1Install(words) => {
             let commands = install_expansion(alloc, words, machine);
-            commands_or_none(alloc, commands)
+            expand_install(alloc, commands)
         }
         Command::Type1Cleanup { esp } => {
             let commands = cleanup_expansion(alloc, esp.as_str(), machine);
-            commands_or_none(alloc, commands)
+            expand_cleanup(alloc, commands)
         }
         Command::Keep(words) => {
             let paths = keep_paths(alloc, words, machine);
-            let commands = found_removals(alloc, words.dry_run, paths);
-            commands_or_none(alloc, commands)
+            expand_keep(alloc, words.dry_run, paths)
         }
-        _ => Ok(Vec::new(alloc)),
+        _ => Ok(Expanded::Reply(plan_of(alloc, command, machine)?)),
     }
 }
 
-// The commands that were found; none if there is a refusal.
-fn commands_or_none(
-    alloc: Global,
-    commands: Result<Vec<Command>, Unsaid>,
-) -> Result<Vec<Command>, Stop>
+// An installation: its commands, or its refusal.
+fn expand_install(alloc: Global, commands: Result<Vec<Command>, Unsaid>) -> Result<Expanded, Stop>
     requires { IfOk commands (λ commands. All HasFreePath commands.items) }
-    ensures commands { IfOk result (λ made. (meant : Result (List Command) Refusal)
-        → Says (λ commands. commands.items) commands meant → made.items ≡ ok_commands meant) }
-    ensures steps { IfOk result (λ made. All (λ c. is_step c ≡ true) made.items) }
+    ensures finds { IfOk result (λ found. (s : State) (words : Type1Words)
+        → Says (λ commands. commands.items) commands (install_expansion (seen s) words)
+        → Finds s (asked.Type1Install words) found) }
+    ensures steps { IfOk result AreSteps }
     ensures counts { (old new : Counts) → CountsUnsaid commands old new → CountsStop result old new }
 {
     match commands {
-        Ok(commands) => Ok(commands),
-        Err(Unsaid::Memory) => Err(Stop::Memory),
-        Err(Unsaid::Disk) => Err(Stop::Disk),
-        Err(Unsaid::Refused(why)) => {
-            drop(why);
-            Ok(Vec::new(alloc))
-        }
+        Ok(commands) => Ok(Expanded::Commands(commands)),
+        Err(unsaid) => Ok(Expanded::Reply(plan_unsaid(alloc, unsaid)?)),
     }
 }
 
-/// The plan of a command that would stand for others: no line of a run is such a one.
-pub(crate) fn plan_unreadable(alloc: Global) -> Result<Plan, Stop>
-    ensures plans { IfOk result (λ plan. (s : State) → Plans s plan (refusal (seen s) (Refusal.BadScript 0))) }
-    ensures idle { IfOk result (λ plan. plan.change ≡ Nothing) }
-    ensures counts { (counts : Counts) → CountsStop result counts counts }
-{
-    plan_unsaid(alloc, Unsaid::Refused(Refusal::BadScript { line: 0 }))
-}
-
-/// The plan of an installation that stands for itself: its refusal.
-pub(crate) fn plan_refused(
-    alloc: Global,
-    commands: Result<Vec<Command>, Unsaid>,
-) -> Result<Plan, Stop>
-    ensures plans { IfOk result (λ plan. (s : State) (meant : Result (List Command) Refusal)
-        → Says (λ commands. commands.items) commands meant
-        → Plans s plan (answer_or_none (seen s) (refused_answer (seen s) meant))) }
-    ensures idle { IfOk result (λ plan. plan.change ≡ Nothing) }
-    ensures counts { (old new : Counts) → CountsUnsaid commands old new → CountsStop result old new }
-{
-    match commands {
-        Ok(commands) => {
-            drop(commands);
-            plan_unreadable(alloc)
-        }
-        Err(unsaid) => plan_unsaid(alloc, unsaid),
-    }
-}
-
+// The plan of a cleanup that has nothing to clean.
 fn plan_idle(alloc: Global) -> Result<Plan, Stop>
     ensures plans { IfOk result (λ plan. (s : State)
         → Plans s plan (done_answer (seen s) (codes "nothing to clean\n"))) }
-    ensures idle { IfOk result (λ plan. plan.change ≡ Nothing) }
     ensures counts { (counts : Counts) → CountsStop result counts counts }
 {
     let text = Bytes::of(alloc, b"nothing to clean\n")?;
@@ -123,26 +99,21 @@ fn plan_idle(alloc: Global) -> Result<Plan, Stop>
     })
 }
 
-/// The plan of a cleanup that stands for itself: its refusal, or that there is nothing to clean.
-pub(crate) fn plan_idle_or_refused(
-    alloc: Global,
-    commands: Result<Vec<Command>, Unsaid>,
-) -> Result<Plan, Stop>
-    ensures plans { IfOk result (λ plan. (s : State) (meant : Result (List Command) Refusal)
-        → Says (λ commands. commands.items) commands meant
-        → Plans s plan (answer_or_none (seen s) (own_answer (seen s) (codes "nothing to clean\n") meant))) }
-    ensures idle { IfOk result (λ plan. plan.change ≡ Nothing) }
+// A cleanup: its commands, its refusal, or that there is nothing to clean.
+fn expand_cleanup(alloc: Global, commands: Result<Vec<Command>, Unsaid>) -> Result<Expanded, Stop>
+    requires { IfOk commands (λ commands. All HasFreePath commands.items) }
+    ensures finds { IfOk result (λ found. (s : State) (esp : Path)
+        → Says (λ commands. commands.items) commands (cleanup_expansion (seen s) esp)
+        → Finds s (asked.Type1Cleanup esp) found) }
+    ensures steps { IfOk result AreSteps }
     ensures counts { (old new : Counts) → CountsUnsaid commands old new → CountsStop result old new }
 {
     match commands {
         Ok(commands) if commands.is_empty() => {
             drop(commands);
-            plan_idle(alloc)
+            Ok(Expanded::Reply(plan_idle(alloc)?))
         }
-        Ok(commands) => {
-            drop(commands);
-            plan_unreadable(alloc)
-        }
-        Err(unsaid) => plan_unsaid(alloc, unsaid),
+        Ok(commands) => Ok(Expanded::Commands(commands)),
+        Err(unsaid) => Ok(Expanded::Reply(plan_unsaid(alloc, unsaid)?)),
     }
 }

@@ -12,7 +12,8 @@ mod keeping;
 mod plain;
 mod stepping;
 
+pub use carrying::carry_out;
 pub use demo_images::demo_image;
-pub use expanding::{expand, expands};
+pub use expanding::{Expanded, expand, expands};
 pub use plain::plain_step;
 pub use stepping::step;

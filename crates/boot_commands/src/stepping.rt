@@ -7,19 +7,19 @@ ghost use Rattle.command_plans.specs.Prelude.{CountsStop, Drops, LeavesRested, P
 
 use crate::carrying::carry_out;
 use crate::demo::plan_demo;
-use crate::expanding::{plan_idle_or_refused, plan_refused};
-use crate::keeping::plan_keep;
 use crate::plain::plan_plain;
 use boot_machine::Machine;
 use command_plans::{Outcome, Plan, Stop};
-use entry_commands::keep_paths;
 use std::alloc::Global;
 use tool_words::Command;
-use type1_install::{cleanup_expansion, install_expansion};
 
-// What a command is going to do and to say, made by reads alone.
+/// What a command that stands for no other is going to do and to say, made by reads alone.
 #[tactic(auto, unfolding(crate::specs::Commands::step_reply))]
-fn plan_of<M: Machine>(alloc: Global, command: &Command, machine: &mut M) -> Result<Plan, Stop>
+pub(crate) fn plan_of<M: Machine>(
+    alloc: Global,
+    command: &Command,
+    machine: &mut M,
+) -> Result<Plan, Stop>
     requires step { is_step command.now ≡ true }
     ensures plans { IfOk result (λ plan. IsTrue M.tells
         → Plans (M.state machine.old) plan (step_reply (seen (M.state machine.old)) command.now)) }
@@ -29,24 +29,12 @@ fn plan_of<M: Machine>(alloc: Global, command: &Command, machine: &mut M) -> Res
 {
     match command {
         Command::Demo { seed, count } => plan_demo(alloc, seed.as_str(), count.as_str()),
-        Command::Type1Install(words) => {
-            let commands = install_expansion(alloc, words, machine);
-            plan_refused(alloc, commands)
-        }
-        Command::Type1Cleanup { esp } => {
-            let commands = cleanup_expansion(alloc, esp.as_str(), machine);
-            plan_idle_or_refused(alloc, commands)
-        }
-        Command::Keep(words) => {
-            let paths = keep_paths(alloc, words, machine);
-            plan_keep(alloc, words.dry_run, paths)
-        }
         _ => plan_plain(alloc, command, machine),
     }
 }
 
-/// One command, which isn't `script`, nor one that no words name at the path of the intent: its reads, its change and its reply, which goes to Out, or to Err where it is a
-/// refusal.
+/// One command that stands for no other, which isn't `script`, nor one that no words name at the path of the intent: its
+/// reads, its change and its reply, which goes to Out, or to Err where it is a refusal.
 ///
 /// On a machine on which no file that boot sees waits for a sync, a stop at any moment shows the boot files
 /// before the command or after it, and none of the reply is printed before the change can't be undone.

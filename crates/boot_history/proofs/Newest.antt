@@ -1,26 +1,20 @@
 -- A run of `keep` removes what is doomed, in order.
-use Rattle.std.proofs.Common.{◌≡◌, ◌≢◌, ◌⊎◌, ℕ, zero, suc, ◌+◌, ◌≤◌, Bool, true, false, not, cond, ◌||◌, List, [], ◌∷◌, ◌++◌, map, take, length, Option, Some, None, is_some, inl, inr, ⊎_elim, refl, sym, ap, ◌∙◌, subst, arith, Result, Ok, Err}
-use Rattle.std.specs.Prelude.{Contains, bytes_eq, filter}
-use Rattle.std.specs.List.{AllByRecursion, IsDistinct, list_any}
+use Rattle.std.proofs.Common.{◌≡◌, ◌≢◌, ◌⊎◌, ℕ, zero, suc, ◌+◌, ◌≤◌, Bool, true, false, not, cond, ◌||◌, List, [], ◌∷◌, map, take, length, Option, Some, None, inl, inr, ⊎_elim, refl, sym, ap, ◌∙◌, subst, arith, Result, Ok, Err}
+use Rattle.std.specs.Prelude.{Contains, bytes_eq}
+use Rattle.std.specs.List.{IsDistinct, list_any}
 use Rattle.std.specs.FinMap as maps
 use Rattle.std.proofs.lemmas.Bool.{cases_Bool, le-ltb, not-true, or_parts}
-use Rattle.std.proofs.lemmas.Cmp.{nat_list_eq_equiv}
-use Rattle.std.proofs.lemmas.List.{append-nil, length-map, map-append, take_all}
-use Rattle.std.proofs.lemmas.List.Elements.{Contains-append_right}
-use Rattle.std.proofs.lemmas.List.Sorted.{Contains-permutation, IsPermutation-sym}
-use Rattle.std.proofs.lemmas.Map.Keys.{IsDistinct-head, IsDistinct-tail}
+use Rattle.std.proofs.lemmas.List.{append-nil, length-map, take_all}
 use Rattle.boot_base.specs.Paths.{Path}
 use Rattle.boot_base.specs.declared.refusal.Refusal.{Refusal}
-use Rattle.boot_folder.specs.Entries.{IsEntry, boot_menu, entry_count}
+use Rattle.boot_folder.specs.Entries.{boot_menu, entry_count}
 use Rattle.boot_folder.specs.Removals.{is_among, menu_without, remove_files}
 use Rattle.boot_folder.specs.declared.folders.Folders.{Folders}
-use Rattle.boot_folder.proofs.EntryFiles.{bytes_self, entries_menu}
+use Rattle.boot_folder.proofs.EntryFiles.{bytes_self}
 use Rattle.boot_folder.proofs.Members.{passing, passing_from}
-use Rattle.boot_folder.proofs.OncePaths.{own_moved}
 use Rattle.boot_folder.proofs.Removing.{count_removed, menu_own, menu_removed}
 use Rattle.boot_machine.specs.Disk.{Files, IsIn, is_same_path}
-use Rattle.boot_machine.proofs.Listing.{same_bytes}
-use Rattle.boot_machine.specs.proofs.Maps.{get-remove, get-remove_apart, is_same_path-true, same_files}
+use Rattle.boot_machine.specs.proofs.Maps.{get-remove, is_same_path-true, same_files}
 use Rattle.boot_machine.specs.Sent.{latest_view}
 use Rattle.command_plans.specs.Answers.{is_refusal}
 use Rattle.command_plans.specs.Changes.{removal, unlink_answer}
@@ -29,9 +23,7 @@ use Rattle.command_plans.specs.Menus.{menu_at}
 use Rattle.keep_newest.specs.Doomed.{doomed_records, kept_records}
 use Rattle.keep_newest.specs.Laws.{doomed_paths}
 use Rattle.keep_newest.proofs.Again.{keeps_on}
-use Rattle.keep_newest.proofs.Parting.{parts_menu}
 use Rattle.keep_newest.proofs.Without.{kept_without}
-use Rattle.menu_order.proofs.Lists.{Contains-head, Contains-later}
 use Rattle.menu_order.specs.declared.item.MenuItem.{MenuItem}
 use Rattle.tool_words.specs.Meaning.{meaning}
 use Rattle.tool_words.specs.declared.command.Command.TheVariants as command
@@ -42,11 +34,13 @@ use Rattle.boot_commands.specs.Commands.{step_reply}
 use Rattle.boot_commands.specs.Expansions.{expansion, ok_commands}
 use Rattle.boot_commands.specs.Plain.{answer_or_none, plain_answer}
 use Rattle.boot_commands.specs.Sparing.{Spares}
+use Rattle.boot_commands.proofs.Unrefused.{AreThere, doomed_there, own_doomed, removals_done}
 use Rattle.boot_run.specs.AskedLines.{lines_for, lines_to_run, plain_lines}
 use Rattle.boot_run.specs.Lines.{line_deed}
 use Rattle.boot_run.specs.Step.{Acknowledges, Step, StepBy, join_replies, replies, some_refused, view_after}
 use Rattle.boot_run.specs.declared.line.Line.{Line}
 use Rattle.boot_run.specs.declared.line.Line.TheVariants.{Plain}
+use Rattle.boot_run.proofs.UpToRefused.{none_refused}
 use Rattle.boot_history.specs.Asking.{AllCommands}
 use Rattle.boot_history.specs.Histories.{IsHistory, Run}
 use Rattle.boot_history.specs.Newest.{AllowsKeep, KeepSparesLaw, LacksDoomed, NewestLaw, ToldLaw, UnrefusedLaw}
@@ -284,34 +278,6 @@ keep_spares_law view input words n folders path allowed none =
 
 -- ---- no reply is a refusal
 
--- files are at these paths
-abbrev AreThere : Files → List Path → Type 0
-AreThere view paths = AllByRecursion (λ path. is_some (maps.get view path) ≡ true) paths
-
-still_there : (view : Files) (path : Path) (later : List Path) → AllByRecursion (λ other. bytes_eq path other ≡ false) later
-    → AreThere view later → AreThere (maps.remove view path) later
-still_there view path [] apart there = tt
-still_there view path (other ∷ later) apart there = (
-  ap is_some (get-remove_apart view path other (same_bytes other path ∙ nat_list_eq_equiv.symm other path ∙ apart.0)) ∙ there.0,
-  still_there view path later apart.1 there.1,
-)
-
-done_removal : (view : Files) (path : Path) (found : Option (List ℕ)) → is_some found ≡ true → is_refusal (removal view path found).outcome ≡ false
-done_removal view path None some = cc
-done_removal view path (Some bytes) some = refl
-
-done_line : (view : Files) (path : Path) → is_some (maps.get view path) ≡ true → is_refusal (line_deed view (Plain (command.Remove path))).outcome ≡ false
-unfolding step_reply plain_answer
-done_line view path there = done_removal view path (maps.get view path) there
-
-none_refused : (view : Files) (later : List Path) → IsDistinct bytes_eq later → AreThere view later → some_refused view (removal_lines later) ≡ false
-none_refused view [] distinct there = refl
-none_refused view (path ∷ later) distinct there =
-    ap (λ b. b || some_refused (line_deed view (Plain (command.Remove path))).after (removal_lines later)) (done_line view path there.0)
-    ∙ ap (λ v. some_refused v (removal_lines later)) (removed view path)
-    ∙ none_refused (maps.remove view path) later (IsDistinct-tail bytes_eq path later distinct)
-    (still_there view path later (IsDistinct-head bytes_eq path later distinct) there.1)
-
 done_answer_of : (view : Files) (dry_run : Bool) (paths : List Path) → removals_unless dry_run paths ≡ [] → is_refusal (answer_or_none view (keep_answer view dry_run (Ok paths))).outcome ≡ false
 done_answer_of view dry_run [] is = refl
 done_answer_of view true (path ∷ paths) is = refl
@@ -324,45 +290,14 @@ done_told view words paths is none =
     ap (λ (r : Result (List Path) Refusal). is_refusal (answer_or_none view (keep_answer view words.dry_run r)).outcome) is
     ∙ done_answer_of view words.dry_run paths none
 
--- the doomed entries are entries, each with a path of its own
-distinct_behind : (xs ys : List Path) → IsDistinct bytes_eq (xs ++ ys) → IsDistinct bytes_eq ys
-distinct_behind [] ys distinct = distinct
-distinct_behind (x ∷ xs) ys distinct = distinct_behind xs ys (IsDistinct-tail bytes_eq x (xs ++ ys) distinct)
-
-module _ (n : ℕ) (per_key : Bool) (first : Files) (folders : Folders) where
-  abbrev all : List MenuItem
-  all = boot_menu first folders
-
-  abbrev doomed : List MenuItem
-  doomed = doomed_records n per_key all
-
-  own_doomed : IsDistinct bytes_eq (doomed_paths n per_key all)
-  own_doomed =
-      let kept = kept_records n per_key all in
-      distinct_behind (map (λ (i : MenuItem). i.path) kept) (doomed_paths n per_key all)
-      (subst (IsDistinct bytes_eq) (map-append (λ (i : MenuItem). i.path) kept doomed)
-      (own_moved all (kept ++ doomed) (parts_menu n per_key all) (menu_own first folders)))
-
-  all_there : (items : List MenuItem) → ((item : MenuItem) → Contains items item → IsEntry first folders item) → AreThere first (map (λ (i : MenuItem). i.path) items)
-  all_there [] are = tt
-  all_there (item ∷ items) are = (
-    ap is_some (are item (Contains-head item items)).there,
-    all_there items (λ other is. are other (Contains-later item other items is)),
-  )
-
-  doomed_there : AreThere first (doomed_paths n per_key all)
-  doomed_there = all_there doomed (λ item is.
-      ((entries_menu first folders).entries item).0
-      (Contains-permutation (kept_records n per_key all ++ doomed) all item (IsPermutation-sym all (kept_records n per_key all ++ doomed) (parts_menu n per_key all))
-      (Contains-append_right (kept_records n per_key all) doomed item is)))
-
 refused_by : (first : Files) (words : KeepWords) (paths : List Path) → keep_result first words ≡ Ok paths → IsDistinct bytes_eq paths → AreThere first paths
     → (dry_run : Bool) → words.dry_run ≡ dry_run → some_refused first (plain_lines (command.Keep words) (removals_unless dry_run paths)) ≡ false
 refused_by first words paths is distinct there true told =
     ap (λ b. b || false) (done_told first words paths is (ap (λ b. removals_unless b paths) told))
 refused_by first words [] is distinct there false told =
     ap (λ b. b || false) (done_told first words [] is (ap (λ b. removals_unless b []) told))
-refused_by first words (path ∷ later) is distinct there false told = none_refused first (path ∷ later) distinct there
+refused_by first words (path ∷ later) is distinct there false told =
+    none_refused first (map command.Remove (path ∷ later)) (removals_done first (path ∷ later) distinct there)
 
 none_by : (first : Files) (words : KeepWords) (paths : List Path) → keep_result first words ≡ Ok paths → IsDistinct bytes_eq paths → AreThere first paths
     → some_refused first (lines_of words (Ok paths)) ≡ false

@@ -65,7 +65,7 @@ use Rattle.boot_commands.specs.Demonstration.{demo_result}
 use Rattle.boot_commands.specs.Expansions.{expands}
 use Rattle.boot_commands.specs.Plain.{is_demo, is_plain, is_script, is_wordless, plain_answer}
 use Rattle.boot_commands.proofs.ConfPlaces.{below_ends, last_byte}
-use Rattle.boot_commands.proofs.Expanded.{no_expansion}
+use Rattle.boot_commands.proofs.Expansions.{no_expansion}
 use Rattle.boot_run.specs.AskedLines.{command_in, in_script, is_passed_over, is_script_newline, line_at, lines_for, lines_from, lines_in, lines_to_run, plain_lines}
 use Rattle.boot_run.specs.Lines.{line_deed, script_limit}
 use Rattle.boot_run.specs.Step.{view_after}

@@ -5,3 +5,4 @@ pub mod Keeping
 pub mod Newest
 pub mod Numbers
 pub mod Payloads
+pub mod Unrefused

@@ -9,6 +9,7 @@ ghost use Rattle.boot_history.specs.Keeping.{KeptLaw};
 ghost use Rattle.boot_history.specs.Newest.{KeepSparesLaw, NewestLaw, ToldLaw, UnrefusedLaw};
 ghost use Rattle.boot_history.specs.Numbers.{HistoryLaw};
 ghost use Rattle.boot_history.specs.Payloads.{CleanupKeepsLaw, InstallKeepsLaw, PayloadLaw, RemovalKeepsLaw};
+ghost use Rattle.boot_history.specs.Unrefused.{ExpansionUnrefusedLaw, WholeExpansionLaw};
 
 mod each;
 #[cfg(test)]
@@ -68,4 +69,12 @@ pub fn newest_law()
     ensures told { ToldLaw }
     ensures unrefused { UnrefusedLaw }
     ensures spares { KeepSparesLaw }
+{}
+
+/// An installation, a cleanup and a `keep` are done whole: none of the commands that each stands for is refused on what
+/// boot sees, from whatever view they begin. A run of them ends at the first refused command, which comes only on a
+/// machine that has changed between two looks; up to there it does on each view all of them.
+pub fn expansion_law()
+    ensures unrefused { ExpansionUnrefusedLaw }
+    ensures whole { WholeExpansionLaw }
 {}

@@ -2,6 +2,7 @@ mod Acked
 mod Acknowledging
 mod Expanding
 mod Expansions
+mod Planning
 mod Recovering
 pub mod Replying
 mod Running
@@ -11,4 +12,5 @@ pub mod Stepping
 mod Synced
 mod Taken
 mod Topping
+pub mod UpToRefused
 pub mod Worded

@@ -19,7 +19,8 @@ use Rattle.boot_run.specs.AskedLines.{command_in, in_script, is_passed_over, is_
 use Rattle.boot_run.specs.Lines.{IsStep, script_limit}
 use Rattle.boot_run.specs.declared.line.Line.{Line}
 use Rattle.boot_run.specs.declared.line.Line.TheVariants.{TooLong}
-use Rattle.boot_run.proofs.Worded.{step_of, worded}
+use Rattle.boot_commands.proofs.Expansions.{step_of}
+use Rattle.boot_run.proofs.Worded.{worded}
 
 abbrev ok_line : (T : Type 0) → T → Result T LineFault
 ok_line T value = Ok value
@@ -84,8 +85,15 @@ neither : (a b c : Bool) → not (a || b || c) ≡ true → a ≡ false
 neither true b c is = cc
 neither false b c is = refl
 
+nor_third : (a b c : Bool) → not (a || b || c) ≡ true → c ≡ false
+nor_third true b c is = cc
+nor_third false true c is = cc
+nor_third false false true is = cc
+nor_third false false false is = refl
+
 step_if : (number : ℕ) (plain : Bool) (c : Command) → is_wordless c ≡ false → is_plain c ≡ plain → IsStep (line_at number (cond plain (Some c) None))
-step_if number true c given is = step_of c (neither (is_script c) (is_demo c) (expands c) is) given
+step_if number true c given is =
+    step_of c (neither (is_script c) (is_demo c) (expands c) is) given (nor_third (is_script c) (is_demo c) (expands c) is)
 step_if number false c given is = tt
 
 step_meant : (number : ℕ) (meant : Result Command UsageReason) → IfOk meant (λ c. is_wordless c ≡ false) → IsStep (line_at number (in_script meant))

@@ -10,7 +10,7 @@ use Rattle.tool_words.specs.declared.command.Command.{Command}
 use Rattle.tool_words.specs.declared.command.Command.TheVariants as command
 use Rattle.tool_words.specs.declared.fault.UsageReason.{UsageReason}
 use Rattle.tool_words.specs.declared.fault.UsageReason.TheVariants as reason
-use Rattle.boot_commands.specs.Plain.{is_script, is_step, is_wordless}
+use Rattle.boot_commands.specs.Plain.{is_wordless}
 
 abbrev IsWorded : Result Command UsageReason → Type 0
 IsWorded meant = IfOk meant (λ c. is_wordless c ≡ false)
@@ -41,14 +41,6 @@ worded words = by_length (are_too_long words)
     by_length : (long : Bool) → IsWorded (cond long (Err reason.TooLong) (read_words words))
     by_length true = tt
     by_length false = worded_read words
-
--- such a command is a step where it is no script
-pub step_of : (c : Command) → is_script c ≡ false → is_wordless c ≡ false → is_step c ≡ true
-step_of command.Script alone given = cc
-step_of (command.Put file target) alone given = cc
-step_of (command.Enter path text) alone given = cc
-step_of (command.Remove path) alone given = cc
-step_of c alone given = refl
 
 pub worded_meant : (meant : Result Command UsageReason) (c : Command) → meant ≡ Ok c → IfOk meant (λ c. is_wordless c ≡ false) → is_wordless c ≡ false
 worded_meant meant c is all = subst (λ (m : Result Command UsageReason). IfOk m (λ c. is_wordless c ≡ false)) is all

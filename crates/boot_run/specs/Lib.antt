@@ -6,3 +6,4 @@ pub mod RunBy
 pub mod RunsTo
 pub mod Step
 pub mod CommandRuns
+pub mod UpToRefused

@@ -152,8 +152,8 @@ fn too_long<M: Machine>(alloc: Global, machine: &mut M) -> Result<Outcome, Stop>
     refuse_unread(3, &text, machine)
 }
 
-// One line. A command asks for a machine that is rested.
-fn run_line<M: Machine>(alloc: Global, line: &Line, machine: &mut M) -> Result<Outcome, Stop>
+/// One line. A command asks for a machine that is rested.
+pub fn run_line<M: Machine>(alloc: Global, line: &Line, machine: &mut M) -> Result<Outcome, Stop>
     requires step { IsStep line.now }
     requires rested { IsTrue M.tells → is_unread line.now ≡ false → IsRested (M.state machine.old) }
     ensures performs { IsTrue M.tells → IsFirm (M.state machine.old)
@@ -243,7 +243,7 @@ fn some_refused(refused: bool, outcome: Outcome) -> bool
     }
 }
 
-/// All lines, one after the other: whether some reply is a refusal. A refused line doesn't end the run; a
+/// The lines of a script, one after the other: whether some reply is a refusal. A refused line doesn't end the run; a
 /// fault of the machine and want of memory do. Before the first command what a stop has left is finished.
 pub fn run_lines<M: Machine>(alloc: Global, lines: &[Line], machine: &mut M) -> Result<bool, Stop>
     requires steps { All IsStep lines.now }

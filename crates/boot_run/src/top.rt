@@ -16,13 +16,13 @@ ghost use Rattle.boot_run.specs.Step.{Leads, Leaves, SeesBegun, some_refused};
 ghost use Rattle.boot_run.specs.declared.line.Line.{Line};
 
 use crate::ended::Ended;
-use crate::expansion::{find_commands, plain_lines};
+use crate::expansion::{command_lines, find_expansion, run_expansion, run_plan};
 use crate::input::read_all;
 use crate::line::Line;
 use crate::lines::run_lines;
 use crate::script::{is_script, lines_in};
 use boot_base::Text;
-use boot_commands::expands;
+use boot_commands::Expanded;
 use boot_machine::{Channel, Machine, print_all};
 use command_plans::Stop;
 use std::alloc::{AllocError, Global};
@@ -47,28 +47,24 @@ fn read_script<M: Machine>(alloc: Global, machine: &mut M) -> Result<Vec<Line>, 
     Ok(lines_in(alloc, input.as_slice())?)
 }
 
-// What a command comes to that takes no script: the lines that it stands for, or its own.
+// What a command comes to that takes no script: the commands that it stands for, or its one reply.
 fn run_alone<M: Machine>(alloc: Global, command: Command, machine: &mut M) -> Result<bool, Stop>
     requires alone { is_script command ≡ false }
     requires worded { is_wordless command ≡ false }
     ensures { RunsCommand M.tells M.time M.state M.counts machine.old machine.new command result }
 {
-    if !expands(&command) {
-        return run_lines(alloc, &[Line::Plain(command)], machine);
-    }
-    match find_commands(alloc, &command, machine) {
-        Ok(commands) => {
-            let lines = plain_lines(alloc, command, commands)?;
-            run_lines(alloc, lines.as_slice(), machine)
+    let found = find_expansion(alloc, &command, machine);
+    drop(command);
+    match found? {
+        Expanded::Commands(commands) => {
+            let lines = command_lines(alloc, commands)?;
+            run_expansion(alloc, lines.as_slice(), machine)
         }
-        Err(stop) => {
-            drop(command);
-            Err(stop)
-        }
+        Expanded::Reply(plan) => run_plan(plan, machine),
     }
 }
 
-// What a command comes to: its own line, those that it stands for, or those of the script.
+// What a command comes to: its own reply, the commands that it stands for, or the lines of the script.
 fn run_command<M: Machine>(alloc: Global, command: Command, machine: &mut M) -> Result<bool, Stop>
     requires worded { is_wordless command ≡ false }
     ensures { RunsCommand M.tells M.time M.state M.counts machine.old machine.new command result }

@@ -1,21 +1,17 @@
-use Rattle.std.proofs.Common.{sym, ap, ◌∙◌, subst}
+use Rattle.std.proofs.Common.{sym, subst}
 use Rattle.std.proofs.lemmas.Result.{IfOk-weaker}
-use Rattle.boot_machine.specs.Disk.{Files, HasOneCandidate}
+use Rattle.boot_machine.specs.Disk.{HasOneCandidate, IsRested, State}
 use Rattle.install_steps.specs.Steps.{Keeps, NoNewTemp}
-use Rattle.boot_commands.specs.Expansions.{expansion}
+use Rattle.boot_commands.specs.Expanding.{Finds}
 use Rattle.boot_run.proofs.Expanding.{recovers_more, same_more}
-use Rattle.boot_run.proofs.Expansions.{seen_same}
 use Rattle.boot_run.proofs.Taken.{on_ok_any}
-use Rattle.boot_run.proofs.expansion.find_commands.Goals as goal
+use Rattle.boot_run.proofs.expansion.find_expansion.Goals as goal
 
-pub returns-clause-commands : goal.returns-clause-commands
-returns-clause-commands g c =
-    let old = g.M.Machine.state c.args.machine.now in
-    let mid = g.M.Machine.state c.recover_rename.new.machine in
-    IfOk-weaker c.expand.result _ _ (λ commands are told firm.
-    are told ∙ ap (λ (v : Files). expansion v c.args.command.now)
-    (seen_same old mid (c.in_ok-recover_rename.ensures.rests told) (c.recover_rename.ensures.recovers told firm).files))
-    c.expand.ensures.commands
+pub returns-clause-finds : goal.returns-clause-finds
+returns-clause-finds g c =
+    IfOk-weaker c.expand.result _ _
+    (λ found finds told. subst (λ (s : State). Finds s c.args.command.now found) (sym (c.expand.ensures.looks.reads told).same) (finds told))
+    c.expand.ensures.finds
 
 pub returns-clause-recovers : goal.returns-clause-recovers
 returns-clause-recovers g c told firm =
@@ -34,6 +30,10 @@ returns-clause-synced g c =
 pub returns-clause-one : goal.returns-clause-one
 returns-clause-one g c =
     on_ok_any c.expand.result _ (λ told. subst HasOneCandidate (sym (c.expand.ensures.looks.reads told).same) (c.in_ok-recover_rename.ensures.one told))
+
+pub returns-clause-rests : goal.returns-clause-rests
+returns-clause-rests g c =
+    on_ok_any c.expand.result _ (λ told. subst IsRested (sym (c.expand.ensures.looks.reads told).same) (c.in_ok-recover_rename.ensures.rests told))
 
 pub returns-clause-keeps : goal.returns-clause-keeps
 returns-clause-keeps g c told = subst (Keeps (g.M.Machine.state c.args.machine.now)) (sym (c.expand.ensures.looks.reads told).same) (c.recover_rename.ensures.keeps told)

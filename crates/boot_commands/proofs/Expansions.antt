@@ -19,7 +19,7 @@ use Rattle.type1_install.specs.Cleaning.{cleanup_expansion}
 use Rattle.boot_commands.specs.Expansions.{ok_commands}
 use Rattle.type1_install.specs.Cleaning.{unnamed_payloads}
 use Rattle.boot_commands.specs.Expansions.{expands, expansion}
-use Rattle.boot_commands.specs.Plain.{is_wordless}
+use Rattle.boot_commands.specs.Plain.{is_plain, is_script, is_step, is_wordless}
 
 -- a command that is none of those that stand for others
 pub stands_alone : (c : Command) → ((words : Type1Words) → c ≡ command.Type1Install words → ⊥)
@@ -29,6 +29,26 @@ stands_alone (command.Type1Install words) install cleanup keep = absurd (install
 stands_alone (command.Type1Cleanup esp) install cleanup keep = absurd (cleanup esp refl)
 stands_alone (command.Keep words) install cleanup keep = absurd (keep words refl)
 stands_alone c install cleanup keep = refl
+
+-- a command that words ask for, which stands for no other and is no script
+pub step_of : (c : Command) → is_script c ≡ false → is_wordless c ≡ false → expands c ≡ false → is_step c ≡ true
+step_of command.Script alone worded own = cc
+step_of (command.Put file target) alone worded own = cc
+step_of (command.Enter path text) alone worded own = cc
+step_of (command.Remove path) alone worded own = cc
+step_of (command.Type1Install words) alone worded own = cc
+step_of (command.Type1Cleanup esp) alone worded own = cc
+step_of (command.Keep words) alone worded own = cc
+step_of c alone worded own = refl
+
+-- a step that is no demonstration runs no other command
+pub plain_of : (c : Command) → is_step c ≡ true → ((seed count : List ℕ) → c ≡ command.Demo seed count → ⊥) → is_plain c ≡ true
+plain_of command.Script step demo = cc
+plain_of (command.Demo seed count) step demo = absurd (demo seed count refl)
+plain_of (command.Type1Install words) step demo = cc
+plain_of (command.Type1Cleanup esp) step demo = cc
+plain_of (command.Keep words) step demo = cc
+plain_of c step demo = refl
 
 -- a command that stands for no other
 pub no_expansion : (view : Files) (c : Command) → expands c ≡ false → expansion view c ≡ []
