@@ -21,7 +21,7 @@ returns-in-Type1Cleanup-clause-finds g c =
     let old = g.M.Machine.state c.args.machine.now in
     IfOk-weaker c.expand_cleanup.result _ _
     (λ found finds told. subst (λ (x : Command). Finds old x found) (sym c.in-Type1Cleanup.is)
-    (finds old _ (subst (λ esp. Says (λ commands. commands.items) c.cleanup_expansion-commands.result (cleanup_expansion (seen old) esp)) c.as_str-in-Type1Cleanup.ensures (c.cleanup_expansion-commands.ensures.says told))))
+    (finds old _ (subst (λ esp. Says (λ commands. commands.items) c.cleanup_expansion-commands.result (cleanup_expansion (seen old) esp)) c.as_str.ensures (c.cleanup_expansion-commands.ensures.says told))))
     c.expand_cleanup.ensures.finds
 
 pub returns-in-Keep-clause-finds : goal.returns-in-Keep-clause-finds
