@@ -20,13 +20,13 @@ use Rattle.boot_run.proofs.top.run_alone.Goals as goal
 
 -- ---- it wasn't found what the command comes to
 
-pub returns-in_err-found : goal.returns-in_err-found
-returns-in_err-found g c = record {
+pub returns-in_err-commands : goal.returns-in_err-commands
+returns-in_err-commands g c = record {
   runs = λ told firm.
       let old = c.args.machine.now in
       let found = begins_at (g.M.Machine.state old) c.args.command c.requires.alone in
       subst (λ (l : List Line). RunsTo g.M.Machine.time g.M.Machine.state old c.find_expansion-found.new.machine l c.from_residual.result) (sym found.whole)
-      (runs_not g.M.Machine.time g.M.Machine.state old c.find_expansion-found.new.machine found.line found.rest c.from_residual.result c.in_err-found.field-0.0
+      (runs_not g.M.Machine.time g.M.Machine.state old c.find_expansion-found.new.machine found.line found.rest c.from_residual.result c.in_err-commands.field-0.0
       c.from_residual.ensures.0 c.from_residual.ensures.1 (g.met.M.Machine.sound old told) firm
       (c.find_expansion-found.ensures.recovers told firm) (c.find_expansion-found.ensures.keeps told).printed);
   synced = λ told firm.
@@ -71,7 +71,7 @@ returns-in_err-lines-in-Commands g c = record {
 pub run_expansion-requires-clause-steps : goal.run_expansion-requires-clause-steps
 run_expansion-requires-clause-steps g c =
     subst (All IsStep) (sym (c.as_slice.ensures.value ∙ c.in_ok-lines-in-Commands.ensures))
-    (are_steps c.in-Commands.commands.items (subst AreSteps c.in-Commands.is c.in_ok-found.ensures.steps))
+    (are_steps c.in-Commands.commands.items (subst AreSteps c.in-Commands.is c.in_ok-commands.ensures.steps))
 
 pub run_expansion-requires-clause-commands : goal.run_expansion-requires-clause-commands
 run_expansion-requires-clause-commands g c =
@@ -90,28 +90,28 @@ returns-in_ok-lines-in-Commands g c =
     record {
       runs = λ told firm.
           let recovers = c.find_expansion-found.ensures.recovers told firm in
-          let stands : StandsFor (g.M.Machine.state mid) asked commands = subst (Finds (g.M.Machine.state mid) asked) c.in-Commands.is (c.in_ok-found.ensures.finds told) in
+          let stands : StandsFor (g.M.Machine.state mid) asked commands = subst (Finds (g.M.Machine.state mid) asked) c.in-Commands.is (c.in_ok-commands.ensures.finds told) in
           let lines = ap (up_to_refused (recovered_now (g.M.Machine.state mid))) value
-          ∙ lines_found (g.M.Machine.state old) (g.M.Machine.state mid) asked commands c.requires.alone (c.in_ok-found.ensures.rests told) recovers.files stands ∙ begins.whole in
+          ∙ lines_found (g.M.Machine.state old) (g.M.Machine.state mid) asked commands c.requires.alone (c.in_ok-commands.ensures.rests told) recovers.files stands ∙ begins.whole in
           let runs = subst (λ (l : List Line). RunsTo g.M.Machine.time g.M.Machine.state mid new l c.run_expansion.result) lines (c.run_expansion.ensures.runs told recovers.firm) in
           subst (λ (l : List Line). RunsTo g.M.Machine.time g.M.Machine.state old new l c.run_expansion.result) (sym begins.whole)
           (runs_behind g.M.Machine.time g.M.Machine.state old mid new begins.line begins.rest begins.command (g.met.M.Machine.sound old told) firm recovers
-          (c.in_ok-found.ensures.one told) (c.find_expansion-found.ensures.keeps told).printed c.run_expansion.result runs);
+          (c.in_ok-commands.ensures.one told) (c.find_expansion-found.ensures.keeps told).printed c.run_expansion.result runs);
       synced = λ told firm.
           let recovers = c.find_expansion-found.ensures.recovers told firm in
-          let stands : StandsFor (g.M.Machine.state mid) asked commands = subst (Finds (g.M.Machine.state mid) asked) c.in-Commands.is (c.in_ok-found.ensures.finds told) in
+          let stands : StandsFor (g.M.Machine.state mid) asked commands = subst (Finds (g.M.Machine.state mid) asked) c.in-Commands.is (c.in_ok-commands.ensures.finds told) in
           let lines = ap (up_to_refused (recovered_now (g.M.Machine.state mid))) value
-          ∙ lines_found (g.M.Machine.state old) (g.M.Machine.state mid) asked commands c.requires.alone (c.in_ok-found.ensures.rests told) recovers.files stands ∙ begins.whole in
+          ∙ lines_found (g.M.Machine.state old) (g.M.Machine.state mid) asked commands c.requires.alone (c.in_ok-commands.ensures.rests told) recovers.files stands ∙ begins.whole in
           let runs = subst (λ (l : List Line). RunsTo g.M.Machine.time g.M.Machine.state mid new l c.run_expansion.result) lines (c.run_expansion.ensures.runs told recovers.firm) in
           subst (λ (l : List Line). IsSyncedBy g.M.Machine.time g.M.Machine.state old new l) (sym begins.whole)
           (synced_behind g.M.Machine.time g.M.Machine.state old mid new begins.line begins.rest begins.command (g.met.M.Machine.sound old told) firm recovers
-          (c.in_ok-found.ensures.one told) (c.find_expansion-found.ensures.keeps told).printed c.run_expansion.result (c.in_ok-found.ensures.synced told firm) runs);
+          (c.in_ok-commands.ensures.one told) (c.find_expansion-found.ensures.keeps told).printed c.run_expansion.result (c.in_ok-commands.ensures.synced told firm) runs);
       tidies = on_ok_any c.run_expansion.result _ (λ told.
-          let stands : StandsFor (g.M.Machine.state mid) asked commands = subst (Finds (g.M.Machine.state mid) asked) c.in-Commands.is (c.in_ok-found.ensures.finds told) in
+          let stands : StandsFor (g.M.Machine.state mid) asked commands = subst (Finds (g.M.Machine.state mid) asked) c.in-Commands.is (c.in_ok-commands.ensures.finds told) in
           tidied_at (g.M.Machine.state old) (g.M.Machine.state new) asked c.requires.alone (others_tidy (g.M.Machine.state mid) (g.M.Machine.state new) asked commands stands));
       rests = ok_rested c.run_expansion.result (g.M.Machine.state new) _ _ c.run_expansion.ensures.rests;
       behind = λ told firm.
-          let stands : StandsFor (g.M.Machine.state mid) asked commands = subst (Finds (g.M.Machine.state mid) asked) c.in-Commands.is (c.in_ok-found.ensures.finds told) in
+          let stands : StandsFor (g.M.Machine.state mid) asked commands = subst (Finds (g.M.Machine.state mid) asked) c.in-Commands.is (c.in_ok-commands.ensures.finds told) in
           clean_rested (g.M.Machine.state old) (g.M.Machine.state new) (lines_at (g.M.Machine.state old) asked) c.run_expansion.result
           (tidied_at (g.M.Machine.state old) (g.M.Machine.state new) asked c.requires.alone (others_tidy (g.M.Machine.state mid) (g.M.Machine.state new) asked commands stands))
           (c.run_expansion.ensures.rests told);
@@ -128,7 +128,7 @@ returns-in_ok-lines-in-Commands g c =
 pub run_plan-requires-clause-there : goal.run_plan-requires-clause-there
 run_plan-requires-clause-there g c told =
     let mid = g.M.Machine.state c.find_expansion-found.new.machine in
-    let stands : StandsAlone mid c.args.command c.in-Reply.plan = subst (Finds mid c.args.command) c.in-Reply.is (c.in_ok-found.ensures.finds told) in
+    let stands : StandsAlone mid c.args.command c.in-Reply.plan = subst (Finds mid c.args.command) c.in-Reply.is (c.in_ok-commands.ensures.finds told) in
     stands.plans.can_make
 
 pub returns-in-Reply : goal.returns-in-Reply
@@ -141,29 +141,29 @@ returns-in-Reply g c =
     record {
       runs = λ told firm.
           let recovers = c.find_expansion-found.ensures.recovers told firm in
-          let stands : StandsAlone (g.M.Machine.state mid) asked plan = subst (Finds (g.M.Machine.state mid) asked) c.in-Reply.is (c.in_ok-found.ensures.finds told) in
-          let line = line_alone (g.M.Machine.state old) (g.M.Machine.state mid) asked plan c.requires.alone (c.in_ok-found.ensures.rests told) recovers.files stands in
+          let stands : StandsAlone (g.M.Machine.state mid) asked plan = subst (Finds (g.M.Machine.state mid) asked) c.in-Reply.is (c.in_ok-commands.ensures.finds told) in
+          let line = line_alone (g.M.Machine.state old) (g.M.Machine.state mid) asked plan c.requires.alone (c.in_ok-commands.ensures.rests told) recovers.files stands in
           subst (λ (l : List Line). RunsTo g.M.Machine.time g.M.Machine.state old new l c.run_plan.result) line
           (runs_behind g.M.Machine.time g.M.Machine.state old mid new (Plain asked) [] refl (g.met.M.Machine.sound old told) firm recovers
-          (c.in_ok-found.ensures.one told) (c.find_expansion-found.ensures.keeps told).printed c.run_plan.result (c.run_plan.ensures.runs told recovers.firm asked stands));
+          (c.in_ok-commands.ensures.one told) (c.find_expansion-found.ensures.keeps told).printed c.run_plan.result (c.run_plan.ensures.runs told recovers.firm asked stands));
       synced = λ told firm.
           let recovers = c.find_expansion-found.ensures.recovers told firm in
-          let stands : StandsAlone (g.M.Machine.state mid) asked plan = subst (Finds (g.M.Machine.state mid) asked) c.in-Reply.is (c.in_ok-found.ensures.finds told) in
-          let line = line_alone (g.M.Machine.state old) (g.M.Machine.state mid) asked plan c.requires.alone (c.in_ok-found.ensures.rests told) recovers.files stands in
+          let stands : StandsAlone (g.M.Machine.state mid) asked plan = subst (Finds (g.M.Machine.state mid) asked) c.in-Reply.is (c.in_ok-commands.ensures.finds told) in
+          let line = line_alone (g.M.Machine.state old) (g.M.Machine.state mid) asked plan c.requires.alone (c.in_ok-commands.ensures.rests told) recovers.files stands in
           subst (λ (l : List Line). IsSyncedBy g.M.Machine.time g.M.Machine.state old new l) line
           (synced_behind g.M.Machine.time g.M.Machine.state old mid new (Plain asked) [] refl (g.met.M.Machine.sound old told) firm recovers
-          (c.in_ok-found.ensures.one told) (c.find_expansion-found.ensures.keeps told).printed c.run_plan.result (c.in_ok-found.ensures.synced told firm)
+          (c.in_ok-commands.ensures.one told) (c.find_expansion-found.ensures.keeps told).printed c.run_plan.result (c.in_ok-commands.ensures.synced told firm)
           (c.run_plan.ensures.runs told recovers.firm asked stands));
       tidies = on_ok_by c.run_plan.result _ _
           (λ tidies told.
-          let stands : StandsAlone (g.M.Machine.state mid) asked plan = subst (Finds (g.M.Machine.state mid) asked) c.in-Reply.is (c.in_ok-found.ensures.finds told) in
+          let stands : StandsAlone (g.M.Machine.state mid) asked plan = subst (Finds (g.M.Machine.state mid) asked) c.in-Reply.is (c.in_ok-commands.ensures.finds told) in
           tidied_at (g.M.Machine.state old) (g.M.Machine.state new) asked c.requires.alone (tidies told asked stands))
           c.run_plan.ensures.tidies;
       rests = ok_rested c.run_plan.result (g.M.Machine.state new) _ _ c.run_plan.ensures.rests;
       behind = λ told firm.
           let recovers = c.find_expansion-found.ensures.recovers told firm in
-          let stands : StandsAlone (g.M.Machine.state mid) asked plan = subst (Finds (g.M.Machine.state mid) asked) c.in-Reply.is (c.in_ok-found.ensures.finds told) in
-          let line = line_alone (g.M.Machine.state old) (g.M.Machine.state mid) asked plan c.requires.alone (c.in_ok-found.ensures.rests told) recovers.files stands in
+          let stands : StandsAlone (g.M.Machine.state mid) asked plan = subst (Finds (g.M.Machine.state mid) asked) c.in-Reply.is (c.in_ok-commands.ensures.finds told) in
+          let line = line_alone (g.M.Machine.state old) (g.M.Machine.state mid) asked plan c.requires.alone (c.in_ok-commands.ensures.rests told) recovers.files stands in
           clean_recovered (g.M.Machine.state old) (g.M.Machine.state mid) (g.M.Machine.state new) (lines_at (g.M.Machine.state old) asked) (ended_by c.run_plan.result)
           (c.find_expansion-found.ensures.keeps told).printed recovers.files
           (subst (λ (l : List Line). CleanBehind (g.M.Machine.state mid) (g.M.Machine.state new) l (ended_by c.run_plan.result)) line (c.run_plan.ensures.behind told recovers.firm asked stands));
