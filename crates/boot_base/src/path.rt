@@ -1,12 +1,13 @@
 //! Paths of boot files.
 ghost use Rattle.std.specs.Prelude.{◌≡◌, false, true, Some, None, IfOk, string_bytes, if◌then◌else◌};
 ghost use Rattle.std.specs.Str.{is_utf8};
-ghost use Rattle.boot_base.specs.Paths.{IsFree, intent, is_nameable, is_normal, is_temp, components, is_path_text, path_of, path_below, file_name_of, beside, sibling_of};
+ghost use Rattle.boot_base.specs.Paths.{IsFree, is_nameable, is_normal, is_temp, components, is_path_text, path_of, path_below, file_name_of, beside, sibling_of};
 
 use crate::append::{AppendText, append_displayed};
 use crate::components::{
     has_component, has_nul, has_refused_component, is_one_component, joined_with, normal_text,
 };
+use crate::file_path::{FilePath, INTENT};
 use crate::temp_path::ends_as_temp;
 use std::alloc::{AllocError, Global};
 use std::cmp::Ordering;
@@ -16,9 +17,6 @@ use thiserror::Error;
 
 /// The most bytes of a path.
 const PATH_LIMIT: usize = 1024;
-
-/// The path of the file that names a rename while it is made.
-pub const INTENT: &str = "boot_tools.intent";
 
 /// Why there is no path or name.
 #[derive(Debug, PartialEq, Eq, Drop, Error)]
@@ -42,22 +40,22 @@ impl From<AllocError> for PathFault {
     }
 }
 
-/// The path of a boot file, below the folder that the machine stands on: components with a `/` between
-/// each two, none of them `.` or `..`. It doesn't end in `.tmp`.
+/// A path that a command may name: that of a file or folder below the folder that the machine stands on, and not the
+/// intent's. It doesn't end in `.tmp`.
 #[derive(Debug, Drop)]
 pub struct BootPath {
-    text: String,
+    file: FilePath,
 }
 
 impl Model for BootPath {
-    ghost use Rattle.std.specs.Prelude.{◌≡◌, true, List, ℕ, string_bytes};
-    ghost use Rattle.boot_base.specs.Paths.{is_normal};
+    ghost use Rattle.std.specs.Prelude.{List, ℕ};
+    ghost use Rattle.boot_base.specs.Paths.{IsFree};
 
     ghost Value = { List ℕ };
 
-    ghost view = { λ p. string_bytes p.text };
+    ghost view = { λ p. p.file };
 
-    ghost invariant = { λ p. is_normal (string_bytes p.text) ≡ true };
+    ghost invariant = { λ p. IsFree p.file };
 }
 
 impl BootPath {
@@ -70,7 +68,6 @@ impl BootPath {
     /// is no memory.
     pub fn read(alloc: Global, text: &str) -> Result<BootPath, PathFault>
         ensures ok { IfOk result (λ path. path_of text.now ≡ Some path) }
-        ensures free { IfOk result (λ path. IsFree path) }
         ensures bad { result ≡ Err PathFault.BadPath → path_of text.now ≡ None }
     {
         if has_nul(text) || has_refused_component(text) {
@@ -80,15 +77,9 @@ impl BootPath {
         if !is_boot_text(text.as_str()) {
             return Err(PathFault::BadPath);
         }
-        Ok(BootPath { text })
-    }
-
-    /// `boot_tools.intent`, the path of the file that names a rename while it is made. No word names it.
-    pub fn intent(alloc: Global) -> Result<BootPath, AllocError>
-        ensures { IfOk result (λ path. path ≡ intent) }
-    {
-        let text = String::from_str(alloc, INTENT)?;
-        Ok(BootPath { text })
+        Ok(BootPath {
+            file: FilePath::of(text),
+        })
     }
 
     /// The path whose text these bytes are, and None where they aren't the normal form of a path that a word may
@@ -111,21 +102,39 @@ impl BootPath {
         }
     }
 
+    /// The same path as a machine's calls take it. It is neither that of a temporary file nor the intent's.
+    pub fn file(&self) -> &FilePath
+        ensures path { result.now ≡ self.now }
+        ensures lasting { is_temp self.now ≡ false }
+        ensures free { IsFree self.now }
+    {
+        self.file.know();
+        &self.file
+    }
+
+    /// The same as an own value.
+    pub fn into_file(self) -> FilePath
+        ensures { result ≡ self }
+    {
+        self.file
+    }
+
     /// The path's text, without a leading `/`.
     pub fn as_str(&self) -> &str
         ensures text { result.now ≡ self.now }
         ensures lasting { is_temp self.now ≡ false }
     {
-        self.text.as_str()
+        self.file.as_str()
     }
 
     /// The last component.
     pub fn file_name(&self) -> &str
         ensures { result.now ≡ file_name_of self.now }
     {
-        match self.text.rsplit_once('/') {
+        let text = self.file.as_str();
+        match text.rsplit_once('/') {
             Some((_, name)) => name,
-            None => self.text.as_str(),
+            None => text,
         }
     }
 
@@ -136,7 +145,6 @@ impl BootPath {
     /// As of `read`; a `below` without a component is no path.
     pub fn under(alloc: Global, folder: &BootPath, below: &str) -> Result<BootPath, PathFault>
         ensures ok { IfOk result (λ path. path_below folder.now below.now ≡ Some path) }
-        ensures free { IfOk result (λ path. IsFree path) }
         ensures bad { result ≡ Err PathFault.BadPath → path_below folder.now below.now ≡ None }
     {
         if !has_component(below) {
@@ -153,7 +161,6 @@ impl BootPath {
     /// `BadPath` exactly where `name` is empty, is `.` or holds `/`, or the new text is no path by `read`.
     pub fn sibling(&self, alloc: Global, name: &str) -> Result<BootPath, PathFault>
         ensures ok { IfOk result (λ path. sibling_of self.now name.now ≡ Some path) }
-        ensures free { IfOk result (λ path. IsFree path) }
         ensures bad { result ≡ Err PathFault.BadPath → sibling_of self.now name.now ≡ None }
     {
         if !is_one_component(name) {
@@ -167,7 +174,7 @@ impl BootPath {
     fn beside(&self, alloc: Global, name: &str) -> Result<String, AllocError>
         ensures { IfOk result (λ text. string_bytes text ≡ beside self.now name.now) }
     {
-        match self.text.rsplit_once('/') {
+        match self.file.as_str().rsplit_once('/') {
             Some((folder, _)) => joined_with(alloc, folder, "/", name),
             None => String::from_str(alloc, name),
         }
@@ -177,23 +184,25 @@ impl BootPath {
     pub fn copy(&self, alloc: Global) -> Result<BootPath, AllocError>
         ensures { IfOk result (λ path. path ≡ self.now) }
     {
-        let text = String::from_str(alloc, self.text.as_str())?;
-        Ok(BootPath { text })
+        let file = self.file.copy(alloc)?;
+        Ok(BootPath { file })
     }
 
-    /// It says that the path isn't that of a temporary file, and does nothing.
+    /// It says that the path is neither that of a temporary file nor the intent's, and does nothing.
     pub fn know(&self)
-        ensures { is_temp self.now ≡ false }
+        ensures lasting { is_temp self.now ≡ false }
+        ensures free { IsFree self.now }
     {
-        let _ = &self.text;
+        self.file.know();
     }
 
-    /// It says that the path is a text in normal form, and does nothing.
+    /// It says that the path is a text in normal form, and not the intent's, and does nothing.
     pub fn know_normal(&self)
         ensures normal { is_normal self.now ≡ true }
         ensures text { is_utf8 self.now ≡ true }
+        ensures free { IsFree self.now }
     {
-        let _ = &self.text;
+        self.file.know_normal();
     }
 }
 
@@ -234,7 +243,7 @@ impl Ord for BootPath {
     ghost matches_eq = { λ _ _. refl };
 
     fn cmp(&self, other: &BootPath) -> Ordering {
-        self.text.as_str().cmp(other.text.as_str())
+        self.as_str().cmp(other.as_str())
     }
 }
 

@@ -1,9 +1,10 @@
 //! Paths of temporary files, and where a file is to stand.
 ghost use Rattle.std.specs.Prelude.{◌≡◌, ◌++◌, true, IfOk};
-ghost use Rattle.boot_base.specs.Paths.{TempNamesAreFileNames, file_name_of, is_file_name, is_temp, leftover_of, temp_end};
+ghost use Rattle.boot_base.specs.Paths.{IsFree, TempNamesAreFileNames, file_name_of, is_file_name, is_temp, leftover_of, temp_end};
 
 use crate::components::joined_with;
 use crate::file_name::FileName;
+use crate::file_path::FilePath;
 use crate::path::BootPath;
 use std::alloc::{AllocError, Global};
 use std::cmp::Ordering;
@@ -31,7 +32,7 @@ impl Model for TempPath {
 
 impl TempPath {
     /// Where the file of that path is written first: its path with `.tmp` behind it.
-    pub fn of(alloc: Global, path: &BootPath) -> Result<TempPath, AllocError>
+    pub fn of(alloc: Global, path: &FilePath) -> Result<TempPath, AllocError>
         ensures { IfOk result (λ temp. temp ≡ path.now ++ temp_end) }
     {
         path.know_normal();
@@ -137,8 +138,13 @@ pub fn temp_names_are_file_names()
 /// Where a file is to stand, and where it is written first.
 #[derive(Debug, Drop)]
 pub struct Target {
-    pub path: BootPath,
+    pub path: FilePath,
+    /// The path with `.tmp` behind it.
     pub temp: TempPath,
+    /// A command may name the path.
+    pub ghost free: { IsFree path },
+    /// The temporary file stands beside the path that it is for.
+    pub ghost beside: { temp ≡ path ++ temp_end },
 }
 
 impl Target {
@@ -147,6 +153,8 @@ impl Target {
         ensures path { IfOk result (λ target. target.path ≡ path) }
         ensures temp { IfOk result (λ target. target.temp ≡ path ++ temp_end) }
     {
+        path.know();
+        let path = path.into_file();
         let temp = TempPath::of(alloc, &path)?;
         Ok(Target { path, temp })
     }

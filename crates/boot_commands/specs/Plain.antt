@@ -1,7 +1,6 @@
 -- What each command comes to on a view that runs no other and stands for none: the first refusal that holds, in the order of its row,
 -- or what it does.
-use Rattle.std.specs.Prelude.{Bool, true, false, not, ◌||◌, bytes_eq, Option, Some, None}
-use Rattle.boot_base.specs.Paths.{intent}
+use Rattle.std.specs.Prelude.{Bool, true, false, not, ◌||◌, Option, Some, None}
 use Rattle.boot_base.specs.declared.refusal.Refusal.TheVariants as refusals
 use Rattle.boot_machine.specs.Disk.{Files}
 use Rattle.tool_words.specs.declared.command.Command.{Command}
@@ -68,12 +67,8 @@ is_wordless (command.Enter path text) = true
 is_wordless (command.Remove path) = true
 is_wordless c = false
 
--- The command can be a step of a run: it isn't `script`, it is none that may stand for others, and the paths of one that
--- no words name aren't that of the intent.
+-- The command can be a step of a run: it isn't `script`, and it is none that may stand for others.
 abbrev pub is_step : Command → Bool
-is_step (command.Put file target) = not (bytes_eq target intent)
-is_step (command.Enter path text) = not (bytes_eq path intent)
-is_step (command.Remove path) = not (bytes_eq path intent)
 is_step c = not (is_script c || expands c)
 
 -- the answer; where a command has none of its own, that of a line that is no command. No step is made there

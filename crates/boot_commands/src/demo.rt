@@ -76,7 +76,10 @@ fn demo_file(alloc: Global, name: &str, digit: u64) -> Result<MemFile, AllocErro
         return Err(AllocError);
     };
     let bytes = demo_image(alloc, digit)?;
-    Ok(MemFile { path, bytes })
+    Ok(MemFile {
+        path: path.into_file(),
+        bytes,
+    })
 }
 
 // A machine with the four images.

@@ -10,7 +10,7 @@ ghost use Rattle.tool_words.specs.declared.command.Type1Words.{Type1Words};
 ghost use Rattle.boot_base.specs.Paths.{Path};
 ghost use Rattle.type1_install.specs.Cleaning.{cleanup_expansion};
 ghost use Rattle.type1_install.specs.Installing.{install_expansion};
-ghost use Rattle.type1_install.specs.Shown.{HasFreePath};
+ghost use Rattle.type1_install.specs.Shown.{IsWordless};
 
 use crate::keeping::expand_keep;
 use crate::stepping::plan_of;
@@ -72,7 +72,7 @@ pub fn expand<M: Machine>(
 
 // An installation: its commands, or its refusal.
 fn expand_install(alloc: Global, commands: Result<Vec<Command>, Unsaid>) -> Result<Expanded, Stop>
-    requires { IfOk commands (λ commands. All HasFreePath commands.items) }
+    requires { IfOk commands (λ commands. All IsWordless commands.items) }
     ensures finds { IfOk result (λ found. (s : State) (words : Type1Words)
         → Says (λ commands. commands.items) commands (install_expansion (seen s) words)
         → Finds s (asked.Type1Install words) found) }
@@ -101,7 +101,7 @@ fn plan_idle(alloc: Global) -> Result<Plan, Stop>
 
 // A cleanup: its commands, its refusal, or that there is nothing to clean.
 fn expand_cleanup(alloc: Global, commands: Result<Vec<Command>, Unsaid>) -> Result<Expanded, Stop>
-    requires { IfOk commands (λ commands. All HasFreePath commands.items) }
+    requires { IfOk commands (λ commands. All IsWordless commands.items) }
     ensures finds { IfOk result (λ found. (s : State) (esp : Path)
         → Says (λ commands. commands.items) commands (cleanup_expansion (seen s) esp)
         → Finds s (asked.Type1Cleanup esp) found) }

@@ -1,6 +1,5 @@
 //! What is found of a `keep`.
 ghost use Rattle.std.specs.Prelude.{◌≡◌, ◌||◌, All, IfOk, length, nat_eq};
-ghost use Rattle.boot_base.specs.Paths.{IsFree};
 ghost use Rattle.boot_machine.specs.Prelude.{Counts, State, seen};
 ghost use Rattle.boot_commands.specs.Expanding.{AreSteps, Finds};
 ghost use Rattle.command_plans.specs.Prelude.{CountsStop, CountsUnsaid, Says};
@@ -28,7 +27,6 @@ pub(crate) fn expand_keep(
     dry_run: bool,
     paths: Result<Vec<BootPath>, Unsaid>,
 ) -> Result<Expanded, Stop>
-    requires { IfOk paths (λ paths. All IsFree paths.items) }
     ensures finds { IfOk result (λ found. (s : State) (words : KeepWords) → words.dry_run ≡ dry_run
         → Says (λ paths. paths.items) paths (keep_result (seen s) words) → Finds s (asked.Keep words) found) }
     ensures steps { IfOk result AreSteps }

@@ -33,7 +33,7 @@ fn size_within<M: Machine>(
     ensures looks { Looks M.tells M.time M.state M.counts (CountsDisk result) machine.old machine.new }
     ensures taken { IsTrue M.tells → M.taken machine.new ≡ M.taken machine.old }
 {
-    match machine.size(path)? {
+    match machine.size(path.file())? {
         Some(size) if size <= limit => Ok(Some(size)),
         _ => Ok(None),
     }
@@ -54,7 +54,7 @@ fn file_bytes<M: Machine>(
     ensures taken { IsTrue M.tells → TakesAtMost text_limit (M.taken machine.old) (M.taken machine.new) }
 {
     let mut bytes = zeros(alloc, size as usize)?;
-    read_part(machine, path, 0, &mut bytes)?;
+    read_part(machine, path.file(), 0, &mut bytes)?;
     Ok(bytes)
 }
 

@@ -2,7 +2,7 @@
 ghost use Rattle.std.specs.Prelude.{◌≡◌, IfOk, None, Some};
 ghost use Rattle.boot_folder.specs.Entries.{esp_folders};
 
-use boot_base::{BootPath, PathFault};
+use boot_base::{BootPath, ENTRIES, IMAGES, PathFault};
 use std::alloc::Global;
 
 /// Where the boot entries of an EFI system partition stand (UAPI Boot Loader Specification).
@@ -15,12 +15,6 @@ pub struct Folders {
 }
 
 impl Folders {
-    /// Where the entries of type 1 stand below a partition.
-    pub const ENTRIES: &'static str = "loader/entries";
-
-    /// Where those of type 2 stand.
-    pub const IMAGES: &'static str = "EFI/Linux";
-
     /// The folders of the partition that stands at a path.
     ///
     /// # Errors
@@ -30,8 +24,8 @@ impl Folders {
         ensures ok { IfOk result (λ folders. esp_folders esp.now ≡ Some folders) }
         ensures bad { result ≡ Err PathFault.BadPath → esp_folders esp.now ≡ None }
     {
-        let entries = BootPath::under(alloc, esp, Folders::ENTRIES)?;
-        let images = BootPath::under(alloc, esp, Folders::IMAGES)?;
+        let entries = BootPath::under(alloc, esp, ENTRIES)?;
+        let images = BootPath::under(alloc, esp, IMAGES)?;
         Ok(Folders { entries, images })
     }
 }

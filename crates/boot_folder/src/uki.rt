@@ -149,7 +149,7 @@ pub(crate) fn range_bytes<M: Machine>(
     ensures taken { IsTrue M.tells → TakesAtMost text_limit (M.taken machine.old) (M.taken machine.new) }
 {
     let mut bytes = zeros(alloc, range.length as usize)?;
-    read_part(machine, file, range.place, &mut bytes)?;
+    read_part(machine, file.file(), range.place, &mut bytes)?;
     let rest = zeros(alloc, range.zeros as usize)?;
     bytes.extend_from_slice(&rest)?;
     Ok(bytes)

@@ -64,7 +64,7 @@ fn stream_piece<M: Machine, S: ByteSink<M>>(
     ensures counts { CountsDisk result (M.counts machine.old) (M.counts machine.new) }
     ensures taken { IsTrue M.tells → TakesPiece left result (M.taken machine.old) (M.taken machine.new) }
 {
-    let count = read_piece(machine, path, at, left, buffer)?;
+    let count = read_piece(machine, path.file(), at, left, buffer)?;
     sink.take(&buffer[..count], machine)?;
     Ok(count as u64)
 }

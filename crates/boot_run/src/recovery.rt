@@ -5,7 +5,7 @@ ghost use Rattle.install_steps.specs.Recovery.{RecoversTo, SameFrom};
 ghost use Rattle.install_steps.specs.Steps.{Keeps, NoNewTemp};
 ghost use Rattle.command_plans.specs.Prelude.{CountsStop};
 
-use boot_base::{BootPath, Target};
+use boot_base::FilePath;
 use boot_machine::Machine;
 use command_plans::Stop;
 use install_steps::{RecoverFault, recover};
@@ -24,8 +24,7 @@ pub fn recover_rename<M: Machine>(alloc: Global, machine: &mut M) -> Result<(), 
     ensures temps { IsTrue M.tells → NoNewTemp (M.state machine.old) (M.state machine.new) }
     ensures counts { CountsStop result (M.counts machine.old) (M.counts machine.new) }
 {
-    let path = BootPath::intent(alloc)?;
-    let intent = Target::of(alloc, path)?;
+    let intent = FilePath::intent(alloc)?;
     match recover(alloc, machine, &intent) {
         Ok(()) => Ok(()),
         Err(RecoverFault::Memory) => Err(Stop::Memory),

@@ -1,16 +1,14 @@
 //! The files of a machine, read, written and told.
-ghost use Rattle.std.specs.Prelude.{◌≡◌, IfOk};
-ghost use Rattle.boot_base.specs.Paths.{IsFree, intent as intent_path};
 
 use crate::contents::content_text;
 use crate::fault::StoryFault;
 use crate::replies::{or_none, push_line};
 use crate::samples::Sample;
-use boot_base::{BootPath, Target, TempPath, ends_as_temp};
+use boot_base::{BootPath, FilePath, Target, TempPath, ends_as_temp};
 use boot_machine::{DiskFault, Machine};
 use install_steps::{put_in_place, recover, settle, write_bytes};
 use memory_machine::MemMachine;
-use std::alloc::{AllocError, Global};
+use std::alloc::Global;
 
 /// How many calls of the machine `put` makes.
 pub(crate) const CALLS_OF_PUT: u64 = 7;
@@ -21,35 +19,10 @@ pub(crate) const CALLS_OF_PUT_INTENT: u64 = 6;
 /// How many calls of the machine `leave` makes.
 pub(crate) const CALLS_OF_LEAVE: u64 = 2;
 
-// Where the intent of a rename stands.
-fn intent_target(alloc: Global) -> Result<Target, AllocError>
-    ensures { IfOk result (λ target. target.path ≡ intent_path) }
-{
-    Target::of(alloc, BootPath::intent(alloc)?)
-}
-
 // Where the file at a path is to stand.
-fn target(alloc: Global, path: &str) -> Result<Target, StoryFault>
-    ensures { IfOk result (λ target. IsFree target.path) }
-{
+fn target(alloc: Global, path: &str) -> Result<Target, StoryFault> {
     let path = BootPath::read(alloc, path)?;
     Ok(Target::of(alloc, path)?)
-}
-
-// Writes a file at the target, after what a stop has left is finished.
-fn write_at(
-    alloc: Global,
-    machine: &mut MemMachine,
-    intent: &Target,
-    target: &Target,
-    bytes: &[u8],
-) -> Result<(), StoryFault>
-    requires at_intent { intent.now.path ≡ intent_path }
-    requires free { IsFree target.now.path }
-{
-    recover(alloc, machine, intent)?;
-    write_bytes(machine, target, bytes)?;
-    Ok(())
 }
 
 /// Writes a file, after what a stop has left is finished.
@@ -60,20 +33,23 @@ pub(crate) fn put(
     bytes: &[u8],
 ) -> Result<(), StoryFault> {
     let target = target(alloc, path)?;
-    let intent = intent_target(alloc)?;
-    write_at(alloc, machine, &intent, &target, bytes)
+    let intent = FilePath::intent(alloc)?;
+    recover(alloc, machine, &intent)?;
+    write_bytes(machine, &target, bytes)?;
+    Ok(())
 }
 
-// Writes a file at the target, whatever its path.
+// Writes a file by its temporary file, whatever its path.
 fn write_anywhere(
     machine: &mut MemMachine,
-    target: &Target,
+    temp: &TempPath,
+    path: &FilePath,
     bytes: &[u8],
 ) -> Result<(), DiskFault> {
     settle(machine)?;
-    machine.create(&target.temp)?;
-    machine.append(&target.temp, bytes)?;
-    put_in_place(machine, target)
+    machine.create(temp)?;
+    machine.append(temp, bytes)?;
+    put_in_place(machine, temp, path)
 }
 
 /// Writes the intent of a rename.
@@ -82,7 +58,9 @@ pub(crate) fn put_intent(
     machine: &mut MemMachine,
     bytes: &[u8],
 ) -> Result<(), StoryFault> {
-    write_anywhere(machine, &intent_target(alloc)?, bytes)?;
+    let path = FilePath::intent(alloc)?;
+    let temp = TempPath::of(alloc, &path)?;
+    write_anywhere(machine, &temp, &path, bytes)?;
     Ok(())
 }
 
@@ -96,7 +74,7 @@ pub(crate) fn leave(machine: &mut MemMachine, path: &TempPath) -> Result<(), Dis
 pub(crate) fn bytes_at(
     alloc: Global,
     machine: &mut MemMachine,
-    path: &BootPath,
+    path: &FilePath,
 ) -> Result<Option<Vec<u8>>, StoryFault> {
     let Some(size) = machine.size(path)? else {
         return Ok(None);
@@ -113,7 +91,7 @@ pub(crate) fn bytes_of(
     path: &str,
 ) -> Result<Option<Vec<u8>>, StoryFault> {
     let path = BootPath::read(alloc, path)?;
-    bytes_at(alloc, machine, &path)
+    bytes_at(alloc, machine, path.file())
 }
 
 /// The names of the files directly in a folder, in order.
@@ -138,7 +116,7 @@ fn content_at(
     samples: &[Sample],
     path: &BootPath,
 ) -> Result<String, StoryFault> {
-    let bytes = bytes_at(alloc, machine, path)?.unwrap_or(Vec::new(alloc));
+    let bytes = bytes_at(alloc, machine, path.file())?.unwrap_or(Vec::new(alloc));
     Ok(content_text(alloc, samples, bytes.as_slice())?)
 }
 

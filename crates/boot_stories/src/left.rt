@@ -4,7 +4,7 @@ use crate::fault::StoryFault;
 use crate::files::{bytes_at, bytes_of, file_text, names_in};
 use crate::known::Known;
 use crate::samples::{Sample, sample_of};
-use boot_base::{BootPath, ends_as_temp};
+use boot_base::{BootPath, FilePath, ends_as_temp};
 use memory_machine::MemMachine;
 use std::alloc::{AllocError, Global};
 
@@ -119,7 +119,7 @@ fn intent_text(
     machine: &mut MemMachine,
     samples: &[Sample],
 ) -> Result<String, StoryFault> {
-    let path = BootPath::intent(alloc)?;
+    let path = FilePath::intent(alloc)?;
     let Some(bytes) = bytes_at(alloc, machine, &path)? else {
         return Ok(String::new(alloc));
     };

@@ -8,7 +8,7 @@ use crate::known::Known;
 use crate::left::FOLDERS;
 use crate::replies::answer;
 use crate::samples::samples;
-use boot_base::{BootPath, TempPath, ends_as_temp};
+use boot_base::{BootPath, FilePath, TempPath, ends_as_temp};
 use boot_machine::{Machine, Printed};
 use memory_machine::{FailMode, MemMachine, ReadSeen};
 use std::alloc::{AllocError, Global};
@@ -130,7 +130,7 @@ impl Story {
 
     // The same with the intent.
     fn copy_intent(&mut self, alloc: Global, copy: &mut MemMachine) -> Result<u64, StoryFault> {
-        let path = BootPath::intent(alloc)?;
+        let path = FilePath::intent(alloc)?;
         let Some(bytes) = bytes_at(alloc, &mut self.machine, &path)? else {
             return Ok(0);
         };

@@ -124,7 +124,7 @@ fn write_crowd(alloc: Global, story: &mut Story, rest: &str) -> Result<(), Story
 }
 
 fn leave_temp(alloc: Global, story: &mut Story, path: &str) -> Result<(), StoryFault> {
-    let temp = TempPath::of(alloc, &BootPath::read(alloc, path)?)?;
+    let temp = TempPath::of(alloc, BootPath::read(alloc, path)?.file())?;
     leave(&mut story.machine, &temp)?;
     Ok(())
 }

@@ -2,7 +2,6 @@ pub mod Declining
 pub mod Each
 mod Effects
 pub mod Exits
-pub mod Freeing
 mod Known
 mod Scanned
 mod WithoutRepeats

@@ -1,7 +1,7 @@
 -- What is true of every plan: its change can be made, and a refused command changes nothing.
 use Rattle.std.specs.Prelude.{◌≡◌, Bool, true, false, bytes_eq}
 use Rattle.std.specs.List.{IsDistinct}
-use Rattle.boot_base.specs.Paths.{Path, IsFree}
+use Rattle.boot_base.specs.Paths.{Path}
 use Rattle.boot_base.specs.Refusals.{line_of, number_of}
 use Rattle.boot_base.specs.declared.refusal.Refusal.{Refusal}
 use Rattle.boot_base.specs.declared.refusal.Refusal.TheVariants as refusals
@@ -25,17 +25,17 @@ TellsGone path = IsLineOf (refusals.NotFound (printed_path path))
 abbrev pub TellsThere : Path → RefusalLine → Type 0
 TellsThere path = IsLineOf (refusals.TargetExists (printed_path path))
 
--- The change can be made on any machine: it names the intent in no other way than a move does, the temporary files to
--- be dropped differ, and a machine that has changed its mind about a file gets the refusal of that file's path.
+-- The change can be made on any machine: a move's intent names its two paths, the temporary files to be dropped
+-- differ, and a machine that has changed its mind about a file gets the refusal of that file's path.
 abbrev pub IsMakeable : Change → Type 0
 IsMakeable Nothing = Unit {0}
-IsMakeable (Remove path gone) = IsFree path × TellsGone path gone
+IsMakeable (Remove path gone) = TellsGone path gone
 IsMakeable (Leftovers temps) = IsDistinct bytes_eq temps.items
-IsMakeable (Write image sources target) = IsFree target.path
-IsMakeable (Put target bytes) = IsFree target.path
-IsMakeable (Copy from target gone) = IsFree target.path × TellsGone from gone
+IsMakeable (Write image sources target) = Unit {0}
+IsMakeable (Put target bytes) = Unit {0}
+IsMakeable (Copy from target gone) = TellsGone from gone
 IsMakeable (Move from to intent gone exists) =
-    IsFree from × IsFree to × IsIntentOf from to intent × TellsGone from gone × TellsThere to exists
+    IsIntentOf from to intent × TellsGone from gone × TellsThere to exists
 
 -- whether it is no change
 abbrev pub changes_nothing : Change → Bool

@@ -1,7 +1,6 @@
 //! Changes that several commands make: a file comes to stand at another path too, or goes.
 ghost use Rattle.std.specs.Prelude.{◌≡◌, length, IfOk, IsTrue, Some, ℕ, option_map};
 ghost use Rattle.std.specs.FinMap.{get, insert};
-ghost use Rattle.boot_base.specs.Paths.{IsFree};
 ghost use Rattle.boot_machine.specs.Prelude.{Looks, State, TakesAtMost, contents, seen};
 ghost use Rattle.command_plans.specs.Prelude.{done_answer, refusal, IsCopy, installed_text, unlink_answer, unlinked_text, printed_path, CountsStop, IsLineOf, TellsGone, CanCopy, Plans};
 
@@ -54,7 +53,6 @@ pub fn plan_copy(
     target: BootPath,
     text: Bytes,
 ) -> Result<Plan, AllocError>
-    requires { IsFree target }
     ensures { IfOk result (λ plan. (s : State) → CanCopy s from
         → Plans s plan (done_answer (insert (seen s) target (contents (seen s) from)) text)) }
 {
@@ -76,7 +74,6 @@ fn unlinked_text(alloc: Global, path: &BootPath) -> Result<Bytes, AllocError>
 
 // The plan of a removal, of a file that is there.
 fn removal_there(alloc: Global, path: BootPath) -> Result<Plan, AllocError>
-    requires free { IsFree path }
     ensures { IfOk result (λ plan. (s : State) (size : ℕ) → option_map length (get (seen s) path) ≡ Some size
         → Plans s plan (unlink_answer (seen s) path)) }
 {
@@ -103,7 +100,6 @@ fn removal_missing(alloc: Global, path: &BootPath) -> Result<Plan, AllocError>
 
 // The plan for the file at a path, by its length.
 fn removal(alloc: Global, path: BootPath, size: Option<u64>) -> Result<Plan, AllocError>
-    requires free { IsFree path }
     ensures { IfOk result (λ plan. (s : State) → option_map length (get (seen s) path) ≡ size
         → Plans s plan (unlink_answer (seen s) path)) }
 {
@@ -119,7 +115,6 @@ pub fn plan_removal<M: Machine>(
     path: BootPath,
     machine: &mut M,
 ) -> Result<Plan, Stop>
-    requires free { IsFree path }
     ensures plans { IfOk result (λ plan. IsTrue M.tells → Plans (M.state machine.old) plan
         (unlink_answer (seen (M.state machine.old)) path)) }
     ensures looks { Looks M.tells M.time M.state M.counts (CountsStop result) machine.old machine.new }

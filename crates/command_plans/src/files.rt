@@ -143,7 +143,7 @@ pub fn file_part<M: Machine>(
 {
     path.know();
     let mut bytes = zeros(alloc, count as usize)?;
-    read_part(machine, path, place, &mut bytes)?;
+    read_part(machine, path.file(), place, &mut bytes)?;
     Ok(bytes)
 }
 

@@ -9,7 +9,7 @@ ghost use Rattle.menu_order.specs.Menu.{IsMenu};
 
 use crate::declined::{Declined, path_in, path_under};
 use crate::unsaid::Unsaid;
-use boot_base::Refusal;
+use boot_base::{ENTRIES, IMAGES, Refusal};
 use boot_folder::{Folders, ScanFault, scan_folders};
 use boot_machine::Machine;
 use menu_order::MenuItem;
@@ -20,8 +20,8 @@ pub fn folders_in(alloc: Global, esp: &str) -> Result<Folders, Declined>
     ensures { Means (λ folders. folders) result (folders_of esp.now) }
 {
     let esp = path_in(alloc, esp)?;
-    let entries = path_under(alloc, &esp, Folders::ENTRIES)?;
-    let images = path_under(alloc, &esp, Folders::IMAGES)?;
+    let entries = path_under(alloc, &esp, ENTRIES)?;
+    let images = path_under(alloc, &esp, IMAGES)?;
     Ok(Folders { entries, images })
 }
 

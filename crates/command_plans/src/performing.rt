@@ -2,7 +2,6 @@
 ghost use Rattle.std.specs.Prelude.{◌≡◌, ◌≤◌, ℕ, true, length, take, IfOk, IsErrOf, MatchResult, OnOk, IsTrue};
 ghost use Rattle.std.specs.FinMap.{insert};
 ghost use Rattle.boot_base.specs.Limits.{file_limit};
-ghost use Rattle.boot_base.specs.Paths.{IsFree};
 ghost use Rattle.boot_machine.specs.Prelude.{CountsDisk, EachSince, IsFirm, IsRested, TakesAtMost, TakesNone, contents, has, on_channel, seen, with_printed, PrintsPart};
 ghost use Rattle.image_writer.specs.Sourced.{IsSourced};
 ghost use Rattle.image_writer.specs.Taken.{writing_length};
@@ -27,7 +26,6 @@ fn write<M: Machine>(
     target: &Target,
     machine: &mut M,
 ) -> Result<(), DiskFault>
-    requires free { IsFree target.now.path }
     requires ready { IsTrue M.tells → CanStep (M.state machine.old) }
     requires sourced { IsTrue M.tells → IsSourced image.now sources.now (seen (M.state machine.old)) }
     ensures done { OnOk result (IsTrue M.tells → IsFirm (M.state machine.old)
@@ -46,7 +44,6 @@ fn write<M: Machine>(
 
 // Writes these bytes at the target.
 fn put<M: Machine>(bytes: &[u8], target: &Target, machine: &mut M) -> Result<(), DiskFault>
-    requires free { IsFree target.now.path }
     requires ready { IsTrue M.tells → CanStep (M.state machine.old) }
     ensures done { OnOk result (IsTrue M.tells → IsFirm (M.state machine.old)
         → IsDone (M.state machine.new) (insert (seen (M.state machine.old)) target.now.path bytes.now)) }
@@ -62,7 +59,6 @@ fn put<M: Machine>(bytes: &[u8], target: &Target, machine: &mut M) -> Result<(),
 // Writes the bytes of the file at `from` at the target. The buffer stands here, as in `write`.
 #[inline(never)]
 fn copy<M: Machine>(from: &BootPath, target: &Target, machine: &mut M) -> Result<(), StepFault>
-    requires free { IsFree target.now.path }
     requires ready { IsTrue M.tells → CanStep (M.state machine.old) }
     requires there { IsTrue M.tells → has (seen (M.state machine.old)) from.now ≡ true }
     requires small { IsTrue M.tells → length (contents (seen (M.state machine.old)) from.now) ≤ file_limit }

@@ -13,6 +13,5 @@ pub fn seen_size<M: Machine>(path: &BootPath, machine: &mut M) -> Result<Option<
     ensures looks { Looks M.tells M.time M.state M.counts (CountsDisk result) machine.old machine.new }
     ensures taken { IsTrue M.tells → TakesAtMost 0 (M.taken machine.old) (M.taken machine.new) }
 {
-    path.know();
-    machine.size(path)
+    machine.size(path.file())
 }

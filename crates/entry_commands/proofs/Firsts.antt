@@ -1,7 +1,6 @@
 -- The first entry of a menu.
 use Rattle.std.proofs.Common.{◌≡◌, arith, List, [], ◌∷◌, true, Some, Ok, ap, ◌∙◌, is_some}
 use Rattle.std.specs.Prelude.{Contains, slice_get}
-use Rattle.boot_base.specs.Paths.{path_of}
 use Rattle.boot_folder.specs.Entries.{IsEntry}
 use Rattle.boot_folder.specs.declared.folders.Folders.{Folders}
 use Rattle.boot_folder.proofs.Places.{path_shown}
@@ -25,13 +24,9 @@ module _ (files : Files) (folders : Folders) (menu : List MenuItem) (item : Menu
   entry : IsEntry files folders item
   entry = (is_menu.entries item).0 in_menu
 
-  -- its path is that of a boot file
-  pub first_read : path_of item.path ≡ Some item.path
-  first_read = entry.is_path
-
-  -- and a file is there
+  -- a file is there
   pub first_there : has (view files) item.path ≡ true
-  first_there = has-view files item.path (path_shown item.path first_read) ∙ ap is_some entry.there
+  first_there = has-view files item.path (path_shown item.path entry.is_path) ∙ ap is_some entry.there
 
 pub first_is : (menu : List MenuItem) (item : MenuItem) → Some item ≡ slice_get menu 0 → first_of menu ≡ Ok item
 first_is [] item at = cc

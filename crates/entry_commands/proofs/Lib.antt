@@ -1,7 +1,6 @@
 mod Choices
 mod Declined
 mod Firsts
-mod Freeing
 pub mod GoodEntries
 pub mod ImageNames
 pub mod InstalledEntry

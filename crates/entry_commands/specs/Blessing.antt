@@ -1,6 +1,6 @@
 -- `bless`: a counted entry is marked by its name, as systemd-bless-boot.service(8) has it.
 use Rattle.std.specs.Prelude.{ℕ, List, ◌++◌, codes, is_some, Option, Some, None, Result, Ok, Err, if◌then◌else◌}
-use Rattle.boot_base.specs.Paths.{Path, IsFree, beside, file_name_of}
+use Rattle.boot_base.specs.Paths.{Path, beside, file_name_of}
 use Rattle.boot_base.specs.declared.refusal.Refusal.{Refusal}
 use Rattle.boot_base.specs.declared.refusal.Refusal.TheVariants as refusals
 use Rattle.menu_order.specs.Bless.{Name, GoodName, CountedName, BadName, choice_of, target_of}
@@ -44,10 +44,6 @@ entry_paths path =
 -- the same by the words of a command
 abbrev pub reported_paths : List ℕ → List ℕ → Result EntryPaths Refusal
 reported_paths word esp = path_in esp >>= λ esp. path_under esp word >>= entry_paths
-
--- no word names the intent
-abbrev pub AreFree : EntryPaths → Type 0
-AreFree paths = IsFree paths.good × IsFree paths.counted × IsFree paths.bad
 
 -- where a name of an entry stands
 abbrev pub path_at : EntryPaths → Name → Path

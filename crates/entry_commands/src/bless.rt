@@ -1,11 +1,11 @@
 //! `bless`.
 ghost use Rattle.std.specs.Prelude.{◌≡◌, ◌++◌, codes, false, true, Ok, Some, IfOk, IsTrue, string_bytes, option_map};
-ghost use Rattle.boot_base.specs.Paths.{IsFree, beside, file_name_of, sibling_of};
+ghost use Rattle.boot_base.specs.Paths.{beside, file_name_of, sibling_of};
 ghost use Rattle.menu_order.specs.Bless.{choice_of, target_of};
 ghost use Rattle.menu_order.specs.Renames.{bad_name_of, good_name_of};
 ghost use Rattle.boot_machine.specs.Prelude.{Counts, CountsDisk, Looks, State, TakesAtMost, has, seen};
 ghost use Rattle.command_plans.specs.Prelude.{CountsStop, CountsUnsaid, DeclinesWords, Means, Plans, PlansAs, RefusesWords, Says, answer_of_read, printed_path};
-ghost use Rattle.entry_commands.specs.Blessing.{AreFree, bad_name_in, bless_answer, bless_entry, bless_result, blessed_by, blessed_from, blessed_text, entry_paths, good_name_in, name_or, path_at, present_at, reported_paths, status_by, status_result, verb_text};
+ghost use Rattle.entry_commands.specs.Blessing.{bad_name_in, bless_answer, bless_entry, bless_result, blessed_by, blessed_from, blessed_text, entry_paths, good_name_in, name_or, path_at, present_at, reported_paths, status_by, status_result, verb_text};
 
 use crate::moves::{is_there, plan_move, plan_nothing};
 use boot_base::{BootPath, PathFault, Refusal, Text};
@@ -67,8 +67,7 @@ fn bad_name_in(alloc: Global, path: &BootPath) -> Result<String, Declined>
 // The path of another name in the folder of a path.
 fn path_beside(alloc: Global, path: &BootPath, name: &str) -> Result<BootPath, AllocError>
     requires { sibling_of path.now name.now ≡ Some (beside path.now name.now) }
-    ensures path { IfOk result (λ other. other ≡ beside path.now name.now) }
-    ensures free { IfOk result IsFree }
+    ensures { IfOk result (λ other. other ≡ beside path.now name.now) }
 {
     match path.sibling(alloc, name) {
         Ok(path) => Ok(path),
@@ -78,9 +77,7 @@ fn path_beside(alloc: Global, path: &BootPath, name: &str) -> Result<BootPath, A
 }
 
 fn entry_paths(alloc: Global, counted: BootPath) -> Result<EntryPaths, Declined>
-    requires { IsFree counted }
-    ensures means { Means (λ paths. paths) result (entry_paths counted) }
-    ensures free { IfOk result AreFree }
+    ensures { Means (λ paths. paths) result (entry_paths counted) }
 {
     counted.know_normal();
     let good = good_name_in(alloc, &counted)?;
@@ -91,8 +88,7 @@ fn entry_paths(alloc: Global, counted: BootPath) -> Result<EntryPaths, Declined>
 }
 
 fn reported_paths(alloc: Global, word: &str, esp: &str) -> Result<EntryPaths, Declined>
-    ensures means { Means (λ paths. paths) result (reported_paths word.now esp.now) }
-    ensures free { IfOk result AreFree }
+    ensures { Means (λ paths. paths) result (reported_paths word.now esp.now) }
 {
     let esp = path_in(alloc, esp)?;
     let counted = path_under(alloc, &esp, word)?;
@@ -153,8 +149,6 @@ fn bless_from(
     target: &BootPath,
     from: &BootPath,
 ) -> Result<Plan, AllocError>
-    requires free_from { IsFree from.now }
-    requires free_target { IsFree target.now }
     ensures { IfOk result (λ plan. (s : State) → has (seen s) from.now ≡ true → has (seen s) target.now ≡ false
         → Plans s plan (blessed_from (seen s) verb target.now from.now)) }
 {
@@ -169,7 +163,6 @@ fn bless_entry(
     paths: &EntryPaths,
     present: Present,
 ) -> Result<Plan, Unsaid>
-    requires { AreFree paths.now }
     ensures plans { (s : State) → present ≡ present_at (seen s) paths.now
         → PlansAs s result (bless_entry (seen s) verb paths.now) }
     ensures counts { (counts : Counts) → CountsUnsaid result counts counts }

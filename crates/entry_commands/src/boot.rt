@@ -1,6 +1,5 @@
 //! `boot`.
-ghost use Rattle.std.specs.Prelude.{◌≡◌, ◌∷◌, true, [], Ok, IfOk, IsTrue, Some, string_bytes, option_map};
-ghost use Rattle.boot_base.specs.Paths.{IsFree, path_of};
+ghost use Rattle.std.specs.Prelude.{◌≡◌, ◌∷◌, true, [], Ok, IfOk, IsTrue, string_bytes, option_map};
 ghost use Rattle.boot_folder.specs.Entries.{IsEntry, folder_of};
 ghost use Rattle.boot_machine.specs.Prelude.{Looks, TakesAtMost, has, seen};
 ghost use Rattle.command_plans.specs.Prelude.{CountsStop, CountsUnsaid, DeclinesWords, Plans, PlansAs, RefusesWords, folders_of, menu_limit};
@@ -10,9 +9,7 @@ use crate::moves::{already_there, is_there, plan_move, plan_nothing};
 use boot_base::{BootPath, Refusal};
 use boot_folder::Folders;
 use boot_machine::Machine;
-use command_plans::{
-    Plan, Stop, Unsaid, answer_or_refusal, folders_in, menu_at, path_in, path_under,
-};
+use command_plans::{Plan, Stop, Unsaid, answer_or_refusal, folders_in, menu_at, path_under};
 use menu_order::{Counted, MenuItem, Suffix};
 use std::alloc::{AllocError, Global};
 
@@ -33,16 +30,14 @@ fn folder_of(folders: &Folders, suffix: Suffix) -> &BootPath
     }
 }
 
-// The renaming of the entry at `from`. A machine that doesn't tell its files may give any path, so it is read anew.
+// The renaming of the entry at `from`.
 fn rename_entry<M: Machine>(
     alloc: Global,
     from: &BootPath,
     to: BootPath,
     machine: &mut M,
 ) -> Result<Plan, Unsaid>
-    requires free { IsFree to }
     requires there { IsTrue M.tells → has (seen (M.state machine.old)) from.now ≡ true }
-    requires read { IsTrue M.tells → path_of from.now ≡ Some from.now }
     ensures plans { IsTrue M.tells
         → PlansAs (M.state machine.old) result (renamed_entry (seen (M.state machine.old)) from.now to) }
     ensures looks { Looks M.tells M.time M.state M.counts (CountsUnsaid result) machine.old machine.new }
@@ -51,9 +46,8 @@ fn rename_entry<M: Machine>(
     if is_there(&to, machine)? {
         return Err(Unsaid::Refused(already_there(alloc, &to)?));
     }
-    let from = path_in(alloc, from.as_str())?;
     let text = booted_text(alloc, &to)?;
-    Ok(plan_move(alloc, &from, &to, text)?)
+    Ok(plan_move(alloc, from, &to, text)?)
 }
 
 // A boot of the entry at a path in a folder, by its name after the boot.
@@ -65,7 +59,6 @@ fn boot_named<M: Machine>(
     machine: &mut M,
 ) -> Result<Plan, Unsaid>
     requires there { IsTrue M.tells → has (seen (M.state machine.old)) path.now ≡ true }
-    requires read { IsTrue M.tells → path_of path.now ≡ Some path.now }
     ensures plans { IsTrue M.tells → PlansAs (M.state machine.old) result
         (booted_entry (seen (M.state machine.old)) folder.now path.now (option_map string_bytes name)) }
     ensures looks { Looks M.tells M.time M.state M.counts (CountsUnsaid result) machine.old machine.new }
@@ -86,7 +79,6 @@ fn boot_entry<M: Machine>(
     machine: &mut M,
 ) -> Result<Plan, Unsaid>
     requires there { IsTrue M.tells → has (seen (M.state machine.old)) item.now.path ≡ true }
-    requires read { IsTrue M.tells → path_of item.now.path ≡ Some item.now.path }
     ensures plans { IsTrue M.tells → PlansAs (M.state machine.old) result
         (boot_entry (seen (M.state machine.old)) folders.now item.now) }
     ensures looks { Looks M.tells M.time M.state M.counts (CountsUnsaid result) machine.old machine.new }

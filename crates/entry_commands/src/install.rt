@@ -1,7 +1,7 @@
 //! `install`.
 ghost use Rattle.std.specs.Prelude.{◌≡◌, ◌≤◌, ◌<◌, length, true, IfOk, IfSome, IsTrue, OnOk, Result, string_bytes, option_map};
 ghost use Rattle.boot_base.specs.Limits.{file_limit};
-ghost use Rattle.boot_base.specs.Paths.{IsFree, file_name_of};
+ghost use Rattle.boot_base.specs.Paths.{file_name_of};
 ghost use Rattle.menu_order.specs.Splits.{has_suffix};
 ghost use Rattle.menu_order.specs.declared.counted.Suffix.TheVariants.{Efi};
 ghost use Rattle.boot_folder.specs.Items.{FailsAs, item_counts};
@@ -83,7 +83,6 @@ fn installation_of(
 ) -> Result<Installation, Declined>
     ensures means { Means (λ words. words) result
         (installation_of file.now name.now (option_map (λ text. text.now) tries.entry) esp.now) }
-    ensures free { IfOk result (λ words. IsFree words.target) }
     ensures image { IfOk result (λ words. has_suffix Efi (file_name_of words.target) ≡ true) }
 {
     let image = image_name_in(alloc, name, tries)?;
@@ -162,7 +161,6 @@ fn check_image<M: Machine>(
 
 // The plan of an installation.
 fn plan_words(alloc: Global, words: Installation) -> Result<Plan, AllocError>
-    requires { IsFree words.target }
     ensures { IfOk result (λ plan. (s : State) → CanCopy s words.from
         → Plans s plan (installed_entry (seen s) words (contents (seen s) words.from))) }
 {

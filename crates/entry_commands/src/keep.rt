@@ -1,14 +1,13 @@
 //! `keep`.
-ghost use Rattle.std.specs.Prelude.{◌≡◌, ◌++◌, All, IfOk, IsTrue, OnOk};
-ghost use Rattle.boot_base.specs.Paths.{IsFree};
+ghost use Rattle.std.specs.Prelude.{◌≡◌, ◌++◌, IfOk, IsTrue, OnOk};
 ghost use Rattle.boot_machine.specs.Prelude.{Counts, Looks, TakesAtMost, seen};
-ghost use Rattle.command_plans.specs.Prelude.{CountsUnsaid, Means, Says, each, folders_of, menu_limit, path_in};
+ghost use Rattle.command_plans.specs.Prelude.{CountsUnsaid, Says, folders_of, menu_limit};
 ghost use Rattle.entry_commands.specs.Keeping.{keep_result, menu_paths, would_line, would_text};
 
 use crate::counts::count_in;
 use boot_base::{BootPath, Refusal};
 use boot_machine::Machine;
-use command_plans::{Declined, Unsaid, folders_in, menu_at, path_in, push};
+use command_plans::{Unsaid, folders_in, menu_at};
 use keep_newest::{DoomedFault, doomed_paths};
 use menu_order::MenuItem;
 use std::alloc::{AllocError, Global};
@@ -33,19 +32,6 @@ fn menu_paths(
     }
 }
 
-// The same paths, read anew, since a machine that doesn't tell its files may give any.
-fn read_paths(alloc: Global, paths: &[BootPath]) -> Result<Vec<BootPath>, Declined>
-    ensures means { Means (λ paths. paths.items) result (each path_in paths.now) }
-    ensures free { IfOk result (λ paths. All IsFree paths.items) }
-{
-    let mut read = Vec::new(alloc);
-    for path in paths {
-        let path = path_in(alloc, path.as_str())?;
-        push(&mut read, path)?;
-    }
-    Ok(read)
-}
-
 /// Where the entries stand that go if the newest are kept, in the order in which they go, or what the words are refused
 /// for. Only headers and texts are read.
 pub fn keep_paths<M: Machine>(
@@ -55,7 +41,6 @@ pub fn keep_paths<M: Machine>(
 ) -> Result<Vec<BootPath>, Unsaid>
     ensures says { IsTrue M.tells
         → Says (λ paths. paths.items) result (keep_result (seen (M.state machine.old)) words.now) }
-    ensures free { IfOk result (λ paths. All IsFree paths.items) }
     ensures looks { Looks M.tells M.time M.state M.counts (CountsUnsaid result) machine.old machine.new }
     ensures taken { IsTrue M.tells
         → TakesAtMost (menu_limit (M.state machine.old).files (folders_of words.now.esp)) (M.taken machine.old)
@@ -64,8 +49,7 @@ pub fn keep_paths<M: Machine>(
     let n = count_in(alloc, words.number.as_str())?;
     let folders = folders_in(alloc, words.esp.as_str())?;
     let menu = menu_at(alloc, &folders, machine)?;
-    let paths = menu_paths(alloc, menu.as_slice(), n, words.per_key)?;
-    Ok(read_paths(alloc, paths.as_slice())?)
+    menu_paths(alloc, menu.as_slice(), n, words.per_key)
 }
 
 // Puts what is told of a file that would go behind a text.

@@ -1,6 +1,5 @@
 //! Boot files that get another name.
 ghost use Rattle.std.specs.Prelude.{◌≡◌, true, false, IfOk, IsTrue, string_bytes};
-ghost use Rattle.boot_base.specs.Paths.{IsFree};
 ghost use Rattle.boot_machine.specs.Prelude.{CountsDisk, Looks, State, TakesAtMost, has, move_in, seen};
 ghost use Rattle.command_plans.specs.Prelude.{Plans, done_answer, printed_path};
 ghost use Rattle.entry_commands.specs.Moving.{IsMove};
@@ -52,8 +51,6 @@ pub(crate) fn plan_move(
     to: &BootPath,
     text: String,
 ) -> Result<Plan, AllocError>
-    requires free_from { IsFree from.now }
-    requires free_to { IsFree to.now }
     ensures { IfOk result (λ plan. (s : State) → has (seen s) from.now ≡ true → has (seen s) to.now ≡ false
         → Plans s plan (done_answer (move_in from.now to.now (seen s)) (string_bytes text))) }
 {

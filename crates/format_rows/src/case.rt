@@ -50,7 +50,7 @@ impl Case {
 
     /// A machine with the file.
     pub(crate) fn machine(&mut self, alloc: Global) -> Result<MemMachine, RowFault> {
-        let path = file_path(alloc)?;
+        let path = file_path(alloc)?.into_file();
         let bytes = self.file.as_slice().to_vec(alloc)?;
         let mut machine = MemMachine::new(alloc, vec![in alloc; MemFile { path, bytes }]?)?;
         if let Some(call) = self.failing.take() {

@@ -55,7 +55,7 @@ pub(crate) fn head_there(
 ) -> Result<Pe, HeadFault>
     ensures { IfOk result (λ head. pe_of (contents (mem_state machine.new).files path.now) ≡ Ok (headers_of head)) }
 {
-    match machine.size(path)? {
+    match machine.size(path.file())? {
         Some(size) if size <= FILE_LIMIT => Pe::read_head(alloc, machine, path),
         _ => Err(HeadFault::Disk),
     }

@@ -7,7 +7,7 @@ use crate::faults::Faults;
 use crate::reports::Reports;
 use crate::streams::StandIns;
 use crate::system::System;
-use boot_base::{BootPath, FileName, TempPath};
+use boot_base::{BootPath, FileName, FilePath, TempPath};
 use boot_machine::{Channel, DiskFault, Machine, NamesFault, PipeFault};
 use std::alloc::Global;
 use std::fs::File;
@@ -115,14 +115,14 @@ impl<R: Runtime<File = File> + AllocGlobal, E: Print + Drop> Machine for HostMac
 
     ghost only_now = { λ m files printed told left. absurd (silent told) };
 
-    fn size(&mut self, path: &BootPath) -> Result<Option<u64>, DiskFault>
+    fn size(&mut self, path: &FilePath) -> Result<Option<u64>, DiskFault>
         ensures call { CountsCall (CountsDisk result) (CountsDiskOnce result) self.old.faults self.new.faults }
     {
         let answer = self.system.size_of(path.as_str());
         self.disk("size", path.as_str(), answer)
     }
 
-    fn read_at(&mut self, path: &BootPath, at: u64, into: &mut [u8]) -> Result<usize, DiskFault>
+    fn read_at(&mut self, path: &FilePath, at: u64, into: &mut [u8]) -> Result<usize, DiskFault>
         ensures within { IfOk result (λ n. n ≤ length into.new) }
         ensures call { CountsCall (CountsDisk result) (CountsDiskOnce result) self.old.faults self.new.faults }
     {
@@ -164,7 +164,7 @@ impl<R: Runtime<File = File> + AllocGlobal, E: Print + Drop> Machine for HostMac
         self.disk("sync", path.as_str(), answer)
     }
 
-    fn rename_temp(&mut self, from: &TempPath, to: &BootPath) -> Result<(), DiskFault>
+    fn rename_temp(&mut self, from: &TempPath, to: &FilePath) -> Result<(), DiskFault>
         ensures call { CountsCall (CountsDisk result) (CountsDiskOnce result) self.old.faults self.new.faults }
     {
         let answer = self.system.move_temp(from.as_str(), to.as_str());
@@ -178,7 +178,7 @@ impl<R: Runtime<File = File> + AllocGlobal, E: Print + Drop> Machine for HostMac
         self.disk("rename", from.as_str(), answer)
     }
 
-    fn unlink(&mut self, path: &BootPath) -> Result<(), DiskFault>
+    fn unlink(&mut self, path: &FilePath) -> Result<(), DiskFault>
         ensures call { CountsCall (CountsDisk result) (CountsDiskOnce result) self.old.faults self.new.faults }
     {
         let answer = self.system.remove_file(path.as_str());

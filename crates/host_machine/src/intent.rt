@@ -3,9 +3,9 @@
 use crate::answers::read_once_at;
 use crate::calls::{link_metadata_at, lock_file, metadata_at, metadata_of, open_file};
 use crate::kept::is_same;
-use crate::named::Folders;
 use boot_base::{INTENT, INTENT_LIMIT, IntentNames};
 use fat_rules::is_own_move;
+use name_syncs::Folders;
 use std::alloc::Global;
 use std::fs::File;
 use std::io;
@@ -131,7 +131,7 @@ fn is_below_a_link<R: Files>(rt: &R, alloc: Global, path: &str) -> io::Result<bo
     let mut folders = Folders::new(alloc);
     folders.add_above(path)?;
     for folder in folders.below.as_slice() {
-        let found = link_metadata_at(rt, folder)?;
+        let found = link_metadata_at(rt, folder.as_str())?;
         if found.is_some_and(|found| found.is_symlink()) {
             return Ok(true);
         }

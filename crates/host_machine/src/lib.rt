@@ -15,7 +15,6 @@ mod kept;
 mod listing;
 mod locks;
 mod looks;
-mod named;
 mod reports;
 mod streams;
 mod syncs;

@@ -7,8 +7,8 @@
 use crate::answers::{changed_fault, met_fault};
 use crate::calls::{metadata_at, metadata_of, open_file, open_folder, open_known};
 use crate::intent::parted;
-use crate::named::Folders;
 use boot_base::{INTENT, TEMP_SUFFIX, ends_as_temp};
+use name_syncs::Folders;
 use std::alloc::{AllocError, Global};
 use std::fs::{File, Metadata, TryLockError};
 use std::io::ErrorKind;

@@ -45,14 +45,19 @@ impl<E: Print + Drop> Reports<E> {
     ) -> io::Result<T>
         ensures { result ≡ answer }
     {
-        if self.are_wanted
-            && let Err(error) = &answer
-        {
+        if let Err(error) = &answer {
+            self.tell(call, path, error);
+        }
+        answer
+    }
+
+    // Tells of one failure.
+    pub(crate) fn tell(&self, call: &str, path: &str, error: &io::Error) {
+        if self.are_wanted {
             let _ = self
                 .err
                 .println(format_args!("boot_tools: {call} {path}: {error}"));
         }
-        answer
     }
 
     // Names the two files for which a call has failed, and says what to do if they only look like one.

@@ -1,81 +1,60 @@
-//! The sync of names: each renamed file, then each changed folder with those above it, then what was looked
-//! at.
-//!
-//! On FAT a name's start and length are written with the file and not with the folder, so a renamed file is
-//! synced at its new path before the folders are.
+//! The calls that bring a change to the disk.
 use crate::answers::if_there;
 use crate::calls::{open_file, open_folder, rename_path};
 use crate::kept::KeptFile;
-use crate::named::{Folders, Named};
 use crate::reports::Reports;
+use name_syncs::{Disk, FolderFault};
 use std::fs::File;
 use std::io;
 use std::io::ErrorKind;
 use std::rt::Files;
 
-// Syncs the renamed files, of which one may still be open, and the changed folders. One that isn't there any
-// longer needs none.
-pub(crate) fn sync_changed<R: Files<File = File>, E: Print + Drop>(
-    rt: &R,
-    named: &mut Named,
-    moved: Option<&KeptFile>,
-    reports: &Reports<E>,
-) -> io::Result<()> {
-    for path in named.renamed.as_slice() {
-        let path = path.as_str();
-        let answer = match moved {
-            Some(kept) if kept.is_at(path) => kept.file.sync_all(),
-            _ => sync_file(rt, path),
-        };
-        reports.report("sync", path, answer)?;
-    }
-    for folder in named.changed.below.as_slice() {
-        let folder = folder.as_str();
-        let answer = settle_changed(rt, folder, &named.own, &mut named.settled);
-        reports.report("sync", folder, answer)?;
-    }
-    if named.changed.has_root {
-        let answer = settle_changed(rt, "", &named.own, &mut named.settled);
-        reports.report("sync", ".", answer)?;
-    }
-    Ok(())
+/// The files and folders below the folder that the program starts in. It tells nothing of what waits.
+#[derive(Drop)]
+pub(crate) struct SystemDisk<'a, R: Files<File = File>, E: Print + Drop> {
+    rt: &'a R,
+    /// a renamed file that may still be open
+    moved: Option<&'a KeptFile>,
+    reports: &'a Reports<E>,
 }
 
-// Syncs the folders that were only looked at, as far as that can be done.
-pub(crate) fn sync_seen<R: Files<File = File>>(rt: &R, named: &mut Named) {
-    for folder in named.seen.below.as_slice() {
-        if !named.changed.below.has(folder.as_str()) {
-            let _ = settle_folder(rt, folder.as_str(), &mut named.settled);
+impl<'a, R: Files<File = File>, E: Print + Drop> SystemDisk<'a, R, E> {
+    pub(crate) fn new(rt: &'a R, moved: Option<&'a KeptFile>, reports: &'a Reports<E>) -> Self {
+        SystemDisk { rt, moved, reports }
+    }
+}
+
+impl<'a, R: Files<File = File>, E: Print + Drop> Disk for SystemDisk<'a, R, E> {
+    ghost use Rattle.std.specs.Prelude.{false};
+    ghost use Rattle.host_machine.specs.Hosts.{nothing_told};
+
+    type Fault = io::Error;
+
+    ghost tells = { false };
+
+    ghost state = { λ _. nothing_told };
+
+    fn sync_file(&mut self, path: &str) -> Result<(), io::Error> {
+        match self.moved {
+            Some(kept) if kept.is_at(path) => kept.file.sync_all(),
+            _ => sync_file(self.rt, path),
         }
     }
-    if named.seen.has_root && !named.changed.has_root {
-        let _ = settle_folder(rt, "", &mut named.settled);
-    }
-}
 
-// Syncs a folder, and notes it if it was there. If there is no memory for the note the folder is synced once more.
-fn settle_folder<R: Files<File = File>>(
-    rt: &R,
-    folder: &str,
-    settled: &mut Folders,
-) -> io::Result<()> {
-    if sync_folder(rt, folder)? {
-        let _ = settled.add(folder);
+    fn sync_folder(&mut self, folder: &str) -> Result<bool, FolderFault<io::Error>> {
+        match sync_folder(self.rt, folder) {
+            Ok(was_there) => Ok(was_there),
+            Err(fault) => {
+                let syncs_none = syncs_no_folders(&fault);
+                Err(FolderFault { syncs_none, fault })
+            }
+        }
     }
-    Ok(())
-}
 
-// The same of a changed folder. One above those in which this run has changed names may be of a file system that syncs
-// no folders, as a read-only one is.
-fn settle_changed<R: Files<File = File>>(
-    rt: &R,
-    folder: &str,
-    own: &Folders,
-    settled: &mut Folders,
-) -> io::Result<()> {
-    match settle_folder(rt, folder, settled) {
-        Err(error) if syncs_no_folders(&error) && !own.has(folder) => Ok(()),
-        answer => answer,
+    fn report(&mut self, path: &str, fault: io::Error) -> io::Error {
+        let shown = if path.is_empty() { "." } else { path };
+        self.reports.tell("sync", shown, &fault);
+        fault
     }
 }
 

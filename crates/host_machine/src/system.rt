@@ -22,10 +22,10 @@ use crate::kept::{
 use crate::listing::{files_among, names_in};
 use crate::locks::{Hold, Locks, is_payload, is_payload_folder};
 use crate::looks::Looks;
-use crate::named::{DEPTH_LIMIT, Named};
 use crate::reports::Reports;
-use crate::syncs::{require_writable, sync_changed, sync_file, sync_folder, sync_seen};
+use crate::syncs::{SystemDisk, require_writable, sync_file, sync_folder};
 use boot_base::{FileName, INTENT, IntentNames, TEMP_SUFFIX, ends_as_temp};
+use name_syncs::{Named, sync_changed, sync_seen};
 use std::alloc::Global;
 use std::fs::{File, Metadata, OpenOptions};
 use std::io::ErrorKind;
@@ -586,7 +586,7 @@ impl<R: Runtime<File = File> + AllocGlobal> System<R> {
     // A folder is about to be made, and each above it that isn't there.
     fn note_made(&mut self, folder: &str) -> io::Result<()> {
         let mut missing = folder;
-        for _ in 0..DEPTH_LIMIT {
+        for _ in 0..folder.len() {
             if missing.is_empty() || metadata_at(&self.rt, missing)?.is_some() {
                 break;
             }
@@ -604,11 +604,12 @@ impl<R: Runtime<File = File> + AllocGlobal> System<R> {
         reports.report("sync", ".", self.require_no_loss())?;
         let has_changed_nothing = self.has_changed_nothing();
         self.remove_leftovers(reports)?;
-        let answer = sync_changed(&self.rt, &mut self.named, self.moved.as_ref(), reports);
+        let mut disk = SystemDisk::new(&self.rt, self.moved.as_ref(), reports);
+        let answer = sync_changed(&mut disk, &mut self.named);
         self.has_lost = answer.is_err();
         answer?;
         require_writable(&self.rt, self.removed.as_ref(), reports)?;
-        sync_seen(&self.rt, &mut self.named);
+        sync_seen(&mut disk, &mut self.named);
         if has_changed_nothing && self.looks.has_unchecked() {
             reports.report("look", ".", self.looks.require_same(&self.rt))?;
         }

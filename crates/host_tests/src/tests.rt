@@ -1,5 +1,5 @@
 //! The calls on a real folder, whose answers no clause tells. A test is a table of steps.
-use boot_base::{BootPath, INTENT, Target};
+use boot_base::{BootPath, FilePath, INTENT, TempPath};
 use boot_machine::Machine;
 use host_machine::HostMachine;
 use std::alloc::{AllocError, Global};
@@ -100,45 +100,36 @@ fn remove_own_folder(rt: &HostRuntime) -> io::Result<()> {
 }
 
 // The path of a file, which may be the intent.
-fn path_of(alloc: Global, path: &str) -> Result<BootPath, Fail> {
+fn path_of(alloc: Global, path: &str) -> Result<FilePath, Fail> {
     if path == INTENT {
-        return Ok(BootPath::intent(alloc)?);
+        return Ok(FilePath::intent(alloc)?);
     }
-    Ok(BootPath::read(alloc, path)?)
+    Ok(BootPath::read(alloc, path)?.into_file())
 }
 
-fn target(alloc: Global, path: &str) -> Result<Target, Fail> {
-    Ok(Target::of(alloc, path_of(alloc, path)?)?)
+// The path of a file, and where it is written first.
+#[derive(Drop)]
+struct Place {
+    path: FilePath,
+    temp: TempPath,
 }
 
-// Whether the file of the target is moved to that path.
+fn place_of(alloc: Global, path: &str) -> Result<Place, Fail> {
+    let path = path_of(alloc, path)?;
+    let temp = TempPath::of(alloc, &path)?;
+    Ok(Place { path, temp })
+}
+
+// Whether the file at a path is moved to another.
 fn is_renamed<R: Runtime<File = File> + AllocGlobal, E: Print + Drop>(
     machine: &mut HostMachine<R, E>,
     alloc: Global,
-    target: &Target,
+    from: &str,
     to: &str,
 ) -> Result<bool, Fail> {
+    let from = BootPath::read(alloc, from)?;
     let to = BootPath::read(alloc, to)?;
-    Ok(machine.rename_name(&target.path, &to).is_ok())
-}
-
-// Whether the call at the target is answered Ok.
-fn is_answered<R: Runtime<File = File> + AllocGlobal, E: Print + Drop>(
-    machine: &mut HostMachine<R, E>,
-    alloc: Global,
-    target: &Target,
-    act: Act,
-) -> Result<bool, Fail> {
-    let answer = match act {
-        Act::Create => machine.create(&target.temp),
-        Act::Append(bytes) => machine.append(&target.temp, bytes),
-        Act::SyncFile => machine.sync_file(&target.temp),
-        Act::UnlinkTemp => machine.unlink_temp(&target.temp),
-        Act::RenameTemp => machine.rename_temp(&target.temp, &target.path),
-        Act::Rename(to) => return is_renamed(machine, alloc, target, to),
-        Act::Unlink => machine.unlink(&target.path),
-    };
-    Ok(answer.is_ok())
+    Ok(machine.rename_name(&from, &to).is_ok())
 }
 
 // Whether the call at the path is answered Ok.
@@ -148,8 +139,17 @@ fn is_done<R: Runtime<File = File> + AllocGlobal, E: Print + Drop>(
     path: &str,
     act: Act,
 ) -> Result<bool, Fail> {
-    let target = target(alloc, path)?;
-    is_answered(machine, alloc, &target, act)
+    let place = place_of(alloc, path)?;
+    let answer = match act {
+        Act::Create => machine.create(&place.temp),
+        Act::Append(bytes) => machine.append(&place.temp, bytes),
+        Act::SyncFile => machine.sync_file(&place.temp),
+        Act::UnlinkTemp => machine.unlink_temp(&place.temp),
+        Act::RenameTemp => machine.rename_temp(&place.temp, &place.path),
+        Act::Rename(to) => return is_renamed(machine, alloc, path, to),
+        Act::Unlink => machine.unlink(&place.path),
+    };
+    Ok(answer.is_ok())
 }
 
 // Whether each call of the write is answered Ok.
@@ -187,7 +187,7 @@ fn has_size<R: Runtime<File = File> + AllocGlobal>(
 // Whether a buffer gets these bytes.
 fn fills<R: Runtime<File = File> + AllocGlobal>(
     machine: &mut HostMachine<R, Stderr>,
-    path: &BootPath,
+    path: &FilePath,
     at: u64,
     into: &mut [u8],
     wanted: &[u8],
@@ -205,7 +205,7 @@ fn gets<R: Runtime<File = File> + AllocGlobal>(
     room: usize,
     wanted: &[u8],
 ) -> Result<bool, Fail> {
-    let path = BootPath::read(alloc, path)?;
+    let path = path_of(alloc, path)?;
     let mut into = [0u8; 8];
     fills(machine, &path, at, &mut into[..room.min(8)], wanted)
 }

@@ -1,6 +1,6 @@
 //! `ukify build`: the plan of what its words mean.
 ghost use Rattle.std.specs.Prelude.{◌≡◌, ◌≤◌, length, Bool, Err, IfErr, IfOk, IsTrue, Ok, Result, Some, flat_map};
-ghost use Rattle.boot_base.specs.Paths.{IsFree, Path};
+ghost use Rattle.boot_base.specs.Paths.{Path};
 ghost use Rattle.boot_base.specs.declared.refusal.Refusal.{Refusal};
 ghost use Rattle.boot_machine.specs.Prelude.{Counts, Files, Looks, State, TakesAtMost, contents, seen};
 ghost use Rattle.command_plans.specs.Prelude.{CountsStop, CountsUnsaid, Plans, Says, UnsaidFor, making_length, printed_path, PlansDeclined};
@@ -101,11 +101,9 @@ fn planned_build<M: Machine>(
     machine: &mut M,
 ) -> Result<PlannedBuild, Unsaid>
     requires named { AreNamed sources }
-    requires free { IsFree sources.output }
     ensures says { IsTrue M.tells → Says (built_as (seen (M.state machine.old))) result
         (build_named (seen (M.state machine.old)) (named_as sources)) }
     ensures planned { IfOk result (λ plan. IsTrue M.tells → IsPlannedOn (seen (M.state machine.old)) plan) }
-    ensures free { IfOk result (λ plan. IsFree plan.output) }
     ensures looks { Looks M.tells M.time M.state M.counts (CountsUnsaid result) machine.old machine.new }
     ensures taken { IsTrue M.tells → TakesAtMost
         (reading_length (contents (seen (M.state machine.old))) (named_as sources))
@@ -149,7 +147,6 @@ fn reply<M: Machine>(
 
 // The plan that writes the image and says this.
 fn writing_plan(alloc: Global, build: PlannedBuild, text: Vec<u8>) -> Result<Plan, AllocError>
-    requires free { IsFree build.output }
     ensures plans { IfOk result (λ plan. (s : State) (measure : Bool)
         → IsSourced build.image.plan build.image.sources (seen s)
         → text.items ≡ built_text measure (built_as (seen s) build)
@@ -177,7 +174,6 @@ fn plan_or_unsaid<M: Machine>(
     machine: &mut M,
 ) -> Result<Plan, Unsaid>
     requires named { named_files words.now ≡ Ok (named_as sources) }
-    requires free { IsFree sources.output }
     ensures plans { IfOk result (λ plan. IsTrue M.tells → Plans (M.state machine.old) plan
         (build_answer (seen (M.state machine.old)) words.now)) }
     ensures unsaid { IfErr result (λ unsaid. IsTrue M.tells
@@ -202,7 +198,6 @@ fn plan_sources<M: Machine>(
     machine: &mut M,
 ) -> Result<Plan, Stop>
     requires named { named_files words.now ≡ Ok (named_as sources) }
-    requires free { IsFree sources.output }
     ensures plans { IfOk result (λ plan. IsTrue M.tells → Plans (M.state machine.old) plan
         (build_answer (seen (M.state machine.old)) words.now)) }
     ensures writes { IfOk result (λ plan. IsTrue M.tells → making_length (seen (M.state machine.old)) plan.change

@@ -1,6 +1,5 @@
 //! What the words of a build name: its files, its texts, and where the image is to stand.
 ghost use Rattle.std.specs.Prelude.{◌≡◌, ◌++◌, ◌∷◌, [], List, ℕ, Some, IfOk, IsTrue, OnOk, codes, is_some, map, option_map};
-ghost use Rattle.boot_base.specs.Paths.{IsFree};
 ghost use Rattle.command_plans.specs.Prelude.{Means, each, if_given};
 ghost use Rattle.tool_words.specs.declared.command.Given.TheVariants.{File};
 ghost use Rattle.uki_parts.specs.declared.kind.PartKind.TheVariants as kinds;
@@ -277,7 +276,6 @@ fn optional_source(alloc: Global, given: &Option<Given>) -> Result<Option<Source
 /// `--section=`, and then of a word that is no path.
 pub fn build_sources(alloc: Global, words: &BuildWords) -> Result<BuildSources, Declined>
     ensures means { Means named_as result (named_files words.now) }
-    ensures free { IfOk result (λ sources. IsFree sources.output) }
 {
     let sections = sections_of(alloc, words.sections.as_slice())?;
     let stub = path_in(alloc, words.stub.as_str())?;

@@ -2,7 +2,6 @@
 
 ghost use Rattle.std.specs.Prelude.{◌≡◌, ℕ, List, IsTrue, OnOk};
 ghost use Rattle.std.specs.FinMap as map;
-ghost use Rattle.boot_base.specs.Paths.{IsFree};
 ghost use Rattle.boot_machine.specs.Prelude.{CountsDisk, IsFirm, TakesAtMost, recovered_view, view};
 ghost use Rattle.install_steps.specs.Steps.{CanStep, IsDone, LeavesAlone, LeavesReady, StepsTo};
 ghost use Rattle.image_writer.specs.Sourced.{IsSourced, IsPlannedImage};
@@ -27,7 +26,6 @@ pub fn write_planned<M: Machine>(
     target: &Target,
     buffer: &mut Buffer,
 ) -> Result<(), DiskFault>
-    requires free { IsFree target.now.path }
     requires ready { IsTrue M.tells → CanStep (M.state machine.old) }
     requires sourced { IsTrue M.tells → IsSourced plan.now sources.now (view (M.state machine.old).files) }
     ensures done { OnOk result (IsTrue M.tells → IsFirm (M.state machine.old)
@@ -47,5 +45,5 @@ pub fn write_planned<M: Machine>(
     target.temp.know();
     machine.create(&target.temp)?;
     write_image(plan, sources, buffer, &target.temp, machine)?;
-    put_in_place(machine, target)
+    put_in_place(machine, &target.temp, &target.path)
 }

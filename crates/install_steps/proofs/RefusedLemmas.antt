@@ -1,5 +1,5 @@
 -- What a step leads to where it refuses, and where it doesn't.
-use Rattle.std.proofs.Common.{◌≡◌, ℕ, true, false, List, length, Option, Some, None, is_some, refl, sym, ap, ◌∙◌}
+use Rattle.std.proofs.Common.{◌≡◌, ℕ, true, false, List, length, Option, Some, None, is_some, refl, sym, subst, ap, ◌∙◌}
 use Rattle.std.specs.Option.{option_map}
 use Rattle.std.specs.FinMap as map
 use Rattle.boot_base.specs.Paths.{Path}
@@ -29,3 +29,7 @@ has-sized m q found is = by_cases (map.get m q) ∙ ap is_some (sym is)
     by_cases : (o : Option (List ℕ)) → is_some o ≡ is_some (option_map length o)
     by_cases None = refl
     by_cases (Some bytes) = refl
+
+-- a file's length at a path is that at the same path
+pub told_at : (m : Files) (p q : Path) (found : Option ℕ) → p ≡ q → found ≡ option_map length (map.get m p) → found ≡ option_map length (map.get m q)
+told_at m p q found is row = subst (λ (path : Path). found ≡ option_map length (map.get m path)) is row

@@ -105,7 +105,7 @@ pub record Intends (from to : Path) (old new : Files) : Type 0 where
 
 -- the intent of a move from one path to another: it stands at its own path, and its bytes name both
 abbrev pub IsIntentOf : Path → Path → Intent → Type 0
-IsIntentOf from to made = (made.target.path ≡ intent) × (made.bytes ≡ intent_bytes from to)
+IsIntentOf from to made = (made.path ≡ intent) × (made.bytes ≡ intent_bytes from to)
 
 -- the disk failed, or the counts stay
 abbrev pub recover_fault : RecoverFault → Counts → Counts → Type 0

@@ -1,6 +1,6 @@
 //! Moving a file under an intent, which says at a stop which of its two names counts.
 ghost use Rattle.std.specs.Prelude.{◌≡◌, ◌≢◌, true, false, IfOk, IsTrue, OnOk, IsErrOf, Some};
-ghost use Rattle.boot_base.specs.Paths.{IsFree, intent_bytes};
+ghost use Rattle.boot_base.specs.Paths.{intent_bytes};
 ghost use Rattle.boot_machine.specs.Prelude.{CountsDisk, HasOneCandidate, IsFirm, Looks, TakesNone, has, move_in, recovered_view, intent_names};
 ghost use Rattle.install_steps.specs.Steps.{CanStep, CountsMove, Intends, IsDone, IsIntentOf, LeavesAlone, LeavesReady, NoNewTemp, ReadyUnless, StepsTo, after_move};
 
@@ -8,14 +8,15 @@ use crate::MoveFault;
 use crate::appends::append;
 use crate::steps::unlink_synced;
 use crate::write::put_in_place;
-use boot_base::{BootPath, Bytes, Target};
+use boot_base::{BootPath, Bytes, FilePath, TempPath};
 use boot_machine::{DiskFault, Machine};
 use std::alloc::{AllocError, Global};
 
 /// The intent of a move: where it stands and is written first, and its bytes, which name the two paths.
 #[derive(Debug, Drop)]
 pub struct Intent {
-    pub target: Target,
+    pub path: FilePath,
+    pub temp: TempPath,
     pub bytes: Bytes,
 }
 
@@ -24,9 +25,10 @@ impl Intent {
     pub fn of(alloc: Global, from: &BootPath, to: &BootPath) -> Result<Intent, AllocError>
         ensures { IfOk result (IsIntentOf from.now to.now) }
     {
-        let target = Target::of(alloc, BootPath::intent(alloc)?)?;
+        let path = FilePath::intent(alloc)?;
+        let temp = TempPath::of(alloc, &path)?;
         let bytes = bytes_of(alloc, from.as_str().as_bytes(), to.as_str().as_bytes())?;
-        Ok(Intent { target, bytes })
+        Ok(Intent { path, temp, bytes })
     }
 }
 
@@ -49,8 +51,6 @@ fn put_intent<M: Machine>(
     intent: &Intent,
 ) -> Result<(), DiskFault>
     requires intent { IsIntentOf from.now to.now intent.now }
-    requires free_from { IsFree from.now }
-    requires free_to { IsFree to.now }
     requires differ { IsTrue M.tells → from.now ≢ to.now }
     requires ready { IsTrue M.tells → CanStep (M.state machine.old) }
     requires none { IsTrue M.tells → has (M.state machine.old).files to.now ≡ false }
@@ -65,10 +65,10 @@ fn put_intent<M: Machine>(
 {
     from.know_normal();
     to.know_normal();
-    intent.target.temp.know();
-    machine.create(&intent.target.temp)?;
-    append(machine, &intent.target.temp, intent.bytes.as_slice())?;
-    put_in_place(machine, &intent.target)
+    intent.temp.know();
+    machine.create(&intent.temp)?;
+    append(machine, &intent.temp, intent.bytes.as_slice())?;
+    put_in_place(machine, &intent.temp, &intent.path)
 }
 
 // Renames a file as the intent says, and syncs the names. While both names are there boot sees the new one alone.
@@ -101,8 +101,6 @@ fn move_intended<M: Machine>(
     intent: &Intent,
 ) -> Result<(), DiskFault>
     requires intent { IsIntentOf from.now to.now intent.now }
-    requires free_from { IsFree from.now }
-    requires free_to { IsFree to.now }
     requires ready { IsTrue M.tells → CanStep (M.state machine.old) }
     requires there { IsTrue M.tells → has (M.state machine.old).files from.now ≡ true }
     requires none { IsTrue M.tells → has (M.state machine.old).files to.now ≡ false }
@@ -118,7 +116,7 @@ fn move_intended<M: Machine>(
     to.know();
     put_intent(machine, from, to, intent)?;
     rename_synced(machine, from, to)?;
-    unlink_synced(machine, &intent.target.path)
+    unlink_synced(machine, &intent.path)
 }
 
 // Refuses a move of a file that isn't there, and one to a path at which one is.
@@ -132,10 +130,10 @@ fn allow_move<M: Machine>(machine: &mut M, from: &BootPath, to: &BootPath) -> Re
     ensures looks { Looks M.tells M.time M.state M.counts (CountsMove result) machine.old machine.new }
     ensures taken { IsTrue M.tells → TakesNone (M.taken machine.old) (M.taken machine.new) }
 {
-    if machine.size(from)?.is_none() {
+    if machine.size(from.file())?.is_none() {
         return Err(MoveFault::NotFound);
     }
-    if machine.size(to)?.is_some() {
+    if machine.size(to.file())?.is_some() {
         return Err(MoveFault::TargetExists);
     }
     Ok(())
@@ -152,8 +150,6 @@ pub fn move_name<M: Machine>(
     intent: &Intent,
 ) -> Result<(), MoveFault>
     requires intent { IsIntentOf from.now to.now intent.now }
-    requires free_from { IsFree from.now }
-    requires free_to { IsFree to.now }
     requires ready { IsTrue M.tells → CanStep (M.state machine.old) }
     ensures done { OnOk result (IsTrue M.tells → IsFirm (M.state machine.old)
         → IsDone (M.state machine.new) (after_move from.now to.now (recovered_view (M.state machine.old).files))) }

@@ -8,7 +8,7 @@ ghost use Rattle.install_steps.specs.Steps.{CanStep, CountsRecover, LeavesAlone,
 
 use crate::RecoverFault;
 use crate::steps::{settle, unlink_synced};
-use boot_base::{INTENT_LIMIT, IntentNames, Target};
+use boot_base::{FilePath, INTENT_LIMIT, IntentNames};
 use boot_machine::{DiskFault, Machine, read_part, zeros};
 use std::alloc::{AllocError, Global};
 
@@ -16,10 +16,10 @@ use std::alloc::{AllocError, Global};
 fn left_names<M: Machine>(
     alloc: Global,
     machine: &mut M,
-    intent: &Target,
+    intent: &FilePath,
     size: u64,
 ) -> Result<Option<IntentNames>, RecoverFault>
-    requires at_intent { intent.now.path ≡ intent_path }
+    requires at_intent { intent.now ≡ intent_path }
     requires there { IsTrue M.tells → has (M.state machine.old).files intent_path ≡ true }
     requires size { IsTrue M.tells → size ≡ length (contents (M.state machine.old).files intent_path) }
     ensures names { IfOk result (λ found. IsTrue M.tells
@@ -31,7 +31,7 @@ fn left_names<M: Machine>(
         return Ok(None);
     }
     let mut bytes = zeros(alloc, size as usize)?;
-    read_part(machine, &intent.path, 0, &mut bytes)?;
+    read_part(machine, intent, 0, &mut bytes)?;
     Ok(IntentNames::read(alloc, &bytes)?)
 }
 
@@ -48,18 +48,18 @@ fn drop_left<M: Machine>(machine: &mut M, names: &IntentNames) -> Result<(), Dis
     ensures alone { LeavesAlone M.tells M.time M.state M.counts (CountsDisk result) machine.old machine.new }
     ensures taken { IsTrue M.tells → TakesNone (M.taken machine.old) (M.taken machine.new) }
 {
-    if machine.size(&names.from)?.is_none() {
+    if machine.size(names.from.file())?.is_none() {
         return Ok(());
     }
-    if machine.size(&names.to)?.is_none() {
+    if machine.size(names.to.file())?.is_none() {
         return Ok(());
     }
-    unlink_synced(machine, &names.from)
+    unlink_synced(machine, names.from.file())
 }
 
 // Takes away an intent that is there, once its rename isn't half done.
-fn drop_intent<M: Machine>(machine: &mut M, intent: &Target) -> Result<(), DiskFault>
-    requires at_intent { intent.now.path ≡ intent_path }
+fn drop_intent<M: Machine>(machine: &mut M, intent: &FilePath) -> Result<(), DiskFault>
+    requires at_intent { intent.now ≡ intent_path }
     requires whole { IsTrue M.tells → HasNoHalfRename (M.state machine.old).files }
     requires there { IsTrue M.tells → has (M.state machine.old).files intent_path ≡ true }
     requires one { IsTrue M.tells → HasOneCandidate (M.state machine.old) }
@@ -70,16 +70,16 @@ fn drop_intent<M: Machine>(machine: &mut M, intent: &Target) -> Result<(), DiskF
     ensures alone { LeavesAlone M.tells M.time M.state M.counts (CountsDisk result) machine.old machine.new }
     ensures taken { IsTrue M.tells → TakesNone (M.taken machine.old) (M.taken machine.new) }
 {
-    unlink_synced(machine, &intent.path)
+    unlink_synced(machine, intent)
 }
 
 // The same where the names are synced.
 fn finish_left<M: Machine>(
     alloc: Global,
     machine: &mut M,
-    intent: &Target,
+    intent: &FilePath,
 ) -> Result<(), RecoverFault>
-    requires at_intent { intent.now.path ≡ intent_path }
+    requires at_intent { intent.now ≡ intent_path }
     requires one { IsTrue M.tells → HasOneCandidate (M.state machine.old) }
     ensures step { IsTrue M.tells → IsFirm (M.state machine.old) → StepsTo M.time M.state
         (recovered_view (M.state machine.old).files) machine.old machine.new }
@@ -88,7 +88,7 @@ fn finish_left<M: Machine>(
     ensures alone { LeavesAlone M.tells M.time M.state M.counts (CountsRecover result) machine.old machine.new }
     ensures taken { IsTrue M.tells → TakesAtMost 2050 (M.taken machine.old) (M.taken machine.new) }
 {
-    let Some(size) = machine.size(&intent.path)? else {
+    let Some(size) = machine.size(intent)? else {
         return Ok(());
     };
     let Some(names) = left_names(alloc, machine, intent, size)? else {
@@ -106,9 +106,9 @@ fn finish_left<M: Machine>(
 pub fn recover<M: Machine>(
     alloc: Global,
     machine: &mut M,
-    intent: &Target,
+    intent: &FilePath,
 ) -> Result<(), RecoverFault>
-    requires at_intent { intent.now.path ≡ intent_path }
+    requires at_intent { intent.now ≡ intent_path }
     ensures recovers { IsTrue M.tells → IsFirm (M.state machine.old)
         → RecoversTo M.time M.state machine.old machine.new }
     ensures same { IsTrue M.tells → IsSettled (M.state machine.old)

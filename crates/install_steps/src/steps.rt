@@ -2,12 +2,11 @@
 ghost use Rattle.std.specs.Prelude.{◌≡◌, ◌≢◌, true, false, IsTrue, OnOk, OnErr, IsErrOf, All, bytes_eq};
 ghost use Rattle.std.specs.List.{IsDistinct};
 ghost use Rattle.std.specs.FinMap as map;
-ghost use Rattle.boot_base.specs.Paths.{IsFree};
 ghost use Rattle.boot_machine.specs.Prelude.{CountsDisk, EachSince, HasOneCandidate, IsFirm, IsImage, IsSettled, TakesNone, has, recovered_view};
 ghost use Rattle.install_steps.specs.Steps.{CanStep, CountsStep, IsDone, Lacks, LeavesAlone, LeavesReady, NoNewTemp, ReadyUnless, StepsTo};
 
 use crate::StepFault;
-use boot_base::{BootPath, TempPath};
+use boot_base::{BootPath, FilePath, TempPath};
 use boot_machine::{DiskFault, Machine};
 
 /// Syncs the names: after Ok a stop can undo no earlier change of names, and what boot sees is settled on a
@@ -31,7 +30,6 @@ pub fn settle<M: Machine>(machine: &mut M) -> Result<(), DiskFault>
 /// `NotFound` comes exactly where no such file is there, and nothing has changed then. After a fault of the
 /// disk the file may be there or not.
 pub fn drop_name<M: Machine>(machine: &mut M, path: &BootPath) -> Result<(), StepFault>
-    requires free { IsFree path.now }
     requires ready { IsTrue M.tells → CanStep (M.state machine.old) }
     ensures done { OnOk result (IsTrue M.tells → IsFirm (M.state machine.old)
         → IsDone (M.state machine.new) (map.remove (recovered_view (M.state machine.old).files) path.now)) }
@@ -45,6 +43,7 @@ pub fn drop_name<M: Machine>(machine: &mut M, path: &BootPath) -> Result<(), Ste
     ensures alone { LeavesAlone M.tells M.time M.state M.counts (CountsStep result) machine.old machine.new }
     ensures taken { IsTrue M.tells → TakesNone (M.taken machine.old) (M.taken machine.new) }
 {
+    let path = path.file();
     path.know();
     if machine.size(path)?.is_none() {
         return Err(StepFault::NotFound);
@@ -78,7 +77,7 @@ pub fn drop_leftovers<M: Machine>(machine: &mut M, paths: &[TempPath]) -> Result
 }
 
 /// Takes the file at that path away, whatever it is, and syncs the names.
-pub(crate) fn unlink_synced<M: Machine>(machine: &mut M, path: &BootPath) -> Result<(), DiskFault>
+pub(crate) fn unlink_synced<M: Machine>(machine: &mut M, path: &FilePath) -> Result<(), DiskFault>
     requires one { IsTrue M.tells → HasOneCandidate (M.state machine.old) }
     requires there { IsTrue M.tells → has (M.state machine.old).files path.now ≡ true }
     ensures step { IsTrue M.tells → IsFirm (M.state machine.old) → StepsTo M.time M.state

@@ -1,7 +1,6 @@
 //! Where loader.conf and the entries stand, and what is read of them.
 ghost use Rattle.std.specs.Prelude.{◌≡◌, IfOk, IsTrue};
 ghost use Rattle.boot_base.specs.Limits.{text_limit};
-ghost use Rattle.boot_base.specs.Paths.{IsFree};
 ghost use Rattle.boot_machine.specs.Prelude.{Looks, TakesAtMost, seen};
 ghost use Rattle.command_plans.specs.Prelude.{CountsUnsaid, Means, Says, printed_path};
 ghost use Rattle.loader_commands.specs.Places.{conf_bytes, conf_path, loader_paths};
@@ -26,7 +25,6 @@ pub(crate) struct LoaderPaths {
 /// The path of the loader.conf of the partition that a word names, or the first refusal.
 pub(crate) fn conf_path(alloc: Global, esp: &str) -> Result<BootPath, Declined>
     ensures means { Means (λ path. path) result (conf_path esp.now) }
-    ensures free { IfOk result IsFree }
 {
     let esp = path_in(alloc, esp)?;
     let path = path_under(alloc, &esp, "loader/loader.conf")?;

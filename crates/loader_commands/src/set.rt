@@ -1,7 +1,6 @@
 //! `loader set-default` and `loader set-timeout`.
 ghost use Rattle.std.specs.Prelude.{◌≡◌, IfOk, IsTrue, OnOk};
 ghost use Rattle.boot_base.specs.Limits.{text_limit};
-ghost use Rattle.boot_base.specs.Paths.{IsFree};
 ghost use Rattle.boot_machine.specs.Prelude.{Counts, Looks, TakesAtMost, seen};
 ghost use Rattle.command_plans.specs.Prelude.{CountsStop, CountsUnsaid, DeclinesWords, Means, Plans, PlansAs, RefusesWords, Says};
 ghost use Rattle.loader_commands.specs.Places.{within_limit};
@@ -114,7 +113,6 @@ fn conf_update<M: Machine>(
 ) -> Result<ConfChange, Unsaid>
     ensures says { IsTrue M.tells → Says (λ change. (change.target.path, change.bytes)) result
         (conf_update (seen (M.state machine.old)) key value.now esp.now) }
-    ensures free { IfOk result (λ change. IsFree change.target.path) }
     ensures text { IfOk result (λ change. change.text ≡ set_text key value.now) }
     ensures looks { Looks M.tells M.time M.state M.counts (CountsUnsaid result) machine.old machine.new }
     ensures taken { IsTrue M.tells → TakesAtMost text_limit (M.taken machine.old) (M.taken machine.new) }

@@ -13,21 +13,21 @@ ghost use Rattle.memory_machine.specs.Plan.{mode_of};
 use crate::disk::Disk;
 use crate::event::Event;
 use crate::files::{FileList, copy_some};
-use boot_base::{BootPath, FileName, TempPath, Text};
+use boot_base::{BootPath, FileName, FilePath, TempPath, Text};
 use boot_machine::{Channel, DiskFault, Machine, NamesFault, PipeFault, Printed};
 use std::alloc::{AllocError, Global};
 
 /// A file that a machine in memory begins with.
 #[derive(Drop)]
 pub struct MemFile {
-    pub path: BootPath,
+    pub path: FilePath,
     pub bytes: Vec<u8>,
 }
 
 /// A read that gave some bytes of a file.
 #[derive(Drop)]
 pub struct ReadSeen {
-    pub path: BootPath,
+    pub path: FilePath,
     /// The place of the first byte given.
     pub at: u64,
     /// How many bytes were given.
@@ -304,7 +304,7 @@ impl MemMachine {
     }
 
     // Keeps a read of that place that gave so many bytes.
-    fn keep_read(&mut self, path: &BootPath, at: u64, count: usize) -> Result<(), AllocError>
+    fn keep_read(&mut self, path: &FilePath, at: u64, count: usize) -> Result<(), AllocError>
         ensures ok { OnOk result (mem_reads self.new
             ≡ mem_reads self.old ++ record { path = path.now; at = at; length = count } ∷ []) }
         ensures err { OnErr result (mem_reads self.new ≡ mem_reads self.old) }
@@ -493,7 +493,7 @@ impl Machine for MemMachine {
         (mem_events m) files printed left in
         (image-input _ (mem_input m) files now.image, now.printed) };
 
-    fn size(&mut self, path: &BootPath) -> Result<Option<u64>, DiskFault>
+    fn size(&mut self, path: &FilePath) -> Result<Option<u64>, DiskFault>
         ensures row { SizeRow (mem_state self.old) (mem_state self.new) path.now result }
         ensures call { MemCall disk_call TakesNone KeepsNone no_effect no_effect self.old self.new result }
     {
@@ -502,7 +502,7 @@ impl Machine for MemMachine {
         Ok(answer)
     }
 
-    fn read_at(&mut self, path: &BootPath, at: u64, into: &mut [u8]) -> Result<usize, DiskFault>
+    fn read_at(&mut self, path: &FilePath, at: u64, into: &mut [u8]) -> Result<usize, DiskFault>
         ensures row { ReadRow (mem_state self.old) (mem_state self.new) path.now at into.new result }
         ensures within { IfOk result (λ n. n ≤ length into.new) }
         ensures call { MemCall disk_call (TakesRead result) (KeepsRead path.now at result) no_effect no_effect
@@ -563,7 +563,7 @@ impl Machine for MemMachine {
         }
     }
 
-    fn rename_temp(&mut self, from: &TempPath, to: &BootPath) -> Result<(), DiskFault>
+    fn rename_temp(&mut self, from: &TempPath, to: &FilePath) -> Result<(), DiskFault>
         requires there { has (mem_state self.old).files from.now ≡ true }
         requires differ { from.now ≢ to.now }
         ensures row { RenameRow (mem_state self.old) (mem_state self.new) from.now to.now result }
@@ -589,7 +589,7 @@ impl Machine for MemMachine {
         }
     }
 
-    fn unlink(&mut self, path: &BootPath) -> Result<(), DiskFault>
+    fn unlink(&mut self, path: &FilePath) -> Result<(), DiskFault>
         ensures row { UnlinkRow (mem_state self.old) (mem_state self.new) path.now result }
         ensures call { MemCall disk_call TakesNone KeepsNone no_effect (after_unlink path.now)
             self.old self.new result }

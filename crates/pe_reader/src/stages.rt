@@ -22,7 +22,7 @@ pub fn known_size<M: Machine>(machine: &mut M, path: &BootPath) -> Result<u64, D
     ensures looks { Looks M.tells M.time M.state M.counts (CountsDisk result) machine.old machine.new }
     ensures taken { IsTrue M.tells → TakesAtMost 0 (M.taken machine.old) (M.taken machine.new) }
 {
-    let size = machine.size(path)?;
+    let size = machine.size(path.file())?;
     Ok(size.unwrap_or(0).min(FILE_LIMIT))
 }
 
@@ -58,7 +58,7 @@ fn place_in<M: Machine>(machine: &mut M, path: &BootPath, size: u64) -> Result<u
     ensures taken { IsTrue M.tells → TakesAtMost 64 (M.taken machine.old) (M.taken machine.new) }
 {
     let mut front = [0; 64];
-    read_part(machine, path, 0, &mut front)?;
+    read_part(machine, path.file(), 0, &mut front)?;
     Ok(pe_place(size, &front)?)
 }
 
@@ -80,7 +80,7 @@ fn coff_in<M: Machine>(
     ensures taken { IsTrue M.tells → TakesAtMost 24 (M.taken machine.old) (M.taken machine.new) }
 {
     let mut header = [0; 24];
-    read_part(machine, path, place as u64, &mut header)?;
+    read_part(machine, path.file(), place as u64, &mut header)?;
     Ok(coff_header(size, place, &header)?)
 }
 
@@ -106,7 +106,7 @@ fn optional_in<M: Machine>(
     ensures taken { IsTrue M.tells → TakesAtMost coff.optional_size (M.taken machine.old) (M.taken machine.new) }
 {
     let mut optional = zeros(alloc, coff.optional_size as usize)?;
-    read_part(machine, path, place as u64 + 24, &mut optional)?;
+    read_part(machine, path.file(), place as u64 + 24, &mut optional)?;
     Ok(optional_header(size, place, coff, &optional)?)
 }
 
@@ -131,7 +131,7 @@ pub fn sections_in<M: Machine>(
         (M.taken machine.new) }
 {
     let mut table = zeros(alloc, 40 * head.section_count as usize)?;
-    read_part(machine, path, head.table_place as u64, &mut table)?;
+    read_part(machine, path.file(), head.table_place as u64, &mut table)?;
     Ok(sections(
         alloc,
         size,

@@ -2,7 +2,7 @@
 use crate::fault::RowFault;
 use crate::row::Row;
 use crate::texts::{text_of_value, text_or_none};
-use boot_base::{BootPath, FileName, PathFault, Target, TempPath};
+use boot_base::{BootPath, FileName, FilePath, PathFault, Target, TempPath};
 use std::alloc::{AllocError, Global};
 
 // The path's text, how it is printed, or its last component.
@@ -20,7 +20,7 @@ pub(crate) fn path(alloc: Global, row: &Row<'_>) -> Result<String, RowFault> {
 }
 
 pub(crate) fn intent(alloc: Global) -> Result<String, RowFault> {
-    let path = BootPath::intent(alloc)?;
+    let path = FilePath::intent(alloc)?;
     Ok(String::from_str(alloc, path.as_str())?)
 }
 

@@ -83,7 +83,7 @@ module _ (folder name : List ℕ) (fits : is_payload_name name ≡ true) where
   pub payload_shown : is_temp (under folder name) ≡ false
   payload_shown = ap is_temp parts_are ∙ end_shown (folder ++ 47 ∷ end.front) end.last (hex_apart end.last end.digit).1 (hex_apart end.last end.digit).2
 
-  pub payload_free : IsFree (under folder name)
+  payload_free : IsFree (under folder name)
   payload_free = ap (λ (p : Path). bytes_eq p intent) parts_are ∙ end_free (folder ++ 47 ∷ end.front) end.last (hex_apart end.last end.digit).1 (hex_apart end.last end.digit).2
 
   pub may_end : MayEnd name

@@ -7,9 +7,7 @@ use Rattle.std.specs.Str.{is_utf8}
 use Rattle.std.proofs.lemmas.List.{map-append}
 use Rattle.std.proofs.lemmas.List.Folds.{list_any-append}
 use Rattle.std.proofs.lemmas.List.Elements.{filter_map-append}
-use Rattle.std.specs.Prelude.{All, Contains}
-use Rattle.std.proofs.lemmas.List.Elements.{All-cons, All-contains, All-contains_itself, All-head, All-nil, All-tail, All-weaker}
-use Rattle.boot_base.specs.Paths.{IsFree, Path, path_below, under}
+use Rattle.boot_base.specs.Paths.{Path, path_below, under}
 use Rattle.boot_texts.specs.EntryText.{is_payload_name}
 use Rattle.menu_order.specs.declared.item.MenuItem.{MenuItem}
 use Rattle.type1_install.specs.Payloads.{is_named_by, item_names, path_of_value, named_values, names_path}
@@ -18,7 +16,6 @@ use Rattle.command_plans.specs.Unsaying.{Says, UnsaidFor}
 use Rattle.command_plans.specs.declared.unsaid.Unsaid.{Unsaid}
 use Rattle.command_plans.specs.declared.unsaid.Unsaid.TheVariants as unsaid
 use Rattle.type1_install.specs.Unnamed.{IsNoRefusal, paths_named_by, unnamed_among}
-use Rattle.type1_install.proofs.Places.{payload_free}
 
 -- ---- what fails before the paths are found
 
@@ -121,27 +118,3 @@ payload_alone folder name is = rw is refl
 
 pub no_payload : (folder name : Path) → is_payload_name name ≡ false → payloads_in folder (name ∷ []) ≡ []
 no_payload folder name is = rw is refl
-
--- ---- none of them is the path of the intent
-
-filter_keeps : (P : Path → Type 0) (test : Path → Bool) (paths : List Path) → All P paths → All P (filter test paths)
-filter_keeps P test [] all = All-nil P
-filter_keeps P test (path ∷ paths) all = by (test path) (filter_keeps P test paths (All-tail P path paths all))
-  where
-    by : (b : Bool) → All P (filter test paths) → All P (cond b (path ∷ filter test paths) (filter test paths))
-    by true more = All-cons P path (filter test paths) (All-head P path paths all) more
-    by false more = more
-
-payloads_free : (folder : Path) (names : List (List ℕ)) → All IsFree (payloads_in folder names)
-payloads_free folder [] = All-nil IsFree
-payloads_free folder (name ∷ names) = by (is_payload_name name) refl (payloads_free folder names)
-  where
-    by : (b : Bool) → is_payload_name name ≡ b → All IsFree (payloads_in folder names) → All IsFree (map (under folder) (cond b (name ∷ filter is_payload_name names) (filter is_payload_name names)))
-    by true is more = All-cons IsFree (under folder name) (payloads_in folder names) (payload_free folder name is) more
-    by false is more = more
-
-pub free_paths : (esp folder : Path) (items : List MenuItem) (names : List (List ℕ)) (paths : List Path)
-    → ((path : Path) → Contains paths path → Contains (unnamed_among esp folder items names) path) → All IsFree paths
-free_paths esp folder items names paths among =
-    let all = filter_keeps IsFree (λ path. not (list_any (item_names esp path) items)) (payloads_in folder names) (payloads_free folder names) in
-    All-weaker (Contains paths) IsFree (λ path is. All-contains IsFree (unnamed_among esp folder items names) path all (among path is)) paths (All-contains_itself paths)

@@ -1,6 +1,6 @@
 -- What the code holds of an installation and of payloads, as the definitions see it.
 use Rattle.std.specs.Prelude.{◌≡◌, ℕ, true, List, map, Result, Ok}
-use Rattle.boot_base.specs.Paths.{IsFree, Path, under}
+use Rattle.boot_base.specs.Paths.{Path, under}
 use Rattle.boot_base.specs.declared.refusal.Refusal.{Refusal}
 use Rattle.boot_machine.specs.Disk.{Files}
 use Rattle.boot_machine.specs.Rows.{contents}
@@ -68,9 +68,9 @@ pub record AreFields (texts : EntryTexts) : Type 0 where
 abbrev pub fields_with : EntryTexts → Payload → List Payload → Type1
 fields_with texts linux initrds = entry_fields texts (value_of_payload linux) (map value_of_payload initrds)
 
--- the command is one that no words name, and its path isn't that of the intent
-abbrev pub HasFreePath : Command → Type 0
-HasFreePath (command.Put file target) = IsFree target
-HasFreePath (command.Enter path text) = IsFree path
-HasFreePath (command.Remove path) = IsFree path
-HasFreePath c = ⊥
+-- no words say the command
+abbrev pub IsWordless : Command → Type 0
+IsWordless (command.Put file target) = Unit {0}
+IsWordless (command.Enter path text) = Unit {0}
+IsWordless (command.Remove path) = Unit {0}
+IsWordless c = ⊥

@@ -24,8 +24,8 @@ fn same_piece<M: Machine>(
         ≡ fill_with_zeros (drop at (contents (M.state machine.old).files second.now)) count) }
     ensures looks { Looks M.tells M.time M.state M.counts (CountsDisk result) machine.old machine.new }
 {
-    let count = read_piece(machine, first, at, left, one)?;
-    let again = read_piece(machine, second, at, left, other)?;
+    let count = read_piece(machine, first.file(), at, left, one)?;
+    let again = read_piece(machine, second.file(), at, left, other)?;
     if one[..count] == other[..again] {
         Ok(count as u64)
     } else {

@@ -1,12 +1,11 @@
 //! The commands that `type1 cleanup` stands for.
 ghost use Rattle.std.specs.Prelude.{◌≡◌, ◌≤◌, ◌+◌, All, IfErr, IfOk, IsTrue, length, map};
-ghost use Rattle.boot_base.specs.Paths.{IsFree};
 ghost use Rattle.boot_machine.specs.Prelude.{Looks, seen, IsNamesOf};
 ghost use Rattle.tool_words.specs.declared.command.Command.TheVariants.{Remove};
 ghost use Rattle.command_plans.specs.Prelude.{CountsUnsaid, Says};
 ghost use Rattle.type1_install.specs.Cleaning.{cleanup_expansion, unnamed_payloads};
 ghost use Rattle.type1_install.specs.Payloads.{payload_folder};
-ghost use Rattle.type1_install.specs.Shown.{HasFreePath};
+ghost use Rattle.type1_install.specs.Shown.{IsWordless};
 ghost use Rattle.type1_install.specs.Unnamed.{IsNoRefusal};
 
 use crate::naming::unnamed;
@@ -45,7 +44,6 @@ fn unnamed_payloads<M: Machine>(
     ensures paths { IfOk result (λ paths. IsTrue M.tells
         → unnamed_payloads (seen (M.state machine.old)) esp.now items.now ≡ paths.items) }
     ensures faults { IfErr result IsNoRefusal }
-    ensures free { IfOk result (λ paths. All IsFree paths.items) }
     ensures looks { Looks M.tells M.time M.state M.counts (CountsUnsaid result) machine.old machine.new }
 {
     let names = names_in(alloc, folder, machine)?;
@@ -54,9 +52,8 @@ fn unnamed_payloads<M: Machine>(
 
 /// The commands that remove these files.
 pub fn removals(alloc: Global, paths: &[BootPath]) -> Result<Vec<Command>, AllocError>
-    requires { All IsFree paths.now }
     ensures commands { IfOk result (λ commands. commands.items ≡ map Remove paths.now) }
-    ensures free { IfOk result (λ commands. All HasFreePath commands.items) }
+    ensures wordless { IfOk result (λ commands. All IsWordless commands.items) }
 {
     let mut commands = Vec::new(alloc);
     for path in paths {
@@ -75,7 +72,7 @@ pub fn cleanup_expansion<M: Machine>(
 ) -> Result<Vec<Command>, Unsaid>
     ensures says { IsTrue M.tells → Says (λ commands. commands.items) result
         (cleanup_expansion (seen (M.state machine.old)) esp.now) }
-    ensures free { IfOk result (λ commands. All HasFreePath commands.items) }
+    ensures wordless { IfOk result (λ commands. All IsWordless commands.items) }
     ensures looks { Looks M.tells M.time M.state M.counts (CountsUnsaid result) machine.old machine.new }
 {
     let folders = folders_in(alloc, esp)?;

@@ -1,12 +1,11 @@
 //! The commands that `type1 install` stands for.
 ghost use Rattle.std.specs.Prelude.{◌≡◌, ◌≤◌, ◌+◌, ◌++◌, ◌∷◌, [], All, IfOk, IsTrue, OnOk, length, map, option_to_list};
-ghost use Rattle.boot_base.specs.Paths.{IsFree};
 ghost use Rattle.boot_machine.specs.Prelude.{Looks, seen};
 ghost use Rattle.boot_texts.specs.EntryText.{entry_text};
 ghost use Rattle.tool_words.specs.declared.command.Command.TheVariants.{Enter};
 ghost use Rattle.command_plans.specs.Prelude.{CountsUnsaid, Says};
 ghost use Rattle.type1_install.specs.Installing.{install_expansion};
-ghost use Rattle.type1_install.specs.Shown.{AreFields, HasFreePath, HasPayloadName, fields_with, put_in, value_of_payload};
+ghost use Rattle.type1_install.specs.Shown.{AreFields, IsWordless, HasPayloadName, fields_with, put_in, value_of_payload};
 
 use crate::install_words::{Place, install_plan};
 use crate::payload::{Payload, payload_at, payloads_at};
@@ -22,7 +21,7 @@ fn put_in(alloc: Global, folder: &BootPath, payload: &Payload) -> Result<Command
     requires room { length folder.now + 65 ≤ 1024 }
     requires name { HasPayloadName payload.now }
     ensures command { IfOk result (λ command. command ≡ put_in folder.now payload.now) }
-    ensures free { IfOk result HasFreePath }
+    ensures wordless { IfOk result IsWordless }
 {
     let target = payload_path(alloc, folder, payload.name.as_str())?;
     let file = payload.file.copy(alloc)?;
@@ -39,7 +38,7 @@ fn add_puts(
     requires room { length folder.now + 65 ≤ 1024 }
     requires names { All HasPayloadName payloads.now }
     ensures commands { OnOk result (commands.new.items ≡ commands.old.items ++ map (put_in folder.now) payloads.now) }
-    ensures free { OnOk result (All HasFreePath commands.old.items → All HasFreePath commands.new.items) }
+    ensures wordless { OnOk result (All IsWordless commands.old.items → All IsWordless commands.new.items) }
 {
     for payload in payloads {
         let command = put_in(alloc, folder, payload)?;
@@ -117,14 +116,13 @@ fn enter_in(
     linux: &Payload,
     initrds: &[Payload],
 ) -> Result<Command, AllocError>
-    requires free { IsFree entry.now }
     requires texts { AreFields texts.now }
     requires linux { HasPayloadName linux.now }
     requires initrds { All HasPayloadName initrds.now }
     requires few { length initrds.now ≤ 64 }
     ensures command { IfOk result (λ command. command
         ≡ Enter entry.now (entry_text (fields_with texts.now linux.now initrds.now))) }
-    ensures free { IfOk result HasFreePath }
+    ensures wordless { IfOk result IsWordless }
 {
     let fields = fields_with(alloc, texts, linux, initrds)?;
     let text = entry_text(alloc, &fields)?;
@@ -144,7 +142,6 @@ fn install_commands(
     initrds: &[Payload],
 ) -> Result<Vec<Command>, AllocError>
     requires room { length place.now.folder + 65 ≤ 1024 }
-    requires free { IsFree place.now.entry }
     requires texts { AreFields texts.now }
     requires linux { HasPayloadName linux.now }
     requires initrds { All HasPayloadName initrds.now }
@@ -152,7 +149,7 @@ fn install_commands(
     ensures commands { IfOk result (λ commands. commands.items
         ≡ put_in place.now.folder linux.now ∷ (map (put_in place.now.folder) initrds.now
         ++ Enter place.now.entry (entry_text (fields_with texts.now linux.now initrds.now)) ∷ [])) }
-    ensures free { IfOk result (λ commands. All HasFreePath commands.items) }
+    ensures wordless { IfOk result (λ commands. All IsWordless commands.items) }
 {
     let mut commands = Vec::new(alloc);
     let put = put_in(alloc, &place.folder, linux)?;
@@ -172,7 +169,7 @@ pub fn install_expansion<M: Machine>(
 ) -> Result<Vec<Command>, Unsaid>
     ensures says { IsTrue M.tells → Says (λ commands. commands.items) result
         (install_expansion (seen (M.state machine.old)) words.now) }
-    ensures free { IfOk result (λ commands. All HasFreePath commands.items) }
+    ensures wordless { IfOk result (λ commands. All IsWordless commands.items) }
     ensures looks { Looks M.tells M.time M.state M.counts (CountsUnsaid result) machine.old machine.new }
 {
     let plan = install_plan(alloc, words)?;

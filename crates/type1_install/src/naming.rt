@@ -2,7 +2,7 @@
 ghost use Rattle.std.specs.Prelude.{◌≡◌, ◌≤◌, ◌+◌, ◌++◌, All, Contains, IfOk, OnOk, bytes_eq, filter, length, map, not, filter_map, flat_map, option_to_list};
 ghost use Rattle.std.specs.List.{list_any};
 ghost use Rattle.std.specs.List.Sorted.{IsStrictlySortedBy};
-ghost use Rattle.boot_base.specs.Paths.{IsFree, Path, under};
+ghost use Rattle.boot_base.specs.Paths.{Path, under};
 ghost use Rattle.boot_machine.specs.Prelude.{path_cmp};
 ghost use Rattle.boot_texts.specs.EntryText.{is_payload_name};
 ghost use Rattle.type1_install.specs.Payloads.{path_of_value};
@@ -146,7 +146,6 @@ pub(crate) fn unnamed(
 ) -> Result<Vec<BootPath>, AllocError>
     requires room { length folder.now + 65 ≤ 1024 }
     ensures sorted { IfOk result (λ paths. IsStrictlySortedBy path_cmp paths.items) }
-    ensures free { IfOk result (λ paths. All IsFree paths.items) }
     ensures among { IfOk result (λ paths. (path : Path) → Contains paths.items path
         → Contains (unnamed_among esp.now folder.now items.now names.now) path) }
     ensures all { IfOk result (λ paths. (path : Path)

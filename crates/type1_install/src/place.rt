@@ -1,12 +1,12 @@
 //! Where payloads stand.
 ghost use Rattle.std.specs.Prelude.{◌≡◌, ◌≤◌, ◌+◌, ◌++◌, true, codes, length, replicate, string_bytes, IfOk};
-ghost use Rattle.boot_base.specs.Paths.{IsFree, under};
+ghost use Rattle.boot_base.specs.Paths.{under};
 ghost use Rattle.boot_texts.specs.EntryText.{is_payload_name};
 ghost use Rattle.command_plans.specs.Prelude.{Means, path_under};
 ghost use Rattle.type1_install.specs.Installing.{payload_probe};
 ghost use Rattle.type1_install.specs.Payloads.{payload_folder};
 
-use boot_base::{BootPath, PathFault};
+use boot_base::{BootPath, PAYLOADS, PathFault};
 use command_plans::{Declined, path_under};
 use std::alloc::{AllocError, Global};
 
@@ -32,7 +32,7 @@ fn folder_below(alloc: Global, esp: &BootPath) -> Result<BootPath, AllocError>
     ensures { IfOk result (λ folder. folder ≡ payload_folder esp.now) }
 {
     esp.know_normal();
-    match BootPath::under(alloc, esp, "boot_tools") {
+    match BootPath::under(alloc, esp, PAYLOADS) {
         Ok(folder) => Ok(folder),
         Err(PathFault::Memory) => Err(AllocError),
         Err(PathFault::BadPath) => unreachable!(),
@@ -47,8 +47,7 @@ pub(crate) fn payload_path(
 ) -> Result<BootPath, AllocError>
     requires room { length folder.now + 65 ≤ 1024 }
     requires name { is_payload_name name.now ≡ true }
-    ensures path { IfOk result (λ path. path ≡ under folder.now name.now) }
-    ensures free { IfOk result (λ path. IsFree path) }
+    ensures { IfOk result (λ path. path ≡ under folder.now name.now) }
 {
     folder.know_normal();
     match BootPath::under(alloc, folder, name) {

@@ -2,7 +2,6 @@
 ghost use Rattle.std.specs.Prelude.{◌≡◌, ◌≤◌, ℕ, length, true, List, Some, IfErr, IfOk, IsTrue};
 ghost use Rattle.std.specs.FinMap.{get, insert};
 ghost use Rattle.boot_base.specs.Limits.{file_limit};
-ghost use Rattle.boot_base.specs.Paths.{IsFree};
 ghost use Rattle.boot_machine.specs.Prelude.{Looks, State, TakesAtMost, contents, seen};
 ghost use Rattle.command_plans.specs.Prelude.{CanCopy, CountsStop, CountsUnsaid, Plans, PlansAs, done_answer, unlink_answer};
 ghost use Rattle.type1_install.specs.Unnamed.{IsNoRefusal};
@@ -27,7 +26,6 @@ fn payload_text(alloc: Global, target: &BootPath) -> Result<Bytes, AllocError>
 
 // The plan of a payload's copy.
 fn put_plan(alloc: Global, file: &BootPath, target: &BootPath) -> Result<Plan, AllocError>
-    requires free { IsFree target.now }
     ensures { IfOk result (λ plan. (s : State) → CanCopy s file.now → Plans s plan
         (done_answer (insert (seen s) target.now (contents (seen s) file.now)) (payload_text target.now))) }
 {
@@ -83,7 +81,6 @@ fn put<M: Machine>(
     target: &BootPath,
     machine: &mut M,
 ) -> Result<Plan, Unsaid>
-    requires free { IsFree target.now }
     ensures plans { IsTrue M.tells → PlansAs (M.state machine.old) result
         (put_result (seen (M.state machine.old)) file.now target.now) }
     ensures looks { Looks M.tells M.time M.state M.counts (CountsUnsaid result) machine.old machine.new }
@@ -103,7 +100,6 @@ pub fn plan_put<M: Machine>(
     target: &BootPath,
     machine: &mut M,
 ) -> Result<Plan, Stop>
-    requires free { IsFree target.now }
     ensures plans { IfOk result (λ plan. IsTrue M.tells → Plans (M.state machine.old) plan
         (put_answer (seen (M.state machine.old)) file.now target.now)) }
     ensures looks { Looks M.tells M.time M.state M.counts (CountsStop result) machine.old machine.new }
@@ -114,7 +110,6 @@ pub fn plan_put<M: Machine>(
 
 /// What the entering of an entry's text is going to do.
 pub fn plan_enter(alloc: Global, path: &BootPath, text: &Bytes) -> Result<Plan, AllocError>
-    requires free { IsFree path.now }
     ensures { IfOk result (λ plan. (s : State) → Plans s plan (enter_answer (seen s) path.now text.now)) }
 {
     let told = installed_text(alloc, path)?;
@@ -133,7 +128,6 @@ pub fn plan_remove<M: Machine>(
     path: &BootPath,
     machine: &mut M,
 ) -> Result<Plan, Stop>
-    requires free { IsFree path.now }
     ensures plans { IfOk result (λ plan. IsTrue M.tells → Plans (M.state machine.old) plan
         (unlink_answer (seen (M.state machine.old)) path.now)) }
     ensures looks { Looks M.tells M.time M.state M.counts (CountsStop result) machine.old machine.new }

@@ -1,4 +1,4 @@
-use Rattle.std.proofs.Common.{IsTrue, take}
+use Rattle.std.proofs.Common.{IsTrue, take, sym}
 use Rattle.boot_machine.specs.Streams.{TookSome}
 use Rattle.boot_machine.proofs.Pieces.{after_error}
 use Rattle.boot_machine.proofs.stream.stream_piece.Goals as goal
@@ -24,5 +24,5 @@ returns-clause-took g c = (
   take c.in_ok-count.count c.read_piece.new.buffer,
   g.met.S.ByteSink.more _ (take c.in_ok-count.count c.read_piece.new.buffer) c.args.sink.now c.args.sink.now c.take.new.self c.args.machine.now c.read_piece.new.machine c.take.new.machine
       (g.met.S.ByteSink.reads c.args.sink.now c.args.machine.now c.read_piece.new.machine c.read_piece.ensures.looks.reads) c.in_ok-take.ensures.took,
-  c.in_ok-count.ensures.bytes,
+  rw (sym c.file.ensures.path) c.in_ok-count.ensures.bytes,
 )

@@ -46,7 +46,7 @@ loop-done-preserved g c =
         λ told.
             piece_more (contents (g.M.Machine.state c.args.machine.now).files c.args.path.now) (contents (g.M.Machine.state c.loop-done.machine).files c.args.path.now)
             before.took.0 piece.took.0 c.args.start c.loop-done.done c.in_ok-done.field-0
-            (g.met.S.ByteSink.keeps before.took.0 c.args.sink.now c.loop-done.sink c.args.machine.now c.loop-done.machine c.args.path.now c.requires.can before.took.1 told c.know.ensures)
+            (g.met.S.ByteSink.keeps before.took.0 c.args.sink.now c.loop-done.sink c.args.machine.now c.loop-done.machine c.args.path.now c.requires.can before.took.1 told c.know.ensures.lasting)
             (before.took.2 told) (piece.took.2 told),
       );
       counts = search rules;

@@ -9,6 +9,6 @@ returns-in_err-bytes-clause-looks g c = looks_none (g.met.M.Machine.only_now c.a
 
 pub returns-clause-says : goal.returns-clause-says
 returns-clause-says g c told =
-    let shown = shown_contents (g.M.Machine.state c.args.machine.now) c.args.path.now c.know.ensures in
+    let shown = shown_contents (g.M.Machine.state c.args.machine.now) c.args.path.now c.know.ensures.lasting in
     let given = c.in_ok-read_part.ensures.bytes told in
     grind (arith, common_steps)

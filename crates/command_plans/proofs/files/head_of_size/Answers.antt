@@ -6,8 +6,8 @@ use Rattle.command_plans.proofs.files.head_of_size.Goals as goal
 
 pub read_head_of_size-requires-clause-size : goal.read_head_of_size-requires-clause-size
 read_head_of_size-requires-clause-size g c told =
-    c.requires.size told ∙ ap length (shown_contents (g.M.Machine.state c.args.machine.now) c.args.path.now c.know.ensures)
+    c.requires.size told ∙ ap length (shown_contents (g.M.Machine.state c.args.machine.now) c.args.path.now c.know.ensures.lasting)
 
 pub returns-clause-exact : goal.returns-clause-exact
 returns-clause-exact g c told =
-    subst (λ (bytes : List ℕ). GivesFrom headers_of c.read_head_of_size.result (pe_of bytes)) (sym (shown_contents (g.M.Machine.state c.args.machine.now) c.args.path.now c.know.ensures)) (c.read_head_of_size.ensures.exact told)
+    subst (λ (bytes : List ℕ). GivesFrom headers_of c.read_head_of_size.result (pe_of bytes)) (sym (shown_contents (g.M.Machine.state c.args.machine.now) c.args.path.now c.know.ensures.lasting)) (c.read_head_of_size.ensures.exact told)

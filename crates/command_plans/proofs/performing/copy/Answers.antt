@@ -29,5 +29,5 @@ returns-clause-found g c is told =
 
 pub returns-clause-taken : goal.returns-clause-taken
 returns-clause-taken g c told =
-    let same = ap (λ (bytes : List ℕ). length bytes) (contents-view (g.M.Machine.state c.args.machine.now).files c.args.from.now c.know.ensures) in
+    let same = ap (λ (bytes : List ℕ). length bytes) (contents-view (g.M.Machine.state c.args.machine.now).files c.args.from.now c.know.ensures.lasting) in
     omega (arith, same, c.write_whole.ensures.taken told)

@@ -4,11 +4,7 @@ use Rattle.boot_machine.proofs.Reading.{looks_none}
 use Rattle.command_plans.specs.Changes.{unlink_answer}
 use Rattle.entry_commands.specs.Unlinking.{entry_path}
 use Rattle.entry_commands.proofs.Declined.{plans_unless, refuses_at_once}
-use Rattle.entry_commands.proofs.Freeing.{entry_path-free}
 use Rattle.entry_commands.proofs.unlink.plan_unlink.Goals as goal
-
-pub plan_removal-requires : goal.plan_removal-requires
-plan_removal-requires g c = record { free = entry_path-free c.args.name.now c.args.esp.now c.in-Ok.path c.in-Ok.ensures }
 
 pub returns-in-Err-clause-plans : goal.returns-in-Err-clause-plans
 returns-in-Err-clause-plans g c =

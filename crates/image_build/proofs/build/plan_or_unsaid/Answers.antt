@@ -19,8 +19,8 @@ returns-clause-plans g c told =
 pub returns-clause-looks : goal.returns-clause-looks
 returns-clause-looks g c = looks_on c.planned_build.ensures.looks c.reply.ensures.looks (search rules)
 
-pub planned_build-requires-clause-named : goal.planned_build-requires-clause-named
-planned_build-requires-clause-named g c = (c.args.words.now, c.requires.named)
+pub planned_build-requires : goal.planned_build-requires
+planned_build-requires g c = record { named = (c.args.words.now, c.requires.named) }
 
 pub returns-in_err-text-clause-taken : goal.returns-in_err-text-clause-taken
 returns-in_err-text-clause-taken g c told =

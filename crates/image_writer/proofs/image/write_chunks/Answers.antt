@@ -29,7 +29,7 @@ loop-chunk-preserved g c = record {
   grown = λ told.
       grown_as _ _ _ _ _
       (flat_map-next (λ (stub : List ℕ) (x : Chunk). chunk_bytes stub (new_sbat c.args.sources.now) x) (λ (x : Chunk). x) _ _ c.args.chunks.now c.loop-chunk.chunk-index _ _ c.loop-chunk-test.true
-      (appends-source (stub_path c.args.sources.now) c.know-2.ensures c.know.ensures c.loop-chunk.invariant.appends told) refl)
+      (appends-source (stub_path c.args.sources.now) c.know-2.ensures c.know.ensures.lasting c.loop-chunk.invariant.appends told) refl)
       (grown_on _ _ _ _ _ _ (c.loop-chunk.invariant.grown told) (c.in_ok-write_chunk.ensures.grows told));
   taken = λ told. reads_more chunk_length c.args.chunks.now c.loop-chunk.chunk-index _ _ _ _ c.loop-chunk-test.true (c.loop-chunk.invariant.taken told) (c.in_ok-write_chunk.ensures.taken told);
 }

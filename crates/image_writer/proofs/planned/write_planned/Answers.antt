@@ -58,7 +58,7 @@ returns-clause-step g c told firm image finished =
     let same : bytes ≡ image =
     one_image c.args.plan.now stub (new_sbat c.args.sources.now) (parts_bytes (contents files) (part_list c.args.sources.now)) bytes image (c.requires.sourced told).plan_is is_image finished in
     let is : recovered_view (move_in c.args.target.now.temp c.args.target.now.path (g.M.Machine.state c.write_image.new.machine).files) ≡ map.insert (recovered_view (g.M.Machine.state c.args.machine.now).files) c.args.target.now.path image =
-    sees_written (g.M.Machine.state c.args.machine.now).files c.args.target.now.temp c.args.target.now.path (g.M.Machine.state c.create.new.self) (g.M.Machine.state c.write_image.new.machine) image (c.requires.ready told).rested (off_intent c.args.target.now.path c.requires.free) c.know-2.ensures c.know.ensures created (c.write_image.ensures.appends.only told).left same in
+    sees_written (g.M.Machine.state c.args.machine.now).files c.args.target.now.temp c.args.target.now.path (g.M.Machine.state c.create.new.self) (g.M.Machine.state c.write_image.new.machine) image (c.requires.ready told).rested (off_intent c.args.target.now.path c.args.target.now.free) c.know-2.ensures c.know.ensures created (c.write_image.ensures.appends.only told).left same in
     let finishes = c.put_in_place.ensures.step told (firm_so_far _ _ _ _ _ written) (settled_so_far _ _ _ _ written) in
     steps_on _ _ _ _ _ _ written (subst (λ (v : Files). StepsTo g.M.Machine.time g.M.Machine.state v c.write_image.new.machine c.put_in_place.new.machine) is finishes)
 
@@ -76,7 +76,7 @@ returns-clause-done g c = ok_then c.put_in_place.result c.put_in_place.ensures.d
     let same : bytes ≡ image =
     one_image c.args.plan.now stub (new_sbat c.args.sources.now) (parts_bytes (contents files) (part_list c.args.sources.now)) bytes image (c.requires.sourced told).plan_is is_image finished in
     let is : recovered_view (move_in c.args.target.now.temp c.args.target.now.path (g.M.Machine.state c.write_image.new.machine).files) ≡ map.insert (recovered_view (g.M.Machine.state c.args.machine.now).files) c.args.target.now.path image =
-    sees_written (g.M.Machine.state c.args.machine.now).files c.args.target.now.temp c.args.target.now.path (g.M.Machine.state c.create.new.self) (g.M.Machine.state c.write_image.new.machine) image (c.requires.ready told).rested (off_intent c.args.target.now.path c.requires.free) c.know-2.ensures c.know.ensures created (c.write_image.ensures.appends.only told).left same in
+    sees_written (g.M.Machine.state c.args.machine.now).files c.args.target.now.temp c.args.target.now.path (g.M.Machine.state c.create.new.self) (g.M.Machine.state c.write_image.new.machine) image (c.requires.ready told).rested (off_intent c.args.target.now.path c.args.target.now.free) c.know-2.ensures c.know.ensures created (c.write_image.ensures.appends.only told).left same in
     subst (IsDone (g.M.Machine.state c.put_in_place.new.machine)) is (done told (firm_so_far _ _ _ _ _ written) (settled_so_far _ _ _ _ written)))
 
 pub returns-in_err-create-clause-alone : goal.returns-in_err-create-clause-alone
@@ -107,7 +107,7 @@ returns-clause-ready g c = ok_both c.put_in_place.result c.put_in_place.ensures.
       next = record {
         one = one told;
         rested = rw (files told)
-            (calm_left m c.args.target.now.temp c.args.target.now.path mid last (c.requires.ready told).rested (off_intent c.args.target.now.path c.requires.free) c.know-2.ensures created (c.write_image.ensures.appends.only told).left);
+            (calm_left m c.args.target.now.temp c.args.target.now.path mid last (c.requires.ready told).rested (off_intent c.args.target.now.path c.args.target.now.free) c.know-2.ensures created (c.write_image.ensures.appends.only told).left);
       };
       temps = λ q temp there. temps_left m c.args.target.now.temp c.args.target.now.path mid last c.know-2.ensures c.know.ensures created (c.write_image.ensures.appends.only told).left q temp (rw (files told) at there);
     })

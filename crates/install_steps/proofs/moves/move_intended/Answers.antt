@@ -55,7 +55,7 @@ returns-clause-step g c told firm =
     let n = g.M.Machine.state c.rename_synced.new.machine in
     let files = c.in_ok-rename_synced.ensures.files told in
     let sees : recovered_view n.files ≡ next = ap recovered_view files ∙ moved in
-    let without : recovered_view (map.remove n.files c.args.intent.now.target.path) ≡ next = rw (c.requires.intent.0, files) (dropped_view s.files m.files c.args.from.now c.args.to.now (c.requires.ready told).rested intends) in
+    let without : recovered_view (map.remove n.files c.args.intent.now.path) ≡ next = rw (c.requires.intent.0, files) (dropped_view s.files m.files c.args.from.now c.args.to.now (c.requires.ready told).rested intends) in
     steps_then g.M.Machine.time g.M.Machine.state next _ c.args.machine.now c.rename_synced.new.machine c.unlink_synced.new.machine second ((c.rename_synced.ensures.alone.keeps told).printed ∙ (c.put_intent.ensures.alone.keeps told).printed) (inr sees) (inr without) (c.unlink_synced.ensures.step told second.firm)
 
 pub returns-clause-done : goal.returns-clause-done
@@ -74,9 +74,9 @@ returns-clause-ready g c = ok_both c.unlink_synced.result c.unlink_synced.ensure
     rested = rw (removed told, c.requires.intent.0) (calm-removed (g.M.Machine.state c.rename_synced.new.machine).files);
   };
   temps = λ q temp there.
-      let kept = has-removed (g.M.Machine.state c.rename_synced.new.machine).files c.args.intent.now.target.path q (rw (removed told) at there) in
+      let kept = has-removed (g.M.Machine.state c.rename_synced.new.machine).files c.args.intent.now.path q (rw (removed told) at there) in
       c.in_ok-put_intent.ensures.temps told q temp
-      (temps-move_in (g.M.Machine.state c.put_intent.new.machine).files c.args.from.now c.args.to.now c.know-2.ensures q temp (rw (c.in_ok-rename_synced.ensures.files told) at kept));
+      (temps-move_in (g.M.Machine.state c.put_intent.new.machine).files c.args.from.now c.args.to.now c.know-2.ensures.lasting q temp (rw (c.in_ok-rename_synced.ensures.files told) at kept));
 })
 
 pub returns-in_err-rename_synced-clause-alone : goal.returns-in_err-rename_synced-clause-alone

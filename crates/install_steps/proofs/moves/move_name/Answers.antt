@@ -26,20 +26,18 @@ pub returns-in_err-allow_move-clause-not_found : goal.returns-in_err-allow_move-
 returns-in_err-allow_move-clause-not_found g c = λ err told.
     let is : IsErrOf c.allow_move.result NotFound = search rules in
     let none = c.allow_move.ensures.not_found is told in
-    (rw (has-recovered_view (g.M.Machine.state c.args.machine.now).files c.args.from.now (c.requires.ready told).rested c.know.ensures) none, (c.allow_move.ensures.looks.reads told).same)
+    (rw (has-recovered_view (g.M.Machine.state c.args.machine.now).files c.args.from.now (c.requires.ready told).rested c.know.ensures.lasting) none, (c.allow_move.ensures.looks.reads told).same)
 
 pub returns-in_err-allow_move-clause-exists : goal.returns-in_err-allow_move-clause-exists
 returns-in_err-allow_move-clause-exists g c = λ err told.
     let s = g.M.Machine.state c.args.machine.now in
     let is : IsErrOf c.allow_move.result TargetExists = search rules in
     let both = c.allow_move.ensures.exists is told in
-    (rw (has-recovered_view s.files c.args.from.now (c.requires.ready told).rested c.know.ensures) both.0, rw (has-recovered_view s.files c.args.to.now (c.requires.ready told).rested c.know-2.ensures) both.1, (c.allow_move.ensures.looks.reads told).same)
+    (rw (has-recovered_view s.files c.args.from.now (c.requires.ready told).rested c.know.ensures.lasting) both.0, rw (has-recovered_view s.files c.args.to.now (c.requires.ready told).rested c.know-2.ensures.lasting) both.1, (c.allow_move.ensures.looks.reads told).same)
 
 pub move_intended-requires : goal.move_intended-requires
 move_intended-requires g c = record {
   intent = c.requires.intent;
-  free_from = c.requires.free_from;
-  free_to = c.requires.free_to;
   ready = λ told. rw ((c.allow_move.ensures.looks.reads told).same) (c.requires.ready told);
   there = λ told. rw ((c.allow_move.ensures.looks.reads told).same) (c.in_ok-allow_move.ensures.found told).0;
   none = λ told. rw ((c.allow_move.ensures.looks.reads told).same) (c.in_ok-allow_move.ensures.found told).1;
@@ -54,7 +52,7 @@ returns-in_err-move_intended-clause-step g c told firm =
     let first = steps_to _ _ _ _ _ (goes-reads _ _ _ _ _ _ start (c.allow_move.ensures.looks.reads told)) in
     let found = c.in_ok-allow_move.ensures.found told in
     let is : next ≡ move_in c.args.from.now c.args.to.now (recovered_view s.files) =
-    moved_there c.args.from.now c.args.to.now (recovered_view s.files) (rw (has-recovered_view s.files c.args.from.now (c.requires.ready told).rested c.know.ensures) found.0) (rw (has-recovered_view s.files c.args.to.now (c.requires.ready told).rested c.know-2.ensures) found.1) in
+    moved_there c.args.from.now c.args.to.now (recovered_view s.files) (rw (has-recovered_view s.files c.args.from.now (c.requires.ready told).rested c.know.ensures.lasting) found.0) (rw (has-recovered_view s.files c.args.to.now (c.requires.ready told).rested c.know-2.ensures.lasting) found.1) in
     let step = c.move_intended.ensures.step told first.firm in
     steps_then g.M.Machine.time g.M.Machine.state next _ c.args.machine.now c.allow_move.new.machine c.move_intended.new.machine first (ap (λ (t : State). t.printed) same) (inl (ap (λ (t : State). recovered_view t.files) same)) (inr (ap (λ (t : State). move_in c.args.from.now c.args.to.now (recovered_view t.files)) same ∙ sym is)) step
 
@@ -73,7 +71,7 @@ returns-clause-step g c told firm =
     let first = steps_to _ _ _ _ _ (goes-reads _ _ _ _ _ _ start (c.allow_move.ensures.looks.reads told)) in
     let found = c.in_ok-allow_move.ensures.found told in
     let is : next ≡ move_in c.args.from.now c.args.to.now (recovered_view s.files) =
-    moved_there c.args.from.now c.args.to.now (recovered_view s.files) (rw (has-recovered_view s.files c.args.from.now (c.requires.ready told).rested c.know.ensures) found.0) (rw (has-recovered_view s.files c.args.to.now (c.requires.ready told).rested c.know-2.ensures) found.1) in
+    moved_there c.args.from.now c.args.to.now (recovered_view s.files) (rw (has-recovered_view s.files c.args.from.now (c.requires.ready told).rested c.know.ensures.lasting) found.0) (rw (has-recovered_view s.files c.args.to.now (c.requires.ready told).rested c.know-2.ensures.lasting) found.1) in
     let step = c.move_intended.ensures.step told first.firm in
     steps_then g.M.Machine.time g.M.Machine.state next _ c.args.machine.now c.allow_move.new.machine c.move_intended.new.machine first (ap (λ (t : State). t.printed) same) (inl (ap (λ (t : State). recovered_view t.files) same)) (inr (ap (λ (t : State). move_in c.args.from.now c.args.to.now (recovered_view t.files)) same ∙ sym is)) step
 
@@ -83,7 +81,7 @@ returns-clause-done g c told firm =
     let same = (c.allow_move.ensures.looks.reads told).same in
     let found = c.in_ok-allow_move.ensures.found told in
     let is : after_move c.args.from.now c.args.to.now (recovered_view s.files) ≡ move_in c.args.from.now c.args.to.now (recovered_view s.files) =
-    moved_there c.args.from.now c.args.to.now (recovered_view s.files) (rw (has-recovered_view s.files c.args.from.now (c.requires.ready told).rested c.know.ensures) found.0) (rw (has-recovered_view s.files c.args.to.now (c.requires.ready told).rested c.know-2.ensures) found.1) in
+    moved_there c.args.from.now c.args.to.now (recovered_view s.files) (rw (has-recovered_view s.files c.args.from.now (c.requires.ready told).rested c.know.ensures.lasting) found.0) (rw (has-recovered_view s.files c.args.to.now (c.requires.ready told).rested c.know-2.ensures.lasting) found.1) in
     let done = c.in_ok-move_intended.ensures.done told (rw same firm) in
     subst (IsDone (g.M.Machine.state c.move_intended.new.machine)) (sym is) (rw same at done)
 
@@ -91,7 +89,7 @@ pub returns-clause-found : goal.returns-clause-found
 returns-clause-found g c told =
     let s = g.M.Machine.state c.args.machine.now in
     let found = c.in_ok-allow_move.ensures.found told in
-    (rw (has-recovered_view s.files c.args.from.now (c.requires.ready told).rested c.know.ensures) found.0, rw (has-recovered_view s.files c.args.to.now (c.requires.ready told).rested c.know-2.ensures) found.1)
+    (rw (has-recovered_view s.files c.args.from.now (c.requires.ready told).rested c.know.ensures.lasting) found.0, rw (has-recovered_view s.files c.args.to.now (c.requires.ready told).rested c.know-2.ensures.lasting) found.1)
 
 pub returns-clause-alone : goal.returns-clause-alone
 returns-clause-alone g c = alone_by (λ told.

@@ -15,7 +15,7 @@ returns-in_err-rename_name-clause-step g c told firm =
     let s = g.M.Machine.state c.args.machine.now in
     let next = recovered_view (move_in c.args.from.now c.args.to.now s.files) in
     let start = begins g.M.Machine.time g.M.Machine.state next c.args.machine.now (λ m o left. g.met.M.Machine.only_now c.args.machine.now m o told left) (g.met.M.Machine.sound c.args.machine.now told) firm (c.requires.one told) in
-    let synced = not_soft s.soft start.stands.temps c.args.from.now c.know.ensures in
+    let synced = not_soft s.soft start.stands.temps c.args.from.now c.know.ensures.lasting in
     let moved = goes-rename _ _ _ _ _ _ c.rename_name.result start (c.rename_name.ensures.moments told) c.args.from.now c.args.to.now synced (inr (recovered_view-half_moved s.files c.args.from.now c.args.to.now (c.requires.named told))) (inr refl) (c.rename_name.ensures.row told) in
     steps_to _ _ _ _ _ moved
 
@@ -24,7 +24,7 @@ returns-clause-step g c told firm =
     let s = g.M.Machine.state c.args.machine.now in
     let next = recovered_view (move_in c.args.from.now c.args.to.now s.files) in
     let start = begins g.M.Machine.time g.M.Machine.state next c.args.machine.now (λ m o left. g.met.M.Machine.only_now c.args.machine.now m o told left) (g.met.M.Machine.sound c.args.machine.now told) firm (c.requires.one told) in
-    let synced = not_soft s.soft start.stands.temps c.args.from.now c.know.ensures in
+    let synced = not_soft s.soft start.stands.temps c.args.from.now c.know.ensures.lasting in
     let moved = goes-rename _ _ _ _ _ _ c.rename_name.result start (c.rename_name.ensures.moments told) c.args.from.now c.args.to.now synced (inr (recovered_view-half_moved s.files c.args.from.now c.args.to.now (c.requires.named told))) (inr refl) (c.rename_name.ensures.row told) in
     let ended = goes-sync_names _ _ _ _ _ _ c.sync_names.result moved (c.sync_names.ensures.moments told) (c.sync_names.ensures.row told) in
     steps_to _ _ _ _ _ ended

@@ -11,7 +11,7 @@ unlink_synced-requires-clause-there g c told = rw c.requires.at_intent (c.requir
 pub returns-clause-step : goal.returns-clause-step
 returns-clause-step g c told firm =
     let s = g.M.Machine.state c.args.machine.now in
-    let is : recovered_view (map.remove s.files c.args.intent.now.path) ≡ recovered_view s.files = rw c.requires.at_intent (recovered_view-drop_intent s.files (c.requires.whole told)) in
+    let is : recovered_view (map.remove s.files c.args.intent.now) ≡ recovered_view s.files = rw c.requires.at_intent (recovered_view-drop_intent s.files (c.requires.whole told)) in
     steps_part g.M.Machine.time g.M.Machine.state (recovered_view s.files) _ c.args.machine.now c.unlink_synced.new.machine (inl is) (c.unlink_synced.ensures.step told firm)
 
 pub returns-clause-ready : goal.returns-clause-ready

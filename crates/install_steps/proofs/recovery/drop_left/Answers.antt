@@ -64,21 +64,21 @@ returns-clause-step g c told firm =
     let same = (c.size-2.ensures.row told).same ∙ (c.size.ensures.row told).same in
     let first = steps_same _ _ (recovered_view s.files) _ _ looked2 in
     let there : has (g.M.Machine.state c.size.new.self).files c.args.names.now.to ≡ true = search rules in
-    let is : recovered_view (map.remove (g.M.Machine.state c.size-2.new.self).files c.args.names.now.from) ≡ recovered_view s.files =
-    rw same (recovered_view-drop_left s.files c.args.names.now.from c.args.names.now.to (c.requires.named told) (rw (c.size.ensures.row told).same at there)) in
+    let is : recovered_view (map.remove (g.M.Machine.state c.size-2.new.self).files c.file-3.result.now) ≡ recovered_view s.files =
+    rw (c.file-3.ensures.path, same) (recovered_view-drop_left s.files c.args.names.now.from c.args.names.now.to (c.requires.named told) (rw (c.size.ensures.row told).same at there)) in
     steps_then g.M.Machine.time g.M.Machine.state (recovered_view s.files) _ c.args.machine.now c.size-2.new.self c.unlink_synced.new.machine first (ap (λ (t : State). t.printed) same) (inl (ap (λ (t : State). recovered_view t.files) same)) (inl is) (c.unlink_synced.ensures.step told first.firm)
 
 pub returns-clause-whole : goal.returns-clause-whole
 returns-clause-whole g c = ok_then c.unlink_synced.result c.unlink_synced.ensures.files (λ removed told.
     let s = g.M.Machine.state c.args.machine.now in
     let same = (c.size-2.ensures.row told).same ∙ (c.size.ensures.row told).same in
-    rw (removed told, same) (whole-removed s.files c.args.names.now.from c.args.names.now.to (c.requires.named told)))
+    rw (removed told, c.file-3.ensures.path, same) (whole-removed s.files c.args.names.now.from c.args.names.now.to (c.requires.named told)))
 
 pub returns-clause-there : goal.returns-clause-there
 returns-clause-there g c = ok_then c.unlink_synced.result c.unlink_synced.ensures.files (λ removed told.
     let s = g.M.Machine.state c.args.machine.now in
     let same = (c.size-2.ensures.row told).same ∙ (c.size.ensures.row told).same in
-    rw (removed told, same) (intent_kept s.files c.args.names.now.from c.args.names.now.to (c.requires.named told)))
+    rw (removed told, c.file-3.ensures.path, same) (intent_kept s.files c.args.names.now.from c.args.names.now.to (c.requires.named told)))
 
 pub returns-in_err-size-clause-alone : goal.returns-in_err-size-clause-alone
 returns-in_err-size-clause-alone g c = alone_by (λ told.

@@ -26,12 +26,12 @@ returns-in_default-clause-step g c told firm =
 
 pub left_names-requires-clause-there : goal.left_names-requires-clause-there
 left_names-requires-clause-there g c told =
-    let there = size_there (g.M.Machine.state c.args.machine.now).files c.args.intent.now.path c.in_ok-size.field-0 c.in-Some.size (c.in_ok-size.ensures.row told).answer c.in-Some.is in
+    let there = size_there (g.M.Machine.state c.args.machine.now).files c.args.intent.now c.in_ok-size.field-0 c.in-Some.size (c.in_ok-size.ensures.row told).answer c.in-Some.is in
     rw ((c.size.ensures.row told).same, sym c.requires.at_intent) there.0
 
 pub left_names-requires-clause-size : goal.left_names-requires-clause-size
 left_names-requires-clause-size g c told =
-    let there = size_there (g.M.Machine.state c.args.machine.now).files c.args.intent.now.path c.in_ok-size.field-0 c.in-Some.size (c.in_ok-size.ensures.row told).answer c.in-Some.is in
+    let there = size_there (g.M.Machine.state c.args.machine.now).files c.args.intent.now c.in_ok-size.field-0 c.in-Some.size (c.in_ok-size.ensures.row told).answer c.in-Some.is in
     rw ((c.size.ensures.row told).same, sym c.requires.at_intent) there.1
 
 pub returns-in_err-names-clause-step : goal.returns-in_err-names-clause-step

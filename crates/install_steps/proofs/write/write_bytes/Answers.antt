@@ -39,7 +39,7 @@ returns-clause-step g c told firm =
     let made = goes-create _ _ _ _ _ _ c.create.result start (c.create.ensures.moments told) c.args.target.now.temp c.know-2.ensures (c.create.ensures.row told) in
     let written = goes-append _ _ _ _ _ _ c.append.result made (c.append.ensures.moments told) c.args.target.now.temp c.args.bytes.now c.know-2.ensures (c.append.ensures.row told) in
     let next = map.insert (recovered_view s.files) c.args.target.now.path c.args.bytes.now in
-    let is : recovered_view (move_in c.args.target.now.temp c.args.target.now.path (g.M.Machine.state c.append.new.self).files) ≡ next = rw (c.in_ok-append.ensures.row told, c.in_ok-create.ensures.row told) (recovered_view-written s.files c.args.target.now.temp c.args.target.now.path c.args.bytes.now (c.requires.ready told).rested c.know-2.ensures c.know.ensures (off_intent c.args.target.now.path c.requires.free)) in
+    let is : recovered_view (move_in c.args.target.now.temp c.args.target.now.path (g.M.Machine.state c.append.new.self).files) ≡ next = rw (c.in_ok-append.ensures.row told, c.in_ok-create.ensures.row told) (recovered_view-written s.files c.args.target.now.temp c.args.target.now.path c.args.bytes.now (c.requires.ready told).rested c.know-2.ensures c.know.ensures (off_intent c.args.target.now.path c.args.target.now.free)) in
     let finished = c.put_in_place.ensures.step told (firm_so_far _ _ _ _ _ written) (settled_so_far _ _ _ _ written) in
     steps_on _ _ _ _ _ _ written (subst (λ (v : Files). StepsTo g.M.Machine.time g.M.Machine.state v c.append.new.self c.put_in_place.new.machine) is finished)
 
@@ -50,7 +50,7 @@ returns-clause-done g c = ok_then c.put_in_place.result c.put_in_place.ensures.d
     let made = goes-create _ _ _ _ _ _ c.create.result start (c.create.ensures.moments told) c.args.target.now.temp c.know-2.ensures (c.create.ensures.row told) in
     let written = goes-append _ _ _ _ _ _ c.append.result made (c.append.ensures.moments told) c.args.target.now.temp c.args.bytes.now c.know-2.ensures (c.append.ensures.row told) in
     let next = map.insert (recovered_view s.files) c.args.target.now.path c.args.bytes.now in
-    let is : recovered_view (move_in c.args.target.now.temp c.args.target.now.path (g.M.Machine.state c.append.new.self).files) ≡ next = rw (c.in_ok-append.ensures.row told, c.in_ok-create.ensures.row told) (recovered_view-written s.files c.args.target.now.temp c.args.target.now.path c.args.bytes.now (c.requires.ready told).rested c.know-2.ensures c.know.ensures (off_intent c.args.target.now.path c.requires.free)) in
+    let is : recovered_view (move_in c.args.target.now.temp c.args.target.now.path (g.M.Machine.state c.append.new.self).files) ≡ next = rw (c.in_ok-append.ensures.row told, c.in_ok-create.ensures.row told) (recovered_view-written s.files c.args.target.now.temp c.args.target.now.path c.args.bytes.now (c.requires.ready told).rested c.know-2.ensures c.know.ensures (off_intent c.args.target.now.path c.args.target.now.free)) in
     subst (IsDone (g.M.Machine.state c.put_in_place.new.machine)) is (done told (firm_so_far _ _ _ _ _ written) (settled_so_far _ _ _ _ written)))
 
 pub returns-clause-ready : goal.returns-clause-ready
@@ -60,7 +60,7 @@ returns-clause-ready g c = ok_both c.put_in_place.result c.put_in_place.ensures.
       next = record {
         one = one told;
         rested = rw (files told, c.in_ok-append.ensures.row told, c.in_ok-create.ensures.row told)
-            (calm-written m c.args.target.now.temp c.args.target.now.path c.args.bytes.now (c.requires.ready told).rested c.know-2.ensures (off_intent c.args.target.now.path c.requires.free));
+            (calm-written m c.args.target.now.temp c.args.target.now.path c.args.bytes.now (c.requires.ready told).rested c.know-2.ensures (off_intent c.args.target.now.path c.args.target.now.free));
       };
       temps = λ q temp there. temps-written m c.args.target.now.temp c.args.target.now.path c.args.bytes.now c.know-2.ensures c.know.ensures q temp
           (rw (files told, c.in_ok-append.ensures.row told, c.in_ok-create.ensures.row told) at there);

@@ -10,6 +10,7 @@ use Rattle.install_steps.proofs.Appending.{appends-there}
 use Rattle.install_steps.proofs.AppendLemmas.{calm_left, copied_file, goes-appends, temps_left}
 use Rattle.install_steps.proofs.CopyLemmas.{sees_copy, size_there, size_within}
 use Rattle.install_steps.proofs.KeepLemmas.{takes_first, takes_later, takes_nothing, takes_part}
+use Rattle.install_steps.proofs.RefusedLemmas.{told_at}
 use Rattle.install_steps.proofs.StepLemmas.{begins_same, firm_so_far, settled_so_far, steps_same, steps_on, off_intent}
 use Rattle.install_steps.proofs.QuietLemmas.{alone_by, quiet-create, quiet-read, quiet_appends, quiet_of, quiet_start, quiet_then}
 use Rattle.install_steps.proofs.write.write_whole.Goals as goal
@@ -30,7 +31,7 @@ pub returns-in_default-clause-not_found : goal.returns-in_default-clause-not_fou
 returns-in_default-clause-not_found g c = λ err told.
     let s = g.M.Machine.state c.args.machine.now in
     let none : has s.files c.args.from.now ≡ false = search rules in
-    (rw (has-recovered_view s.files c.args.from.now (c.requires.ready told).rested c.know.ensures) none, (c.size.ensures.row told).same)
+    (rw (has-recovered_view s.files c.args.from.now (c.requires.ready told).rested c.know.ensures.lasting) none, (c.size.ensures.row told).same)
 
 pub returns-in_err-create-clause-step : goal.returns-in_err-create-clause-step
 returns-in_err-create-clause-step g c told firm =
@@ -65,9 +66,9 @@ returns-in_err-put_in_place-clause-step g c told firm =
     let written = goes-appends _ _ _ _ _ _ made c.args.target.now.temp c.know-3.ensures (c.copy_part.ensures.appends.only told) in
     let s = g.M.Machine.state c.args.machine.now in
     let created : (g.M.Machine.state c.create.new.self).files ≡ map.insert (g.M.Machine.state c.args.machine.now).files c.args.target.now.temp [] = rw (c.in_ok-create.ensures.row told, (c.size.ensures.row told).same) refl in
-    let long = size_within s.files c.args.from.now c.in_ok-size.field-0 c.in-Some.size c.min-size.result (c.requires.ready told).rested c.know.ensures (c.requires.small told) (c.in_ok-size.ensures.row told).answer c.in-Some.is (λ small. omega (arith, small, c.min-size.ensures)) in
-    let all = copied_file s.files c.args.target.now.temp c.args.from.now (g.M.Machine.state c.create.new.self) (g.M.Machine.state c.copy_part.new.machine) c.min-size.result c.know-3.ensures c.know.ensures created (c.copy_part.ensures.appends.only told).left (c.in_ok-copy_part.ensures.grows told) long in
-    let is = sees_copy s.files (g.M.Machine.state c.copy_part.new.machine).files c.args.target.now.temp c.args.from.now c.args.target.now.path (c.requires.ready told).rested (off_intent c.args.target.now.path c.requires.free) c.know-3.ensures c.know.ensures c.know-2.ensures (size_there s.files c.args.from.now c.in_ok-size.field-0 c.in-Some.size (c.in_ok-size.ensures.row told).answer c.in-Some.is).1 all in
+    let long = size_within s.files c.args.from.now c.in_ok-size.field-0 c.in-Some.size c.min-size.result (c.requires.ready told).rested c.know.ensures.lasting (c.requires.small told) (told_at _ _ _ _ c.file.ensures.path (c.in_ok-size.ensures.row told).answer) c.in-Some.is (λ small. omega (arith, small, c.min-size.ensures)) in
+    let all = copied_file s.files c.args.target.now.temp c.args.from.now (g.M.Machine.state c.create.new.self) (g.M.Machine.state c.copy_part.new.machine) c.min-size.result c.know-3.ensures c.know.ensures.lasting created (c.copy_part.ensures.appends.only told).left (c.in_ok-copy_part.ensures.grows told) long in
+    let is = sees_copy s.files (g.M.Machine.state c.copy_part.new.machine).files c.args.target.now.temp c.args.from.now c.args.target.now.path (c.requires.ready told).rested (off_intent c.args.target.now.path c.args.target.now.free) c.know-3.ensures c.know.ensures.lasting c.know-2.ensures (size_there s.files c.args.from.now c.in_ok-size.field-0 c.in-Some.size (told_at _ _ _ _ c.file.ensures.path (c.in_ok-size.ensures.row told).answer) c.in-Some.is).1 all in
     steps_on _ _ _ _ _ _ written (subst (λ (v : Files). StepsTo g.M.Machine.time g.M.Machine.state v c.copy_part.new.machine c.put_in_place.new.machine) is (c.put_in_place.ensures.step told (firm_so_far _ _ _ _ _ written) (settled_so_far _ _ _ _ written)))
 
 pub returns-clause-step : goal.returns-clause-step
@@ -78,9 +79,9 @@ returns-clause-step g c told firm =
     let written = goes-appends _ _ _ _ _ _ made c.args.target.now.temp c.know-3.ensures (c.copy_part.ensures.appends.only told) in
     let s = g.M.Machine.state c.args.machine.now in
     let created : (g.M.Machine.state c.create.new.self).files ≡ map.insert (g.M.Machine.state c.args.machine.now).files c.args.target.now.temp [] = rw (c.in_ok-create.ensures.row told, (c.size.ensures.row told).same) refl in
-    let long = size_within s.files c.args.from.now c.in_ok-size.field-0 c.in-Some.size c.min-size.result (c.requires.ready told).rested c.know.ensures (c.requires.small told) (c.in_ok-size.ensures.row told).answer c.in-Some.is (λ small. omega (arith, small, c.min-size.ensures)) in
-    let all = copied_file s.files c.args.target.now.temp c.args.from.now (g.M.Machine.state c.create.new.self) (g.M.Machine.state c.copy_part.new.machine) c.min-size.result c.know-3.ensures c.know.ensures created (c.copy_part.ensures.appends.only told).left (c.in_ok-copy_part.ensures.grows told) long in
-    let is = sees_copy s.files (g.M.Machine.state c.copy_part.new.machine).files c.args.target.now.temp c.args.from.now c.args.target.now.path (c.requires.ready told).rested (off_intent c.args.target.now.path c.requires.free) c.know-3.ensures c.know.ensures c.know-2.ensures (size_there s.files c.args.from.now c.in_ok-size.field-0 c.in-Some.size (c.in_ok-size.ensures.row told).answer c.in-Some.is).1 all in
+    let long = size_within s.files c.args.from.now c.in_ok-size.field-0 c.in-Some.size c.min-size.result (c.requires.ready told).rested c.know.ensures.lasting (c.requires.small told) (told_at _ _ _ _ c.file.ensures.path (c.in_ok-size.ensures.row told).answer) c.in-Some.is (λ small. omega (arith, small, c.min-size.ensures)) in
+    let all = copied_file s.files c.args.target.now.temp c.args.from.now (g.M.Machine.state c.create.new.self) (g.M.Machine.state c.copy_part.new.machine) c.min-size.result c.know-3.ensures c.know.ensures.lasting created (c.copy_part.ensures.appends.only told).left (c.in_ok-copy_part.ensures.grows told) long in
+    let is = sees_copy s.files (g.M.Machine.state c.copy_part.new.machine).files c.args.target.now.temp c.args.from.now c.args.target.now.path (c.requires.ready told).rested (off_intent c.args.target.now.path c.args.target.now.free) c.know-3.ensures c.know.ensures.lasting c.know-2.ensures (size_there s.files c.args.from.now c.in_ok-size.field-0 c.in-Some.size (told_at _ _ _ _ c.file.ensures.path (c.in_ok-size.ensures.row told).answer) c.in-Some.is).1 all in
     steps_on _ _ _ _ _ _ written (subst (λ (v : Files). StepsTo g.M.Machine.time g.M.Machine.state v c.copy_part.new.machine c.put_in_place.new.machine) is (c.put_in_place.ensures.step told (firm_so_far _ _ _ _ _ written) (settled_so_far _ _ _ _ written)))
 
 pub returns-clause-done : goal.returns-clause-done
@@ -91,15 +92,15 @@ returns-clause-done g c told firm =
     let written = goes-appends _ _ _ _ _ _ made c.args.target.now.temp c.know-3.ensures (c.copy_part.ensures.appends.only told) in
     let s = g.M.Machine.state c.args.machine.now in
     let created : (g.M.Machine.state c.create.new.self).files ≡ map.insert (g.M.Machine.state c.args.machine.now).files c.args.target.now.temp [] = rw (c.in_ok-create.ensures.row told, (c.size.ensures.row told).same) refl in
-    let long = size_within s.files c.args.from.now c.in_ok-size.field-0 c.in-Some.size c.min-size.result (c.requires.ready told).rested c.know.ensures (c.requires.small told) (c.in_ok-size.ensures.row told).answer c.in-Some.is (λ small. omega (arith, small, c.min-size.ensures)) in
-    let all = copied_file s.files c.args.target.now.temp c.args.from.now (g.M.Machine.state c.create.new.self) (g.M.Machine.state c.copy_part.new.machine) c.min-size.result c.know-3.ensures c.know.ensures created (c.copy_part.ensures.appends.only told).left (c.in_ok-copy_part.ensures.grows told) long in
-    let is = sees_copy s.files (g.M.Machine.state c.copy_part.new.machine).files c.args.target.now.temp c.args.from.now c.args.target.now.path (c.requires.ready told).rested (off_intent c.args.target.now.path c.requires.free) c.know-3.ensures c.know.ensures c.know-2.ensures (size_there s.files c.args.from.now c.in_ok-size.field-0 c.in-Some.size (c.in_ok-size.ensures.row told).answer c.in-Some.is).1 all in
+    let long = size_within s.files c.args.from.now c.in_ok-size.field-0 c.in-Some.size c.min-size.result (c.requires.ready told).rested c.know.ensures.lasting (c.requires.small told) (told_at _ _ _ _ c.file.ensures.path (c.in_ok-size.ensures.row told).answer) c.in-Some.is (λ small. omega (arith, small, c.min-size.ensures)) in
+    let all = copied_file s.files c.args.target.now.temp c.args.from.now (g.M.Machine.state c.create.new.self) (g.M.Machine.state c.copy_part.new.machine) c.min-size.result c.know-3.ensures c.know.ensures.lasting created (c.copy_part.ensures.appends.only told).left (c.in_ok-copy_part.ensures.grows told) long in
+    let is = sees_copy s.files (g.M.Machine.state c.copy_part.new.machine).files c.args.target.now.temp c.args.from.now c.args.target.now.path (c.requires.ready told).rested (off_intent c.args.target.now.path c.args.target.now.free) c.know-3.ensures c.know.ensures.lasting c.know-2.ensures (size_there s.files c.args.from.now c.in_ok-size.field-0 c.in-Some.size (told_at _ _ _ _ c.file.ensures.path (c.in_ok-size.ensures.row told).answer) c.in-Some.is).1 all in
     subst (IsDone (g.M.Machine.state c.put_in_place.new.machine)) is (c.in_ok-put_in_place.ensures.done told (firm_so_far _ _ _ _ _ written) (settled_so_far _ _ _ _ written))
 
 pub returns-clause-found : goal.returns-clause-found
 returns-clause-found g c told =
     let s = g.M.Machine.state c.args.machine.now in
-    rw (has-recovered_view s.files c.args.from.now (c.requires.ready told).rested c.know.ensures) (size_there s.files c.args.from.now c.in_ok-size.field-0 c.in-Some.size (c.in_ok-size.ensures.row told).answer c.in-Some.is).1
+    rw (has-recovered_view s.files c.args.from.now (c.requires.ready told).rested c.know.ensures.lasting) (size_there s.files c.args.from.now c.in_ok-size.field-0 c.in-Some.size (told_at _ _ _ _ c.file.ensures.path (c.in_ok-size.ensures.row told).answer) c.in-Some.is).1
 
 pub returns-clause-ready : goal.returns-clause-ready
 returns-clause-ready g c told =
@@ -111,7 +112,7 @@ returns-clause-ready g c told =
       next = record {
         one = c.in_ok-put_in_place.ensures.one told;
         rested = rw (c.in_ok-put_in_place.ensures.files told)
-            (calm_left m c.args.target.now.temp c.args.target.now.path mid last (c.requires.ready told).rested (off_intent c.args.target.now.path c.requires.free) c.know-3.ensures created (c.copy_part.ensures.appends.only told).left);
+            (calm_left m c.args.target.now.temp c.args.target.now.path mid last (c.requires.ready told).rested (off_intent c.args.target.now.path c.args.target.now.free) c.know-3.ensures created (c.copy_part.ensures.appends.only told).left);
       };
       temps = λ q temp there. temps_left m c.args.target.now.temp c.args.target.now.path mid last c.know-3.ensures c.know-2.ensures created (c.copy_part.ensures.appends.only told).left q temp
           (rw (c.in_ok-put_in_place.ensures.files told) at there);
@@ -171,20 +172,20 @@ returns-in_err-create-clause-taken g c told =
 pub returns-in_err-copy_part-clause-taken : goal.returns-in_err-copy_part-clause-taken
 returns-in_err-copy_part-clause-taken g c told =
     let limit = length (contents (g.M.Machine.state c.args.machine.now).files c.args.from.now) in
-    let size = (size_there (g.M.Machine.state c.args.machine.now).files c.args.from.now c.in_ok-size.field-0 c.in-Some.size (c.in_ok-size.ensures.row told).answer c.in-Some.is).0 in
+    let size = (size_there (g.M.Machine.state c.args.machine.now).files c.args.from.now c.in_ok-size.field-0 c.in-Some.size (told_at _ _ _ _ c.file.ensures.path (c.in_ok-size.ensures.row told).answer) c.in-Some.is).0 in
     let within : c.min-size.result ≤ limit = omega (arith, size, c.min-size.ensures) in
     takes_later limit (g.M.Machine.taken c.args.machine.now) (g.M.Machine.taken c.create.new.self) (g.M.Machine.taken c.copy_part.new.machine) (c.create.ensures.taken told ∙ c.size.ensures.taken told) (takes_part c.min-size.result limit (g.M.Machine.taken c.create.new.self) (g.M.Machine.taken c.copy_part.new.machine) within (c.copy_part.ensures.taken told))
 
 pub returns-in_err-put_in_place-clause-taken : goal.returns-in_err-put_in_place-clause-taken
 returns-in_err-put_in_place-clause-taken g c told =
     let limit = length (contents (g.M.Machine.state c.args.machine.now).files c.args.from.now) in
-    let size = (size_there (g.M.Machine.state c.args.machine.now).files c.args.from.now c.in_ok-size.field-0 c.in-Some.size (c.in_ok-size.ensures.row told).answer c.in-Some.is).0 in
+    let size = (size_there (g.M.Machine.state c.args.machine.now).files c.args.from.now c.in_ok-size.field-0 c.in-Some.size (told_at _ _ _ _ c.file.ensures.path (c.in_ok-size.ensures.row told).answer) c.in-Some.is).0 in
     let within : c.min-size.result ≤ limit = omega (arith, size, c.min-size.ensures) in
     takes_first limit (g.M.Machine.taken c.args.machine.now) (g.M.Machine.taken c.copy_part.new.machine) (g.M.Machine.taken c.put_in_place.new.machine) (takes_later limit (g.M.Machine.taken c.args.machine.now) (g.M.Machine.taken c.create.new.self) (g.M.Machine.taken c.copy_part.new.machine) (c.create.ensures.taken told ∙ c.size.ensures.taken told) (takes_part c.min-size.result limit (g.M.Machine.taken c.create.new.self) (g.M.Machine.taken c.copy_part.new.machine) within (c.copy_part.ensures.taken told))) (c.put_in_place.ensures.taken told)
 
 pub returns-clause-taken : goal.returns-clause-taken
 returns-clause-taken g c told =
     let limit = length (contents (g.M.Machine.state c.args.machine.now).files c.args.from.now) in
-    let size = (size_there (g.M.Machine.state c.args.machine.now).files c.args.from.now c.in_ok-size.field-0 c.in-Some.size (c.in_ok-size.ensures.row told).answer c.in-Some.is).0 in
+    let size = (size_there (g.M.Machine.state c.args.machine.now).files c.args.from.now c.in_ok-size.field-0 c.in-Some.size (told_at _ _ _ _ c.file.ensures.path (c.in_ok-size.ensures.row told).answer) c.in-Some.is).0 in
     let within : c.min-size.result ≤ limit = omega (arith, size, c.min-size.ensures) in
     takes_first limit (g.M.Machine.taken c.args.machine.now) (g.M.Machine.taken c.copy_part.new.machine) (g.M.Machine.taken c.put_in_place.new.machine) (takes_later limit (g.M.Machine.taken c.args.machine.now) (g.M.Machine.taken c.create.new.self) (g.M.Machine.taken c.copy_part.new.machine) (c.create.ensures.taken told ∙ c.size.ensures.taken told) (takes_part c.min-size.result limit (g.M.Machine.taken c.create.new.self) (g.M.Machine.taken c.copy_part.new.machine) within (c.copy_part.ensures.taken told))) (c.put_in_place.ensures.taken told)

@@ -19,7 +19,7 @@ pub returns-in_ok-measure_part-in-Some-clause-value : goal.returns-in_ok-measure
 returns-in_ok-measure_part-in-Some-clause-value g c =
     let s = g.M.Machine.state c.args.machine.now in
     section_some (IsTrue g.M.Machine.tells) (contents s.files c.args.path.now) (contents (seen s) c.args.path.now) c.args.name.now (headers_of c.args.head.now) c.in-Some.index c.loaded_range-range.result
-    c.args.registers.now c.measure_part.new.registers (shown_contents s c.args.path.now c.know.ensures) c.requires.head
+    c.args.registers.now c.measure_part.new.registers (shown_contents s c.args.path.now c.know.ensures.lasting) c.requires.head
     (sym c.find.ensures.at ∙ c.in-Some.is) c.in-Some.ensures.inside c.loaded_range-range.ensures.exact c.in_ok-measure_part-in-Some.ensures.value
 
 pub returns-in_ok-measure_part-in-Some-clause-taken : goal.returns-in_ok-measure_part-in-Some-clause-taken

@@ -13,7 +13,7 @@ returns-clause-bank g c =
 pub returns-clause-value : goal.returns-clause-value
 returns-clause-value g c told inside =
     let s = g.M.Machine.state c.args.machine.now in
-    let same = shown_contents s c.args.path.now c.know.ensures in
+    let same = shown_contents s c.args.path.now c.know.ensures.lasting in
     let S = λ (f : List ℕ). c.args.range.length ≤ length (drop c.args.range.place f) in
     let hashed = one_taken _ _ c.new-register.result c.from_mut.result.now c.take_loaded.new.registers c.args.bank c.new-register.ensures c.from_mut.ensures.value c.in_ok-take_loaded.ensures.data in
     c.finish.ensures.bytes c.args.bank hashed.0 hashed.1

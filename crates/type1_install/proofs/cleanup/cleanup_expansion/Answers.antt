@@ -1,6 +1,4 @@
-use Rattle.std.proofs.Common.{subst, sym, rules}
-use Rattle.std.specs.Prelude.{All}
-use Rattle.boot_base.specs.Paths.{IsFree}
+use Rattle.std.proofs.Common.{rules}
 use Rattle.boot_machine.proofs.Reading.{looks_none, looks_on}
 use Rattle.boot_machine.specs.Sent.{seen}
 use Rattle.type1_install.specs.Cleaning.{cleanup_expansion}
@@ -24,9 +22,6 @@ returns-in_err-removals-clause-looks g c = looks_on c.menu_at.ensures.looks c.un
 
 pub returns-clause-looks : goal.returns-clause-looks
 returns-clause-looks g c = looks_on c.menu_at.ensures.looks c.unnamed_payloads.ensures.looks (search rules)
-
-pub removals-requires : goal.removals-requires
-removals-requires g c = subst (All IsFree) (sym c.deref-2.ensures.value) c.in_ok-paths.ensures.free
 
 pub returns-in_err-paths-clause-says : goal.returns-in_err-paths-clause-says
 returns-in_err-paths-clause-says g c told =

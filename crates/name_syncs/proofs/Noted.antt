@@ -1,0 +1,196 @@
+-- Which folders are noted, and that nothing else waits.
+use Rattle.std.proofs.Common.{◌≡◌, inl, inr, ◌⊎◌, ℕ, Bool, true, false, List, [], ◌∷◌, ◌++◌, map, refl, sym, ap, ◌∙◌, subst}
+use Rattle.std.specs.Prelude.{bytes_eq, All, if◌then◌else◌, Result, Ok, Err, IfOk}
+use Rattle.std.proofs.lemmas.Bool.{cases_Bool, eqb-true}
+use Rattle.std.proofs.lemmas.List.Elements.{All-head, All-tail}
+use Rattle.std.proofs.lemmas.List.Folds.{list_any-append}
+use Rattle.std.proofs.lemmas.Slice.Eq.{bytes_eq-Decides}
+use Rattle.boot_base.specs.Paths.{is_slash}
+use Rattle.name_syncs.specs.Paths.{has_path, with_path}
+use Rattle.name_syncs.specs.Folders.{FoldersAreAbove, IsAbove, NotedAreListed, folders_above, listed, parts_before_slashes, with_folder}
+use Rattle.name_syncs.specs.Named.{Covers, IsSynced, NothingWaits, RenamesAreCovered}
+use Rattle.name_syncs.specs.Waiting.{NeedsNoSync, KeepsSynced, Waiting}
+use Rattle.name_syncs.specs.declared.folders.Folders.{Folders}
+use Rattle.name_syncs.specs.declared.named.Named.{Named}
+use Rattle.name_syncs.proofs.Syncing.{either, in_back, in_front, itself}
+
+unlike : false ≡ true → ⊥
+unlike is = cc
+
+split : (front back : List (List ℕ)) (path : List ℕ) → has_path (front ++ back) path ≡ true
+    → (has_path front path ≡ true) ⊎ (has_path back path ≡ true)
+split front back path there =
+    either (has_path front path) (has_path back path) (sym (list_any-append (λ known. bytes_eq known path) front back) ∙ there)
+
+alone : (known path : List ℕ) → has_path (known ∷ []) path ≡ true → known ≡ path
+alone known path there = elim (either (bytes_eq known path) false there) [
+  | inl same ↦ (bytes_eq-Decides known path).0 same
+  | inr none ↦ absurd (unlike none)
+]
+
+-- ---- the folders above a path
+
+-- the path without its first byte is among those
+pub record HasRest (byte : ℕ) (paths : List (List ℕ)) (path : List ℕ) : Type 0 where
+  pub rest : List ℕ
+  pub whole : path ≡ byte ∷ rest
+  pub there : has_path paths rest ≡ true
+
+in_mapped : (byte : ℕ) (paths : List (List ℕ)) (path : List ℕ) → has_path (map (λ part. byte ∷ part) paths) path ≡ true
+    → HasRest byte paths path
+in_mapped byte [] path there = absurd (unlike there)
+in_mapped byte (known ∷ paths) path there =
+    elim (either (bytes_eq (byte ∷ known) path) (has_path (map (λ part. byte ∷ part) paths) path) there) [
+      | inl same ↦ record {
+        rest = known;
+        whole = sym ((bytes_eq-Decides (byte ∷ known) path).0 same);
+        there = in_front (known ∷ []) paths known (itself known);
+      }
+      | inr later ↦
+          let r = in_mapped byte paths path later in
+          record { rest = r.rest; whole = r.whole; there = in_back (known ∷ []) paths r.rest r.there }
+    ]
+
+mapped_in : (byte : ℕ) (paths : List (List ℕ)) (path : List ℕ) → has_path paths path ≡ true
+    → has_path (map (λ part. byte ∷ part) paths) (byte ∷ path) ≡ true
+mapped_in byte [] path there = absurd (unlike there)
+mapped_in byte (known ∷ paths) path there = elim (split (known ∷ []) paths path there) [
+  | inl first ↦
+      let same = alone known path first in
+      in_front ((byte ∷ known) ∷ []) (map (λ part. byte ∷ part) paths) (byte ∷ path)
+      (subst (λ (p : List ℕ). has_path ((byte ∷ known) ∷ []) (byte ∷ p) ≡ true) same (itself (byte ∷ known)))
+  | inr later ↦
+      in_back ((byte ∷ known) ∷ []) (map (λ part. byte ∷ part) paths) (byte ∷ path) (mapped_in byte paths path later)
+]
+
+starting : (slash : Bool) (folder : List ℕ) → has_path (if slash then [] ∷ [] else []) folder ≡ true → (slash ≡ true) × ([] ≡ folder)
+starting true folder there = (refl, alone [] folder there)
+starting false folder there = absurd (unlike there)
+
+part_is_above : (path folder : List ℕ) → has_path (parts_before_slashes path) folder ≡ true → (rest : List ℕ) × (path ≡ folder ++ 47 ∷ rest)
+part_is_above [] folder there = absurd (unlike there)
+part_is_above (byte ∷ path) folder there =
+    elim (split (map (λ part. byte ∷ part) (parts_before_slashes path)) (if is_slash byte then [] ∷ [] else []) folder there) [
+      | inl deeper ↦
+          let r = in_mapped byte (parts_before_slashes path) folder deeper in
+          let below = part_is_above path r.rest r.there in
+          (below.0, ap (λ (p : List ℕ). byte ∷ p) below.1 ∙ ap (λ (f : List ℕ). f ++ 47 ∷ below.0) (sym r.whole))
+      | inr here ↦
+          let start = starting (is_slash byte) folder here in
+          (path, ap (λ (b : ℕ). b ∷ path) (eqb-true byte 47 start.0) ∙ ap (λ (f : List ℕ). f ++ 47 ∷ path) start.1)
+    ]
+
+above_is_part : (folder rest : List ℕ) → has_path (parts_before_slashes (folder ++ 47 ∷ rest)) folder ≡ true
+above_is_part [] rest = in_back (map (λ part. 47 ∷ part) (parts_before_slashes rest)) ([] ∷ []) [] (itself [])
+above_is_part (byte ∷ folder) rest =
+    in_front (map (λ part. byte ∷ part) (parts_before_slashes (folder ++ 47 ∷ rest))) (if is_slash byte then [] ∷ [] else []) (byte ∷ folder)
+    (mapped_in byte (parts_before_slashes (folder ++ 47 ∷ rest)) folder (above_is_part folder rest))
+
+pub above_there : (path folder : List ℕ) → IsAbove folder path → has_path (folders_above path) folder ≡ true
+above_there path folder (inl root) = rw root (in_back (parts_before_slashes path) ([] ∷ []) [] (itself []))
+above_there path folder (inr below) =
+    in_front (parts_before_slashes path) ([] ∷ []) folder
+    (subst (λ (p : List ℕ). has_path (parts_before_slashes p) folder ≡ true) (sym below.1) (above_is_part folder below.0))
+
+there_above : (path folder : List ℕ) → has_path (folders_above path) folder ≡ true → IsAbove folder path
+there_above path folder there = elim (split (parts_before_slashes path) ([] ∷ []) folder there) [
+  | inl part ↦ inr (part_is_above path folder part)
+  | inr root ↦ inl (sym (alone [] folder root))
+]
+
+pub folders_are_above : FoldersAreAbove
+folders_are_above path folder = (there_above path folder, above_there path folder)
+
+-- ---- what is noted is gone through
+
+with_path-kept : (found : Bool) (paths : List (List ℕ)) (path other : List ℕ) → has_path paths other ≡ true
+    → has_path (if found then paths else (paths ++ path ∷ [])) other ≡ true
+with_path-kept true paths path other there = there
+with_path-kept false paths path other there = in_front paths (path ∷ []) other there
+
+with_path-there : (found : Bool) (paths : List (List ℕ)) (path : List ℕ) → has_path paths path ≡ found
+    → has_path (if found then paths else (paths ++ path ∷ [])) path ≡ true
+with_path-there true paths path is = is
+with_path-there false paths path is = in_back paths (path ∷ []) path (itself path)
+
+listed_kept : (folders : Folders) (folder other : List ℕ) → has_path (listed folders) other ≡ true
+    → has_path (listed (with_folder folders folder)) other ≡ true
+listed_kept folders [] other there = elim (split folders.below (if folders.has_root then [] ∷ [] else []) other there) [
+  | inl below ↦ in_front folders.below ([] ∷ []) other below
+  | inr root ↦ in_back folders.below ([] ∷ []) other
+      (subst (λ (f : List ℕ). has_path ([] ∷ []) f ≡ true) (starting folders.has_root other root).1 (itself []))
+]
+listed_kept folders (byte ∷ folder) other there =
+    let root = if folders.has_root then [] ∷ [] else [] in
+    let more = with_path folders.below (byte ∷ folder) in
+    elim (split folders.below root other there) [
+      | inl below ↦ in_front more root other
+          (with_path-kept (has_path folders.below (byte ∷ folder)) folders.below (byte ∷ folder) other below)
+      | inr same ↦ in_back more root other same
+    ]
+
+listed_new : (folders : Folders) (folder : List ℕ) → has_path (listed (with_folder folders folder)) folder ≡ true
+listed_new folders [] = in_back folders.below ([] ∷ []) [] (itself [])
+listed_new folders (byte ∷ folder) =
+    in_front (with_path folders.below (byte ∷ folder)) (if folders.has_root then [] ∷ [] else []) (byte ∷ folder)
+    (with_path-there (has_path folders.below (byte ∷ folder)) folders.below (byte ∷ folder) refl)
+
+pub noted_are_listed : NotedAreListed
+noted_are_listed folders [] folder (inl there) = there
+noted_are_listed folders [] folder (inr none) = absurd (unlike none)
+noted_are_listed folders (first ∷ more) folder (inl there) =
+    noted_are_listed (with_folder folders first) more folder (inl (listed_kept folders first folder there))
+noted_are_listed folders (first ∷ more) folder (inr there) = elim (split (first ∷ []) more folder there) [
+  | inl here ↦
+      let same = alone first folder here in
+      noted_are_listed (with_folder folders first) more folder
+      (inl (subst (λ (f : List ℕ). has_path (listed (with_folder folders first)) f ≡ true) same (listed_new folders first)))
+  | inr later ↦ noted_are_listed (with_folder folders first) more folder (inr later)
+]
+
+-- ---- a rename is covered
+
+pub renames_are_covered : RenamesAreCovered
+renames_are_covered named old new from to covers waits = record {
+  files = λ path waiting. elim (waits.files path waiting) [
+    | inl before ↦ with_path-kept (has_path named.renamed to) named.renamed to path (covers.files path before)
+    | inr here ↦ subst (λ (p : List ℕ). has_path (with_path named.renamed to) p ≡ true) (sym here)
+        (with_path-there (has_path named.renamed to) named.renamed to refl)
+  ];
+  folders = λ folder waiting. noted_are_listed named.changed (folders_above to ++ folders_above from) folder (elim (waits.folders folder waiting) [
+    | inl before ↦ inl (covers.folders folder before)
+    | inr above ↦ inr (elim above [
+      | inl new_one ↦ in_front (folders_above to) (folders_above from) folder (above_there to folder new_one)
+      | inr old_one ↦ in_back (folders_above to) (folders_above from) folder (above_there from folder old_one)
+    ])
+  ]);
+}
+
+-- ---- nothing waits
+
+all_there : (P : List ℕ → Type 0) (paths : List (List ℕ)) (path : List ℕ) → All P paths → has_path paths path ≡ true → P path
+all_there P [] path all there = absurd (unlike there)
+all_there P (known ∷ paths) path all there = elim (split (known ∷ []) paths path there) [
+  | inl here ↦ subst P (alone known path here) (All-head P known paths all)
+  | inr later ↦ all_there P paths path (All-tail P known paths all) later
+]
+
+pub nothing_waits : (named : Named) (old new : Waiting) → KeepsSynced old new → IsSynced named new → Covers named old
+    → NothingWaits named new
+nothing_waits named old new kept synced covers = record {
+  files = λ path. elim (cases_Bool (old.files path)) [
+    | inl waiting ↦ all_there (λ one. new.files one ≡ false) named.renamed path synced.files (covers.files path waiting)
+    | inr done ↦ kept.files path done
+  ];
+  folders = λ folder. elim (cases_Bool (old.folders folder)) [
+    | inl waiting ↦ all_there (NeedsNoSync named.own new) (listed named.changed) folder synced.folders (covers.folders folder waiting)
+    | inr done ↦ inl (kept.folders folder done)
+  ];
+}
+
+-- the same of an answer that may be a fault
+pub if_nothing_waits : {F : Type 0} (result : Result (Unit {0}) F) (tells : Type 0) (named : Named) (old new : Waiting)
+    → (tells → KeepsSynced old new) → IfOk result (λ _. tells → IsSynced named new)
+    → IfOk result (λ _. tells → Covers named old → NothingWaits named new)
+if_nothing_waits (Ok _) tells named old new kept synced = λ told. nothing_waits named old new (kept told) (synced told)
+if_nothing_waits (Err _) tells named old new kept synced = synced

@@ -1,0 +1,85 @@
+-- What a run has named since its names were last synced.
+use Rattle.std.specs.Prelude.{◌≡◌, ◌⊎◌, ℕ, true, false, not, List, ◌∷◌, ◌++◌, map, filter, All, if◌then◌else◌}
+use Rattle.name_syncs.specs.Paths.{has_path, with_path}
+use Rattle.name_syncs.specs.Folders.{IsAbove, parent_folder, folders_above, has_folder, listed, unsettled, with_folder, with_folders}
+use Rattle.name_syncs.specs.Waiting.{FileAt, FolderAt, NeedsNoSync, Sync, Waiting}
+use Rattle.name_syncs.specs.declared.named.Named.{Named}
+
+-- a file was looked at: the folders above it were seen
+abbrev pub looked_at : Named → List ℕ → Named
+looked_at named path =
+    if has_folder named.seen (parent_folder path) then named
+    else record named { seen = with_folders named.seen (folders_above path) }
+
+-- A file was looked at again, and is as it was. A folder that is settled needs no second sync for it.
+abbrev pub looked_again : Named → List ℕ → Named
+looked_again named path = if has_folder named.settled (parent_folder path) then named else looked_at named path
+
+-- the names in a folder were looked at: it was seen, and those above it
+abbrev pub looked_into : Named → List ℕ → Named
+looked_into named folder = record named { seen = with_folders named.seen (folder ∷ folders_above folder) }
+
+-- a name in the folder of a path is changed by this run
+abbrev pub owned : Named → List ℕ → Named
+owned named path = record named { own = with_folder named.own (parent_folder path) }
+
+-- a name comes, maybe with folders above it
+abbrev pub changed_at : Named → List ℕ → Named
+changed_at named path = record (owned named path) { changed = with_folders named.changed (folders_above path) }
+
+-- a file goes
+abbrev pub removed_at : Named → List ℕ → Named
+removed_at named path =
+    record (owned named path) { changed = with_folders named.changed (unsettled named.settled (folders_above path)) }
+
+-- a file gets a new name, and these folders have changed
+abbrev pub renamed_with : Named → List ℕ → List ℕ → List (List ℕ) → Named
+renamed_with named from to folders = record (owned (owned named to) from) {
+  renamed = with_path named.renamed to;
+  changed = with_folders named.changed folders;
+}
+
+-- a file gets a new name: the folders above that come before those above the old one
+abbrev pub renamed_to : Named → List ℕ → List ℕ → Named
+renamed_to named from to = renamed_with named from to (folders_above to ++ folders_above from)
+
+-- the same of a file that was there when the names were synced last: its own folders, and the unsettled ones above
+abbrev pub renamed_known : Named → List ℕ → List ℕ → Named
+renamed_known named from to =
+    renamed_with named from to
+    (unsettled named.settled (folders_above to) ++ unsettled named.settled (folders_above from))
+
+-- the syncs of what was changed, in their order: each renamed file, and then the folders
+abbrev pub changed_syncs : Named → List Sync
+changed_syncs named = map FileAt named.renamed ++ map FolderAt (listed named.changed)
+
+-- the syncs of the folders that were only seen
+abbrev pub seen_syncs : Named → List Sync
+seen_syncs named = map FolderAt (filter (λ folder. not (has_folder named.changed folder)) (listed named.seen))
+
+-- nothing that was changed waits for the disk
+pub record IsSynced (named : Named) (disk : Waiting) : Type 0 where
+  pub files : All (λ path. disk.files path ≡ false) named.renamed
+  pub folders : All (NeedsNoSync named.own disk) (listed named.changed)
+
+-- each file and folder that waits for the disk was noted
+pub record Covers (named : Named) (disk : Waiting) : Type 0 where
+  pub files : (path : List ℕ) → disk.files path ≡ true → has_path named.renamed path ≡ true
+  pub folders : (folder : List ℕ) → disk.folders folder ≡ true → has_path (listed named.changed) folder ≡ true
+
+-- nothing at all waits for the disk
+pub record NothingWaits (named : Named) (disk : Waiting) : Type 0 where
+  pub files : (path : List ℕ) → disk.files path ≡ false
+  pub folders : (folder : List ℕ) → NeedsNoSync named.own disk folder
+
+-- A rename makes the file wait at its new name, and the names in the folders above both.
+pub record RenameWaits (old new : Waiting) (from to : List ℕ) : Type 0 where
+  pub files : (path : List ℕ) → new.files path ≡ true → (old.files path ≡ true) ⊎ (path ≡ to)
+  pub folders : (folder : List ℕ) → new.folders folder ≡ true
+      → (old.folders folder ≡ true) ⊎ (IsAbove folder to ⊎ IsAbove folder from)
+
+-- where all that waited was noted, so is all that waits after a rename
+abbrev pub RenamesAreCovered : Type 0
+RenamesAreCovered =
+    (named : Named) (old new : Waiting) (from to : List ℕ)
+    → Covers named old → RenameWaits old new from to → Covers (renamed_to named from to) new
