@@ -1,114 +1,131 @@
--- The commands that a command stands for are such as no words ask for.
-use Rattle.std.proofs.Common.{◌≡◌, ℕ, Bool, true, false, List, [], ◌∷◌, ◌++◌, map, refl, Result, Ok, Err}
-use Rattle.std.specs.Prelude.{All}
-use Rattle.std.proofs.lemmas.List.Elements.{All-cons, All-nil}
+-- The actions of a command of several, by what its reads say.
+use Rattle.std.proofs.Common.{◌≡◌, ◌≢◌, ◌||◌, codes, ℕ, Bool, true, false, List, [], ◌∷◌, ◌++◌, map, length, refl, sym, ap, ◌∙◌, subst, arith, Result, Ok, Err}
+use Rattle.std.specs.Prelude.{nat_eq}
+use Rattle.std.proofs.lemmas.Bool.{eqb-true}
 use Rattle.boot_base.specs.Paths.{Path}
 use Rattle.boot_base.specs.declared.refusal.Refusal.{Refusal}
-use Rattle.boot_machine.specs.Disk.{Files}
-use Rattle.command_plans.specs.Declining.{◌>>=◌, path_in, path_under}
+use Rattle.boot_machine.specs.Disk.{Files, State}
+use Rattle.boot_machine.specs.Sent.{seen}
+use Rattle.command_plans.specs.Declining.{◌>>=◌}
 use Rattle.command_plans.specs.Files.{bytes_at, each}
-use Rattle.command_plans.specs.Folders.{folders_of}
-use Rattle.command_plans.specs.Menus.{menu_at}
-use Rattle.tool_words.specs.declared.command.Command.{Command}
-use Rattle.tool_words.specs.declared.command.Command.TheVariants as command
+use Rattle.command_plans.specs.Unsaying.{UnsaidFor}
+use Rattle.command_plans.specs.declared.unsaid.Unsaid.{Unsaid}
+use Rattle.command_plans.specs.declared.unsaid.Unsaid.TheVariants as unsaid
+use Rattle.tool_words.specs.declared.command.Several.{Several}
+use Rattle.tool_words.specs.declared.command.Several.TheVariants as several
 use Rattle.tool_words.specs.declared.command.KeepWords.{KeepWords}
 use Rattle.tool_words.specs.declared.command.Type1Words.{Type1Words}
-use Rattle.entry_commands.specs.Keeping.{keep_expansion, keep_result, removals_unless}
-use Rattle.type1_install.specs.Installing.{Type1Plan, enter_of, install_commands, install_expansion, install_plan, payload_probe, planned_install, put_of}
+use Rattle.tool_words.specs.declared.action.Action.{Action}
+use Rattle.tool_words.specs.declared.action.Action.TheVariants as action
+use Rattle.entry_commands.specs.Keeping.{keep_result, would_text}
 use Rattle.type1_install.specs.Cleaning.{cleanup_expansion}
-use Rattle.boot_commands.specs.Expansions.{ok_commands}
-use Rattle.type1_install.specs.Cleaning.{unnamed_payloads}
-use Rattle.boot_commands.specs.Expansions.{expands, expansion}
-use Rattle.boot_commands.specs.Plain.{is_plain, is_script, is_step, is_wordless}
+use Rattle.type1_install.specs.Installing.{Type1Plan, install_commands, install_expansion, install_plan, planned_install}
+use Rattle.boot_commands.specs.Demonstration.{demo_result}
+use Rattle.boot_commands.specs.Expanding.{RefusedOrDone, RefusesUnsaid, StandsFor}
+use Rattle.boot_commands.specs.Replies.{told_text}
+use Rattle.boot_commands.specs.Expansions.{clean_or_idle, expansion, keep_actions, actions_or_refusal}
+use Rattle.boot_commands.proofs.Unrefused.{bound_or_refused, expansion_unrefused, made_or_refused}
 
--- a command that is none of those that stand for others
-pub stands_alone : (c : Command) → ((words : Type1Words) → c ≡ command.Type1Install words → ⊥)
-    → ((esp : List ℕ) → c ≡ command.Type1Cleanup esp → ⊥) → ((words : KeepWords) → c ≡ command.Keep words → ⊥)
-    → expands c ≡ false
-stands_alone (command.Type1Install words) install cleanup keep = absurd (install words refl)
-stands_alone (command.Type1Cleanup esp) install cleanup keep = absurd (cleanup esp refl)
-stands_alone (command.Keep words) install cleanup keep = absurd (keep words refl)
-stands_alone c install cleanup keep = refl
+-- ---- there is at least one
 
--- a command that words ask for, which stands for no other and is no script
-pub step_of : (c : Command) → is_script c ≡ false → is_wordless c ≡ false → expands c ≡ false → is_step c ≡ true
-step_of command.Script alone worded own = cc
-step_of (command.Put file target) alone worded own = cc
-step_of (command.Enter path text) alone worded own = cc
-step_of (command.Remove path) alone worded own = cc
-step_of (command.Type1Install words) alone worded own = cc
-step_of (command.Type1Cleanup esp) alone worded own = cc
-step_of (command.Keep words) alone worded own = cc
-step_of c alone worded own = refl
+NotEmpty : List Action → Type 0
+NotEmpty actions = actions ≢ []
 
--- a step that is no demonstration runs no other command
-pub plain_of : (c : Command) → is_step c ≡ true → ((seed count : List ℕ) → c ≡ command.Demo seed count → ⊥) → is_plain c ≡ true
-plain_of command.Script step demo = cc
-plain_of (command.Demo seed count) step demo = absurd (demo seed count refl)
-plain_of (command.Type1Install words) step demo = cc
-plain_of (command.Type1Cleanup esp) step demo = cc
-plain_of (command.Keep words) step demo = cc
-plain_of c step demo = refl
+refusal_some : (why : Refusal) → NotEmpty (action.Refuse why ∷ [])
+unfolding NotEmpty
+refusal_some why same = cc
 
--- a command that stands for no other
-pub no_expansion : (view : Files) (c : Command) → expands c ≡ false → expansion view c ≡ []
+clean_some : (actions : List Action) → NotEmpty (clean_or_idle actions)
+unfolding NotEmpty
+clean_some [] same = cc
+clean_some (first ∷ more) same = cc
+
+keep_some : (dry_run : Bool) (paths : List Path) → NotEmpty (keep_actions dry_run paths)
+unfolding NotEmpty
+keep_some true paths same = cc
+keep_some false [] same = cc
+keep_some false (path ∷ paths) same = cc
+
+install_some : (view : Files) (words_plan : Result Type1Plan Refusal)
+    → NotEmpty (actions_or_refusal (λ actions. actions) (words_plan >>= planned_install view))
+unfolding NotEmpty
+install_some view words_plan =
+    bound_or_refused NotEmpty refusal_some (λ actions. actions) words_plan (planned_install view) (λ plan.
+    bound_or_refused NotEmpty refusal_some (λ actions. actions) (each (bytes_at view) (plan.linux ∷ plan.initrds)) (λ _. Ok (install_commands view plan)) (λ _ same. cc))
+
+pub expansion_some : (view : Files) (c : Several) → expansion view c ≢ []
+unfolding NotEmpty expansion install_expansion
+expansion_some view (several.Type1Install words) = install_some view (install_plan words)
+expansion_some view (several.Type1Cleanup esp) = made_or_refused NotEmpty refusal_some clean_or_idle (cleanup_expansion view esp) clean_some
+expansion_some view (several.Keep words) = made_or_refused NotEmpty refusal_some (keep_actions words.dry_run) (keep_result view words) (keep_some words.dry_run)
+expansion_some view (several.Demo seed count) = made_or_refused NotEmpty refusal_some (λ text. action.Tell text ∷ []) (demo_result seed count) (λ text same. cc)
+
+stands_for : (s : State) (c : Several) (actions : List Action) → actions ≡ expansion (seen s) c → StandsFor s c actions
+stands_for s c actions are = record {
+  are = are;
+  some = λ none. expansion_some (seen s) c (sym are ∙ none);
+  unrefused = subst (RefusedOrDone (seen s)) (sym are) (expansion_unrefused (seen s) c);
+}
+
+pub install_stands : (s : State) (words : Type1Words) (actions : List Action)
+    → actions ≡ actions_or_refusal (λ actions. actions) (install_expansion (seen s) words) → StandsFor s (several.Type1Install words) actions
 unfolding expansion
-no_expansion view (command.Type1Install words) is = cc
-no_expansion view (command.Type1Cleanup esp) is = cc
-no_expansion view (command.Keep words) is = cc
-no_expansion view c is = refl
+install_stands s words actions are = stands_for s (several.Type1Install words) actions are
 
-abbrev IsWordless : Command → Type 0
-IsWordless c = is_wordless c ≡ true
-
--- what is so of the commands where one is refused, and for each that may be planned
-pub ok_bind : (P : List Command → Type 0) → P [] → {A : Type 0} (r : Result A Refusal) (f : A → Result (List Command) Refusal)
-    → ((x : A) → P (ok_commands (f x))) → P (ok_commands (r >>= f))
-ok_bind P none (Err why) f each = none
-ok_bind P none (Ok x) f each = each x
-
-puts_wordless : (view : Files) (plan : Type1Plan) (paths : List Path)
-    → All IsWordless (map (put_of view plan.esp) paths ++ enter_of view plan ∷ [])
-puts_wordless view plan [] = All-cons IsWordless (enter_of view plan) [] refl (All-nil IsWordless)
-puts_wordless view plan (path ∷ paths) =
-    All-cons IsWordless (put_of view plan.esp path) (map (put_of view plan.esp) paths ++ enter_of view plan ∷ []) refl
-    (puts_wordless view plan paths)
-
-removals_wordless : (paths : List Path) → All IsWordless (map command.Remove paths)
-removals_wordless [] = All-nil IsWordless
-removals_wordless (path ∷ paths) =
-    All-cons IsWordless (command.Remove path) (map command.Remove paths) refl (removals_wordless paths)
-
-install_wordless : (view : Files) (words : Type1Words) → All IsWordless (ok_commands (install_expansion view words))
-unfolding install_expansion
-install_wordless view words =
-    let none : All IsWordless [] = All-nil IsWordless in
-    ok_bind (All IsWordless) none (install_plan words) (planned_install view) (λ plan.
-    ok_bind (All IsWordless) none (each (bytes_at view) (plan.linux ∷ plan.initrds)) (λ _. Ok (install_commands view plan)) (λ _.
-    puts_wordless view plan (plan.linux ∷ plan.initrds)))
-
-cleanup_wordless : (view : Files) (word : List ℕ) → All IsWordless (ok_commands (cleanup_expansion view word))
-unfolding cleanup_expansion
-cleanup_wordless view word =
-    let none : All IsWordless [] = All-nil IsWordless in
-    ok_bind (All IsWordless) none (folders_of word) _ (λ folders.
-    ok_bind (All IsWordless) none (path_in word) _ (λ esp.
-    ok_bind (All IsWordless) none (path_under esp payload_probe) _ (λ _.
-    ok_bind (All IsWordless) none (menu_at view folders) _ (λ menu.
-    removals_wordless (unnamed_payloads view esp menu)))))
-
-unless_wordless : (dry_run : Bool) (paths : List Path) → All IsWordless (removals_unless dry_run paths)
-unless_wordless true paths = All-nil IsWordless
-unless_wordless false paths = removals_wordless paths
-
-keep_wordless : (view : Files) (words : KeepWords) → All IsWordless (ok_commands (keep_expansion view words))
-keep_wordless view words =
-    ok_bind (All IsWordless) (All-nil IsWordless) (keep_result view words) _ (unless_wordless words.dry_run)
-
--- no words ask for what a command stands for
-pub all_wordless : (view : Files) (c : Command) → All (λ x. is_wordless x ≡ true) (expansion view c)
+pub clean_stands : (s : State) (esp : List ℕ) (actions : List Action)
+    → actions ≡ actions_or_refusal clean_or_idle (cleanup_expansion (seen s) esp) → StandsFor s (several.Type1Cleanup esp) actions
 unfolding expansion
-all_wordless view (command.Type1Install words) = install_wordless view words
-all_wordless view (command.Type1Cleanup esp) = cleanup_wordless view esp
-all_wordless view (command.Keep words) = keep_wordless view words
-all_wordless view c = All-nil IsWordless
+clean_stands s esp actions are = stands_for s (several.Type1Cleanup esp) actions are
+
+pub keep_stands : (s : State) (words : KeepWords) (actions : List Action)
+    → actions ≡ actions_or_refusal (keep_actions words.dry_run) (keep_result (seen s) words) → StandsFor s (several.Keep words) actions
+unfolding expansion
+keep_stands s words actions are = stands_for s (several.Keep words) actions are
+
+pub demo_stands : (s : State) (seed count : List ℕ) (actions : List Action)
+    → actions ≡ actions_or_refusal (λ text. action.Tell text ∷ []) (demo_result seed count) → StandsFor s (several.Demo seed count) actions
+unfolding expansion
+demo_stands s seed count actions are = stands_for s (several.Demo seed count) actions are
+
+-- ---- what was found, or the refusal
+
+pub refused_so : {A : Type 0} (made : A → List Action) (why : Unsaid) (actions : List Action) (meant : Result A Refusal)
+    → RefusesUnsaid why actions → UnsaidFor why meant → actions ≡ actions_or_refusal made meant
+refused_so made unsaid.Memory actions meant refuses is = absurd refuses
+refused_so made unsaid.Disk actions meant refuses is = absurd refuses
+refused_so made (unsaid.Refused why) actions meant refuses is = refuses ∙ sym (ap (actions_or_refusal made) is)
+
+pub made_so : {A : Type 0} (made : A → List Action) (found : A) (actions : List Action) (meant : Result A Refusal)
+    → actions ≡ made found → meant ≡ Ok found → actions ≡ actions_or_refusal made meant
+made_so made found actions meant are is = are ∙ sym (ap (actions_or_refusal made) is)
+
+-- a cleanup has nothing to do, or does this
+pub clean_idle : (actions : List Action) → length actions ≡ 0 → clean_or_idle actions ≡ clean_or_idle []
+clean_idle [] none = refl
+clean_idle (first ∷ more) none = absurd (omega (arith, none))
+
+pub clean_done : (actions : List Action) → (length actions ≡ 0 → ⊥) → actions ≡ clean_or_idle actions
+clean_done [] some = absurd (some refl)
+clean_done (first ∷ more) some = refl
+
+-- a `keep` only tells, or removes these files
+pub keep_told : (dry_run : Bool) (paths : List Path) → (dry_run || nat_eq (length paths) 0) ≡ true
+    → action.Tell (would_text paths) ∷ [] ≡ keep_actions dry_run paths
+keep_told true paths is = refl
+keep_told false [] is = refl
+keep_told false (path ∷ paths) is = absurd (omega (arith, eqb-true (length (path ∷ paths)) 0 is))
+
+pub keep_removes : (dry_run : Bool) (paths : List Path) → (dry_run || nat_eq (length paths) 0) ≡ false
+    → map action.Remove paths ≡ keep_actions dry_run paths
+keep_removes true paths is = cc
+keep_removes false [] is = cc
+keep_removes false (path ∷ paths) is = refl
+
+-- a text as it is told
+pub told_empty : (text : List ℕ) → length text ≡ 0 → told_text text ≡ codes "\n"
+told_empty [] none = refl
+told_empty (byte ∷ bytes) none = absurd (omega (arith, none))
+
+pub told_some : (text : List ℕ) → (length text ≡ 0 → ⊥) → told_text text ≡ text
+told_some [] some = absurd (some refl)
+told_some (byte ∷ bytes) some = refl

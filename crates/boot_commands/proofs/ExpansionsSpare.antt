@@ -25,8 +25,10 @@ use Rattle.command_plans.specs.Declining.{◌>>=◌, path_in, path_under}
 use Rattle.command_plans.specs.Files.{bytes_at, each}
 use Rattle.command_plans.specs.Folders.{folders_of}
 use Rattle.command_plans.specs.Menus.{menu_at}
-use Rattle.tool_words.specs.declared.command.Command.{Command}
-use Rattle.tool_words.specs.declared.command.Command.TheVariants as command
+use Rattle.tool_words.specs.declared.command.Several.{Several}
+use Rattle.tool_words.specs.declared.command.Several.TheVariants as several
+use Rattle.tool_words.specs.declared.action.Action.{Action}
+use Rattle.tool_words.specs.declared.action.Action.TheVariants as action
 use Rattle.tool_words.specs.declared.command.Type1Words.{Type1Words}
 use Rattle.entry_commands.specs.GoodEntries.{HasGoodEntry}
 use Rattle.entry_commands.proofs.GoodEntries.{put_apart}
@@ -35,7 +37,6 @@ use Rattle.command_plans.proofs.Steps.{clash}
 use Rattle.boot_texts.specs.EntryText.{entry_text, is_payload_name}
 use Rattle.type1_install.specs.Installing.{Type1Plan, enter_of, fields_of, install_commands, install_expansion, install_plan, payload_probe, planned_install, put_of}
 use Rattle.type1_install.specs.Cleaning.{cleanup_expansion, is_unnamed}
-use Rattle.boot_commands.specs.Expansions.{ok_commands}
 use Rattle.type1_install.specs.Cleaning.{unnamed_payloads}
 use Rattle.type1_install.specs.Payloads.{folders_at, is_payload_path, item_names, payload_folder, payload_name, payload_path}
 use Rattle.type1_install.proofs.Cleaning.{all_kept}
@@ -43,14 +44,13 @@ use Rattle.type1_install.proofs.Installing.{entry_is}
 use Rattle.type1_install.proofs.PayloadNames.{payload_name_fits}
 use Rattle.type1_install.proofs.PayloadsKept.{payload_slash, payload_unlike}
 use Rattle.type1_install.proofs.Planned.{IsPlanned, planned}
-use Rattle.boot_commands.specs.Commands.{step_reply}
-use Rattle.boot_commands.specs.Expansions.{expansion}
-use Rattle.boot_commands.specs.Plain.{plain_answer}
-use Rattle.boot_commands.proofs.Expansions.{ok_bind}
-use Rattle.boot_commands.proofs.Sparing.{kept}
+use Rattle.boot_commands.specs.Expansions.{clean_or_idle, expansion, actions_or_refusal}
+use Rattle.boot_commands.specs.Replies.{action_reply}
+use Rattle.boot_commands.proofs.Unrefused.{bound_or_refused}
+use Rattle.boot_commands.proofs.Sparing.{action_kept}
 
-enter_after : (view : Files) (path : Path) (text : List ℕ) → (step_reply view (command.Enter path text)).after ≡ map_of.insert view path text
-unfolding step_reply plain_answer
+enter_after : (view : Files) (path : Path) (text : List ℕ) → (action_reply view (action.Enter path text)).after ≡ map_of.insert view path text
+unfolding action_reply
 enter_after view path text = refl
 
 -- the name of the good entry's file, and its type
@@ -64,9 +64,9 @@ conf_type name Conf of_type conf = refl
 conf_type name Efi of_type conf = absurd (clash conf (one_type name of_type))
 
 module _ (word : List ℕ) (folders : Folders) (read : folders_of word ≡ Ok folders) (path : Path) where
-  -- a command keeps the good entry at this path, whatever else there is
-  abbrev pub Keeping : Command → Type 0
-  Keeping c = (v : Files) → HasGoodEntry folders path v → HasGoodEntry folders path (step_reply v c).after
+  -- an action keeps the good entry at this path, whatever else there is
+  abbrev pub Keeping : Action → Type 0
+  Keeping c = (v : Files) → HasGoodEntry folders path v → HasGoodEntry folders path (action_reply v c).after
 
   -- a file that is named like a payload isn't that entry's
   digits_apart : (v : Files) → HasGoodEntry folders path v → (at : Path) → is_payload_name (file_name_of at) ≡ true → at ≢ path
@@ -80,7 +80,7 @@ module _ (word : List ℕ) (folders : Folders) (read : folders_of word ≡ Ok fo
       let bytes = contents view file in
       let fits = payload_name_fits bytes in
       let last = file_name_under (payload_folder esp) (payload_name bytes) (payload_slash (payload_name bytes) fits) in
-      kept word folders read path v e (put_of view esp file)
+      action_kept word folders read path v e (put_of view esp file)
       (digits_apart v e (payload_path esp bytes) (ap is_payload_name last ∙ fits))
 
   enter_keeps : (view : Files) (plan : Type1Plan) → IsPlanned view plan → Keeping (enter_of view plan)
@@ -105,6 +105,12 @@ module _ (word : List ℕ) (folders : Folders) (read : folders_of word ≡ Ok fo
             (λ same. clash ((bytes_eq-Decides path plan.entry).1 (sym same)) two)
       ])
 
+  only_keeps : (c : Action) → Keeping c → All Keeping (c ∷ [])
+  only_keeps c keeps = All-cons Keeping c [] keeps (All-nil Keeping)
+
+  refusal_keeps : (why : Refusal) → All Keeping (action.Refuse why ∷ [])
+  refusal_keeps why = only_keeps (action.Refuse why) (λ v e. action_kept word folders read path v e (action.Refuse why) tt)
+
   puts_keep : (view : Files) (plan : Type1Plan) → IsPlanned view plan → (files : List Path)
       → All Keeping (map (put_of view plan.esp) files ++ enter_of view plan ∷ [])
   puts_keep view plan is [] = All-cons Keeping (enter_of view plan) [] (enter_keeps view plan is) (All-nil Keeping)
@@ -114,40 +120,44 @@ module _ (word : List ℕ) (folders : Folders) (read : folders_of word ≡ Ok fo
 
   readable_keep : (view : Files) (words : Type1Words) (plan : Type1Plan) → install_plan words ≡ Ok plan
       → (reads : Result (List (List ℕ)) Refusal) → each (bytes_at view) (plan.linux ∷ plan.initrds) ≡ reads
-      → All Keeping (ok_commands (reads >>= λ _. Ok (install_commands view plan)))
-  readable_keep view words plan planned_is (Err why) is = All-nil Keeping
+      → All Keeping (actions_or_refusal (λ actions. actions) (reads >>= λ _. Ok (install_commands view plan)))
+  readable_keep view words plan planned_is (Err why) is = refusal_keeps why
   readable_keep view words plan planned_is (Ok reads) is =
       puts_keep view plan (planned view words plan planned_is reads is) (plan.linux ∷ plan.initrds)
 
   planned_keep : (view : Files) (words : Type1Words) (meant : Result Type1Plan Refusal) → install_plan words ≡ meant
-      → All Keeping (ok_commands (meant >>= planned_install view))
-  planned_keep view words (Err why) is = All-nil Keeping
+      → All Keeping (actions_or_refusal (λ actions. actions) (meant >>= planned_install view))
+  planned_keep view words (Err why) is = refusal_keeps why
   planned_keep view words (Ok plan) is =
       readable_keep view words plan is (each (bytes_at view) (plan.linux ∷ plan.initrds)) refl
 
   -- each command of an installation
-  pub install_keeps : (view : Files) (words : Type1Words) → All Keeping (expansion view (command.Type1Install words))
+  pub install_keeps : (view : Files) (words : Type1Words) → All Keeping (expansion view (several.Type1Install words))
   unfolding expansion install_expansion
   install_keeps view words = planned_keep view words (install_plan words) refl
 
   removals_keep : (esp : Path) (menu : List MenuItem) (paths : List Path) → All (λ p. is_unnamed esp menu p ≡ true) paths
-      → All Keeping (map command.Remove paths)
+      → All Keeping (map action.Remove paths)
   removals_keep esp menu [] all = All-nil Keeping
   removals_keep esp menu (at ∷ paths) all =
       let parts = and_parts (is_payload_path esp at) (not (list_any (item_names esp at) menu))
       (All-head (λ p. is_unnamed esp menu p ≡ true) at paths all) in
       let digits = and_parts (is_payload_name (file_name_of at)) (bytes_eq (under (payload_folder esp) (file_name_of at)) at) parts.0 in
-      All-cons Keeping (command.Remove at) (map command.Remove paths)
-      (λ v e. kept word folders read path v e (command.Remove at) (digits_apart v e at digits.0))
+      All-cons Keeping (action.Remove at) (map action.Remove paths)
+      (λ v e. action_kept word folders read path v e (action.Remove at) (digits_apart v e at digits.0))
       (removals_keep esp menu paths (All-tail (λ p. is_unnamed esp menu p ≡ true) at paths all))
 
+  clean_keeps : (actions : List Action) → All Keeping actions → All Keeping (clean_or_idle actions)
+  clean_keeps [] all = only_keeps (action.Tell _) (λ v e. action_kept word folders read path v e (action.Tell _) tt)
+  clean_keeps (first ∷ more) all = all
+
   -- and of a cleanup
-  pub cleanup_keeps : (view : Files) (esp : List ℕ) → All Keeping (expansion view (command.Type1Cleanup esp))
+  pub cleanup_keeps : (view : Files) (esp : List ℕ) → All Keeping (expansion view (several.Type1Cleanup esp))
   unfolding expansion cleanup_expansion
   cleanup_keeps view esp =
-      let none : All Keeping [] = All-nil Keeping in
-      ok_bind (All Keeping) none (folders_of esp) _ (λ folders.
-      ok_bind (All Keeping) none (path_in esp) _ (λ at.
-      ok_bind (All Keeping) none (path_under at payload_probe) _ (λ _.
-      ok_bind (All Keeping) none (menu_at view folders) _ (λ menu.
-      removals_keep at menu (unnamed_payloads view at menu) (all_kept (is_unnamed at menu) (map_of.keys view))))))
+      bound_or_refused (All Keeping) refusal_keeps clean_or_idle (folders_of esp) _ (λ folders.
+      bound_or_refused (All Keeping) refusal_keeps clean_or_idle (path_in esp) _ (λ at.
+      bound_or_refused (All Keeping) refusal_keeps clean_or_idle (path_under at payload_probe) _ (λ _.
+      bound_or_refused (All Keeping) refusal_keeps clean_or_idle (menu_at view folders) _ (λ menu.
+      clean_keeps (map action.Remove (unnamed_payloads view at menu))
+      (removals_keep at menu (unnamed_payloads view at menu) (all_kept (is_unnamed at menu) (map_of.keys view)))))))

@@ -6,8 +6,8 @@ use Rattle.boot_base.specs.declared.refusal.Refusal.{Refusal}
 use Rattle.boot_base.proofs.Temp.{is_temp-behind}
 use Rattle.boot_machine.specs.Disk.{State, has}
 use Rattle.install_steps.specs.Steps.{NoNewTemp}
-use Rattle.tool_words.specs.declared.command.Command.{Command}
-use Rattle.tool_words.specs.declared.command.Command.TheVariants as command
+use Rattle.tool_words.specs.declared.command.One.{One}
+use Rattle.tool_words.specs.declared.command.One.TheVariants as one
 use Rattle.boot_commands.specs.Commands.{LeavesTidied}
 use Rattle.command_plans.specs.Folders.{folders_of}
 use Rattle.entry_commands.specs.Tidying.{CleanAt, IsClean}
@@ -20,8 +20,8 @@ clean_later s now folder none clean name is_name temp = elim (cases_Bool (has no
   | inr gone ↦ gone
 ]
 
-pub tidied_later : (s now : State) (c : Command) → NoNewTemp s now → LeavesTidied c s.files → LeavesTidied c now.files
-tidied_later s now (command.Tidy esp) none tidied = by_folders (folders_of esp) tidied
+pub tidied_later : (s now : State) (c : One) → NoNewTemp s now → LeavesTidied c s.files → LeavesTidied c now.files
+tidied_later s now (one.Tidy esp) none tidied = by_folders (folders_of esp) tidied
   where
     by_folders : (read : Result Folders Refusal) → CleanAt s.files read → CleanAt now.files read
     by_folders (Err why) clean = tt

@@ -2,7 +2,6 @@ mod Beginning
 pub mod ConfPlaces
 pub mod Expansions
 pub mod ExpansionsSpare
-mod Finding
 pub mod Later
 mod Numbers
 mod Reading

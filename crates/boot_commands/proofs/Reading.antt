@@ -14,7 +14,7 @@ use Rattle.command_plans.specs.declared.outcome.Stop.{Stop}
 use Rattle.command_plans.specs.declared.plan.Plan.{Plan}
 use Rattle.command_plans.proofs.Performed.{after_reads}
 use Rattle.boot_commands.specs.Commands.{TidiesTo}
-use Rattle.tool_words.specs.declared.command.Command.{Command}
+use Rattle.tool_words.specs.declared.command.One.{One}
 
 module _ {D : Type 0} (time : Timeline D) (state : D → State) (old mid new : D) (plan : Plan) (answer : Answer) (result : Result Outcome Stop) where
   same_deed : OnlyReads time state old mid → answer_of_plan (seen (state old)) plan ≡ answer → deed_of_answer (answer_of_plan (seen (state mid)) plan) ≡ deed_of_answer answer
@@ -26,5 +26,5 @@ module _ {D : Type 0} (time : Timeline D) (state : D → State) (old mid new : D
       after_reads time state old (deed_of_answer answer) mid new result sees reads
       (subst (λ d. Performs time state end_of mid new d result) (same_deed reads is) (performs (subst IsFirm (sym reads.same) firm)))
 
-pub tidies_after : (result : Result Outcome Stop) (c : Command) (old mid new : State) → mid ≡ old → TidiesTo result c mid new → TidiesTo result c old new
+pub tidies_after : (result : Result Outcome Stop) (c : One) (old mid new : State) → mid ≡ old → TidiesTo result c mid new → TidiesTo result c old new
 tidies_after result c old mid new same tidies = subst (λ (s : State). TidiesTo result c s new) same tidies

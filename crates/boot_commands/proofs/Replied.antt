@@ -9,24 +9,11 @@ use Rattle.boot_machine.specs.declared.machine.Channel.{Channel}
 use Rattle.boot_machine.specs.declared.machine.Printed.{Printed}
 use Rattle.boot_machine.proofs.Recovering.{recovered_view-calm}
 use Rattle.boot_machine.proofs.Seeing.{latest_view-recovered_views}
-use Rattle.tool_words.specs.declared.command.Command.{Command}
-use Rattle.tool_words.specs.declared.command.Command.TheVariants as command
 use Rattle.command_plans.specs.Answers.{Answer, channel_of}
 use Rattle.command_plans.specs.Deeds.{deed_of_answer}
 use Rattle.command_plans.specs.Performs.{DoesDeed}
 use Rattle.command_plans.specs.declared.outcome.Outcome.{Outcome}
-use Rattle.boot_commands.specs.Commands.{step_reply}
 use Rattle.boot_commands.specs.DemoRuns.{IsReady}
-use Rattle.boot_commands.specs.Plain.{is_plain, plain_reply}
-
--- a command that runs no other is answered the same as a step
-pub plain_is : (view : Files) (c : Command) → is_plain c ≡ true → step_reply view c ≡ plain_reply view c
-unfolding step_reply
-plain_is view (command.Demo seed count) is = absurd (cc is)
-plain_is view (command.Type1Install words) is = absurd (cc is)
-plain_is view (command.Type1Cleanup esp) is = absurd (cc is)
-plain_is view (command.Keep words) is = absurd (cc is)
-plain_is view c is = refl
 
 bytes_tagged : (to : Channel) (bytes : List ℕ) → map (λ (p : Printed). p.byte) (on_channel to bytes) ≡ bytes
 bytes_tagged to [] = refl

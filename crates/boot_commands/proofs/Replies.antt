@@ -6,8 +6,10 @@ use Rattle.boot_base.specs.declared.refusal.Refusal.{Refusal}
 use Rattle.boot_base.specs.declared.refusal.Refusal.TheVariants as refusals
 use Rattle.boot_machine.specs.Disk.{Files}
 use Rattle.pcr_values.specs.ValueLines.{heading_of, value_lines}
-use Rattle.tool_words.specs.declared.command.Command.{Command}
-use Rattle.tool_words.specs.declared.command.Command.TheVariants as command
+use Rattle.tool_words.specs.declared.command.One.{One}
+use Rattle.tool_words.specs.declared.command.One.TheVariants as one
+use Rattle.tool_words.specs.declared.action.Action.{Action}
+use Rattle.tool_words.specs.declared.action.Action.TheVariants as action
 use Rattle.command_plans.specs.Answers.{Answer, answer_or_refusal, done_answer}
 use Rattle.pcr_values.specs.declared.bank.Bank.{Bank}
 use Rattle.pe_reader.specs.declared.fault.FailedCheck.{FailedCheck}
@@ -22,18 +24,12 @@ use Rattle.image_commands.specs.Told.{told_sections, told_values}
 use Rattle.list_json.specs.Registers.{values_data}
 use Rattle.list_json.specs.Sections.{SectionFacts, sections_data}
 use Rattle.list_json.proofs.Some.{some_json}
-use Rattle.boot_commands.specs.Commands.{step_reply}
-use Rattle.boot_commands.specs.Plain.{answer_or_none, plain_answer}
-use Rattle.type1_install.specs.Cleaning.{cleanup_expansion}
-use Rattle.boot_commands.specs.Expansions.{own_answer, refused_answer}
-use Rattle.type1_install.specs.Installing.{install_expansion}
+use Rattle.boot_commands.specs.Replies.{one_reply, action_reply, told_text}
 use Rattle.type1_install.specs.Placing.{payload_text}
-use Rattle.boot_commands.specs.Demonstration.{demo_result, number_up_to}
 use Rattle.command_plans.specs.Folders.{folders_of}
 use Rattle.entry_commands.proofs.Replies.{HasText, some_boot, some_install, some_line, some_list, some_marked, some_said, text_next}
 use Rattle.command_plans.specs.Declining.{◌>>=◌, path_in, printed_path}
 use Rattle.command_plans.specs.Refusing.{unless_refused}
-use Rattle.entry_commands.specs.Keeping.{keep_answer, keep_result}
 use Rattle.entry_commands.specs.Tidying.{tidy_answer}
 use Rattle.command_plans.specs.Changes.{removal, unlink_answer}
 use Rattle.entry_commands.specs.Unlinking.{entry_path}
@@ -105,53 +101,41 @@ some_put : (view : Files) (target : Path) (bytes : Result (List ℕ) Refusal)
 some_put view target (Ok bytes) = omega arith
 some_put view target (Err why) = some_line why
 
-some_refused : (view : Files) (commands : Result (List Command) Refusal) → 0 < length (answer_or_none view (refused_answer view commands)).text
-some_refused view (Err why) = some_line why
-some_refused view (Ok commands) = some_line (refusals.BadScript 0)
-
-some_own : (view : Files) (idle : List ℕ) → 0 < length idle → (commands : Result (List Command) Refusal) → 0 < length (answer_or_none view (own_answer view idle commands)).text
-some_own view idle some (Err why) = some_line why
-some_own view idle some (Ok []) = some
-some_own view idle some (Ok (first ∷ more)) = some_line (refusals.BadScript 0)
-
-some_keep : (view : Files) (dry_run : Bool) (found : Result (List Path) Refusal) → 0 < length (answer_or_none view (keep_answer view dry_run found)).text
-some_keep view dry_run (Err why) = some_line why
-some_keep view dry_run (Ok []) = omega arith
-some_keep view true (Ok (path ∷ paths)) = omega arith
-some_keep view false (Ok (path ∷ paths)) = some_line (refusals.BadScript 0)
-
 -- no command's reply is empty: a case for each command
-pub some_text : (view : Files) (c : Command) → 0 < length (step_reply view c).text
-unfolding step_reply plain_answer
-some_text view (command.Build words) = some_built view words.measure (build_of view words)
-some_text view (command.Calculate words) =
+pub some_text : (view : Files) (c : One) → 0 < length (one_reply view c).text
+unfolding one_reply
+some_text view (one.Build words) = some_built view words.measure (build_of view words)
+some_text view (one.Calculate words) =
     some_said view (calculate_result view words)
     (text_next (each (under_name path_in) (present_parts (part_words words))) _ (λ paths. text_next (each (under_name (bytes_at view)) paths) _ (λ parts. some_told words.json _ (banks_of words.banks) words.phases)))
-some_text view (command.Inspect file json) =
+some_text view (one.Inspect file json) =
     some_said view (inspect_result view file json)
     (text_next (path_in file) (inspection_at view json) (λ path. text_next (image_at view path) _ (λ image. some_sections json path (map (section_facts image.0) image.1.sections))))
-some_text view (command.Image file banks phases json) =
+some_text view (one.Image file banks phases json) =
     some_said view (measure_result view file banks phases json)
     (text_next (path_in file) (values_at view banks phases json) (λ path. text_next (image_at view path) _ (λ image. some_told json _ (banks_of banks) phases)))
-some_text view (command.Identify file) =
+some_text view (one.Identify file) =
     some_said view (identify_result view file) (text_next (path_in file) (kind_at view) (λ path. text_next (bytes_at view path) _ (λ bytes. some_kind bytes (pe_of bytes))))
-some_text view (command.List esp json) = some_list view esp json
-some_text view (command.Tidy esp) = some_unless view (folders_of esp) (tidy_answer view) (λ folders. omega arith)
-some_text view (command.Boot esp) = some_boot view esp
-some_text view (command.Unlink name esp) = some_unless view (entry_path name esp) (unlink_answer view) (λ path. some_removal view path (get view path))
-some_text view (command.Install file name tries esp) = some_install view file name tries esp
-some_text view (command.Bless verb path esp) = some_marked view verb path esp
-some_text view (command.LoaderShow esp) = some_said view (show_result view esp)
+some_text view (one.List esp json) = some_list view esp json
+some_text view (one.Tidy esp) = some_unless view (folders_of esp) (tidy_answer view) (λ folders. omega arith)
+some_text view (one.Boot esp) = some_boot view esp
+some_text view (one.Unlink name esp) = some_unless view (entry_path name esp) (unlink_answer view) (λ path. some_removal view path (get view path))
+some_text view (one.Install file name tries esp) = some_install view file name tries esp
+some_text view (one.Bless verb path esp) = some_marked view verb path esp
+some_text view (one.LoaderShow esp) = some_said view (show_result view esp)
     (text_next (loader_paths esp) _ (λ paths. text_next (conf_bytes view paths.conf) _ (λ bytes. text_next (menu_at view paths.folders) (menu_shown bytes) (λ menu. some_shown (conf_timeout bytes) (default_item (conf_default bytes) menu)))))
-some_text view (command.LoaderDefault pattern esp) = some_changed view Default pattern (conf_update view Default pattern esp)
-some_text view (command.LoaderTimeout value esp) = some_changed view Timeout value (conf_update view Timeout value esp)
-some_text view (command.Type1Install words) = some_refused view (install_expansion view words)
-some_text view (command.Type1Cleanup esp) = some_own view (codes "nothing to clean\n") (omega arith) (cleanup_expansion view esp)
-some_text view (command.Keep words) = some_keep view words.dry_run (keep_result view words)
-some_text view (command.Put file target) = some_put view target (bytes_at view file)
-some_text view (command.Enter path text) = omega arith
-some_text view (command.Remove path) = some_removal view path (get view path)
-some_text view command.Script = some_line (refusals.BadScript 0)
-some_text view (command.Demo seed count) =
-    some_said view (demo_result seed count)
-    (text_next (number_up_to 18446744073709551615 seed) _ (λ seed. text_next (number_up_to 10000 count) _ (λ count. omega arith)))
+some_text view (one.LoaderDefault pattern esp) = some_changed view Default pattern (conf_update view Default pattern esp)
+some_text view (one.LoaderTimeout value esp) = some_changed view Timeout value (conf_update view Timeout value esp)
+
+some_told_text : (text : List ℕ) → 0 < length (told_text text)
+some_told_text [] = omega arith
+some_told_text (byte ∷ bytes) = omega arith
+
+-- nor is an action's
+pub some_action : (view : Files) (c : Action) → 0 < length (action_reply view c).text
+unfolding action_reply
+some_action view (action.Put file target) = some_put view target (bytes_at view file)
+some_action view (action.Enter path text) = omega arith
+some_action view (action.Remove path) = some_removal view path (get view path)
+some_action view (action.Refuse why) = some_line why
+some_action view (action.Tell text) = some_told_text text

@@ -8,14 +8,15 @@ use Rattle.boot_machine.specs.Disk.{Files}
 use Rattle.command_plans.specs.Answers.{Answer, answer_of_read, answer_or_refusal, done_answer}
 use Rattle.command_plans.specs.Refusing.{unless_refused}
 use Rattle.command_plans.specs.Declining.{◌>>=◌, path_in}
-use Rattle.tool_words.specs.declared.command.Command.{Command}
-use Rattle.tool_words.specs.declared.command.Command.TheVariants as command
+use Rattle.tool_words.specs.declared.command.One.{One}
+use Rattle.tool_words.specs.declared.command.One.TheVariants as one
+use Rattle.tool_words.specs.declared.action.Action.{Action}
+use Rattle.tool_words.specs.declared.action.Action.TheVariants as action
 use Rattle.image_build.specs.Building.{BuiltImage, build_of, built_answer}
 use Rattle.image_commands.specs.Calculating.{calculate_result}
 use Rattle.image_commands.specs.Said.{identify_result, measure_result, inspect_result}
 use Rattle.command_plans.specs.Folders.{folders_of}
 use Rattle.entry_commands.specs.GoodEntries.{HasGoodEntry}
-use Rattle.entry_commands.specs.Keeping.{keep_answer, keep_result}
 use Rattle.entry_commands.specs.Listing.{list_result}
 use Rattle.entry_commands.specs.Tidying.{tidy_answer}
 use Rattle.command_plans.specs.Changes.{unlink_answer}
@@ -26,17 +27,11 @@ use Rattle.loader_commands.specs.Setting.{changed_conf, conf_update, changed_tex
 use Rattle.loader_commands.specs.Showing.{show_result}
 use Rattle.boot_texts.specs.declared.conf_change.ConfKey.{ConfKey}
 use Rattle.boot_texts.specs.declared.conf_change.ConfKey.TheVariants.{Default, Timeout}
-use Rattle.boot_commands.specs.Commands.{step_reply}
-use Rattle.boot_commands.specs.Plain.{answer_or_none, plain_answer}
-use Rattle.std.specs.Prelude.{codes}
+use Rattle.boot_commands.specs.Replies.{one_reply, action_reply}
 use Rattle.std.specs.FinMap.{insert}
 use Rattle.command_plans.specs.Files.{bytes_at}
-use Rattle.type1_install.specs.Cleaning.{cleanup_expansion}
-use Rattle.boot_commands.specs.Expansions.{own_answer, refused_answer}
-use Rattle.type1_install.specs.Installing.{install_expansion}
 use Rattle.type1_install.specs.Placing.{payload_text}
-use Rattle.boot_commands.specs.Demonstration.{demo_result}
-use Rattle.boot_commands.specs.Sparing.{Spares}
+use Rattle.boot_commands.specs.Sparing.{Spares, ActionSpares}
 use Rattle.image_build.proofs.Outputs.{build_output}
 use Rattle.boot_commands.proofs.ConfPlaces.{conf_apart}
 
@@ -90,45 +85,31 @@ module _ (word : List ℕ) (folders : Folders) (read : folders_of word ≡ Ok fo
   kept_put target (Ok bytes) apart = put_apart folders path view entry target bytes apart
   kept_put target (Err why) apart = entry
 
-  kept_refused : (commands : Result (List Command) Refusal) → HasGoodEntry folders path (answer_or_none view (refused_answer view commands)).after
-  kept_refused (Err why) = entry
-  kept_refused (Ok commands) = entry
-
-  kept_own : (idle : List ℕ) (commands : Result (List Command) Refusal) → HasGoodEntry folders path (answer_or_none view (own_answer view idle commands)).after
-  kept_own idle (Err why) = entry
-  kept_own idle (Ok []) = entry
-  kept_own idle (Ok (first ∷ more)) = entry
-
-  kept_keep : (dry_run : Bool) (found : Result (List Path) Refusal) → HasGoodEntry folders path (answer_or_none view (keep_answer view dry_run found)).after
-  kept_keep dry_run (Err why) = entry
-  kept_keep dry_run (Ok []) = entry
-  kept_keep true (Ok (other ∷ paths)) = entry
-  kept_keep false (Ok (other ∷ paths)) = entry
-
   -- a case for each command
-  pub kept : (c : Command) → Spares path c → HasGoodEntry folders path (step_reply view c).after
-  unfolding step_reply plain_answer
-  kept (command.Build words) spares =
+  pub kept : (c : One) → Spares path c → HasGoodEntry folders path (one_reply view c).after
+  unfolding one_reply
+  kept (one.Build words) spares =
       kept_built words.measure (path_in words.output) (build_of view words) (build_output view words) spares
-  kept (command.Calculate words) spares = kept_said (calculate_result view words)
-  kept (command.Inspect file json) spares = kept_said (inspect_result view file json)
-  kept (command.Image file banks phases json) spares = kept_said (measure_result view file banks phases json)
-  kept (command.Identify file) spares = kept_said (identify_result view file)
-  kept (command.List esp json) spares = kept_said (list_result view esp json)
-  kept (command.Tidy esp) spares = kept_unless (folders_of esp) (tidy_answer view) (λ folders is. entry)
-  kept (command.Boot esp) spares = kept_boot folders path view entry esp
-  kept (command.Unlink name esp) spares = kept_unless (entry_path name esp) (unlink_answer view) (λ at is.
+  kept (one.Calculate words) spares = kept_said (calculate_result view words)
+  kept (one.Inspect file json) spares = kept_said (inspect_result view file json)
+  kept (one.Image file banks phases json) spares = kept_said (measure_result view file banks phases json)
+  kept (one.Identify file) spares = kept_said (identify_result view file)
+  kept (one.List esp json) spares = kept_said (list_result view esp json)
+  kept (one.Tidy esp) spares = kept_unless (folders_of esp) (tidy_answer view) (λ folders is. entry)
+  kept (one.Boot esp) spares = kept_boot folders path view entry esp
+  kept (one.Unlink name esp) spares = kept_unless (entry_path name esp) (unlink_answer view) (λ at is.
       kept_unlink folders path view entry at (λ same. spares (is ∙ ap Ok same)))
-  kept (command.Install file name tries esp) spares = kept_install folders path view entry file name tries esp
-  kept (command.Bless verb word esp) spares = kept_bless folders path view entry verb word esp spares
-  kept (command.LoaderShow esp) spares = kept_said (show_result view esp)
-  kept (command.LoaderDefault pattern esp) spares = kept_changed Default pattern (conf_update view Default pattern esp) (set_apart view Default pattern esp path (conf_apart word esp folders path view read entry))
-  kept (command.LoaderTimeout value esp) spares = kept_changed Timeout value (conf_update view Timeout value esp) (set_apart view Timeout value esp path (conf_apart word esp folders path view read entry))
-  kept (command.Type1Install words) spares = kept_refused (install_expansion view words)
-  kept (command.Type1Cleanup esp) spares = kept_own (codes "nothing to clean\n") (cleanup_expansion view esp)
-  kept (command.Keep words) spares = kept_keep words.dry_run (keep_result view words)
-  kept (command.Put file target) spares = kept_put target (bytes_at view file) spares
-  kept (command.Enter at text) spares = put_apart folders path view entry at text spares
-  kept (command.Remove at) spares = kept_unlink folders path view entry at spares
-  kept command.Script spares = entry
-  kept (command.Demo seed count) spares = kept_said (demo_result seed count)
+  kept (one.Install file name tries esp) spares = kept_install folders path view entry file name tries esp
+  kept (one.Bless verb word esp) spares = kept_bless folders path view entry verb word esp spares
+  kept (one.LoaderShow esp) spares = kept_said (show_result view esp)
+  kept (one.LoaderDefault pattern esp) spares = kept_changed Default pattern (conf_update view Default pattern esp) (set_apart view Default pattern esp path (conf_apart word esp folders path view read entry))
+  kept (one.LoaderTimeout value esp) spares = kept_changed Timeout value (conf_update view Timeout value esp) (set_apart view Timeout value esp path (conf_apart word esp folders path view read entry))
+
+  -- and for each action
+  pub action_kept : (c : Action) → ActionSpares path c → HasGoodEntry folders path (action_reply view c).after
+  unfolding action_reply
+  action_kept (action.Put file target) spares = kept_put target (bytes_at view file) spares
+  action_kept (action.Enter at text) spares = put_apart folders path view entry at text spares
+  action_kept (action.Remove at) spares = kept_unlink folders path view entry at spares
+  action_kept (action.Refuse why) spares = entry
+  action_kept (action.Tell text) spares = entry

@@ -35,22 +35,50 @@ use Rattle.command_plans.specs.Files.{bytes_at, each, readable_bytes}
 use Rattle.command_plans.specs.Folders.{folders_of}
 use Rattle.command_plans.specs.Menus.{menu_at}
 use Rattle.command_plans.proofs.Steps.{done_by, err_ok, ok_is}
-use Rattle.tool_words.specs.declared.command.Command.{Command}
-use Rattle.tool_words.specs.declared.command.Command.TheVariants as command
+use Rattle.tool_words.specs.declared.command.Several.{Several}
+use Rattle.tool_words.specs.declared.command.Several.TheVariants as several
+use Rattle.tool_words.specs.declared.action.Action.{Action}
+use Rattle.tool_words.specs.declared.action.Action.TheVariants as action
 use Rattle.tool_words.specs.declared.command.KeepWords.{KeepWords}
 use Rattle.entry_commands.specs.Counts.{count_in}
-use Rattle.entry_commands.specs.Keeping.{keep_result, removals_unless}
+use Rattle.entry_commands.specs.Keeping.{keep_result}
 use Rattle.entry_commands.proofs.Kept.{doomed_are}
 use Rattle.type1_install.specs.Cleaning.{cleanup_expansion, is_unnamed, unnamed_payloads}
 use Rattle.type1_install.specs.Installing.{Type1Plan, enter_of, install_commands, install_expansion, install_plan, payload_probe, planned_install, put_of}
 use Rattle.type1_install.specs.Payloads.{payload_path}
 use Rattle.type1_install.specs.Placing.{payload_text}
 use Rattle.type1_install.proofs.Cleaning.{menu_is}
-use Rattle.boot_commands.specs.Commands.{step_reply}
-use Rattle.boot_commands.specs.Expanding.{NoneRefused}
-use Rattle.boot_commands.specs.Expansions.{expansion, ok_commands}
-use Rattle.boot_commands.specs.Plain.{plain_answer}
-use Rattle.boot_commands.proofs.Expansions.{ok_bind}
+use Rattle.boot_commands.specs.Expanding.{NoneRefused, RefusedOrDone}
+use Rattle.boot_commands.specs.Expansions.{clean_or_idle, expansion, keep_actions, actions_or_refusal}
+use Rattle.boot_commands.specs.Demonstration.{demo_result}
+use Rattle.boot_commands.specs.Replies.{action_reply}
+
+-- ---- what was found, or the refusal
+
+-- what is so of the action that refuses, and of the actions that are made of whatever is found
+pub made_or_refused : (P : List Action → Type 0) → ((why : Refusal) → P (action.Refuse why ∷ [])) → {A : Type 0} (made : A → List Action)
+    (r : Result A Refusal) → ((x : A) → P (made x)) → P (actions_or_refusal made r)
+made_or_refused P refused made (Err why) each = refused why
+made_or_refused P refused made (Ok x) each = each x
+
+pub bound_or_refused : (P : List Action → Type 0) → ((why : Refusal) → P (action.Refuse why ∷ [])) → {A B : Type 0} (made : B → List Action)
+    (r : Result A Refusal) (f : A → Result B Refusal) → ((x : A) → P (actions_or_refusal made (f x))) → P (actions_or_refusal made (r >>= f))
+bound_or_refused P refused made (Err why) f each = refused why
+bound_or_refused P refused made (Ok x) f each = each x
+
+-- actions of which none is refused
+or_done : (view : Files) (actions : List Action) → NoneRefused view actions → RefusedOrDone view actions
+or_done view [] none = tt
+or_done view (action.Put file target ∷ actions) none = none
+or_done view (action.Enter path text ∷ actions) none = none
+or_done view (action.Remove path ∷ actions) none = none
+or_done view (action.Tell text ∷ actions) none = none
+or_done view (action.Refuse why ∷ []) none = tt
+or_done view (action.Refuse why ∷ (next ∷ actions)) none = none
+
+told_done : (view : Files) (text : List ℕ) → RefusedOrDone view (action.Tell text ∷ [])
+unfolding action_reply
+told_done view text = (refl, tt)
 
 -- ---- files that are removed
 
@@ -72,19 +100,19 @@ done_removal view path None some = cc
 done_removal view path (Some bytes) some = (refl, refl)
 
 done_remove : (view : Files) (path : Path) → is_some (maps.get view path) ≡ true
-    → (is_refusal (step_reply view (command.Remove path)).outcome ≡ false)
-    × ((step_reply view (command.Remove path)).after ≡ maps.remove view path)
-unfolding step_reply plain_answer
+    → (is_refusal (action_reply view (action.Remove path)).outcome ≡ false)
+    × ((action_reply view (action.Remove path)).after ≡ maps.remove view path)
+unfolding action_reply
 done_remove view path there = done_removal view path (maps.get view path) there
 
 -- a file each is at distinct paths
 pub removals_done : (view : Files) (paths : List Path) → IsDistinct bytes_eq paths → AreThere view paths
-    → NoneRefused view (map command.Remove paths)
+    → NoneRefused view (map action.Remove paths)
 removals_done view [] distinct there = tt
 removals_done view (path ∷ later) distinct there =
     let done = done_remove view path there.0 in (
       done.0,
-      subst (λ v. NoneRefused v (map command.Remove later)) (sym done.1)
+      subst (λ v. NoneRefused v (map action.Remove later)) (sym done.1)
           (removals_done (maps.remove view path) later (IsDistinct-tail bytes_eq path later distinct)
           (still_there view path later (IsDistinct-head bytes_eq path later distinct) there.1)),
     )
@@ -131,13 +159,13 @@ all_readable view target bytes small (path ∷ paths) all =
     (still_readable view target bytes small path all.0, all_readable view target bytes small paths all.1)
 
 done_put : (view : Files) (file target : Path) (bytes : List ℕ) → bytes_at view file ≡ Ok bytes
-    → step_reply view (command.Put file target) ≡ done_answer (maps.insert view target bytes) (payload_text target)
-unfolding step_reply plain_answer
+    → action_reply view (action.Put file target) ≡ done_answer (maps.insert view target bytes) (payload_text target)
+unfolding action_reply
 done_put view file target bytes read =
     ap (λ (r : Result (List ℕ) Refusal). answer_or_refusal view (r >>= λ bytes. Ok (done_answer (maps.insert view target bytes) (payload_text target)))) read
 
-done_enter : (view : Files) (path : Path) (text : List ℕ) → is_refusal (step_reply view (command.Enter path text)).outcome ≡ false
-unfolding step_reply plain_answer
+done_enter : (view : Files) (path : Path) (text : List ℕ) → is_refusal (action_reply view (action.Enter path text)).outcome ≡ false
+unfolding action_reply
 done_enter view path text = refl
 
 -- files that are there and not too large are put, and an entry is entered
@@ -166,12 +194,12 @@ each_readable view (file ∷ files) read is =
 
 install_done : (view : Files) (plan : Type1Plan) (reads : Result (List (List ℕ)) Refusal)
     → each (bytes_at view) (plan.linux ∷ plan.initrds) ≡ reads
-    → NoneRefused view (ok_commands (reads >>= λ _. Ok (install_commands view plan)))
+    → RefusedOrDone view (actions_or_refusal (λ actions. actions) (reads >>= λ _. Ok (install_commands view plan)))
 install_done view plan (Err why) is = tt
 install_done view plan (Ok read) is =
     puts_done view view plan (plan.linux ∷ plan.initrds) (each_readable view (plan.linux ∷ plan.initrds) read is)
 
--- ---- what each command stands for
+-- ---- the actions of each command
 
 -- the payloads that no entry names are files, each with a path of its own
 keys_there : (view : Files) (paths : List Path) → ((path : Path) → Contains paths path → has view path ≡ true) → AreThere view paths
@@ -182,7 +210,7 @@ keys_there view (path ∷ paths) are =
 key_there : (view : Files) (path : Path) → Contains (maps.keys view) path → has view path ≡ true
 key_there view path is = sym (member_is view path) ∙ list_any-from_Contains nat_list_eq_equiv path (maps.keys view) is
 
-cleanup_done : (view : Files) (esp : Path) (menu : List MenuItem) → NoneRefused view (map command.Remove (unnamed_payloads view esp menu))
+cleanup_done : (view : Files) (esp : Path) (menu : List MenuItem) → NoneRefused view (map action.Remove (unnamed_payloads view esp menu))
 cleanup_done view esp menu =
     removals_done view (unnamed_payloads view esp menu)
     (distinct_passing bytes_eq (is_unnamed esp menu) (maps.keys view) (distinct_paths view))
@@ -223,7 +251,7 @@ module _ (n : ℕ) (per_key : Bool) (first : Files) (folders : Folders) where
 
 -- the files that a `keep` finds are there, each at a path of its own
 found_done : (view : Files) (words : KeepWords) (paths : List Path) → keep_result view words ≡ Ok paths
-    → NoneRefused view (map command.Remove paths)
+    → NoneRefused view (map action.Remove paths)
 found_done view words paths is =
     let n = done_by (count_in words.number) _ paths is in
     let folders = done_by (folders_of words.esp) _ paths n.2 in
@@ -231,31 +259,37 @@ found_done view words paths is =
     let shown : boot_menu view folders.0 ≡ menu.0 = menu_is view folders.0 (nat_lt 4096 (entry_count view folders.0)) menu.0 menu.1 in
     let named : doomed_paths n.0 words.per_key (boot_menu view folders.0) ≡ paths =
     ap (doomed_paths n.0 words.per_key) shown ∙ doomed_are n.0 words.per_key menu.0 paths menu.2 in
-    subst (λ (l : List Path). NoneRefused view (map command.Remove l)) named
+    subst (λ (l : List Path). NoneRefused view (map action.Remove l)) named
     (removals_done view (doomed_paths n.0 words.per_key (boot_menu view folders.0))
     (own_doomed n.0 words.per_key view folders.0) (doomed_there n.0 words.per_key view folders.0))
 
-unless_done : (view : Files) (dry_run : Bool) (paths : List Path) → NoneRefused view (map command.Remove paths)
-    → NoneRefused view (removals_unless dry_run paths)
-unless_done view true paths done = tt
-unless_done view false paths done = done
+keep_done : (view : Files) (words : KeepWords) (dry_run : Bool) (paths : List Path) → NoneRefused view (map action.Remove paths)
+    → RefusedOrDone view (keep_actions dry_run paths)
+keep_done view words true paths done = told_done view _
+keep_done view words false [] done = told_done view _
+keep_done view words false (path ∷ paths) done = done
 
-keep_done : (view : Files) (words : KeepWords) (found : Result (List Path) Refusal) → keep_result view words ≡ found
-    → NoneRefused view (ok_commands (found >>= λ paths. Ok (removals_unless words.dry_run paths)))
-keep_done view words (Err why) is = tt
-keep_done view words (Ok paths) is = unless_done view words.dry_run paths (found_done view words paths is)
+found_or_refused : (view : Files) (words : KeepWords) (found : Result (List Path) Refusal) → keep_result view words ≡ found
+    → RefusedOrDone view (actions_or_refusal (keep_actions words.dry_run) found)
+found_or_refused view words (Err why) is = tt
+found_or_refused view words (Ok paths) is = keep_done view words words.dry_run paths (found_done view words paths is)
 
--- none of the commands that a command stands for is refused
-pub expansion_unrefused : (view : Files) (c : Command) → NoneRefused view (expansion view c)
+cleaned_done : (view : Files) (actions : List Action) → NoneRefused view actions → RefusedOrDone view (clean_or_idle actions)
+cleaned_done view [] done = told_done view _
+cleaned_done view (first ∷ more) done = or_done view (first ∷ more) done
+
+-- a command of several actions is refused, which is its one action, or none of its actions is
+pub expansion_unrefused : (view : Files) (c : Several) → RefusedOrDone view (expansion view c)
 unfolding expansion install_expansion cleanup_expansion
-expansion_unrefused view (command.Type1Install words) =
-    ok_bind (NoneRefused view) tt (install_plan words) (planned_install view) (λ plan.
+expansion_unrefused view (several.Type1Install words) =
+    bound_or_refused (RefusedOrDone view) (λ why. tt) (λ actions. actions) (install_plan words) (planned_install view) (λ plan.
     install_done view plan (each (bytes_at view) (plan.linux ∷ plan.initrds)) refl)
-expansion_unrefused view (command.Type1Cleanup word) =
-    ok_bind (NoneRefused view) tt (folders_of word) _ (λ folders.
-    ok_bind (NoneRefused view) tt (path_in word) _ (λ esp.
-    ok_bind (NoneRefused view) tt (path_under esp payload_probe) _ (λ _.
-    ok_bind (NoneRefused view) tt (menu_at view folders) _ (λ menu.
-    cleanup_done view esp menu))))
-expansion_unrefused view (command.Keep words) = keep_done view words (keep_result view words) refl
-expansion_unrefused view c = tt
+expansion_unrefused view (several.Type1Cleanup word) =
+    bound_or_refused (RefusedOrDone view) (λ why. tt) clean_or_idle (folders_of word) _ (λ folders.
+    bound_or_refused (RefusedOrDone view) (λ why. tt) clean_or_idle (path_in word) _ (λ esp.
+    bound_or_refused (RefusedOrDone view) (λ why. tt) clean_or_idle (path_under esp payload_probe) _ (λ _.
+    bound_or_refused (RefusedOrDone view) (λ why. tt) clean_or_idle (menu_at view folders) _ (λ menu.
+    cleaned_done view (map action.Remove (unnamed_payloads view esp menu)) (cleanup_done view esp menu)))))
+expansion_unrefused view (several.Keep words) = found_or_refused view words (keep_result view words) refl
+expansion_unrefused view (several.Demo seed count) =
+    made_or_refused (RefusedOrDone view) (λ why. tt) (λ text. action.Tell text ∷ []) (demo_result seed count) (told_done view)

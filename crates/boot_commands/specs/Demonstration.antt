@@ -10,8 +10,8 @@ use Rattle.boot_base.specs.Paths.{Path}
 use Rattle.boot_base.specs.declared.refusal.Refusal.{Refusal}
 use Rattle.boot_base.specs.declared.refusal.Refusal.TheVariants as refusals
 use Rattle.boot_machine.specs.Disk.{Files, view}
-use Rattle.tool_words.specs.declared.command.Command.{Command}
-use Rattle.tool_words.specs.declared.command.Command.TheVariants as command
+use Rattle.tool_words.specs.declared.command.One.{One}
+use Rattle.tool_words.specs.declared.command.One.TheVariants as one
 use Rattle.tool_words.specs.declared.command.BlessWord.TheVariants.{Good, Bad}
 use Rattle.pcr_values.specs.declared.bank.Bank.TheVariants as banks
 use Rattle.pcr_values.specs.Banks.{digest_of}
@@ -19,7 +19,7 @@ use Rattle.command_plans.specs.Answers.{Answer, is_refusal}
 use Rattle.command_plans.specs.Declining.{◌>>=◌}
 use Rattle.boot_commands.specs.DemoImages.{demo_image}
 use Rattle.boot_commands.specs.Draws.{draw_below, next_number}
-use Rattle.boot_commands.specs.Plain.{plain_reply}
+use Rattle.boot_commands.specs.Replies.{one_reply}
 
 -- 1 to 20 digits
 abbrev pub is_long_number : List ℕ → Bool
@@ -57,26 +57,26 @@ abbrev pub demo_name : ℕ → List ℕ
 demo_name digit = codes "demo-" ++ decimal digit
 
 -- the command that installs an image under a name, each by its digit, with three tries
-abbrev pub drawn_install : ℕ → ℕ → Command
+abbrev pub drawn_install : ℕ → ℕ → One
 drawn_install image name =
-    command.Install (codes "u" ++ (decimal image ++ codes ".efi")) (demo_name name) (Some (codes "3")) demo_esp
+    one.Install (codes "u" ++ (decimal image ++ codes ".efi")) (demo_name name) (Some (codes "3")) demo_esp
 
 -- what a draw below 8 stands for, with draws below 4 for an image and a name
-abbrev pub drawn_command : ℕ → ℕ → ℕ → List ℕ → Command
+abbrev pub drawn_command : ℕ → ℕ → ℕ → List ℕ → One
 drawn_command kind image name entry =
     if nat_lt kind 3 then drawn_install image name
-    else if nat_lt kind 5 then command.Boot demo_esp
-    else if kind == 5 then command.Bless Good entry demo_esp
-    else if kind == 6 then command.Bless Bad entry demo_esp
-    else command.Unlink (demo_name name ++ codes ".efi") demo_esp
+    else if nat_lt kind 5 then one.Boot demo_esp
+    else if kind == 5 then one.Bless Good entry demo_esp
+    else if kind == 6 then one.Bless Bad entry demo_esp
+    else one.Unlink (demo_name name ++ codes ".efi") demo_esp
 
 -- the path in `booted /efi/EFI/Linux/NAME` and its newline, without the `/efi` in front
 abbrev pub path_told : List ℕ → List ℕ
 path_told text = drop (length (codes "booted /efi")) (take (length text - 1) text)
 
 -- the path that is blessed next: that of the last boot that was done
-abbrev pub entry_after : Command → Answer → List ℕ → List ℕ
-entry_after (command.Boot esp) answer entry = if is_refusal answer.outcome then entry else path_told answer.text
+abbrev pub entry_after : One → Answer → List ℕ → List ℕ
+entry_after (one.Boot esp) answer entry = if is_refusal answer.outcome then entry else path_told answer.text
 entry_after c answer entry = entry
 
 -- one more in one of two counts
@@ -84,7 +84,7 @@ abbrev pub count_if : Bool → ℕ → ℕ
 count_if here count = if here then suc count else count
 
 -- how far it has come after a command that had this answer
-abbrev pub after_command : DemoState → ℕ → Command → Answer → DemoState
+abbrev pub after_command : DemoState → ℕ → One → Answer → DemoState
 after_command state number c answer =
     record {
       number = number;
@@ -95,15 +95,15 @@ after_command state number c answer =
     }
 
 -- how far it has come after a command on its boot files
-abbrev pub run_drawn : DemoState → ℕ → Command → DemoState
-run_drawn state number c = after_command state number c (plain_reply state.files c)
+abbrev pub run_drawn : DemoState → ℕ → One → DemoState
+run_drawn state number c = after_command state number c (one_reply state.files c)
 
 -- the generator's number after three draws
 abbrev pub third_number : ℕ → ℕ
 third_number number = next_number (next_number (next_number number))
 
 -- the command that three draws stand for, from that number of the generator on
-abbrev pub next_command : ℕ → List ℕ → Command
+abbrev pub next_command : ℕ → List ℕ → One
 next_command number entry =
     drawn_command (draw_below (next_number number) 8) (draw_below (next_number (next_number number)) 4)
     (draw_below (third_number number) 4) entry
@@ -143,7 +143,7 @@ listed_on_out answer = if is_refusal answer.outcome then [] else answer.text
 
 -- the SHA-256 digest, in hex, of what a `bootctl list` of its ESP prints on Out
 abbrev pub list_digest : Files → List ℕ
-list_digest files = encode_lower (digest_of banks.Sha256 (listed_on_out (plain_reply files (command.List demo_esp false))))
+list_digest files = encode_lower (digest_of banks.Sha256 (listed_on_out (one_reply files (one.List demo_esp false))))
 
 -- the first line: what was asked for
 abbrev pub run_line : ℕ → ℕ → List ℕ

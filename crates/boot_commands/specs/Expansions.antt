@@ -1,41 +1,36 @@
--- What a command stands for that may stand for several (profile).
-use Rattle.std.specs.Prelude.{ℕ, Bool, true, false, List, [], ◌∷◌, Option, Some, None, Result, Ok, Err}
+-- The actions of a command of several (profile).
+use Rattle.std.specs.Prelude.{ℕ, Bool, true, false, List, [], ◌∷◌, codes, map, Result, Ok, Err}
+use Rattle.boot_base.specs.Paths.{Path}
 use Rattle.boot_base.specs.declared.refusal.Refusal.{Refusal}
 use Rattle.boot_machine.specs.Disk.{Files}
-use Rattle.tool_words.specs.declared.command.Command.{Command}
-use Rattle.tool_words.specs.declared.command.Command.TheVariants as command
-use Rattle.command_plans.specs.Answers.{Answer, done_answer, refusal}
-use Rattle.entry_commands.specs.Keeping.{keep_expansion}
+use Rattle.tool_words.specs.declared.command.Several.{Several}
+use Rattle.tool_words.specs.declared.command.Several.TheVariants as several
+use Rattle.tool_words.specs.declared.action.Action.{Action}
+use Rattle.tool_words.specs.declared.action.Action.TheVariants as action
+use Rattle.entry_commands.specs.Keeping.{keep_result, would_text}
 use Rattle.type1_install.specs.Cleaning.{cleanup_expansion}
 use Rattle.type1_install.specs.Installing.{install_expansion}
+use Rattle.boot_commands.specs.Demonstration.{demo_result}
 
--- the commands, or none if it is refused
-abbrev pub ok_commands : Result (List Command) Refusal → List Command
-ok_commands (Ok commands) = commands
-ok_commands (Err why) = []
+-- the actions that are made of what was found, or the one that refuses the command
+abbrev pub actions_or_refusal : {A : Type 0} → (A → List Action) → Result A Refusal → List Action
+actions_or_refusal made (Ok found) = made found
+actions_or_refusal made (Err why) = action.Refuse why ∷ []
 
--- it may stand for others
-abbrev pub expands : Command → Bool
-expands (command.Type1Install words) = true
-expands (command.Type1Cleanup esp) = true
-expands (command.Keep words) = true
-expands c = false
+-- the actions of a cleanup, or that there is nothing to do
+abbrev pub clean_or_idle : List Action → List Action
+clean_or_idle [] = action.Tell (codes "nothing to clean\n") ∷ []
+clean_or_idle (first ∷ more) = first ∷ more
 
--- the commands that a command stands for on a view. There are none if it stands for itself: if it never stands for
--- others, is refused, or has nothing to do
-unfoldable pub expansion : Files → Command → List Command
-expansion view (command.Type1Install words) = ok_commands (install_expansion view words)
-expansion view (command.Type1Cleanup esp) = ok_commands (cleanup_expansion view esp)
-expansion view (command.Keep words) = ok_commands (keep_expansion view words)
-expansion view c = []
+-- the actions of a `keep` that found these files: each is removed, or it is only told which would be
+abbrev pub keep_actions : Bool → List Path → List Action
+keep_actions true paths = action.Tell (would_text paths) ∷ []
+keep_actions false [] = action.Tell (would_text []) ∷ []
+keep_actions false (path ∷ paths) = map action.Remove (path ∷ paths)
 
--- what a command says that stands for itself: its refusal
-abbrev pub refused_answer : Files → Result (List Command) Refusal → Option Answer
-refused_answer view (Err why) = Some (refusal view why)
-refused_answer view (Ok commands) = None
-
--- its refusal, or that there is nothing to do
-abbrev pub own_answer : Files → List ℕ → Result (List Command) Refusal → Option Answer
-own_answer view idle (Err why) = Some (refusal view why)
-own_answer view idle (Ok []) = Some (done_answer view idle)
-own_answer view idle (Ok (first ∷ more)) = None
+-- the actions of a command on a view, of which there is at least one
+unfoldable pub expansion : Files → Several → List Action
+expansion view (several.Type1Install words) = actions_or_refusal (λ actions. actions) (install_expansion view words)
+expansion view (several.Type1Cleanup esp) = actions_or_refusal clean_or_idle (cleanup_expansion view esp)
+expansion view (several.Keep words) = actions_or_refusal (keep_actions words.dry_run) (keep_result view words)
+expansion view (several.Demo seed count) = actions_or_refusal (λ text. action.Tell text ∷ []) (demo_result seed count)

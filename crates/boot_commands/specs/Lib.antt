@@ -1,3 +1,4 @@
+pub use Rattle.type1_install.specs.Shown
 pub mod Commands
 pub mod DemoImages
 pub mod DemoRuns
@@ -5,5 +6,5 @@ pub mod Demonstration
 pub mod Draws
 pub mod Expanding
 pub mod Expansions
-pub mod Plain
+pub mod Replies
 pub mod Sparing

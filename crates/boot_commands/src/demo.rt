@@ -3,24 +3,24 @@ ghost use Rattle.std.specs.Prelude.{◌≡◌, ◌≤◌, string_bytes, IfOk, So
 ghost use Rattle.std.specs.Char.{is_ascii_digit};
 ghost use Rattle.std.specs.List.{list_all};
 ghost use Rattle.boot_base.specs.Paths.{path_of};
-ghost use Rattle.boot_machine.specs.Prelude.{Counts, State, seen, view};
-ghost use Rattle.command_plans.specs.Prelude.{CountsStop, CountsUnsaid, Means, Plans, Says, answer_of_read};
+ghost use Rattle.boot_machine.specs.Prelude.{Counts, seen, view};
+ghost use Rattle.command_plans.specs.Prelude.{CountsUnsaid, Means, Says};
 ghost use Rattle.memory_machine.specs.Memory.{mem_state};
 ghost use Rattle.boot_commands.specs.DemoImages.{demo_image};
 ghost use Rattle.boot_commands.specs.Demonstration.{demo_esp, demo_files, demo_result, demo_start, demo_text, demo_turns, count_lines, end_lines, is_long_number, list_digest, long_number, number_up_to, run_line};
 ghost use Rattle.boot_commands.specs.DemoRuns.{IsReady, demo_state, reply_answer};
-ghost use Rattle.boot_commands.specs.Plain.{plain_reply};
-ghost use Rattle.tool_words.specs.declared.command.Command.TheVariants.{List as ListCommand};
+ghost use Rattle.boot_commands.specs.Replies.{one_reply};
+ghost use Rattle.tool_words.specs.declared.command.One.TheVariants.{List as ListCommand};
 
 use crate::demo_images::demo_image;
 use crate::demo_turns::{Demo, ESP, Reply, reply_of};
 use crate::draws::Draws;
 use boot_base::{BootPath, Refusal, Text};
-use command_plans::{Declined, Plan, Stop, Unsaid, text_or_refusal};
+use command_plans::{Declined, Unsaid};
 use memory_machine::{MemFile, MemMachine};
 use pcr_values::{Bank, Digest};
 use std::alloc::{AllocError, Global};
-use tool_words::Command;
+use tool_words::One;
 
 /// The most commands.
 const COUNT_LIMIT: u64 = 10_000;
@@ -110,10 +110,10 @@ fn listing(alloc: Global, machine: &mut MemMachine) -> Result<Reply, AllocError>
     requires ready { IsReady (mem_state machine.old) }
     ensures { IfOk result (λ reply.
         reply_answer reply (seen (mem_state machine.new))
-        ≡ plain_reply (seen (mem_state machine.old)) (ListCommand demo_esp false)) }
+        ≡ one_reply (seen (mem_state machine.old)) (ListCommand demo_esp false)) }
 {
     let esp = Text::of(alloc, ESP)?;
-    let command = Command::List { esp, json: false };
+    let command = One::List { esp, json: false };
     let reply = reply_of(alloc, &command, machine);
     drop(command);
     reply
@@ -187,22 +187,13 @@ fn demonstrate(alloc: Global, seed: u64, count: u64) -> Result<Vec<u8>, AllocErr
     Ok(text)
 }
 
-fn demo_result(alloc: Global, seed: &str, count: &str) -> Result<Vec<u8>, Unsaid>
+/// What a demonstration tells, which reads and changes nothing of the machine that is told of it: its five lines, or the
+/// refusal of a word.
+pub(crate) fn demo_result(alloc: Global, seed: &str, count: &str) -> Result<Vec<u8>, Unsaid>
     ensures says { Says (λ text. text.items) result (demo_result seed.now count.now) }
     ensures counts { (counts : Counts) → CountsUnsaid result counts counts }
 {
     let seed = number_up_to(alloc, u64::MAX, seed)?;
     let count = number_up_to(alloc, COUNT_LIMIT, count)?;
     Ok(demonstrate(alloc, seed, count)?)
-}
-
-/// The plan of a demonstration, which reads and changes nothing of the machine that is told of it: its five lines, or
-/// the refusal of a word.
-pub fn plan_demo(alloc: Global, seed: &str, count: &str) -> Result<Plan, Stop>
-    ensures plans { IfOk result (λ plan. (s : State)
-        → Plans s plan (answer_of_read (seen s) (demo_result seed.now count.now))) }
-    ensures counts { (counts : Counts) → CountsStop result counts counts }
-{
-    let text = demo_result(alloc, seed, count);
-    text_or_refusal(alloc, text)
 }

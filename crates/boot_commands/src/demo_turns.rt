@@ -1,20 +1,20 @@
 //! The turns of a demonstration: drawn commands over a machine in memory.
-ghost use Rattle.std.specs.Prelude.{◌≡◌, ◌<◌, ◌^◌, ◌++◌, map, true, string_bytes, IfOk, OnOk, codes};
+ghost use Rattle.std.specs.Prelude.{◌≡◌, ◌<◌, ◌^◌, ◌++◌, map, string_bytes, IfOk, OnOk, codes};
 ghost use Rattle.boot_machine.specs.Prelude.{Files, seen};
 ghost use Rattle.memory_machine.specs.Memory.{mem_state};
 ghost use Rattle.boot_commands.specs.Demonstration.{after_command, demo_esp, demo_name, demo_turn, drawn_command, drawn_install, listed_on_out, next_command, path_told, run_drawn, third_number};
 ghost use Rattle.boot_commands.specs.DemoRuns.{IsReady, demo_state, reply_answer};
-ghost use Rattle.boot_commands.specs.Plain.{is_plain, is_step, plain_reply};
-ghost use Rattle.tool_words.specs.declared.command.Command.TheVariants.{Bless as BlessCommand, Unlink as UnlinkCommand};
+ghost use Rattle.boot_commands.specs.Replies.{one_reply};
+ghost use Rattle.tool_words.specs.declared.command.One.TheVariants.{Bless as BlessCommand, Unlink as UnlinkCommand};
 
 use crate::draws::Draws;
-use crate::plain::plain_step;
+use crate::ones::run_one;
 use boot_base::Text;
 use boot_machine::Printed;
 use command_plans::Outcome;
 use memory_machine::MemMachine;
 use std::alloc::{AllocError, Global};
-use tool_words::{BlessWord, Command};
+use tool_words::{BlessWord, One};
 
 /// The ESP of the commands.
 pub const ESP: &str = "efi";
@@ -56,10 +56,10 @@ fn name_of(alloc: Global, digit: u64) -> Result<String, AllocError>
     format!(in alloc; "demo-{digit}")
 }
 
-fn install(alloc: Global, image: u64, name: u64) -> Result<Command, AllocError>
+fn install(alloc: Global, image: u64, name: u64) -> Result<One, AllocError>
     ensures { IfOk result (λ command. command ≡ drawn_install image name) }
 {
-    Ok(Command::Install {
+    Ok(One::Install {
         file: Text::from(format!(in alloc; "u{image}.efi")?),
         name: Text::from(name_of(alloc, name)?),
         tries: Some(Text::of(alloc, "3")?),
@@ -67,21 +67,21 @@ fn install(alloc: Global, image: u64, name: u64) -> Result<Command, AllocError>
     })
 }
 
-fn bless(alloc: Global, verb: BlessWord, entry: &Text) -> Result<Command, AllocError>
+fn bless(alloc: Global, verb: BlessWord, entry: &Text) -> Result<One, AllocError>
     ensures { IfOk result (λ command. command ≡ BlessCommand verb entry.now demo_esp) }
 {
-    Ok(Command::Bless {
+    Ok(One::Bless {
         verb,
         path: Text::of(alloc, entry.as_str())?,
         esp: Text::of(alloc, ESP)?,
     })
 }
 
-fn unlink(alloc: Global, name: u64) -> Result<Command, AllocError>
+fn unlink(alloc: Global, name: u64) -> Result<One, AllocError>
     ensures { IfOk result (λ command. command ≡ UnlinkCommand (demo_name name ++ codes ".efi") demo_esp) }
 {
     let name = name_of(alloc, name)?;
-    Ok(Command::Unlink {
+    Ok(One::Unlink {
         name: Text::from(format!(in alloc; "{name}.efi")?),
         esp: Text::of(alloc, ESP)?,
     })
@@ -94,14 +94,12 @@ fn drawn_command(
     image: u64,
     name: u64,
     entry: &Text,
-) -> Result<Command, AllocError>
+) -> Result<One, AllocError>
     ensures command { IfOk result (λ command. command ≡ drawn_command kind image name entry.now) }
-    ensures plain { IfOk result (λ command. is_plain command ≡ true) }
-    ensures step { IfOk result (λ command. is_step command ≡ true) }
 {
     match kind {
         0 | 1 | 2 => install(alloc, image, name),
-        3 | 4 => Ok(Command::Boot {
+        3 | 4 => Ok(One::Boot {
             esp: Text::of(alloc, ESP)?,
         }),
         5 => bless(alloc, BlessWord::Good, entry),
@@ -123,20 +121,14 @@ fn bytes_of(alloc: Global, printed: &[Printed]) -> Result<Vec<u8>, AllocError>
 
 /// Runs one command, whose reply stays on the machine too. A machine that is told to fail nowhere fails for want of
 /// memory alone.
-pub fn reply_of(
-    alloc: Global,
-    command: &Command,
-    machine: &mut MemMachine,
-) -> Result<Reply, AllocError>
-    requires plain { is_plain command.now ≡ true }
-    requires step { is_step command.now ≡ true }
+pub fn reply_of(alloc: Global, command: &One, machine: &mut MemMachine) -> Result<Reply, AllocError>
     requires ready { IsReady (mem_state machine.old) }
     ensures reply { IfOk result (λ reply.
-        reply_answer reply (seen (mem_state machine.new)) ≡ plain_reply (seen (mem_state machine.old)) command.now) }
+        reply_answer reply (seen (mem_state machine.new)) ≡ one_reply (seen (mem_state machine.old)) command.now) }
     ensures ready { OnOk result (IsReady (mem_state machine.new)) }
 {
     let before = machine.printed_bytes().len();
-    let Ok(outcome) = plain_step(alloc, command, machine) else {
+    let Ok(outcome) = run_one(alloc, command, machine) else {
         return Err(AllocError);
     };
     let text = bytes_of(alloc, &machine.printed_bytes()[before..])?;
@@ -158,7 +150,7 @@ fn path_told(alloc: Global, text: &[u8]) -> Result<Text, AllocError>
 
 impl Demo {
     // Counts a command by its reply, and takes the path of a boot from it.
-    fn count(&mut self, alloc: Global, command: &Command, reply: &Reply) -> Result<(), AllocError>
+    fn count(&mut self, alloc: Global, command: &One, reply: &Reply) -> Result<(), AllocError>
         requires done { self.old.done < 2 ^ 63 }
         requires refused { self.old.refused < 2 ^ 63 }
         ensures { OnOk result ((before after : Files) → demo_state self.new after
@@ -169,7 +161,7 @@ impl Demo {
             Outcome::Refused { .. } => self.refused += 1,
             Outcome::Done => {
                 self.done += 1;
-                if let Command::Boot { .. } = command {
+                if let One::Boot { .. } = command {
                     self.entry = path_told(alloc, reply.text.as_slice())?;
                 }
             }
@@ -178,13 +170,11 @@ impl Demo {
     }
 
     // Draws a command.
-    fn draw(&mut self, alloc: Global) -> Result<Command, AllocError>
+    fn draw(&mut self, alloc: Global) -> Result<One, AllocError>
         ensures number { OnOk result (self.new.draws.number ≡ third_number self.old.draws.number) }
         ensures same { OnOk result ((self.new.entry ≡ self.old.entry)
             × (self.new.done ≡ self.old.done) × (self.new.refused ≡ self.old.refused)) }
         ensures command { IfOk result (λ command. command ≡ next_command self.old.draws.number self.old.entry) }
-        ensures plain { IfOk result (λ command. is_plain command ≡ true) }
-        ensures step { IfOk result (λ command. is_step command ≡ true) }
     {
         let kind = self.draws.below(8);
         let image = self.draws.below(4);
@@ -196,13 +186,11 @@ impl Demo {
     fn run(
         &mut self,
         alloc: Global,
-        command: &Command,
+        command: &One,
         machine: &mut MemMachine,
     ) -> Result<(), AllocError>
         requires done { self.old.done < 2 ^ 63 }
         requires refused { self.old.refused < 2 ^ 63 }
-        requires plain { is_plain command.now ≡ true }
-        requires step { is_step command.now ≡ true }
         requires ready { IsReady (mem_state machine.old) }
         ensures run { OnOk result (demo_state self.new (seen (mem_state machine.new))
             ≡ run_drawn (demo_state self.old (seen (mem_state machine.old))) self.old.draws.number command.now) }

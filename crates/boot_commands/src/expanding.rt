@@ -1,119 +1,148 @@
-//! What is found of a command: the commands that it stands for, or the plan of its one reply.
-ghost use Rattle.std.specs.Prelude.{◌≡◌, false, All, IfOk, IsTrue, codes};
-ghost use Rattle.boot_machine.specs.Prelude.{Counts, Looks, State, seen};
-ghost use Rattle.boot_commands.specs.Expanding.{AreSteps, Finds};
-ghost use Rattle.boot_commands.specs.Expansions.{expands};
-ghost use Rattle.boot_commands.specs.Plain.{is_script, is_wordless};
-ghost use Rattle.command_plans.specs.Prelude.{CountsStop, CountsUnsaid, Plans, Says, done_answer};
-ghost use Rattle.tool_words.specs.declared.command.Command.TheVariants as asked;
-ghost use Rattle.tool_words.specs.declared.command.Type1Words.{Type1Words};
+//! What a command of several actions comes to: its actions, which are at least one.
+ghost use Rattle.std.specs.Prelude.{◌≡◌, ◌||◌, List, Result, ℕ, All, IfOk, IsTrue, [], ◌∷◌, length, nat_eq};
 ghost use Rattle.boot_base.specs.Paths.{Path};
-ghost use Rattle.type1_install.specs.Cleaning.{cleanup_expansion};
-ghost use Rattle.type1_install.specs.Installing.{install_expansion};
-ghost use Rattle.type1_install.specs.Shown.{IsWordless};
+ghost use Rattle.boot_base.specs.declared.refusal.Refusal.{Refusal};
+ghost use Rattle.boot_machine.specs.Prelude.{Counts, Looks};
+ghost use Rattle.boot_commands.specs.Expanding.{RefusesUnsaid, StandsFor};
+ghost use Rattle.boot_commands.specs.Expansions.{actions_or_refusal, clean_or_idle, keep_actions};
+ghost use Rattle.command_plans.specs.Prelude.{CountsStop, CountsUnsaid, Says, unsaid_counts};
+ghost use Rattle.tool_words.specs.declared.action.Action.TheVariants.{Tell};
 
-use crate::keeping::expand_keep;
-use crate::stepping::plan_of;
-use boot_base::Bytes;
+use crate::demo::demo_result;
+use boot_base::{BootPath, Bytes};
 use boot_machine::Machine;
-use command_plans::{Change, Outcome, Plan, Stop, Unsaid, plan_unsaid};
-use entry_commands::keep_paths;
-use std::alloc::Global;
-use tool_words::Command;
-use type1_install::{cleanup_expansion, install_expansion};
+use command_plans::{Stop, Unsaid};
+use entry_commands::{keep_paths, would_text};
+use std::alloc::{AllocError, Global};
+use tool_words::{Action, Several};
+use type1_install::{cleanup_expansion, install_expansion, removals};
 
-/// What a command comes to on a machine, found by reads alone.
-#[derive(Debug, Drop)]
-pub enum Expanded {
-    /// The commands that it stands for, at least one.
-    Commands(Vec<Command>),
-    /// The plan of its one reply.
-    Reply(Plan),
-}
-
-/// Whether the command may stand for others.
-pub fn expands(command: &Command) -> bool
-    ensures { result ≡ expands command.now }
-{
-    matches!(
-        command,
-        Command::Type1Install(_) | Command::Type1Cleanup { .. } | Command::Keep(_)
-    )
-}
-
-/// The commands that a command stands for, or the plan of its one reply, from the same reads.
+/// The actions of a command on what the machine holds, found by reads alone.
 pub fn expand<M: Machine>(
     alloc: Global,
-    command: &Command,
+    command: &Several,
     machine: &mut M,
-) -> Result<Expanded, Stop>
-    requires alone { is_script command.now ≡ false }
-    requires worded { is_wordless command.now ≡ false }
-    ensures finds { IfOk result (λ found. IsTrue M.tells → Finds (M.state machine.old) command.now found) }
-    ensures steps { IfOk result AreSteps }
+) -> Result<Vec<Action>, Stop>
+    ensures stands { IfOk result (λ actions. IsTrue M.tells → StandsFor (M.state machine.old) command.now actions.items) }
     ensures looks { Looks M.tells M.time M.state M.counts (CountsStop result) machine.old machine.new }
 {
     match command {
-        Command::Type1Install(words) => {
-            let commands = install_expansion(alloc, words, machine);
-            expand_install(alloc, commands)
+        Several::Type1Install(words) => {
+            let actions = install_expansion(alloc, words, machine);
+            install_or_refusal(alloc, actions)
         }
-        Command::Type1Cleanup { esp } => {
-            let commands = cleanup_expansion(alloc, esp.as_str(), machine);
-            expand_cleanup(alloc, commands)
+        Several::Type1Cleanup { esp } => {
+            let actions = cleanup_expansion(alloc, esp.as_str(), machine);
+            clean_or_refusal(alloc, actions)
         }
-        Command::Keep(words) => {
+        Several::Keep(words) => {
             let paths = keep_paths(alloc, words, machine);
-            expand_keep(alloc, words.dry_run, paths)
+            keep_or_refusal(alloc, words.dry_run, paths)
         }
-        _ => Ok(Expanded::Reply(plan_of(alloc, command, machine)?)),
+        Several::Demo { seed, count } => {
+            let text = demo_result(alloc, seed.as_str(), count.as_str());
+            text_or_refusal(alloc, text)
+        }
     }
 }
 
-// An installation: its commands, or its refusal.
-fn expand_install(alloc: Global, commands: Result<Vec<Command>, Unsaid>) -> Result<Expanded, Stop>
-    requires { IfOk commands (λ commands. All IsWordless commands.items) }
-    ensures finds { IfOk result (λ found. (s : State) (words : Type1Words)
-        → Says (λ commands. commands.items) commands (install_expansion (seen s) words)
-        → Finds s (asked.Type1Install words) found) }
-    ensures steps { IfOk result AreSteps }
-    ensures counts { (old new : Counts) → CountsUnsaid commands old new → CountsStop result old new }
+// An action that is the only one.
+fn only(alloc: Global, action: Action) -> Result<Vec<Action>, AllocError>
+    ensures actions { IfOk result (λ actions. actions.items ≡ action ∷ []) }
 {
-    match commands {
-        Ok(commands) => Ok(Expanded::Commands(commands)),
-        Err(unsaid) => Ok(Expanded::Reply(plan_unsaid(alloc, unsaid)?)),
+    let mut actions = Vec::new(alloc);
+    actions.push(action)?;
+    Ok(actions)
+}
+
+// The refusal of the command, if that is why there are no actions.
+fn refuse(alloc: Global, unsaid: Unsaid) -> Result<Vec<Action>, Stop>
+    ensures refuses { IfOk result (λ actions. RefusesUnsaid unsaid actions.items) }
+    ensures counts { (old new : Counts) → unsaid_counts unsaid old new → CountsStop result old new }
+{
+    match unsaid {
+        Unsaid::Memory => Err(Stop::Memory),
+        Unsaid::Disk => Err(Stop::Disk),
+        Unsaid::Refused(why) => Ok(only(alloc, Action::Refuse { why })?),
     }
 }
 
-// The plan of a cleanup that has nothing to clean.
-fn plan_idle(alloc: Global) -> Result<Plan, Stop>
-    ensures plans { IfOk result (λ plan. (s : State)
-        → Plans s plan (done_answer (seen s) (codes "nothing to clean\n"))) }
-    ensures counts { (counts : Counts) → CountsStop result counts counts }
+// A text that is told.
+fn tell(alloc: Global, text: Vec<u8>) -> Result<Vec<Action>, AllocError>
+    ensures actions { IfOk result (λ actions. actions.items ≡ Tell text.items ∷ []) }
 {
-    let text = Bytes::of(alloc, b"nothing to clean\n")?;
-    Ok(Plan {
-        change: Change::Nothing,
-        outcome: Outcome::Done,
-        text,
-    })
+    let text = Bytes::from(text);
+    only(alloc, Action::Tell { text })
 }
 
-// A cleanup: its commands, its refusal, or that there is nothing to clean.
-fn expand_cleanup(alloc: Global, commands: Result<Vec<Command>, Unsaid>) -> Result<Expanded, Stop>
-    requires { IfOk commands (λ commands. All IsWordless commands.items) }
-    ensures finds { IfOk result (λ found. (s : State) (esp : Path)
-        → Says (λ commands. commands.items) commands (cleanup_expansion (seen s) esp)
-        → Finds s (asked.Type1Cleanup esp) found) }
-    ensures steps { IfOk result AreSteps }
-    ensures counts { (old new : Counts) → CountsUnsaid commands old new → CountsStop result old new }
+// An installation: its actions, or its refusal.
+fn install_or_refusal(
+    alloc: Global,
+    actions: Result<Vec<Action>, Unsaid>,
+) -> Result<Vec<Action>, Stop>
+    ensures actions { IfOk result (λ made. (meant : Result (List Action) Refusal) → Says (λ actions. actions.items) actions meant
+        → made.items ≡ actions_or_refusal (λ actions. actions) meant) }
+    ensures counts { (old new : Counts) → CountsUnsaid actions old new → CountsStop result old new }
 {
-    match commands {
-        Ok(commands) if commands.is_empty() => {
-            drop(commands);
-            Ok(Expanded::Reply(plan_idle(alloc)?))
+    match actions {
+        Ok(actions) => Ok(actions),
+        Err(unsaid) => refuse(alloc, unsaid),
+    }
+}
+
+// A cleanup: its actions, its refusal, or that there is nothing to clean.
+fn clean_or_refusal(
+    alloc: Global,
+    actions: Result<Vec<Action>, Unsaid>,
+) -> Result<Vec<Action>, Stop>
+    ensures actions { IfOk result (λ made. (meant : Result (List Action) Refusal) → Says (λ actions. actions.items) actions meant
+        → made.items ≡ actions_or_refusal clean_or_idle meant) }
+    ensures counts { (old new : Counts) → CountsUnsaid actions old new → CountsStop result old new }
+{
+    match actions {
+        Ok(actions) if actions.is_empty() => {
+            drop(actions);
+            Ok(tell(alloc, Vec::from_slice(alloc, b"nothing to clean\n")?)?)
         }
-        Ok(commands) => Ok(Expanded::Commands(commands)),
-        Err(unsaid) => Ok(Expanded::Reply(plan_unsaid(alloc, unsaid)?)),
+        Ok(actions) => Ok(actions),
+        Err(unsaid) => refuse(alloc, unsaid),
+    }
+}
+
+// Whether no file goes: it is only told which would, or there is none.
+fn is_only_told(dry_run: bool, paths: &[BootPath]) -> bool
+    ensures { result ≡ (dry_run || nat_eq (length paths.now) 0) }
+{
+    dry_run || paths.is_empty()
+}
+
+// A `keep` that found these paths: the files there are removed, or it is told which would be, or its refusal.
+fn keep_or_refusal(
+    alloc: Global,
+    dry_run: bool,
+    paths: Result<Vec<BootPath>, Unsaid>,
+) -> Result<Vec<Action>, Stop>
+    ensures actions { IfOk result (λ made. (meant : Result (List Path) Refusal) → Says (λ paths. paths.items) paths meant
+        → made.items ≡ actions_or_refusal (keep_actions dry_run) meant) }
+    ensures counts { (old new : Counts) → CountsUnsaid paths old new → CountsStop result old new }
+{
+    match paths {
+        Ok(paths) if is_only_told(dry_run, paths.as_slice()) => {
+            Ok(tell(alloc, would_text(alloc, paths.as_slice())?)?)
+        }
+        Ok(paths) => Ok(removals(alloc, paths.as_slice())?),
+        Err(unsaid) => refuse(alloc, unsaid),
+    }
+}
+
+// A text that is told, or the refusal.
+fn text_or_refusal(alloc: Global, text: Result<Vec<u8>, Unsaid>) -> Result<Vec<Action>, Stop>
+    ensures actions { IfOk result (λ made. (meant : Result (List ℕ) Refusal) → Says (λ text. text.items) text meant
+        → made.items ≡ actions_or_refusal (λ text. Tell text ∷ []) meant) }
+    ensures counts { (old new : Counts) → CountsUnsaid text old new → CountsStop result old new }
+{
+    match text {
+        Ok(text) => Ok(tell(alloc, text)?),
+        Err(unsaid) => refuse(alloc, unsaid),
     }
 }

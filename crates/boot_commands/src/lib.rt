@@ -1,19 +1,18 @@
-//! The commands of the program but for scripts: what each comes to on the boot files, which others it may stand for,
-//! and one function that carries any of them out on a machine. `demo` carries out others on a machine in memory.
+//! The commands of the program but for scripts: what each of one action and each action of the others comes to on the boot
+//! files, the actions of a command that has several, and functions that carry either out on a machine. `demo` carries out
+//! others on a machine in memory.
 #![tactic(auto)]
 
+mod actions;
 mod carrying;
 mod demo;
 mod demo_images;
 mod demo_turns;
 mod draws;
 mod expanding;
-mod keeping;
-mod plain;
-mod stepping;
+mod ones;
 
-pub use carrying::carry_out;
+pub use actions::run_action;
 pub use demo_images::demo_image;
-pub use expanding::{Expanded, expand, expands};
-pub use plain::plain_step;
-pub use stepping::step;
+pub use expanding::expand;
+pub use ones::run_one;

@@ -1,19 +1,21 @@
 -- What a run prints and does before its first command is the same from each view.
-use Rattle.std.proofs.Common.{◌≡◌, ◌⊎◌, ⊎_elim, ℕ, zero, suc, ◌≤◌, ◌<◌, Bool, true, false, List, [], ◌∷◌, ◌++◌, length, take, refl, sym, ap, ◌∙◌, subst, arith, append_assoc, length-append, Result, Ok, Err}
+use Rattle.std.proofs.Common.{◌≡◌, ◌≢◌, ◌⊎◌, ⊎_elim, ℕ, zero, suc, ◌≤◌, ◌<◌, Bool, true, false, List, [], ◌∷◌, ◌++◌, length, map, take, refl, sym, ap, ◌∙◌, subst, arith, append_assoc, length-append, Result, Ok, Err}
 use Rattle.std.proofs.lemmas.List.{length-take}
 use Rattle.word_grammar.specs.Grammar.{Word}
 use Rattle.tool_words.specs.Meaning.{meaning}
 use Rattle.tool_words.specs.declared.fault.UsageReason.{UsageReason}
 use Rattle.boot_machine.specs.Disk.{Files}
 use Rattle.tool_words.specs.declared.command.Command.{Command}
+use Rattle.tool_words.specs.declared.command.Command.TheVariants as command
+use Rattle.tool_words.specs.declared.action.Action.{Action}
 use Rattle.boot_commands.specs.Expansions.{expansion}
-use Rattle.boot_commands.specs.Plain.{is_script}
+use Rattle.boot_commands.proofs.Expansions.{expansion_some}
 use Rattle.boot_machine.specs.Sent.{Sent, IsPrefix}
-use Rattle.boot_run.specs.AskedLines.{asked_lines, lines_for, lines_to_run, plain_lines}
+use Rattle.boot_run.specs.AskedLines.{asked_lines, lines_for, lines_to_run}
 use Rattle.boot_run.specs.Lines.{line_deed}
 use Rattle.boot_run.specs.Step.{Acknowledges, AllUnread, NoneEmpty, join_replies, replies}
 use Rattle.boot_run.specs.declared.line.Line.{Line}
-use Rattle.boot_run.specs.declared.line.Line.TheVariants.{Plain, Numbered, Unread, TooLong}
+use Rattle.boot_run.specs.declared.line.Line.TheVariants.{Plain, Part, Numbered, Unread, TooLong}
 use Rattle.boot_run.proofs.Replying.{none_empty}
 use Rattle.boot_run.proofs.Stepping.{length-prefix, some_length}
 
@@ -24,21 +26,22 @@ AreAlike (Ok lines) (Err reason) = ⊥
 AreAlike (Err reason) (Ok others) = ⊥
 AreAlike (Err reason) (Err other) = other ≡ reason
 
--- lines that begin with a command have no leading one without
-plain_alike : (c : Command) (commands others : List Command) (j : ℕ) → AllUnread (take j (plain_lines c commands))
-    → take j (plain_lines c others) ≡ take j (plain_lines c commands)
-plain_alike c commands others zero all = refl
-plain_alike c [] others (suc j) all = cc
-plain_alike c (first ∷ more) others (suc j) all = cc
+-- the lines of actions have no leading one without
+parts_alike : (actions others : List Action) → actions ≢ [] → (j : ℕ) → AllUnread (take j (map Part actions))
+    → take j (map Part others) ≡ take j (map Part actions)
+parts_alike actions others some zero all = refl
+parts_alike [] others some (suc j) all = absurd (some refl)
+parts_alike (first ∷ more) others some (suc j) all = cc
 
-lines_alike : (input : List ℕ) (c : Command) (view other : Files) (script : Bool) → is_script c ≡ script
+lines_alike : (input : List ℕ) (c : Command) (view other : Files)
     → AreAlike (Ok (lines_for input view c)) (Ok (lines_for input other c))
-lines_alike input c view other true is = rw is (λ j all. refl)
-lines_alike input c view other false is = rw is (plain_alike c (expansion view c) (expansion other c))
+lines_alike input command.Script view other = λ j all. refl
+lines_alike input (command.One c) view other = λ j all. refl
+lines_alike input (command.Several c) view other = parts_alike (expansion view c) (expansion other c) (expansion_some view c)
 
 meant_alike : (input : List ℕ) (meant : Result Command UsageReason) (view other : Files)
     → AreAlike (lines_to_run input view meant) (lines_to_run input other meant)
-meant_alike input (Ok c) view other = lines_alike input c view other (is_script c) refl
+meant_alike input (Ok c) view other = lines_alike input c view other
 meant_alike input (Err reason) view other = refl
 
 -- the leading lines without a command don't depend on the view
@@ -86,6 +89,7 @@ longer view (line ∷ lines) (suc i) (suc j) some lt le =
 unread_replies : (view other : Files) (lines : List Line) → AllUnread lines → replies view lines ≡ replies other lines
 unread_replies view other [] all = refl
 unread_replies view other (Plain command ∷ lines) all = cc
+unread_replies view other (Part action ∷ lines) all = cc
 unread_replies view other (Numbered number command ∷ lines) all = cc
 unread_replies view other (Unread number ∷ lines) all =
     ap (λ (l : List Sent). (line_deed view (Unread number)).sent ∷ l) (unread_replies view other lines all.1)

@@ -26,24 +26,24 @@ use Rattle.keep_newest.proofs.Again.{keeps_on}
 use Rattle.keep_newest.proofs.Without.{kept_without}
 use Rattle.menu_order.specs.declared.item.MenuItem.{MenuItem}
 use Rattle.tool_words.specs.Meaning.{meaning}
-use Rattle.tool_words.specs.declared.command.Command.TheVariants as command
+use Rattle.tool_words.specs.declared.action.Action.{Action}
+use Rattle.tool_words.specs.declared.action.Action.TheVariants as action
 use Rattle.tool_words.specs.declared.command.KeepWords.{KeepWords}
 use Rattle.entry_commands.proofs.Kept.{result_is}
-use Rattle.entry_commands.specs.Keeping.{found_removals, keep_answer, keep_result, menu_paths, removals_unless, some_menu}
-use Rattle.boot_commands.specs.Commands.{step_reply}
-use Rattle.boot_commands.specs.Expansions.{expansion, ok_commands}
-use Rattle.boot_commands.specs.Plain.{answer_or_none, plain_answer}
-use Rattle.boot_commands.specs.Sparing.{Spares}
+use Rattle.entry_commands.specs.Keeping.{keep_result, menu_paths, some_menu}
+use Rattle.boot_commands.specs.Expansions.{actions_or_refusal, expansion, keep_actions}
+use Rattle.boot_commands.specs.Replies.{action_reply}
 use Rattle.boot_commands.proofs.Unrefused.{AreThere, doomed_there, own_doomed, removals_done}
-use Rattle.boot_run.specs.AskedLines.{lines_for, lines_to_run, plain_lines}
+use Rattle.boot_run.specs.AskedLines.{lines_for, lines_to_run}
 use Rattle.boot_run.specs.Lines.{line_deed}
 use Rattle.boot_run.specs.Step.{Acknowledges, Step, StepBy, join_replies, replies, some_refused, view_after}
 use Rattle.boot_run.specs.declared.line.Line.{Line}
-use Rattle.boot_run.specs.declared.line.Line.TheVariants.{Plain}
+use Rattle.boot_run.specs.declared.line.Line.TheVariants.{Part}
 use Rattle.boot_run.proofs.UpToRefused.{none_refused}
-use Rattle.boot_history.specs.Asking.{AllCommands}
+use Rattle.boot_history.specs.Asking.{AllLines}
+use Rattle.boot_history.specs.GoodEntries.{LineSpares}
 use Rattle.boot_history.specs.Histories.{IsHistory, Run}
-use Rattle.boot_history.specs.Newest.{AllowsKeep, KeepSparesLaw, LacksDoomed, NewestLaw, ToldLaw, UnrefusedLaw}
+use Rattle.boot_history.specs.Newest.{AllowsKeep, KeepSparesLaw, LacksDoomed, NewestLaw, ToldLaw, UnrefusedLaw, keep_command}
 use Rattle.boot_history.proofs.Alike.{length-replies}
 use Rattle.boot_history.proofs.Counting.{one_run}
 
@@ -64,60 +64,59 @@ taken view path = by (maps.get view path) refl
     by None none = sym (remove_none view path none)
     by (Some bytes) some = refl
 
-pub removed : (view : Files) (path : Path) → (line_deed view (Plain (command.Remove path))).after ≡ maps.remove view path
-unfolding step_reply plain_answer
+pub removed : (view : Files) (path : Path) → (line_deed view (Part (action.Remove path))).after ≡ maps.remove view path
+unfolding action_reply
 removed view path = taken view path
 
-keep_stays : (view : Files) (dry_run : Bool) (found : Result (List Path) Refusal) → (answer_or_none view (keep_answer view dry_run found)).after ≡ view
-keep_stays view dry_run (Err why) = refl
-keep_stays view dry_run (Ok []) = refl
-keep_stays view true (Ok (path ∷ paths)) = refl
-keep_stays view false (Ok (path ∷ paths)) = refl
+-- an action that only tells or refuses leaves the view
+told_line : (view : Files) (text : List ℕ) → (line_deed view (Part (action.Tell text))).after ≡ view
+unfolding action_reply
+told_line view text = refl
 
--- a `keep` that stands for no other line leaves the view
-pub keep_line : (view : Files) (words : KeepWords) → (line_deed view (Plain (command.Keep words))).after ≡ view
-unfolding step_reply
-keep_line view words = keep_stays view words.dry_run (keep_result view words)
+refused_line : (view : Files) (why : Refusal) → (line_deed view (Part (action.Refuse why))).after ≡ view
+unfolding action_reply
+refused_line view why = refl
 
 -- ---- the lines
 
 -- the lines of a `keep` that found these paths, or was refused
 unfoldable pub lines_of : KeepWords → Result (List Path) Refusal → List Line
-lines_of words found = plain_lines (command.Keep words) (ok_commands (found_removals words.dry_run found))
+lines_of words found = map Part (actions_or_refusal (keep_actions words.dry_run) found)
 
-pub lines_are : (view : Files) (input : List ℕ) (words : KeepWords) → lines_for input view (command.Keep words) ≡ lines_of words (keep_result view words)
+pub lines_are : (view : Files) (input : List ℕ) (words : KeepWords) → lines_for input view (keep_command words) ≡ lines_of words (keep_result view words)
 unfolding expansion lines_of
 lines_are view input words = refl
 
 -- the lines that remove these files
 abbrev pub removal_lines : List Path → List Line
-removal_lines paths = map Plain (map command.Remove paths)
+removal_lines paths = map Part (map action.Remove paths)
 
 pub all_removed : (view : Files) (paths : List Path) (n : ℕ) → view_after view (take n (removal_lines paths)) ≡ remove_files view (take n paths)
 all_removed view paths zero = refl
 all_removed view [] (suc n) = refl
 all_removed view (path ∷ paths) (suc n) =
-    all_removed (line_deed view (Plain (command.Remove path))).after paths n
+    all_removed (line_deed view (Part (action.Remove path))).after paths n
     ∙ ap (λ v. remove_files v (take n paths)) (removed view path)
 
 take_none : {X : Type 0} (n : ℕ) → take {A = X} n [] ≡ []
 take_none zero = refl
 take_none (suc n) = refl
 
-pub one_told : (view : Files) (words : KeepWords) (n : ℕ) → view_after view (take n (Plain (command.Keep words) ∷ [])) ≡ view
-one_told view words zero = refl
-one_told view words (suc n) =
-    ap (λ lines. view_after (line_deed view (Plain (command.Keep words))).after lines) (take_none n)
-    ∙ keep_line view words
+one_stays : (view : Files) (c : Action) → (line_deed view (Part c)).after ≡ view → (n : ℕ) → view_after view (take n (Part c ∷ [])) ≡ view
+one_stays view c same zero = refl
+one_stays view c same (suc n) = ap (λ lines. view_after (line_deed view (Part c)).after lines) (take_none n) ∙ same
+
+one_told : (view : Files) (text : List ℕ) (n : ℕ) → view_after view (take n (Part (action.Tell text) ∷ [])) ≡ view
+one_told view text n = one_stays view (action.Tell text) (told_line view text) n
 
 module _ (view : Files) (words : KeepWords) where
   by_words : (dry_run : Bool) (paths : List Path) → dry_run ≡ false → (n : ℕ)
-      → view_after view (take n (plain_lines (command.Keep words) (removals_unless dry_run paths))) ≡ remove_files view (take n paths)
+      → view_after view (take n (map Part (keep_actions dry_run paths))) ≡ remove_files view (take n paths)
   by_words true paths is n = absurd (clash is)
     where
       clash : true ≡ false → ⊥
       clash e = cc
-  by_words false [] is n = one_told view words n ∙ ap (remove_files view) (sym (take_none n))
+  by_words false [] is n = one_told view _ n ∙ ap (remove_files view) (sym (take_none n))
   by_words false (path ∷ paths) is n = all_removed view (path ∷ paths) n
 
   kept_after : words.dry_run ≡ false → (paths : List Path) (n : ℕ) → view_after view (take n (lines_of words (Ok paths))) ≡ remove_files view (take n paths)
@@ -125,8 +124,8 @@ module _ (view : Files) (words : KeepWords) where
   kept_after is paths n = by_words words.dry_run paths is n
 
   told_by : (dry_run : Bool) (paths : List Path) → dry_run ≡ true → (n : ℕ)
-      → view_after view (take n (plain_lines (command.Keep words) (removals_unless dry_run paths))) ≡ view
-  told_by true paths is n = one_told view words n
+      → view_after view (take n (map Part (keep_actions dry_run paths))) ≡ view
+  told_by true paths is n = one_told view _ n
   told_by false paths is n = absurd (clash is)
     where
       clash : false ≡ true → ⊥
@@ -134,17 +133,17 @@ module _ (view : Files) (words : KeepWords) where
 
   told_after : words.dry_run ≡ true → (found : Result (List Path) Refusal) (n : ℕ) → view_after view (take n (lines_of words found)) ≡ view
   unfolding lines_of
-  told_after is (Err why) n = one_told view words n
+  told_after is (Err why) n = one_stays view (action.Refuse why) (refused_line view why) n
   told_after is (Ok paths) n = told_by words.dry_run paths is n
 
   -- there are no fewer lines than paths
-  enough_by : (dry_run : Bool) (paths : List Path) → dry_run ≡ false → length paths ≤ length (plain_lines (command.Keep words) (removals_unless dry_run paths))
+  enough_by : (dry_run : Bool) (paths : List Path) → dry_run ≡ false → length paths ≤ length (map Part (keep_actions dry_run paths))
   enough_by true paths is = absurd (clash is)
     where
       clash : true ≡ false → ⊥
       clash e = cc
   enough_by false [] is = omega arith
-  enough_by false (path ∷ paths) is = omega (arith, length-map (path ∷ paths) command.Remove, length-map (map command.Remove (path ∷ paths)) Plain)
+  enough_by false (path ∷ paths) is = omega (arith, length-map (path ∷ paths) action.Remove, length-map (map action.Remove (path ∷ paths)) Part)
 
   enough : words.dry_run ≡ false → (paths : List Path) → length paths ≤ length (lines_of words (Ok paths))
   unfolding lines_of
@@ -191,15 +190,15 @@ module _ (n : ℕ) (per_key : Bool) (first : Files) (folders : Folders) where
       (ap not (any_front (bytes_eq item.path) paths count (not-true (is_among paths item) passed.1)))
 
 -- the lines of a run whose words are a `keep`
-steps_are : (state : List Files) (run : Run) (words : KeepWords) → meaning run.words ≡ Ok (command.Keep words) → IsHistory state (run ∷ [])
-    → Step state (lines_for run.input (latest_view state) (command.Keep words)) run.left run.sent run.end
+steps_are : (state : List Files) (run : Run) (words : KeepWords) → meaning run.words ≡ Ok (keep_command words) → IsHistory state (run ∷ [])
+    → Step state (lines_for run.input (latest_view state) (keep_command words)) run.left run.sent run.end
 steps_are state run words meant history =
     subst (λ asks. StepBy state asks run.left run.sent run.end) (ap (lines_to_run run.input (latest_view state)) meant) history.0.step
 
 pub newest_law : NewestLaw
 newest_law state run words n folders start history meant acts allowed view there =
     let first = latest_view state in
-    let lines = lines_for run.input first (command.Keep words) in
+    let lines = lines_for run.input first (keep_command words) in
     let per_key = words.per_key in
     let step = steps_are state run words meant history in
     let doomed = doomed_paths n per_key (boot_menu first folders) in
@@ -239,7 +238,7 @@ newest_law state run words n folders start history meant acts allowed view there
 pub told_law : ToldLaw
 told_law state run words start history meant tells view there =
     let first = latest_view state in
-    let lines = lines_for run.input first (command.Keep words) in
+    let lines = lines_for run.input first (keep_command words) in
     let from = one_run state run.left run.sent run.end start.some (λ v. Ok lines) (Ok lines) refl (λ v j all. refl) (steps_are state run words meant history) view there in
     from.is ∙ ap (λ v. view_after v (take from.n lines)) (start.one from.start from.there)
     ∙ ap (λ (l : List Line). view_after first (take from.n l)) (lines_are first run.input words)
@@ -254,58 +253,48 @@ module _ (path : Path) (words : KeepWords) where
       clash : true ≡ false → ⊥
       clash e = cc
 
-  removals_spare : (paths : List Path) → list_any (bytes_eq path) paths ≡ false → AllCommands (Spares path) (removal_lines paths)
+  removals_spare : (paths : List Path) → list_any (bytes_eq path) paths ≡ false → AllLines (LineSpares path) (removal_lines paths)
   removals_spare [] none = tt
   removals_spare (other ∷ later) none =
       let parts = or_parts (bytes_eq path other) (list_any (bytes_eq path) later) none in
       (differ other parts.0, removals_spare later parts.1)
 
   spare_by : (dry_run : Bool) (paths : List Path) → list_any (bytes_eq path) paths ≡ false
-      → AllCommands (Spares path) (plain_lines (command.Keep words) (removals_unless dry_run paths))
+      → AllLines (LineSpares path) (map Part (keep_actions dry_run paths))
   spare_by true _ none = (tt, tt)
   spare_by false [] none = (tt, tt)
   spare_by false (other ∷ later) none = removals_spare (other ∷ later) none
 
-  lines_spare : (paths : List Path) → list_any (bytes_eq path) paths ≡ false → AllCommands (Spares path) (lines_of words (Ok paths))
+  lines_spare : (paths : List Path) → list_any (bytes_eq path) paths ≡ false → AllLines (LineSpares path) (lines_of words (Ok paths))
   unfolding lines_of
   lines_spare paths none = spare_by words.dry_run paths none
 
 pub keep_spares_law : KeepSparesLaw
 keep_spares_law view input words n folders path allowed none =
-    subst (AllCommands (Spares path))
+    subst (AllLines (LineSpares path))
     (sym (lines_are view input words ∙ ap (lines_of words) (found_is view words n folders allowed)))
     (lines_spare path words (doomed_paths n words.per_key (boot_menu view folders)) none)
 
 -- ---- no reply is a refusal
 
-done_answer_of : (view : Files) (dry_run : Bool) (paths : List Path) → removals_unless dry_run paths ≡ [] → is_refusal (answer_or_none view (keep_answer view dry_run (Ok paths))).outcome ≡ false
-done_answer_of view dry_run [] is = refl
-done_answer_of view true (path ∷ paths) is = refl
-done_answer_of view false (path ∷ paths) is = cc
+told_unrefused : (view : Files) (text : List ℕ) → some_refused view (Part (action.Tell text) ∷ []) ≡ false
+unfolding action_reply
+told_unrefused view text = refl
 
-done_told : (view : Files) (words : KeepWords) (paths : List Path) → keep_result view words ≡ Ok paths → removals_unless words.dry_run paths ≡ []
-    → is_refusal (line_deed view (Plain (command.Keep words))).outcome ≡ false
-unfolding step_reply
-done_told view words paths is none =
-    ap (λ (r : Result (List Path) Refusal). is_refusal (answer_or_none view (keep_answer view words.dry_run r)).outcome) is
-    ∙ done_answer_of view words.dry_run paths none
+refused_by : (first : Files) (dry_run : Bool) (paths : List Path) → IsDistinct bytes_eq paths → AreThere first paths
+    → some_refused first (map Part (keep_actions dry_run paths)) ≡ false
+refused_by first true _ distinct there = told_unrefused first _
+refused_by first false [] distinct there = told_unrefused first _
+refused_by first false (path ∷ later) distinct there =
+    none_refused first (map action.Remove (path ∷ later)) (removals_done first (path ∷ later) distinct there)
 
-refused_by : (first : Files) (words : KeepWords) (paths : List Path) → keep_result first words ≡ Ok paths → IsDistinct bytes_eq paths → AreThere first paths
-    → (dry_run : Bool) → words.dry_run ≡ dry_run → some_refused first (plain_lines (command.Keep words) (removals_unless dry_run paths)) ≡ false
-refused_by first words paths is distinct there true told =
-    ap (λ b. b || false) (done_told first words paths is (ap (λ b. removals_unless b paths) told))
-refused_by first words [] is distinct there false told =
-    ap (λ b. b || false) (done_told first words [] is (ap (λ b. removals_unless b []) told))
-refused_by first words (path ∷ later) is distinct there false told =
-    none_refused first (map command.Remove (path ∷ later)) (removals_done first (path ∷ later) distinct there)
-
-none_by : (first : Files) (words : KeepWords) (paths : List Path) → keep_result first words ≡ Ok paths → IsDistinct bytes_eq paths → AreThere first paths
+none_by : (first : Files) (words : KeepWords) (paths : List Path) → IsDistinct bytes_eq paths → AreThere first paths
     → some_refused first (lines_of words (Ok paths)) ≡ false
 unfolding lines_of
-none_by first words paths is distinct there = refused_by first words paths is distinct there words.dry_run refl
+none_by first words paths distinct there = refused_by first words.dry_run paths distinct there
 
 pub unrefused_law : UnrefusedLaw
 unrefused_law view input words n folders allowed =
     let found = found_is view words n folders allowed in
     ap (some_refused view) (lines_are view input words ∙ ap (lines_of words) found)
-    ∙ none_by view words (doomed_paths n words.per_key (boot_menu view folders)) found (own_doomed n words.per_key view folders) (doomed_there n words.per_key view folders)
+    ∙ none_by view words (doomed_paths n words.per_key (boot_menu view folders)) (own_doomed n words.per_key view folders) (doomed_there n words.per_key view folders)

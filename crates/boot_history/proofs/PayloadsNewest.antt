@@ -17,20 +17,21 @@ use Rattle.keep_newest.specs.Doomed.{doomed_records}
 use Rattle.menu_order.proofs.Lists.{Contains-head, Contains-later}
 use Rattle.menu_order.specs.Splits.{has_suffix}
 use Rattle.menu_order.specs.declared.item.MenuItem.{MenuItem}
-use Rattle.tool_words.specs.declared.command.Command.TheVariants as command
+use Rattle.tool_words.specs.declared.action.Action.TheVariants as action
 use Rattle.tool_words.specs.declared.command.KeepWords.{KeepWords}
 use Rattle.entry_commands.proofs.Kept.{doomed_are, doomed_in}
 use Rattle.entry_commands.specs.Counts.{count_in}
-use Rattle.entry_commands.specs.Keeping.{keep_result, removals_unless}
+use Rattle.boot_commands.specs.Expansions.{keep_actions}
+use Rattle.entry_commands.specs.Keeping.{keep_result}
 use Rattle.type1_install.specs.Payloads.{ArePayloadsThere}
 use Rattle.type1_install.proofs.Cleaning.{menu_is}
 use Rattle.type1_install.proofs.PayloadsKept.{NotPayload, remove_kept, suffix_not_payload}
-use Rattle.boot_run.specs.AskedLines.{plain_lines}
 use Rattle.boot_run.specs.Lines.{line_deed}
 use Rattle.boot_run.specs.Step.{view_after}
-use Rattle.boot_run.specs.declared.line.Line.TheVariants.{Plain}
+use Rattle.boot_run.specs.declared.line.Line.TheVariants.{Part}
 use Rattle.boot_history.specs.Payloads.{RemovalKeepsLaw}
-use Rattle.boot_history.proofs.Newest.{lines_are, lines_of, one_told, removal_lines, removed}
+use Rattle.boot_history.proofs.Newest.{lines_are, lines_of, removal_lines, removed}
+use Rattle.boot_history.proofs.Payloads.{refused_keeps, told_keeps}
 
 -- none of these is the path of a payload
 abbrev AllApart : Path → List Path → Type 0
@@ -67,23 +68,20 @@ removals_kept : (esp : Path) (view : Files) (paths : List Path) → ArePayloadsT
 removals_kept esp view paths ok apart zero = ok
 removals_kept esp view [] ok apart (suc n) = ok
 removals_kept esp view (path ∷ paths) ok apart (suc n) =
-    removals_kept esp (line_deed view (Plain (command.Remove path))).after paths
+    removals_kept esp (line_deed view (Part (action.Remove path))).after paths
     (subst (ArePayloadsThere esp) (sym (removed view path)) (remove_kept esp view ok path apart.0)) apart.1 n
 
 module _ (esp : Path) (view : Files) (words : KeepWords) (ok : ArePayloadsThere esp view) where
-  told_kept : (n : ℕ) → ArePayloadsThere esp (view_after view (take n (Plain (command.Keep words) ∷ [])))
-  told_kept n = subst (ArePayloadsThere esp) (sym (one_told view words n)) ok
-
   by_words : (dry_run : Bool) (paths : List Path) → AllApart esp paths → (n : ℕ)
-      → ArePayloadsThere esp (view_after view (take n (plain_lines (command.Keep words) (removals_unless dry_run paths))))
-  by_words true paths apart n = told_kept n
-  by_words false [] apart n = told_kept n
+      → ArePayloadsThere esp (view_after view (take n (map Part (keep_actions dry_run paths))))
+  by_words true paths apart n = told_keeps esp view _ ok n
+  by_words false [] apart n = told_keeps esp view _ ok n
   by_words false (path ∷ paths) apart n = removals_kept esp view (path ∷ paths) ok apart n
 
   by_found : (found : Result (List Path) Refusal) → keep_result view words ≡ found → (n : ℕ)
       → ArePayloadsThere esp (view_after view (take n (lines_of words found)))
   unfolding lines_of
-  by_found (Err why) is n = told_kept n
+  by_found (Err why) is n = refused_keeps esp view why ok n
   by_found (Ok paths) is n = by_words words.dry_run paths (found_apart esp view words paths is) n
 
 pub keep_keeps : RemovalKeepsLaw

@@ -1,9 +1,9 @@
 -- The payloads of entries stay along a history.
-use Rattle.std.proofs.Common.{◌≡◌, ◌≢◌, inl, inr, ℕ, zero, suc, Bool, true, false, cond, List, [], ◌∷◌, ◌++◌, length, take, Option, Some, None, Result, Ok, Err, refl, sym, ap, ◌∙◌, subst, arith, append_assoc}
-use Rattle.std.specs.Prelude.{IfOk, Contains, codes, is_some, nat_le, nat_lt, not, ◌&&◌, ◌||◌, if◌then◌else◌}
+use Rattle.std.proofs.Common.{◌≡◌, ◌≢◌, inl, inr, ℕ, zero, suc, Bool, true, false, cond, List, [], ◌∷◌, ◌++◌, length, map, take, Option, Some, None, Result, Ok, Err, refl, sym, ap, ◌∙◌, subst, arith, append_assoc}
+use Rattle.std.proofs.lemmas.List.Elements.{All-cons, All-head, All-nil, All-tail}
+use Rattle.std.specs.Prelude.{All, IfOk, Contains, codes, is_some, nat_le, nat_lt, not, ◌&&◌, ◌||◌, if◌then◌else◌}
 use Rattle.std.specs.FinMap as map_of
-use Rattle.std.specs.List.{list_any, slice_split}
-use Rattle.std.specs.Str.{chars, is_utf8}
+use Rattle.std.specs.List.{list_any}
 use Rattle.std.proofs.lemmas.Bool.{and_parts, cond-true, cond-false, or_cases}
 use Rattle.std.proofs.lemmas.Slice.Eq.{bytes_eq-Decides}
 use Rattle.boot_base.specs.Paths.{Path, file_name_of, is_file_name, is_kept, is_slash, normal_of, path_of, under}
@@ -31,10 +31,12 @@ use Rattle.command_plans.specs.Folders.{folders_of}
 use Rattle.command_plans.specs.Menus.{menu_at}
 use Rattle.command_plans.specs.Refusing.{unless_refused}
 use Rattle.pe_reader.specs.Grammar.{pe_of}
-use Rattle.tool_words.specs.Line.{is_open, line_words}
 use Rattle.tool_words.specs.Meaning.{meaning}
 use Rattle.tool_words.specs.declared.command.Command.{Command}
 use Rattle.tool_words.specs.declared.command.Command.TheVariants as command
+use Rattle.tool_words.specs.declared.command.One.{One}
+use Rattle.tool_words.specs.declared.command.One.TheVariants as one
+use Rattle.tool_words.specs.declared.command.Several.TheVariants as several
 use Rattle.tool_words.specs.declared.fault.UsageReason.{UsageReason}
 use Rattle.image_build.specs.Building.{BuiltImage, build_of, built_answer}
 use Rattle.image_build.proofs.Outputs.{build_output}
@@ -60,26 +62,24 @@ use Rattle.type1_install.proofs.Cleaning.{menu_is}
 use Rattle.type1_install.proofs.Installing.{IsNormal, under_is}
 use Rattle.type1_install.proofs.PayloadsKept.{IsConfFile, NotPayload, conf_name, payload_slash, put_kept, remove_kept, some_if, suffix_not_payload, uki_names, value_ok}
 use Rattle.type1_install.proofs.Planned.{word_normal}
-use Rattle.boot_commands.specs.Commands.{step_reply}
 use Rattle.boot_commands.specs.Demonstration.{demo_result}
-use Rattle.boot_commands.specs.Expansions.{expands}
-use Rattle.boot_commands.specs.Plain.{is_demo, is_plain, is_script, is_wordless, plain_answer}
+use Rattle.boot_commands.specs.Expansions.{expansion}
+use Rattle.boot_commands.specs.Replies.{one_reply}
 use Rattle.boot_commands.proofs.ConfPlaces.{below_ends, last_byte}
-use Rattle.boot_commands.proofs.Expansions.{no_expansion}
-use Rattle.boot_run.specs.AskedLines.{command_in, in_script, is_passed_over, is_script_newline, line_at, lines_for, lines_from, lines_in, lines_to_run, plain_lines}
-use Rattle.boot_run.specs.Lines.{line_deed, script_limit}
+use Rattle.boot_commands.proofs.Unrefused.{made_or_refused}
+use Rattle.boot_run.specs.AskedLines.{lines_for, lines_to_run}
+use Rattle.boot_run.specs.Lines.{line_deed}
 use Rattle.boot_run.specs.Step.{view_after}
 use Rattle.boot_run.specs.declared.line.Line.{Line}
-use Rattle.boot_run.specs.declared.line.Line.TheVariants.{Plain, Numbered, Unread, TooLong}
-use Rattle.boot_run.proofs.ScriptLines.{lines_alone, lines_script}
-use Rattle.boot_run.proofs.Worded.{worded}
-use Rattle.boot_history.specs.Asking.{AllCommands, EachAsks, EachMeans}
+use Rattle.boot_run.specs.declared.line.Line.TheVariants.{Plain, Part, Numbered, Unread, TooLong}
+use Rattle.boot_run.proofs.ScriptLines.{each_line}
+use Rattle.boot_history.specs.Asking.{AllLines, EachAsks, EachMeans}
 use Rattle.boot_history.specs.Histories.{Run, state_after}
 use Rattle.boot_history.specs.Keeping.{KeptBy, KeptFrom}
-use Rattle.boot_history.specs.Payloads.{BuildsApart, PayloadLaw, is_directly_in}
+use Rattle.boot_history.specs.Payloads.{BuildsApart, LineApart, PayloadLaw, is_directly_in, keeps_payloads}
 use Rattle.boot_history.proofs.Keeping.{kept_later}
 use Rattle.boot_history.proofs.PayloadMoves.{booted_beside, moved, normal_folder}
-use Rattle.boot_history.proofs.Payloads.{cleanup_keeps, install_keeps}
+use Rattle.boot_history.proofs.Payloads.{cleanup_keeps, install_keeps, refused_keeps, told_keeps}
 use Rattle.boot_history.proofs.PayloadsNewest.{keep_keeps}
 
 -- ---- places
@@ -262,117 +262,72 @@ module _ (esp : Path) (view : Files) (ok : ArePayloadsThere esp view) where
       boot_item word read.0 read.1 menu.0 menu.1 first.0 first.1 answer first.2)
 
   -- a case for each command
-  stays : (c : Command) → is_wordless c ≡ false → expands c ≡ false → BuildsApart esp c → ArePayloadsThere esp (step_reply view c).after
-  unfolding step_reply plain_answer
-  stays (command.Build words) given alone apart = kept_built words.measure (path_in words.output) (build_of view words) (build_output view words) apart
-  stays (command.Calculate words) given alone apart = kept_said (calculate_result view words)
-  stays (command.Inspect file json) given alone apart = kept_said (inspect_result view file json)
-  stays (command.Image file banks phases json) given alone apart = kept_said (measure_result view file banks phases json)
-  stays (command.Identify file) given alone apart = kept_said (identify_result view file)
-  stays (command.List word json) given alone apart = kept_said (list_result view word json)
-  stays (command.Tidy word) given alone apart = kept_unless (folders_of word) (tidy_answer view) (λ folders is. ok)
-  stays (command.Boot word) given alone apart = kept_boot word
-  stays (command.Unlink name word) given alone apart = kept_unless (entry_path name word) (unlink_answer view) (λ at is. kept_unlink at (unlink_apart esp name word at is))
-  stays (command.Install file name tries word) given alone apart = kept_install file name tries word
-  stays (command.Bless verb path word) given alone apart = blessed (ArePayloadsThere esp) view ok (λ old new are there. moved esp old new are view ok there) verb path word
-  stays (command.LoaderShow word) given alone apart = kept_said (show_result view word)
-  stays (command.LoaderDefault pattern word) given alone apart = kept_set Default pattern word
-  stays (command.LoaderTimeout value word) given alone apart = kept_set Timeout value word
-  stays (command.Type1Install words) given alone apart = cc
-  stays (command.Type1Cleanup word) given alone apart = cc
-  stays (command.Keep words) given alone apart = cc
-  stays (command.Put file target) given alone apart = cc
-  stays (command.Enter at text) given alone apart = cc
-  stays (command.Remove at) given alone apart = cc
-  stays command.Script given alone apart = ok
-  stays (command.Demo seed count) given alone apart = kept_said (demo_result seed count)
+  stays : (c : One) → BuildsApart esp c → ArePayloadsThere esp (one_reply view c).after
+  unfolding one_reply
+  stays (one.Build words) apart = kept_built words.measure (path_in words.output) (build_of view words) (build_output view words) apart
+  stays (one.Calculate words) apart = kept_said (calculate_result view words)
+  stays (one.Inspect file json) apart = kept_said (inspect_result view file json)
+  stays (one.Image file banks phases json) apart = kept_said (measure_result view file banks phases json)
+  stays (one.Identify file) apart = kept_said (identify_result view file)
+  stays (one.List word json) apart = kept_said (list_result view word json)
+  stays (one.Tidy word) apart = kept_unless (folders_of word) (tidy_answer view) (λ folders is. ok)
+  stays (one.Boot word) apart = kept_boot word
+  stays (one.Unlink name word) apart = kept_unless (entry_path name word) (unlink_answer view) (λ at is. kept_unlink at (unlink_apart esp name word at is))
+  stays (one.Install file name tries word) apart = kept_install file name tries word
+  stays (one.Bless verb path word) apart = blessed (ArePayloadsThere esp) view ok (λ old new are there. moved esp old new are view ok there) verb path word
+  stays (one.LoaderShow word) apart = kept_said (show_result view word)
+  stays (one.LoaderDefault pattern word) apart = kept_set Default pattern word
+  stays (one.LoaderTimeout value word) apart = kept_set Timeout value word
 
 -- ---- what words ask for
 
--- words ask for it, and it stands for no other
-abbrev Usual : Command → Type 0
-Usual c = (is_wordless c ≡ false) × (expands c ≡ false)
+-- the line is no action of a command of several
+abbrev NoPart : Line → Type 0
+NoPart (Plain c) = Unit {0}
+NoPart (Part action) = ⊥
+NoPart (Numbered number c) = Unit {0}
+NoPart (Unread number) = Unit {0}
+NoPart TooLong = Unit {0}
 
-lines_keep : (esp : Path) (view : Files) (lines : List Line) → ArePayloadsThere esp view → AllCommands (BuildsApart esp) lines → AllCommands Usual lines
+lines_keep : (esp : Path) (view : Files) (lines : List Line) → ArePayloadsThere esp view → AllLines (LineApart esp) lines → All NoPart lines
     → (n : ℕ) → ArePayloadsThere esp (view_after view (take n lines))
-lines_keep esp view lines ok apart usual zero = ok
-lines_keep esp view [] ok apart usual (suc n) = ok
-lines_keep esp view (Plain c ∷ lines) ok apart usual (suc n) =
-    lines_keep esp (line_deed view (Plain c)).after lines (stays esp view ok c usual.0.0 usual.0.1 apart.0) apart.1 usual.1 n
-lines_keep esp view (Numbered number c ∷ lines) ok apart usual (suc n) =
-    lines_keep esp (line_deed view (Numbered number c)).after lines (stays esp view ok c usual.0.0 usual.0.1 apart.0) apart.1 usual.1 n
-lines_keep esp view (Unread number ∷ lines) ok apart usual (suc n) = lines_keep esp view lines ok apart usual n
-lines_keep esp view (TooLong ∷ lines) ok apart usual (suc n) = lines_keep esp view lines ok apart usual n
+lines_keep esp view lines ok apart none zero = ok
+lines_keep esp view [] ok apart none (suc n) = ok
+lines_keep esp view (Plain c ∷ lines) ok apart none (suc n) =
+    lines_keep esp (line_deed view (Plain c)).after lines (stays esp view ok c apart.0) apart.1 (All-tail NoPart (Plain c) lines none) n
+lines_keep esp view (Part action ∷ lines) ok apart none (suc n) = absurd (All-head NoPart (Part action) lines none)
+lines_keep esp view (Numbered number c ∷ lines) ok apart none (suc n) =
+    lines_keep esp (line_deed view (Numbered number c)).after lines (stays esp view ok c apart.0) apart.1 (All-tail NoPart (Numbered number c) lines none) n
+lines_keep esp view (Unread number ∷ lines) ok apart none (suc n) = lines_keep esp view lines ok apart.1 (All-tail NoPart (Unread number) lines none) n
+lines_keep esp view (TooLong ∷ lines) ok apart none (suc n) = lines_keep esp view lines ok apart.1 (All-tail NoPart TooLong lines none) n
 
-abbrev FoundUsual : Option Command → Type 0
-FoundUsual None = Unit {0}
-FoundUsual (Some c) = Usual c
+-- a demonstration tells something, or is refused
+demo_keeps : (esp : Path) (view : Files) (seed count : List ℕ) → ArePayloadsThere esp view
+    → (n : ℕ) → ArePayloadsThere esp (view_after view (take n (map Part (expansion view (several.Demo seed count)))))
+unfolding expansion
+demo_keeps esp view seed count ok =
+    made_or_refused (λ actions. (n : ℕ) → ArePayloadsThere esp (view_after view (take n (map Part actions)))) (λ why. refused_keeps esp view why ok) _
+    (demo_result seed count) (λ text. told_keeps esp view text ok)
 
-alone_of : (a b c : Bool) → not (a || b || c) ≡ true → c ≡ false
-alone_of a b false is = refl
-alone_of true b true is = cc
-alone_of false true true is = cc
-alone_of false false true is = cc
-
-found_if : (plain : Bool) (c : Command) → is_wordless c ≡ false → is_plain c ≡ plain → FoundUsual (cond plain (Some c) None)
-found_if true c given is = (given, alone_of (is_script c) (is_demo c) (expands c) is)
-found_if false c given is = tt
-
-found_meant : (meant : Result Command UsageReason) → IfOk meant (λ c. is_wordless c ≡ false) → FoundUsual (in_script meant)
-found_meant (Err reason) all = tt
-found_meant (Ok c) all = found_if (is_plain c) c all refl
-
-found_in : (piece : List ℕ) → FoundUsual (command_in piece)
-found_in piece = by (is_utf8 piece && not (is_open (chars piece)))
-  where
-    by : (text : Bool) → FoundUsual (cond text (in_script (meaning (line_words (chars piece)))) None)
-    by true = found_meant (meaning (line_words (chars piece))) (worded (line_words (chars piece)))
-    by false = tt
-
-usual_behind : (number : ℕ) (found : Option Command) (lines : List Line) → FoundUsual found → AllCommands Usual lines → AllCommands Usual (line_at number found ∷ lines)
-usual_behind number None lines is all = all
-usual_behind number (Some c) lines is all = (is, all)
-
-usual_piece : (number : ℕ) (passed : Bool) (piece : List ℕ) (lines : List Line) → AllCommands Usual lines
-    → AllCommands Usual ((cond passed [] (line_at number (command_in piece) ∷ [])) ++ lines)
-usual_piece number true piece lines all = all
-usual_piece number false piece lines all = usual_behind number (command_in piece) lines (found_in piece) all
-
-usual_from : (number : ℕ) (pieces : List (List ℕ)) → AllCommands Usual (lines_from number pieces)
-usual_from number [] = tt
-usual_from number (piece ∷ pieces) = usual_piece number (is_passed_over piece) piece (lines_from (suc number) pieces) (usual_from (suc number) pieces)
-
-usual_in : (input : List ℕ) → AllCommands Usual (lines_in input)
-usual_in input = by (nat_lt script_limit (length input))
-  where
-    by : (long : Bool) → AllCommands Usual (cond long (TooLong ∷ []) (lines_from 1 (slice_split is_script_newline input)))
-    by true = tt
-    by false = usual_from 1 (slice_split is_script_newline input)
-
-usual_lines : (input : List ℕ) (view : Files) (c : Command) → is_wordless c ≡ false → expands c ≡ false → AllCommands Usual (lines_for input view c)
-usual_lines input view c given alone = by (is_script c) refl
-  where
-    by : (script : Bool) → is_script c ≡ script → AllCommands Usual (lines_for input view c)
-    by true is = subst (AllCommands Usual) (sym (lines_script input view c is)) (usual_in (take 1048577 input))
-    by false is =
-        subst (AllCommands Usual) (sym (lines_alone input view c is ∙ ap (plain_lines c) (no_expansion view c alone)))
-        ((given, alone), tt)
-
-after_meant : (esp : Path) (view : Files) (input : List ℕ) (meant : Result Command UsageReason) → IfOk meant (λ c. is_wordless c ≡ false)
-    → EachMeans expands (BuildsApart esp) view input meant → ArePayloadsThere esp view
+after_meant : (esp : Path) (view : Files) (input : List ℕ) (meant : Result Command UsageReason)
+    → EachMeans keeps_payloads (LineApart esp) view input meant → ArePayloadsThere esp view
     → KeptBy (ArePayloadsThere esp) view (lines_to_run input view meant)
-after_meant esp view input (Err reason) given apart ok = tt
-after_meant esp view input (Ok (command.Type1Install words)) given apart ok = install_keeps esp view input words ok
-after_meant esp view input (Ok (command.Type1Cleanup word)) given apart ok = cleanup_keeps esp view input word ok
-after_meant esp view input (Ok (command.Keep words)) given apart ok = keep_keeps esp view input words ok
-after_meant esp view input (Ok c) given apart ok =
-    lines_keep esp view (lines_for input view c) ok (apart refl) (usual_lines input view c given refl)
+after_meant esp view input (Err reason) apart ok = tt
+after_meant esp view input (Ok (command.Several (several.Type1Install words))) apart ok = install_keeps esp view input words ok
+after_meant esp view input (Ok (command.Several (several.Type1Cleanup word))) apart ok = cleanup_keeps esp view input word ok
+after_meant esp view input (Ok (command.Several (several.Keep words))) apart ok = keep_keeps esp view input words ok
+after_meant esp view input (Ok (command.Several (several.Demo seed count))) apart ok = demo_keeps esp view seed count ok
+after_meant esp view input (Ok (command.One c)) apart ok =
+    lines_keep esp view (Plain c ∷ []) ok (apart refl) (All-cons NoPart (Plain c) [] tt (All-nil NoPart))
+after_meant esp view input (Ok command.Script) apart ok =
+    lines_keep esp view (lines_for input view command.Script) ok (apart refl)
+    (each_line NoPart (λ number c. tt) (λ number. tt) tt (take 1048577 input))
 
-kept_from : (esp : Path) (state : List Files) (runs : List Run) → EachAsks expands (BuildsApart esp) state runs
+kept_from : (esp : Path) (state : List Files) (runs : List Run) → EachAsks keeps_payloads (LineApart esp) state runs
     → KeptFrom (ArePayloadsThere esp) state runs
 kept_from esp state [] apart = tt
 kept_from esp state (run ∷ runs) apart = (
-  λ ok. after_meant esp (latest_view state) run.input (meaning run.words) (worded run.words) apart.0 ok,
+  λ ok. after_meant esp (latest_view state) run.input (meaning run.words) apart.0 ok,
   kept_from esp run.left runs apart.1,
 )
 

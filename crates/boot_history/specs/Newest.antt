@@ -11,17 +11,23 @@ use Rattle.boot_folder.specs.Entries.{boot_menu, entry_count}
 use Rattle.boot_folder.specs.Removals.{menu_without}
 use Rattle.boot_folder.specs.declared.folders.Folders.{Folders}
 use Rattle.tool_words.specs.Meaning.{meaning}
+use Rattle.tool_words.specs.declared.command.Command.{Command}
 use Rattle.tool_words.specs.declared.command.Command.TheVariants as command
+use Rattle.tool_words.specs.declared.command.Several.TheVariants as several
 use Rattle.tool_words.specs.declared.command.KeepWords.{KeepWords}
 use Rattle.command_plans.specs.Deeds.{Finished}
 use Rattle.command_plans.specs.Folders.{folders_of}
 use Rattle.entry_commands.specs.Counts.{count_in}
-use Rattle.boot_commands.specs.Sparing.{Spares}
 use Rattle.boot_run.specs.AskedLines.{lines_for}
 use Rattle.boot_run.specs.Step.{Acknowledges, join_replies, replies, some_refused}
 use Rattle.boot_run.specs.declared.line.Line.{Line}
-use Rattle.boot_history.specs.Asking.{AllCommands}
+use Rattle.boot_history.specs.Asking.{AllLines}
+use Rattle.boot_history.specs.GoodEntries.{LineSpares}
 use Rattle.boot_history.specs.Histories.{AllViews, IsHistory, IsStart, Run}
+
+-- a `keep` of these words
+abbrev pub keep_command : KeepWords → Command
+keep_command words = command.Several (several.Keep words)
 
 -- on this view a `keep` of n entries, in these folders, isn't refused
 pub record AllowsKeep (view : Files) (words : KeepWords) (n : ℕ) (folders : Folders) : Type 0 where
@@ -55,23 +61,23 @@ pub record LacksDoomed (n : ℕ) (per_key : Bool) (first : Files) (folders : Fol
 abbrev pub NewestLaw : Type 0
 NewestLaw =
     (state : List Files) (run : Run) (words : KeepWords) (n : ℕ) (folders : Folders)
-    → IsStart state → IsHistory state (run ∷ []) → meaning run.words ≡ Ok (command.Keep words)
+    → IsStart state → IsHistory state (run ∷ []) → meaning run.words ≡ Ok (keep_command words)
     → words.dry_run ≡ false → AllowsKeep (latest_view state) words n folders
     → AllViews (LacksDoomed n words.per_key (latest_view state) folders
-    (lines_for run.input (latest_view state) (command.Keep words)) run) run.left
+    (lines_for run.input (latest_view state) (keep_command words)) run) run.left
 
 -- one that only tells changes nothing
 abbrev pub ToldLaw : Type 0
 ToldLaw =
     (state : List Files) (run : Run) (words : KeepWords)
-    → IsStart state → IsHistory state (run ∷ []) → meaning run.words ≡ Ok (command.Keep words)
+    → IsStart state → IsHistory state (run ∷ []) → meaning run.words ≡ Ok (keep_command words)
     → words.dry_run ≡ true → AllViews (λ view. view ≡ latest_view state) run.left
 
 -- if a `keep` isn't refused, no reply of it is a refusal
 abbrev pub UnrefusedLaw : Type 0
 UnrefusedLaw =
     (view : Files) (input : List ℕ) (words : KeepWords) (n : ℕ) (folders : Folders)
-    → AllowsKeep view words n folders → some_refused view (lines_for input view (command.Keep words)) ≡ false
+    → AllowsKeep view words n folders → some_refused view (lines_for input view (keep_command words)) ≡ false
 
 -- and it spares what stands at each path that isn't that of a doomed entry
 abbrev pub KeepSparesLaw : Type 0
@@ -79,4 +85,4 @@ KeepSparesLaw =
     (view : Files) (input : List ℕ) (words : KeepWords) (n : ℕ) (folders : Folders) (path : Path)
     → AllowsKeep view words n folders
     → list_any (bytes_eq path) (doomed_paths n words.per_key (boot_menu view folders)) ≡ false
-    → AllCommands (Spares path) (lines_for input view (command.Keep words))
+    → AllLines (LineSpares path) (lines_for input view (keep_command words))

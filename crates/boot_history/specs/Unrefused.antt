@@ -1,17 +1,26 @@
--- No command of an expansion is refused, so a run of one, which would end there, is all of it.
-use Rattle.std.specs.Prelude.{◌≡◌, false, map}
+-- A command of several actions is done whole, or it is refused, which is its one line.
+use Rattle.std.specs.Prelude.{◌≡◌, ◌⊎◌, false, List, [], ◌∷◌, map}
+use Rattle.boot_base.specs.declared.refusal.Refusal.{Refusal}
 use Rattle.boot_machine.specs.Disk.{Files}
-use Rattle.tool_words.specs.declared.command.Command.{Command}
+use Rattle.tool_words.specs.declared.command.Several.{Several}
+use Rattle.tool_words.specs.declared.action.Action.{Action}
+use Rattle.tool_words.specs.declared.action.Action.TheVariants as action
 use Rattle.boot_commands.specs.Expansions.{expansion}
 use Rattle.boot_run.specs.Step.{some_refused}
 use Rattle.boot_run.specs.UpToRefused.{up_to_refused}
-use Rattle.boot_run.specs.declared.line.Line.TheVariants.{Plain}
+use Rattle.boot_run.specs.declared.line.Line.TheVariants.{Part}
 
--- none of the commands that a command stands for is refused, if they are carried out one after the other
+-- these are the one action that refuses a command
+abbrev pub IsRefusalAlone : List Action → Type 0
+IsRefusalAlone actions = (why : Refusal) × (actions ≡ action.Refuse why ∷ [])
+
+-- The command is refused on this view, or none of its actions is, if they are done one after the other.
 abbrev pub ExpansionUnrefusedLaw : Type 0
-ExpansionUnrefusedLaw = (view : Files) (c : Command) → some_refused view (map Plain (expansion view c)) ≡ false
+ExpansionUnrefusedLaw =
+    (view : Files) (c : Several) → IsRefusalAlone (expansion view c)
+    ⊎ (some_refused view (map Part (expansion view c)) ≡ false)
 
 -- so what a run of them does up to the first refused one is all
 abbrev pub WholeExpansionLaw : Type 0
 WholeExpansionLaw =
-    (view : Files) (c : Command) → up_to_refused view (map Plain (expansion view c)) ≡ map Plain (expansion view c)
+    (view : Files) (c : Several) → up_to_refused view (map Part (expansion view c)) ≡ map Part (expansion view c)

@@ -52,7 +52,7 @@ pub fn good_entry_law()
 /// The payloads of entries stay: where each payload that an entry of an EFI system partition names is there, with its
 /// digest for its name, in each view at the start of some run, and no build from that run on has its output directly in
 /// the partition's folder of payloads or in that of its entries of type 1, it is so in each later view. An installation,
-/// a cleanup and a `keep` keep it after each number of their commands.
+/// a cleanup and a `keep` keep it after each number of their actions.
 pub fn payload_law()
     ensures stays { PayloadLaw }
     ensures installs { InstallKeepsLaw }
@@ -71,9 +71,9 @@ pub fn newest_law()
     ensures spares { KeepSparesLaw }
 {}
 
-/// An installation, a cleanup and a `keep` are done whole: none of the commands that each stands for is refused on what
-/// boot sees, from whatever view they begin. A run of them ends at the first refused command, which comes only on a
-/// machine that has changed between two looks; up to there it does on each view all of them.
+/// An installation, a cleanup and a `keep` are done whole, unless they are refused, which is their one action: no other of
+/// their actions is refused on what boot sees, from whatever view they begin. A run of them ends at the first refused
+/// action, which comes only on a machine that has changed between two looks; up to there it does on each view all of them.
 pub fn expansion_law()
     ensures unrefused { ExpansionUnrefusedLaw }
     ensures whole { WholeExpansionLaw }

@@ -2,7 +2,6 @@ mod Acked
 mod Acknowledging
 mod Expanding
 mod Expansions
-mod Planning
 mod Recovering
 pub mod Replying
 mod Running
@@ -13,4 +12,3 @@ mod Synced
 mod Taken
 mod Topping
 pub mod UpToRefused
-pub mod Worded

@@ -1,26 +1,20 @@
 -- The lines of a script, one after the other.
-use Rattle.std.proofs.Common.{◌≡◌, inl, inr, ℕ, suc, ◌+◌, Bool, true, false, cond, List, [], ◌∷◌, ◌++◌, length, take, refl, sym, ap, ◌∙◌, arith, append_assoc, append-nil, Result, Ok, Err, Some, None}
+use Rattle.std.proofs.Common.{◌≡◌, inl, inr, ℕ, suc, ◌+◌, Bool, true, false, cond, List, [], ◌∷◌, ◌++◌, length, take, refl, sym, ap, ◌∙◌, arith, append_assoc, append-nil, Result, Ok, Err, Option, Some, None}
 use Rattle.std.proofs.lemmas.Bool.{cases_Bool}
 use Rattle.std.proofs.lemmas.Str.{IsUtf8-from_is_utf8}
 use Rattle.std.specs.Str.{chars, is_utf8, IsUtf8}
-use Rattle.std.specs.Prelude.{All, IfOk, not, nat_lt, ◌&&◌, ◌||◌, if◌then◌else◌}
+use Rattle.std.specs.Prelude.{All, not, nat_lt, ◌&&◌, if◌then◌else◌}
 use Rattle.std.specs.List.{slice_split}
 use Rattle.std.proofs.lemmas.List.Elements.{All-cons, All-nil}
-use Rattle.boot_machine.specs.Disk.{Files}
-use Rattle.boot_commands.specs.Expansions.{expands, expansion}
 use Rattle.tool_words.specs.Line.{is_open, line_words}
 use Rattle.tool_words.specs.Meaning.{meaning}
-use Rattle.tool_words.specs.declared.command.Command.{Command}
+use Rattle.tool_words.specs.declared.command.One.{One}
 use Rattle.tool_words.specs.declared.fault.LineFault.{LineFault}
 use Rattle.tool_words.specs.declared.fault.LineFault.TheVariants.{OpenQuote}
-use Rattle.tool_words.specs.declared.fault.UsageReason.{UsageReason}
-use Rattle.boot_commands.specs.Plain.{is_demo, is_plain, is_script, is_wordless}
-use Rattle.boot_run.specs.AskedLines.{command_in, in_script, is_passed_over, is_script_newline, line_at, lines_for, lines_from, lines_in, plain_lines}
-use Rattle.boot_run.specs.Lines.{IsStep, script_limit}
+use Rattle.boot_run.specs.AskedLines.{command_in, in_script, is_passed_over, is_script_newline, line_at, lines_from, lines_in}
+use Rattle.boot_run.specs.Lines.{script_limit}
 use Rattle.boot_run.specs.declared.line.Line.{Line}
-use Rattle.boot_run.specs.declared.line.Line.TheVariants.{TooLong}
-use Rattle.boot_commands.proofs.Expansions.{step_of}
-use Rattle.boot_run.proofs.Worded.{worded}
+use Rattle.boot_run.specs.declared.line.Line.TheVariants.{Numbered, Unread, TooLong}
 
 abbrev ok_line : (T : Type 0) → T → Result T LineFault
 ok_line T value = Ok value
@@ -55,13 +49,6 @@ none_when_open piece opened = by_utf8 (is_utf8 piece)
 pub command_of_words : (piece : List ℕ) → is_utf8 piece ≡ true → is_open (chars piece) ≡ false → command_in piece ≡ in_script (meaning (line_words (chars piece)))
 command_of_words piece utf8 closed = rw (utf8, closed) refl
 
--- a command of its own
-pub lines_alone : (input : List ℕ) (view : Files) (c : Command) → is_script c ≡ false → lines_for input view c ≡ plain_lines c (expansion view c)
-lines_alone input view c isnt = rw isnt refl
-
-pub lines_script : (input : List ℕ) (view : Files) (c : Command) → is_script c ≡ true → lines_for input view c ≡ lines_in (take 1048577 input)
-lines_script input view c is = rw is refl
-
 -- the lines so far, with one piece more
 pub with_piece : (pieces : List (List ℕ)) (piece : List ℕ) (number : ℕ) (lines : List Line) (line : Line) → number ≡ length pieces + 1 → is_passed_over piece ≡ false → line ≡ line_at number (command_in piece)
     → lines ≡ lines_from 1 pieces → lines ++ line ∷ [] ≡ lines_from 1 (pieces ++ piece ∷ [])
@@ -81,45 +68,24 @@ not_open line result value is so = elim (cases_Bool (is_open line)) [ inl opened
     ok_or_err : {T : Type 0} (value : T) → ok_line T value ≡ Err OpenQuote → ⊥
     ok_or_err value is = cc
 
-neither : (a b c : Bool) → not (a || b || c) ≡ true → a ≡ false
-neither true b c is = cc
-neither false b c is = refl
+-- what is so of each kind of line that a script has, is so of all its lines
+module _ (P : Line → Type 0) (numbered : (number : ℕ) (c : One) → P (Numbered number c)) (unread : (number : ℕ) → P (Unread number)) (long : P TooLong) where
+  line_so : (number : ℕ) (found : Option One) → P (line_at number found)
+  line_so number None = unread number
+  line_so number (Some c) = numbered number c
 
-nor_third : (a b c : Bool) → not (a || b || c) ≡ true → c ≡ false
-nor_third true b c is = cc
-nor_third false true c is = cc
-nor_third false false true is = cc
-nor_third false false false is = refl
+  all_behind : (number : ℕ) (passed : Bool) (piece : List ℕ) (lines : List Line) → All P lines
+      → All P ((cond passed [] (line_at number (command_in piece) ∷ [])) ++ lines)
+  all_behind number true piece lines all = all
+  all_behind number false piece lines all = All-cons P (line_at number (command_in piece)) lines (line_so number (command_in piece)) all
 
-step_if : (number : ℕ) (plain : Bool) (c : Command) → is_wordless c ≡ false → is_plain c ≡ plain → IsStep (line_at number (cond plain (Some c) None))
-step_if number true c given is =
-    step_of c (neither (is_script c) (is_demo c) (expands c) is) given (nor_third (is_script c) (is_demo c) (expands c) is)
-step_if number false c given is = tt
+  all_from : (number : ℕ) (pieces : List (List ℕ)) → All P (lines_from number pieces)
+  all_from number [] = All-nil P
+  all_from number (piece ∷ pieces) = all_behind number (is_passed_over piece) piece (lines_from (suc number) pieces) (all_from (suc number) pieces)
 
-step_meant : (number : ℕ) (meant : Result Command UsageReason) → IfOk meant (λ c. is_wordless c ≡ false) → IsStep (line_at number (in_script meant))
-step_meant number (Err reason) all = tt
-step_meant number (Ok c) all = step_if number (is_plain c) c all refl
+  by_length : (input : List ℕ) (over : Bool) → All P (cond over (TooLong ∷ []) (lines_from 1 (slice_split is_script_newline input)))
+  by_length input true = All-cons P TooLong [] long (All-nil P)
+  by_length input false = all_from 1 (slice_split is_script_newline input)
 
-step_in : (number : ℕ) (piece : List ℕ) → IsStep (line_at number (command_in piece))
-step_in number piece = by_text (is_utf8 piece && not (is_open (chars piece)))
-  where
-    by_text : (text : Bool) → IsStep (line_at number (cond text (in_script (meaning (line_words (chars piece)))) None))
-    by_text true = step_meant number (meaning (line_words (chars piece))) (worded (line_words (chars piece)))
-    by_text false = tt
-
-steps_behind : (number : ℕ) (passed : Bool) (piece : List ℕ) (lines : List Line) → All IsStep lines
-    → All IsStep ((cond passed [] (line_at number (command_in piece) ∷ [])) ++ lines)
-steps_behind number true piece lines steps = steps
-steps_behind number false piece lines steps = All-cons IsStep (line_at number (command_in piece)) lines (step_in number piece) steps
-
-steps_from : (number : ℕ) (pieces : List (List ℕ)) → All IsStep (lines_from number pieces)
-steps_from number [] = All-nil IsStep
-steps_from number (piece ∷ pieces) = steps_behind number (is_passed_over piece) piece (lines_from (suc number) pieces) (steps_from (suc number) pieces)
-
--- each line of a script is a step
-pub all_steps : (input : List ℕ) → All IsStep (lines_in input)
-all_steps input = by_length (nat_lt script_limit (length input))
-  where
-    by_length : (long : Bool) → All IsStep (cond long (TooLong ∷ []) (lines_from 1 (slice_split is_script_newline input)))
-    by_length true = All-cons IsStep TooLong [] tt (All-nil IsStep)
-    by_length false = steps_from 1 (slice_split is_script_newline input)
+  pub each_line : (input : List ℕ) → All P (lines_in input)
+  each_line input = by_length input (nat_lt script_limit (length input))

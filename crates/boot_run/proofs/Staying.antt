@@ -16,9 +16,9 @@ use Rattle.boot_run.specs.Endings.{AllTidied, UnlessDisk, ended_by}
 use Rattle.boot_run.specs.Lines.{Prints, TidiedBy}
 use Rattle.boot_run.specs.RunsTo.{WherePrinted, at_part}
 use Rattle.boot_commands.specs.Commands.{LeavesTidied, TidiesTo}
-use Rattle.tool_words.specs.declared.command.Command.{Command}
+use Rattle.tool_words.specs.declared.command.One.{One}
 use Rattle.boot_run.specs.declared.line.Line.{Line}
-use Rattle.boot_run.specs.declared.line.Line.TheVariants.{Plain, Numbered, Unread, TooLong}
+use Rattle.boot_run.specs.declared.line.Line.TheVariants.{Plain, Part, Numbered, Unread, TooLong}
 
 -- a print changes nothing but what is printed
 prints_this : (s now : State) (to : Channel) (text : List ℕ) → now ≡ with_printed to text s → Prints s now
@@ -90,7 +90,7 @@ where_more (Err stops.Pipe) old mid new P Q same so p = λ differs. so (p (λ is
 where_more (Err stops.Memory) old mid new P Q same so p = tt
 
 -- of a command
-pub where_tidied : {T : Type 0} (result : Result T Stop) (c : Command) (old new : State) → TidiesTo result c old new → WherePrinted result old new (LeavesTidied c new.files)
+pub where_tidied : {T : Type 0} (result : Result T Stop) (c : One) (old new : State) → TidiesTo result c old new → WherePrinted result old new (LeavesTidied c new.files)
 where_tidied (Ok value) c old new tidies = tidies
 where_tidied (Err stops.Disk) c old new tidies = tt
 where_tidied (Err stops.Pipe) c old new tidies = tidies
@@ -140,6 +140,7 @@ unless_disk_by (Err stops.Memory) s now leaves = leaves
 -- a folder that is tidied stays so
 line_later : (s now : State) → NoNewTemp s now → (line : Line) → TidiedBy s.files line → TidiedBy now.files line
 line_later s now none (Plain c) tidied = tidied_later s now c none tidied
+line_later s now none (Part action) tidied = tt
 line_later s now none (Numbered number c) tidied = tidied_later s now c none tidied
 line_later s now none (Unread number) tidied = tt
 line_later s now none TooLong tidied = tt

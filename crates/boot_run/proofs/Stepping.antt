@@ -9,11 +9,12 @@ use Rattle.boot_run.specs.History.{AllAre, states, printed_by, EndsBefore, Recov
 use Rattle.boot_run.specs.Lines.{line_deed, is_unread}
 use Rattle.boot_run.specs.Step.{replies, view_after, join_replies, Acknowledges, AllUnread, KeepsViews, IsEarly, IsLate, Step, NoneEmpty, IsOneView, SeesBegun, Leaves}
 use Rattle.boot_run.specs.declared.line.Line.{Line}
-use Rattle.boot_run.specs.declared.line.Line.TheVariants.{Plain, Numbered, Unread, TooLong}
+use Rattle.boot_run.specs.declared.line.Line.TheVariants.{Plain, Part, Numbered, Unread, TooLong}
 
 -- the view that a line leaves is the last one of the state that it leaves
 pub latest_left : (old : List Files) (line : Line) → latest_view (left_by (line_deed (latest_view old) line) old) ≡ (line_deed (latest_view old) line).after
 latest_left old (Plain command) = refl
+latest_left old (Part action) = refl
 latest_left old (Numbered number command) = refl
 latest_left old (Unread number) = refl
 latest_left old TooLong = refl
@@ -21,6 +22,7 @@ latest_left old TooLong = refl
 -- a line settles, or is unread and leaves the state
 settles_or : (old : List Files) (line : Line) → (left_by (line_deed (latest_view old) line) old ≡ (line_deed (latest_view old) line).after ∷ []) ⊎ ((is_unread line ≡ true) × (left_by (line_deed (latest_view old) line) old ≡ old))
 settles_or old (Plain command) = inl refl
+settles_or old (Part action) = inl refl
 settles_or old (Numbered number command) = inl refl
 settles_or old (Unread number) = inr (refl, refl)
 settles_or old TooLong = inr (refl, refl)
@@ -31,6 +33,7 @@ unread_after view lines zero j le all = refl
 unread_after view [] (suc k) j le all = refl
 unread_after view (line ∷ lines) (suc k) zero le all = absurd (omega arith)
 unread_after view (Plain command ∷ lines) (suc k) (suc j) le all = cc
+unread_after view (Part action ∷ lines) (suc k) (suc j) le all = cc
 unread_after view (Numbered number command ∷ lines) (suc k) (suc j) le all = cc
 unread_after view (Unread number ∷ lines) (suc k) (suc j) le all = unread_after view lines k j (omega arith) all.1
 unread_after view (TooLong ∷ lines) (suc k) (suc j) le all = unread_after view lines k j (omega arith) all.1

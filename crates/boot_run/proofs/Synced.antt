@@ -15,7 +15,7 @@ use Rattle.boot_run.specs.Lines.{Prints, has_command, is_unread, line_deed}
 use Rattle.boot_run.specs.RunsTo.{FromSync, IsSyncedBy, IsUnsynced, OnlyPrints, RunsAfresh, SyncsBefore}
 use Rattle.boot_run.specs.Step.{AllUnread, join_replies as end_to_end, replies}
 use Rattle.boot_run.specs.declared.line.Line.{Line}
-use Rattle.boot_run.specs.declared.line.Line.TheVariants.{Plain, Numbered, Unread, TooLong}
+use Rattle.boot_run.specs.declared.line.Line.TheVariants.{Plain, Part, Numbered, Unread, TooLong}
 use Rattle.boot_run.proofs.Staying.{image_stays}
 use Rattle.boot_run.proofs.Running.{SoFar, runs_break, printed_by-is, said_more, states-append}
 
@@ -27,6 +27,7 @@ said_latest a b lines same = printed_by-is a lines ∙ ap (λ v. end_to_end (rep
 unread_states : (a : List Files) (lines : List Line) → AllUnread lines → states a lines ≡ a
 unread_states a [] all = refl
 unread_states a (Plain command ∷ lines) all = cc
+unread_states a (Part action ∷ lines) all = cc
 unread_states a (Numbered number command ∷ lines) all = cc
 unread_states a (Unread number ∷ lines) all = unread_states a lines all.1
 unread_states a (TooLong ∷ lines) all = unread_states a lines all.1
@@ -34,6 +35,7 @@ unread_states a (TooLong ∷ lines) all = unread_states a lines all.1
 -- a command settles
 pub command_settles : (view : Files) (line : Line) → is_unread line ≡ false → (line_deed view line).settles ≡ true
 command_settles view (Plain command) is = refl
+command_settles view (Part action) is = refl
 command_settles view (Numbered number command) is = refl
 command_settles view (Unread number) is = cc
 command_settles view TooLong is = cc

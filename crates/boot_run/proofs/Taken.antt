@@ -3,10 +3,10 @@ use Rattle.std.proofs.Common.{◌≡◌, ◌≢◌, ◌≤◌, ℕ, Bool, true, 
 use Rattle.std.specs.Prelude.{OnOk}
 use Rattle.boot_machine.specs.Disk.{Files}
 use Rattle.tool_words.specs.declared.command.Command.{Command}
+use Rattle.tool_words.specs.declared.command.Command.TheVariants as command
 use Rattle.tool_words.specs.declared.fault.UsageReason.{UsageReason}
 use Rattle.command_plans.specs.declared.outcome.Stop.{Stop}
 use Rattle.command_plans.specs.declared.outcome.Stop.TheVariants.{Disk as DiskStop, Pipe as PipeStop, Memory as MemoryStop}
-use Rattle.boot_commands.specs.Plain.{is_script}
 use Rattle.boot_run.specs.AskedLines.{lines_for, lines_to_run, taken_by}
 use Rattle.boot_run.specs.Endings.{AtEnd, FitsWords, TakesInput, UnlessDisk, ended_by, ended_of, status_of}
 use Rattle.boot_run.specs.declared.ended.Ended.{Ended}
@@ -66,7 +66,7 @@ fits_memory (Ok c) = λ is. cc
 fits_memory (Err reason) = tt
 
 -- no input is taken
-takes_nothing : (meant : Result Command UsageReason) (ended : Ended) (old new : List ℕ) → taken_by meant ≡ 0 → new ≡ old → TakesInput meant ended old new
+pub takes_nothing : (meant : Result Command UsageReason) (ended : Ended) (old new : List ℕ) → taken_by meant ≡ 0 → new ≡ old → TakesInput meant ended old new
 takes_nothing meant ended old new none same = record {
   count = 0;
   most = omega arith;
@@ -74,26 +74,13 @@ takes_nothing meant ended old new none same = record {
   at_end = at_any ended _ (same ∙ ap (λ (n : ℕ). drop n old) (sym none));
 }
 
-pub takes_none : (c : Command) (ended : Ended) (old new : List ℕ) → is_script c ≡ false → new ≡ old → TakesInput (Ok c) ended old new
-takes_none c ended old new isnt same = takes_nothing (Ok c) ended old new (nothing c isnt) same
-  where
-    nothing : (c : Command) → is_script c ≡ false → taken_by (Ok c) ≡ 0
-    nothing c isnt = rw isnt refl
-
 pub takes_usage : (meant : Result Command UsageReason) (reason : UsageReason) (ended : Ended) (old new : List ℕ) → meant ≡ Err reason → new ≡ old → TakesInput meant ended old new
 takes_usage meant reason ended old new is same = takes_nothing meant ended old new (ap taken_by is) same
 
 -- a script takes so much, and all of it at its end
-pub takes_script : (c : Command) (ended : Ended) (old new : List ℕ) → is_script c ≡ true → ((k : ℕ) × (k ≤ 1048577) × (new ≡ drop k old)) → AtEnd ended (new ≡ drop 1048577 old) → TakesInput (Ok c) ended old new
-takes_script c ended old new is some whole = record {
-  count = some.0;
-  most = subst (λ n. some.0 ≤ n) (sym (all c is)) some.1;
-  taken = some.2;
-  at_end = subst (λ n. AtEnd ended (new ≡ drop n old)) (sym (all c is)) whole;
-}
-  where
-    all : (c : Command) → is_script c ≡ true → taken_by (Ok c) ≡ 1048577
-    all c is = rw is refl
+pub takes_script : (ended : Ended) (old new : List ℕ) → ((k : ℕ) × (k ≤ 1048577) × (new ≡ drop k old)) → AtEnd ended (new ≡ drop 1048577 old)
+    → TakesInput (Ok command.Script) ended old new
+takes_script ended old new some whole = record { count = some.0; most = some.1; taken = some.2; at_end = whole }
 
 -- the lines that words ask for
 lines_or : Result (List Line) UsageReason → List Line

@@ -1,45 +1,75 @@
 -- A run that ends at the first refused line.
-use Rattle.std.proofs.Common.{◌≡◌, ℕ, zero, suc, ◌+◌, ◌≤◌, ◌<◌, Bool, true, false, ◌||◌, List, [], ◌∷◌, length, map, drop, get_or, refl, sym, ap, ◌∙◌, subst, arith, Result, Ok, Err}
+use Rattle.std.proofs.Common.{◌≡◌, ◌⊎◌, inl, inr, ℕ, zero, suc, ◌+◌, ◌≤◌, ◌<◌, Bool, true, false, cond, ◌||◌, List, [], ◌∷◌, length, map, drop, get_or, refl, sym, ap, ◌∙◌, subst, arith, Result, Ok, Err}
 use Rattle.std.specs.Prelude.{IsErr, IsErrAnd, if◌then◌else◌}
 use Rattle.std.proofs.lemmas.Bool.{cond-true, cond-false}
 use Rattle.std.proofs.lemmas.List.{drop_all, drop_more}
+use Rattle.boot_base.specs.declared.refusal.Refusal.{Refusal}
 use Rattle.boot_machine.specs.Disk.{Files, IsIn, State, recovered_view}
 use Rattle.boot_machine.specs.Images.{IsFirm}
 use Rattle.boot_machine.specs.Moments.{Timeline}
 use Rattle.boot_machine.specs.Sent.{Sent, latest_view, recovered_now, recovered_views}
 use Rattle.boot_machine.proofs.Seeing.{latest_view-recovered_views}
-use Rattle.tool_words.specs.declared.command.Command.{Command}
+use Rattle.tool_words.specs.declared.action.Action.{Action}
+use Rattle.tool_words.specs.declared.action.Action.TheVariants as action
 use Rattle.command_plans.specs.Answers.{is_refusal}
 use Rattle.command_plans.specs.Deeds.{Deed, left_by}
 use Rattle.command_plans.specs.Performs.{Performs, end_of}
 use Rattle.command_plans.specs.declared.outcome.Outcome.{Outcome}
 use Rattle.command_plans.specs.declared.outcome.Stop.{Stop}
-use Rattle.boot_commands.specs.Commands.{step_reply}
-use Rattle.boot_commands.specs.Expanding.{NoneRefused}
+use Rattle.boot_commands.specs.Replies.{action_reply}
+use Rattle.boot_commands.specs.Expanding.{NoneRefused, RefusedOrDone}
 use Rattle.boot_run.specs.Lines.{is_unread, line_deed}
 use Rattle.boot_run.specs.RunsTo.{RunsTo}
 use Rattle.boot_run.specs.Step.{some_refused}
 use Rattle.boot_run.specs.UpToRefused.{up_to_refused}
 use Rattle.boot_run.specs.declared.line.Line.{Line}
-use Rattle.boot_run.specs.declared.line.Line.TheVariants.{Plain}
+use Rattle.boot_run.specs.declared.line.Line.TheVariants.{Part}
 use Rattle.boot_run.proofs.Recovering.{performed_plain}
 use Rattle.boot_run.proofs.Running.{SoFar, finished, gives_up, goes_on, started}
 use Rattle.boot_run.proofs.Synced.{command_settles}
 
--- where commands aren't refused, a run does them all
-pub all_run : (view : Files) (commands : List Command) → NoneRefused view commands → up_to_refused view (map Plain commands) ≡ map Plain commands
-all_run view [] none = refl
-all_run view (c ∷ commands) none =
-    let reply = step_reply view c in
-    ap (λ (l : List Line). Plain c ∷ l)
-    (cond-false (is_refusal reply.outcome) [] (up_to_refused reply.after (map Plain commands)) none.0 ∙ all_run reply.after commands none.1)
+-- where actions aren't refused, a run does them all
+none_run : (view : Files) (actions : List Action) → NoneRefused view actions → up_to_refused view (map Part actions) ≡ map Part actions
+none_run view [] none = refl
+none_run view (c ∷ actions) none =
+    let reply = action_reply view c in
+    ap (λ (l : List Line). Part c ∷ l)
+    (cond-false (is_refusal reply.outcome) [] (up_to_refused reply.after (map Part actions)) none.0 ∙ none_run reply.after actions none.1)
+
+one_run : (view : Files) (line : Line) → up_to_refused view (line ∷ []) ≡ line ∷ []
+one_run view line = ap (λ (l : List Line). line ∷ l) (by (is_refusal (line_deed view line).outcome))
+  where
+    by : (refused : Bool) → cond refused (let none : List Line = [] in none) [] ≡ []
+    by true = refl
+    by false = refl
+
+-- and so it does where the command is refused
+pub all_run : (view : Files) (actions : List Action) → RefusedOrDone view actions → up_to_refused view (map Part actions) ≡ map Part actions
+all_run view [] done = refl
+all_run view (action.Put file target ∷ actions) done = none_run view (action.Put file target ∷ actions) done
+all_run view (action.Enter path text ∷ actions) done = none_run view (action.Enter path text ∷ actions) done
+all_run view (action.Remove path ∷ actions) done = none_run view (action.Remove path ∷ actions) done
+all_run view (action.Tell text ∷ actions) done = none_run view (action.Tell text ∷ actions) done
+all_run view (action.Refuse why ∷ []) done = one_run view (Part (action.Refuse why))
+all_run view (action.Refuse why ∷ (next ∷ actions)) done = none_run view (action.Refuse why ∷ (next ∷ actions)) done
 
 -- and no reply of it is a refusal
-pub none_refused : (view : Files) (commands : List Command) → NoneRefused view commands → some_refused view (map Plain commands) ≡ false
+pub none_refused : (view : Files) (actions : List Action) → NoneRefused view actions → some_refused view (map Part actions) ≡ false
 none_refused view [] none = refl
-none_refused view (c ∷ commands) none =
-    let reply = step_reply view c in
-    ap (λ b. b || some_refused reply.after (map Plain commands)) none.0 ∙ none_refused reply.after commands none.1
+none_refused view (c ∷ actions) none =
+    let reply = action_reply view c in
+    ap (λ b. b || some_refused reply.after (map Part actions)) none.0 ∙ none_refused reply.after actions none.1
+
+-- the command is refused, or no reply is a refusal
+pub alone_or_none : (view : Files) (actions : List Action) → RefusedOrDone view actions
+    → ((why : Refusal) × (actions ≡ action.Refuse why ∷ [])) ⊎ (some_refused view (map Part actions) ≡ false)
+alone_or_none view [] done = inr refl
+alone_or_none view (action.Put file target ∷ actions) done = inr (none_refused view (action.Put file target ∷ actions) done)
+alone_or_none view (action.Enter path text ∷ actions) done = inr (none_refused view (action.Enter path text ∷ actions) done)
+alone_or_none view (action.Remove path ∷ actions) done = inr (none_refused view (action.Remove path ∷ actions) done)
+alone_or_none view (action.Tell text ∷ actions) done = inr (none_refused view (action.Tell text ∷ actions) done)
+alone_or_none view (action.Refuse why ∷ []) done = inl (why, refl)
+alone_or_none view (action.Refuse why ∷ (next ∷ actions)) done = inr (none_refused view (action.Refuse why ∷ (next ∷ actions)) done)
 
 -- ---- places in a list
 

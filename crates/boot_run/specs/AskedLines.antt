@@ -9,25 +9,26 @@ use Rattle.tool_words.specs.Line.{is_open, line_words}
 use Rattle.tool_words.specs.Meaning.{meaning}
 use Rattle.tool_words.specs.Reasons.{usage_reason_text}
 use Rattle.tool_words.specs.declared.command.Command.{Command}
+use Rattle.tool_words.specs.declared.command.Command.TheVariants as command
+use Rattle.tool_words.specs.declared.command.One.{One}
 use Rattle.tool_words.specs.declared.fault.UsageReason.{UsageReason}
 use Rattle.boot_commands.specs.Expansions.{expansion}
-use Rattle.boot_commands.specs.Plain.{is_plain, is_script}
 use Rattle.boot_run.specs.Lines.{script_limit}
 use Rattle.boot_run.specs.declared.line.Line.{Line}
-use Rattle.boot_run.specs.declared.line.Line.TheVariants.{Plain, Numbered, Unread, TooLong}
+use Rattle.boot_run.specs.declared.line.Line.TheVariants.{Plain, Part, Numbered, Unread, TooLong}
 
--- a command that may stand in a script: it runs no other and stands for no other
-abbrev pub in_script : Result Command UsageReason → Option Command
-in_script (Err reason) = None
-in_script (Ok c) = if is_plain c then Some c else None
+-- a command that may stand in a script: one of one action
+abbrev pub in_script : Result Command UsageReason → Option One
+in_script (Ok (command.One c)) = Some c
+in_script meant = None
 
 -- the command of a script's line: its bytes are UTF-8, its quotes are even in number, and its words are a command
-abbrev pub command_in : List ℕ → Option Command
+abbrev pub command_in : List ℕ → Option One
 command_in piece =
     if is_utf8 piece && not (is_open (chars piece)) then in_script (meaning (line_words (chars piece))) else None
 
 -- the line of that number: a command, or one that is no command
-abbrev pub line_at : ℕ → Option Command → Line
+abbrev pub line_at : ℕ → Option One → Line
 line_at number None = Unread number
 line_at number (Some c) = Numbered number c
 
@@ -54,15 +55,11 @@ script_lines bytes = lines_from 1 (slice_split is_script_newline bytes)
 abbrev pub lines_in : List ℕ → List Line
 lines_in input = if nat_lt script_limit (length input) then TooLong ∷ [] else script_lines input
 
--- a command on its own, or the commands that it stands for
-abbrev pub plain_lines : Command → List Command → List Line
-plain_lines c [] = Plain c ∷ []
-plain_lines c (first ∷ more) = Plain first ∷ map Plain more
-
--- the lines that a command stands for: those of a script, or on this view those of its expansion, or its own
+-- the lines of a command: those of the script, one of its own, or on this view one for each of its actions
 abbrev pub lines_for : List ℕ → Files → Command → List Line
-lines_for input view c =
-    if is_script c then lines_in (take (script_limit + 1) input) else plain_lines c (expansion view c)
+lines_for input view command.Script = lines_in (take (script_limit + 1) input)
+lines_for input view (command.One c) = Plain c ∷ []
+lines_for input view (command.Several c) = map Part (expansion view c)
 
 -- the lines that a run's words stand for on this view, or why they are no command
 abbrev pub lines_to_run : List ℕ → Files → Result Command UsageReason → Result (List Line) UsageReason
@@ -83,8 +80,8 @@ asked_lines_of words s = asked_lines words s.input (latest_view (recovered_views
 
 -- how much a run that comes to its end takes of standard input
 abbrev pub taken_by : Result Command UsageReason → ℕ
-taken_by (Err reason) = 0
-taken_by (Ok c) = if is_script c then script_limit + 1 else 0
+taken_by (Ok command.Script) = script_limit + 1
+taken_by meant = 0
 
 -- the line for words that are no command
 abbrev pub usage_line : UsageReason → List ℕ

@@ -7,13 +7,12 @@ use Rattle.boot_machine.specs.Disk.{Files, State}
 use Rattle.boot_machine.specs.Rows.{on_channel}
 use Rattle.boot_machine.specs.declared.machine.Channel.TheVariants.{Out, Err}
 use Rattle.command_plans.specs.Answers.{is_refusal}
-use Rattle.boot_commands.specs.Commands.{LeavesTidied, deed_of}
-use Rattle.boot_commands.specs.Plain.{is_step}
+use Rattle.boot_commands.specs.Commands.{LeavesTidied, one_deed, action_deed}
 use Rattle.command_plans.specs.Deeds.{Deed}
 use Rattle.command_plans.specs.declared.outcome.Outcome.{Outcome}
 use Rattle.command_plans.specs.declared.outcome.Outcome.TheVariants.{Done, Refused}
 use Rattle.boot_run.specs.declared.line.Line.{Line}
-use Rattle.boot_run.specs.declared.line.Line.TheVariants.{Plain, Numbered, Unread, TooLong}
+use Rattle.boot_run.specs.declared.line.Line.TheVariants.{Plain, Part, Numbered, Unread, TooLong}
 use Rattle.boot_run.specs.declared.lines.Acknowledgements.{Acknowledgements}
 
 -- `ok K` or `refused K`, with a newline
@@ -54,20 +53,16 @@ too_long_text = line_of (refusals.TooLarge (codes "standard input") (script_limi
 
 -- what a line does to the machine that shows this view
 abbrev pub line_deed : Files → Line → Deed
-line_deed view (Plain command) = deed_of view command
-line_deed view (Numbered number command) = with_acknowledgement number (deed_of view command)
+line_deed view (Plain command) = one_deed view command
+line_deed view (Part action) = action_deed view action
+line_deed view (Numbered number command) = with_acknowledgement number (one_deed view command)
 line_deed view (Unread number) = with_acknowledgement number (unread_deed 17 (no_command_text number) view)
 line_deed view TooLong = unread_deed 3 too_long_text view
-
--- Its command is a step of a run: `script` is none.
-abbrev pub IsStep : Line → Type 0
-IsStep (Plain command) = is_step command ≡ true
-IsStep (Numbered number command) = is_step command ≡ true
-IsStep line = Unit {0}
 
 -- a line without a command
 abbrev pub is_unread : Line → Bool
 is_unread (Plain command) = false
+is_unread (Part action) = false
 is_unread (Numbered number command) = false
 is_unread (Unread number) = true
 is_unread TooLong = true
@@ -80,6 +75,7 @@ has_command (line ∷ lines) = not (is_unread line) || has_command lines
 -- what a line leaves that the view doesn't show
 abbrev pub TidiedBy : Files → Line → Type 0
 TidiedBy files (Plain command) = LeavesTidied command files
+TidiedBy files (Part action) = Unit {0}
 TidiedBy files (Numbered number command) = LeavesTidied command files
 TidiedBy files (Unread number) = Unit {0}
 TidiedBy files TooLong = Unit {0}

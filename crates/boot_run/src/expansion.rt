@@ -1,39 +1,32 @@
-//! A command of the words, which isn't a script: the commands that it stands for, or its one reply.
-ghost use Rattle.std.specs.Prelude.{◌≡◌, ◌∷◌, [], true, false, All, IfOk, IsTrue, OnOk, map};
+//! A command of several actions, which are found and then done.
+ghost use Rattle.std.specs.Prelude.{◌≡◌, false, All, IfOk, IsTrue, OnOk, map};
 ghost use Rattle.boot_machine.specs.Prelude.{HasOneCandidate, IsFirm, IsRested, recovered_now};
-ghost use Rattle.boot_commands.specs.Commands.{Behaves, LeavesTidied};
-ghost use Rattle.boot_commands.specs.Expanding.{AreSteps, Finds, StandsAlone};
-ghost use Rattle.boot_commands.specs.Plain.{is_script, is_wordless};
+ghost use Rattle.boot_commands.specs.Commands.{Behaves};
+ghost use Rattle.boot_commands.specs.Expanding.{StandsFor};
 ghost use Rattle.install_steps.specs.Recovery.{RecoversTo, SameFrom};
 ghost use Rattle.install_steps.specs.Steps.{Keeps, NoNewTemp};
-ghost use Rattle.command_plans.specs.Prelude.{CanMake, CountsStop, LeavesRested, is_refusal};
-ghost use Rattle.tool_words.specs.declared.command.Command.{Command};
-ghost use Rattle.boot_run.specs.Endings.{ended_by};
-ghost use Rattle.boot_run.specs.Lines.{IsStep, is_unread};
-ghost use Rattle.boot_run.specs.RunBy.{CleanBehind};
+ghost use Rattle.command_plans.specs.Prelude.{CountsStop, LeavesRested, is_refusal};
+ghost use Rattle.boot_run.specs.Lines.{is_unread};
 ghost use Rattle.boot_run.specs.RunsTo.{RunsTo};
 ghost use Rattle.boot_run.specs.UpToRefused.{up_to_refused};
-ghost use Rattle.boot_run.specs.declared.line.Line.TheVariants.{Plain};
+ghost use Rattle.boot_run.specs.declared.line.Line.TheVariants.{Part};
 
 use crate::line::Line;
 use crate::lines::run_line;
 use crate::recovery::recover_rename;
-use boot_commands::{Expanded, carry_out, expand};
+use boot_commands::expand;
 use boot_machine::Machine;
-use command_plans::{Outcome, Plan, Stop};
+use command_plans::{Outcome, Stop};
 use std::alloc::{AllocError, Global};
-use tool_words::Command;
+use tool_words::{Action, Several};
 
-/// What a command comes to. Before it is looked for, what a stop has left is finished.
-pub fn find_expansion<M: Machine>(
+/// The actions of a command. Before they are looked for, what a stop has left is finished.
+pub fn find_actions<M: Machine>(
     alloc: Global,
-    command: &Command,
+    command: &Several,
     machine: &mut M,
-) -> Result<Expanded, Stop>
-    requires alone { is_script command.now ≡ false }
-    requires worded { is_wordless command.now ≡ false }
-    ensures finds { IfOk result (λ found. IsTrue M.tells → Finds (M.state machine.new) command.now found) }
-    ensures steps { IfOk result AreSteps }
+) -> Result<Vec<Action>, Stop>
+    ensures stands { IfOk result (λ actions. IsTrue M.tells → StandsFor (M.state machine.new) command.now actions.items) }
     ensures recovers { IsTrue M.tells → IsFirm (M.state machine.old)
         → RecoversTo M.time M.state machine.old machine.new }
     ensures synced { OnOk result (IsTrue M.tells → IsFirm (M.state machine.old)
@@ -48,13 +41,13 @@ pub fn find_expansion<M: Machine>(
     expand(alloc, command, machine)
 }
 
-/// A line for each of the commands that a command stands for.
-pub fn command_lines(alloc: Global, commands: Vec<Command>) -> Result<Vec<Line>, AllocError>
-    ensures { IfOk result (λ lines. lines.items ≡ map Plain commands.items) }
+/// A line for each of these actions.
+pub fn action_lines(alloc: Global, actions: Vec<Action>) -> Result<Vec<Line>, AllocError>
+    ensures { IfOk result (λ lines. lines.items ≡ map Part actions.items) }
 {
     let mut lines = Vec::new(alloc);
-    for next in commands {
-        lines.push(Line::Plain(next))?;
+    for action in actions {
+        lines.push(Line::Part(action))?;
     }
     Ok(lines)
 }
@@ -68,14 +61,9 @@ fn is_refused(outcome: Outcome) -> bool
     }
 }
 
-/// The commands that a command stands for, one after the other up to the first one that is refused: whether one is. A
-/// fault of the machine and want of memory end the run too.
-pub fn run_expansion<M: Machine>(
-    alloc: Global,
-    lines: &[Line],
-    machine: &mut M,
-) -> Result<bool, Stop>
-    requires steps { All IsStep lines.now }
+/// The actions of a command, one after the other up to the first one that is refused: whether one is. A fault of the
+/// machine and want of memory end the run too.
+pub fn run_actions<M: Machine>(alloc: Global, lines: &[Line], machine: &mut M) -> Result<bool, Stop>
     requires commands { All (λ line. is_unread line ≡ false) lines.now }
     requires rested { IsTrue M.tells → IsRested (M.state machine.old) }
     ensures runs { IsTrue M.tells → IsFirm (M.state machine.old)
@@ -91,23 +79,4 @@ pub fn run_expansion<M: Machine>(
         }
     }
     Ok(false)
-}
-
-/// The one reply of a command, by its plan: whether it is a refusal.
-pub fn run_plan<M: Machine>(plan: Plan, machine: &mut M) -> Result<bool, Stop>
-    requires rested { IsTrue M.tells → IsRested (M.state machine.old) }
-    requires there { IsTrue M.tells → CanMake (M.state machine.old) plan.change }
-    ensures runs { IsTrue M.tells → IsFirm (M.state machine.old)
-        → (c : Command) → StandsAlone (M.state machine.old) c plan
-        → RunsTo M.time M.state machine.old machine.new (Plain c ∷ []) result }
-    ensures tidies { OnOk result (IsTrue M.tells
-        → (c : Command) → StandsAlone (M.state machine.old) c plan → LeavesTidied c (M.state machine.new).files) }
-    ensures behind { IsTrue M.tells → IsFirm (M.state machine.old)
-        → (c : Command) → StandsAlone (M.state machine.old) c plan
-        → CleanBehind (M.state machine.old) (M.state machine.new) (Plain c ∷ []) (ended_by result) }
-    ensures rests { IsTrue M.tells → LeavesRested result (M.state machine.new) }
-    ensures behaves { Behaves M.tells M.state M.counts machine.old machine.new result }
-{
-    let outcome = carry_out(plan, machine)?;
-    Ok(is_refused(outcome))
 }

@@ -4,10 +4,9 @@ ghost use Rattle.boot_base.specs.Refusals.{line_of};
 ghost use Rattle.boot_machine.specs.Prelude.{CountsPipe, EachSince, IsFirm, IsRested, on_channel, recovered_now, seen, with_printed, PrintsPart};
 ghost use Rattle.boot_machine.specs.declared.machine.Channel.TheVariants.{Err, Out};
 ghost use Rattle.command_plans.specs.Prelude.{CountsStop, LeavesRested, Performs, end_of, is_refusal};
-ghost use Rattle.boot_commands.specs.Commands.{Behaves, LeavesTidied, deed_of};
-ghost use Rattle.boot_commands.specs.Plain.{is_step};
+ghost use Rattle.boot_commands.specs.Commands.{Behaves, LeavesTidied, one_deed};
 ghost use Rattle.boot_run.specs.Endings.{AllTidied, ended_by};
-ghost use Rattle.boot_run.specs.Lines.{IsStep, Prints, TidiedBy, with_acknowledgement, acknowledgement, acknowledgement_in, has_command, is_unread, line_deed, no_command_text, too_long_text, unread_deed};
+ghost use Rattle.boot_run.specs.Lines.{Prints, TidiedBy, with_acknowledgement, acknowledgement, acknowledgement_in, has_command, is_unread, line_deed, no_command_text, too_long_text, unread_deed};
 ghost use Rattle.boot_run.specs.RunBy.{CleanBehind};
 ghost use Rattle.boot_run.specs.RunsTo.{IsSyncedBy, OnlyPrints, PerformsBehind, RunsTo, SyncsFirst, WherePrinted};
 
@@ -15,11 +14,11 @@ use crate::input::SCRIPT_LIMIT;
 use crate::line::Line;
 use crate::recovery::recover_rename;
 use boot_base::{Bytes, Refusal, Text};
-use boot_commands::step;
+use boot_commands::{run_action, run_one};
 use boot_machine::{Channel, Machine, PipeFault, print_all};
 use command_plans::{Outcome, Stop, refusal_line};
 use std::alloc::{AllocError, Global};
-use tool_words::Command;
+use tool_words::One;
 
 /// The two lines that may stand behind a reply.
 #[derive(Drop)]
@@ -84,21 +83,20 @@ fn refuse_unread<M: Machine>(number: u8, text: &Bytes, machine: &mut M) -> Resul
 fn run_numbered<M: Machine>(
     alloc: Global,
     number: u64,
-    command: &Command,
+    command: &One,
     machine: &mut M,
 ) -> Result<Outcome, Stop>
-    requires step { is_step command.now ≡ true }
     requires rested { IsTrue M.tells → IsRested (M.state machine.old) }
     ensures performs { IsTrue M.tells → IsFirm (M.state machine.old)
         → Performs M.time M.state end_of machine.old machine.new
-        (with_acknowledgement number (deed_of (seen (M.state machine.old)) command.now)) result }
+        (with_acknowledgement number (one_deed (seen (M.state machine.old)) command.now)) result }
     ensures tidies { IsTrue M.tells → WherePrinted result (M.state machine.old) (M.state machine.new)
         (LeavesTidied command.now (M.state machine.new).files) }
     ensures rests { IsTrue M.tells → LeavesRested result (M.state machine.new) }
     ensures behaves { Behaves M.tells M.state M.counts machine.old machine.new result }
 {
     let texts = Acknowledgements::of(alloc, number)?;
-    let outcome = step(alloc, command, machine)?;
+    let outcome = run_one(alloc, command, machine)?;
     acknowledge(outcome, &texts, machine)?;
     Ok(outcome)
 }
@@ -154,7 +152,6 @@ fn too_long<M: Machine>(alloc: Global, machine: &mut M) -> Result<Outcome, Stop>
 
 /// One line. A command asks for a machine that is rested.
 pub fn run_line<M: Machine>(alloc: Global, line: &Line, machine: &mut M) -> Result<Outcome, Stop>
-    requires step { IsStep line.now }
     requires rested { IsTrue M.tells → is_unread line.now ≡ false → IsRested (M.state machine.old) }
     ensures performs { IsTrue M.tells → IsFirm (M.state machine.old)
         → Performs M.time M.state end_of machine.old machine.new
@@ -168,7 +165,8 @@ pub fn run_line<M: Machine>(alloc: Global, line: &Line, machine: &mut M) -> Resu
     ensures behaves { Behaves M.tells M.state M.counts machine.old machine.new result }
 {
     match line {
-        Line::Plain(command) => step(alloc, command, machine),
+        Line::Plain(command) => run_one(alloc, command, machine),
+        Line::Part(action) => run_action(alloc, action, machine),
         Line::Numbered(number, command) => run_numbered(alloc, *number, command, machine),
         Line::Unread(number) => unread_line(alloc, *number, machine),
         Line::TooLong => too_long(alloc, machine),
@@ -177,7 +175,6 @@ pub fn run_line<M: Machine>(alloc: Global, line: &Line, machine: &mut M) -> Resu
 
 // The first command of a run: what a stop has left is finished before its reads.
 fn first_command<M: Machine>(alloc: Global, line: &Line, machine: &mut M) -> Result<Outcome, Stop>
-    requires step { IsStep line.now }
     requires command { is_unread line.now ≡ false }
     ensures performs { IsTrue M.tells → IsFirm (M.state machine.old)
         → PerformsBehind M.time M.state machine.old machine.new
@@ -202,7 +199,6 @@ fn next_line<M: Machine>(
     rested: bool,
     machine: &mut M,
 ) -> Result<Outcome, Stop>
-    requires step { IsStep line.now }
     requires rested { IsTrue M.tells → rested ≡ true → IsRested (M.state machine.old) }
     ensures performs { IsTrue M.tells → IsFirm (M.state machine.old)
         → PerformsBehind M.time M.state machine.old machine.new
@@ -246,7 +242,6 @@ fn some_refused(refused: bool, outcome: Outcome) -> bool
 /// The lines of a script, one after the other: whether some reply is a refusal. A refused line doesn't end the run; a
 /// fault of the machine and want of memory do. Before the first command what a stop has left is finished.
 pub fn run_lines<M: Machine>(alloc: Global, lines: &[Line], machine: &mut M) -> Result<bool, Stop>
-    requires steps { All IsStep lines.now }
     ensures runs { IsTrue M.tells → IsFirm (M.state machine.old)
         → RunsTo M.time M.state machine.old machine.new lines.now result }
     ensures synced { IsTrue M.tells → IsFirm (M.state machine.old)

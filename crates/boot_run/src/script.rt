@@ -3,43 +3,31 @@ ghost use Rattle.std.specs.Prelude.{◌≡◌, ◌≤◌, length, IfOk};
 ghost use Rattle.tool_words.specs.Meaning.{meaning};
 ghost use Rattle.tool_words.specs.Shown.{texts};
 ghost use Rattle.boot_run.specs.Lines.{script_limit};
-ghost use Rattle.boot_commands.specs.Plain.{is_plain, is_script};
 ghost use Rattle.boot_run.specs.AskedLines.{command_in, in_script, is_passed_over, is_script_newline, line_at, lines_in, script_lines};
 
 use crate::input::SCRIPT_LIMIT;
 use crate::line::Line;
-use boot_commands::expands;
 use std::alloc::{AllocError, Global};
 use std::str;
-use tool_words::{Command, LineFault, WordsFault, split_line};
+use tool_words::{Command, LineFault, One, WordsFault, split_line};
 
-/// Whether a command takes a script from standard input.
-pub fn is_script(command: &Command) -> bool
-    ensures { result ≡ is_script command.now }
-{
-    matches!(command, Command::Script)
-}
-
-// Whether a command runs no other and stands for no other, as a line of a script has to.
-fn is_plain(command: &Command) -> bool
-    ensures { result ≡ is_plain command.now }
-{
-    !matches!(command, Command::Script | Command::Demo { .. }) && !expands(command)
-}
-
-// The command of a line's words. What runs or stands for others is none.
-fn command_of(alloc: Global, words: &Vec<String>) -> Result<Option<Command>, AllocError>
+// The command of a line's words. One of several actions is none, nor is a script.
+fn command_of(alloc: Global, words: &Vec<String>) -> Result<Option<One>, AllocError>
     ensures { IfOk result (λ found. found ≡ in_script (meaning (texts words.now.items))) }
 {
     match Command::read(alloc, words) {
-        Ok(command) => Ok(Some(command).filter(is_plain)),
-        Err(WordsFault::Usage { .. }) => Ok(None),
+        Ok(Command::One(command)) => Ok(Some(command)),
+        Ok(Command::Several(command)) => {
+            drop(command);
+            Ok(None)
+        }
+        Ok(Command::Script) | Err(WordsFault::Usage { .. }) => Ok(None),
         Err(WordsFault::Memory) => Err(AllocError),
     }
 }
 
 // The command of a line, if it is one.
-fn command_in(alloc: Global, piece: &[u8]) -> Result<Option<Command>, AllocError>
+fn command_in(alloc: Global, piece: &[u8]) -> Result<Option<One>, AllocError>
     ensures { IfOk result (λ found. found ≡ command_in piece.now) }
 {
     let Ok(text) = str::from_utf8(piece) else {

@@ -9,30 +9,27 @@ ghost use Rattle.tool_words.specs.declared.fault.UsageReason.{UsageReason};
 ghost use Rattle.boot_run.specs.CommandRuns.{RunsCommand};
 ghost use Rattle.boot_run.specs.AskedLines.{asked_lines_of, lines_in, usage_line};
 ghost use Rattle.boot_run.specs.Endings.{AllTidied, AnswersRefusals, AnswersUsage, AtEnd, FitsWords, HasCause, TakesInput, UnlessDisk, end_at, ended_of, status_of};
-ghost use Rattle.boot_run.specs.Lines.{IsStep, has_command, script_limit};
+ghost use Rattle.boot_run.specs.Lines.{has_command, script_limit};
 ghost use Rattle.boot_run.specs.RunBy.{AllPrinted, CleanBehind, LeavesFromSync, RunsBy, RunsUsage};
-ghost use Rattle.boot_commands.specs.Plain.{is_script, is_wordless};
 ghost use Rattle.boot_run.specs.Step.{Leads, Leaves, SeesBegun, some_refused};
 ghost use Rattle.boot_run.specs.declared.line.Line.{Line};
 
 use crate::ended::Ended;
-use crate::expansion::{command_lines, find_expansion, run_expansion, run_plan};
+use crate::expansion::{action_lines, find_actions, run_actions};
 use crate::input::read_all;
 use crate::line::Line;
 use crate::lines::run_lines;
-use crate::script::{is_script, lines_in};
+use crate::script::lines_in;
 use boot_base::Text;
-use boot_commands::Expanded;
 use boot_machine::{Channel, Machine, print_all};
 use command_plans::Stop;
 use std::alloc::{AllocError, Global};
-use tool_words::{Command, UsageReason, WordsFault};
+use tool_words::{Command, One, Several, UsageReason, WordsFault};
 
 // The lines of a script, taken from standard input.
 fn read_script<M: Machine>(alloc: Global, machine: &mut M) -> Result<Vec<Line>, Stop>
     ensures lines { IfOk result (λ lines. IsTrue M.tells
         → lines.items ≡ lines_in (take (script_limit + 1) (M.state machine.old).input)) }
-    ensures steps { IfOk result (λ lines. All IsStep lines.items) }
     ensures rest { OnOk result (IsTrue M.tells
         → (M.state machine.new).input ≡ drop (script_limit + 1) (M.state machine.old).input) }
     ensures taken { IsTrue M.tells
@@ -47,34 +44,41 @@ fn read_script<M: Machine>(alloc: Global, machine: &mut M) -> Result<Vec<Line>, 
     Ok(lines_in(alloc, input.as_slice())?)
 }
 
-// What a command comes to that takes no script: the commands that it stands for, or its one reply.
-fn run_alone<M: Machine>(alloc: Global, command: Command, machine: &mut M) -> Result<bool, Stop>
-    requires alone { is_script command ≡ false }
-    requires worded { is_wordless command ≡ false }
-    ensures { RunsCommand M.tells M.time M.state M.counts machine.old machine.new command result }
+// A script: the commands on standard input.
+fn run_script<M: Machine>(alloc: Global, machine: &mut M) -> Result<bool, Stop>
+    ensures { RunsCommand M.tells M.time M.state M.counts machine.old machine.new Command.Script result }
 {
-    let found = find_expansion(alloc, &command, machine);
-    drop(command);
-    match found? {
-        Expanded::Commands(commands) => {
-            let lines = command_lines(alloc, commands)?;
-            run_expansion(alloc, lines.as_slice(), machine)
-        }
-        Expanded::Reply(plan) => run_plan(plan, machine),
-    }
-}
-
-// What a command comes to: its own reply, the commands that it stands for, or the lines of the script.
-fn run_command<M: Machine>(alloc: Global, command: Command, machine: &mut M) -> Result<bool, Stop>
-    requires worded { is_wordless command ≡ false }
-    ensures { RunsCommand M.tells M.time M.state M.counts machine.old machine.new command result }
-{
-    if !is_script(&command) {
-        return run_alone(alloc, command, machine);
-    }
-    drop(command);
     let lines = read_script(alloc, machine)?;
     run_lines(alloc, lines.as_slice(), machine)
+}
+
+// A command of one action.
+fn run_alone<M: Machine>(alloc: Global, command: One, machine: &mut M) -> Result<bool, Stop>
+    ensures { RunsCommand M.tells M.time M.state M.counts machine.old machine.new (Command.One command) result }
+{
+    let lines = [Line::Plain(command)];
+    run_lines(alloc, &lines, machine)
+}
+
+// A command of several actions.
+fn run_several<M: Machine>(alloc: Global, command: Several, machine: &mut M) -> Result<bool, Stop>
+    ensures { RunsCommand M.tells M.time M.state M.counts machine.old machine.new (Command.Several command) result }
+{
+    let actions = find_actions(alloc, &command, machine);
+    drop(command);
+    let lines = action_lines(alloc, actions?)?;
+    run_actions(alloc, lines.as_slice(), machine)
+}
+
+// A command, by its kind.
+fn run_command<M: Machine>(alloc: Global, command: Command, machine: &mut M) -> Result<bool, Stop>
+    ensures { RunsCommand M.tells M.time M.state M.counts machine.old machine.new command result }
+{
+    match command {
+        Command::Script => run_script(alloc, machine),
+        Command::One(command) => run_alone(alloc, command, machine),
+        Command::Several(command) => run_several(alloc, command, machine),
+    }
 }
 
 fn usage_line(alloc: Global, reason: &UsageReason) -> Result<Text, AllocError>

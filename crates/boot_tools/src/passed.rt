@@ -14,7 +14,7 @@ use std::alloc::Global;
 use std::fmt::Display;
 use std::io::ErrorKind;
 use std::{fs, io};
-use tool_words::Command;
+use tool_words::{Command, One};
 
 /// Tells on Err which files `bootctl list` of these words passes over, and why. Of other words it tells nothing.
 pub(crate) fn report_passed_over(rt: HostRuntime, words: &Vec<String>) {
@@ -31,7 +31,7 @@ pub(crate) fn report_passed_over(rt: HostRuntime, words: &Vec<String>) {
 // The partition whose entries the words ask to list.
 fn listed_partition(alloc: Global, words: &Vec<String>) -> Option<Text> {
     match Command::read(alloc, words) {
-        Ok(Command::List { esp, .. }) => Some(esp),
+        Ok(Command::One(One::List { esp, .. })) => Some(esp),
         Ok(other) => {
             drop(other);
             None

@@ -9,6 +9,7 @@ use Rattle.command_plans.proofs.Each.{bind_ok, each_length}
 use Rattle.tool_words.specs.declared.command.BuildWords.{BuildWords}
 use Rattle.tool_words.specs.declared.command.Command.{Command}
 use Rattle.tool_words.specs.declared.command.Command.TheVariants as command
+use Rattle.tool_words.specs.declared.command.One.TheVariants as one
 use Rattle.tool_words.specs.declared.command.Given.{Given}
 use Rattle.tool_words.specs.declared.command.Given.TheVariants.{Inline, File}
 use Rattle.tool_words.specs.declared.fault.UsageReason.{UsageReason}
@@ -84,7 +85,7 @@ behind [] c rest verbs is = cc
 behind (first ∷ words) c rest verbs is = behind_found _ first words c rest verbs is
 
 -- only one command is a build
-filled_build : (c : CommandName) (g : GatheredItems) (build : BuildWords) → command_from c g ≡ command.Build build → (c ≡ name.Build) × (build_words g ≡ build)
+filled_build : (c : CommandName) (g : GatheredItems) (build : BuildWords) → command_from c g ≡ command.One (one.Build build) → (c ≡ name.Build) × (build_words g ≡ build)
 filled_build name.Build g build is = (refl, cc is)
 filled_build c g build is = cc
 
@@ -181,10 +182,10 @@ record IsBuiltOf (words : List Word) (build : BuildWords) : Type 0 where
   items_are : items name.Build rest ≡ Ok found
   words_are : build_words (gather_items name.Build found) ≡ build
 
-built_with : (c : CommandName) (words rest : List Word) (build : BuildWords) (found : List Item) → command_of words ≡ Ok (c, rest) → items c rest ≡ Ok found → command_with c found ≡ Ok (command.Build build) → IsBuiltOf words build
+built_with : (c : CommandName) (words rest : List Word) (build : BuildWords) (found : List Item) → command_of words ≡ Ok (c, rest) → items c rest ≡ Ok found → command_with c found ≡ Ok (command.One (one.Build build)) → IsBuiltOf words build
 built_with c words rest build found chosen read is =
-    let count = bound (check_count (row c).operands (length (operands found))) _ (command.Build build) is in
-    let required = bound (all_required c (gather_items c found).last) _ (command.Build build) count.2 in
+    let count = bound (check_count (row c).operands (length (operands found))) _ (command.One (one.Build build)) is in
+    let required = bound (all_required c (gather_items c found).last) _ (command.One (one.Build build)) count.2 in
     let same = filled_build c (gather_items c found) build (cc required.2) in
     let items_are : items name.Build rest ≡ Ok found = subst (λ (d : CommandName). items d rest ≡ Ok found) same.0 read in
     let chosen_is : command_of words ≡ Ok (name.Build, rest) = subst (λ (d : CommandName). command_of words ≡ Ok (d, rest)) same.0 chosen in
@@ -196,10 +197,10 @@ built_with c words rest build found chosen read is =
       words_are = subst (λ (d : CommandName). build_words (gather_items d found) ≡ build) same.0 same.1;
     }
 
-built_of : (words : List Word) (build : BuildWords) → read_words words ≡ Ok (command.Build build) → IsBuiltOf words build
+built_of : (words : List Word) (build : BuildWords) → read_words words ≡ Ok (command.One (one.Build build)) → IsBuiltOf words build
 built_of words build is =
-    let chosen = bound (command_of words) _ (command.Build build) is in
-    let found = bound (items chosen.0.0 chosen.0.1) _ (command.Build build) chosen.2 in
+    let chosen = bound (command_of words) _ (command.One (one.Build build)) is in
+    let found = bound (items chosen.0.0 chosen.0.1) _ (command.One (one.Build build)) chosen.2 in
     built_with chosen.0.0 words chosen.0.1 build found.0 chosen.1 found.1 found.2
 
 read_within : (b : Bool) (words : List Word) (c : Command) → (if b then Err reason.TooLong else read_words words) ≡ Ok c → (b ≡ false) × (read_words words ≡ Ok c)
@@ -253,9 +254,9 @@ pub record IsBounded (named : NamedFiles) : Type 0 where
   pub parts : AreBounded 16777214 named.parts
   pub sbat : SourceIsShort named.sbat
 
-pub build_bounded : (words : List Word) (build : BuildWords) (named : NamedFiles) → meaning words ≡ Ok (command.Build build) → named_files build ≡ Ok named → IsBounded named
+pub build_bounded : (words : List Word) (build : BuildWords) (named : NamedFiles) → meaning words ≡ Ok (command.One (one.Build build)) → named_files build ≡ Ok named → IsBounded named
 build_bounded words build named is names =
-    let read = read_within (are_too_long words) words (command.Build build) is in
+    let read = read_within (are_too_long words) words (command.One (one.Build build)) is in
     let within = within_by (nat_lt 16777216 (length words)) (list_any is_long words) words refl refl read.0 in
     let built = built_of words build read.1 in
     let short = built.behind_is.short within.short in

@@ -8,7 +8,8 @@ use Rattle.pcr_values.specs.ValueLines.{value_lines}
 use Rattle.pcr_values.specs.Banks.{all_banks}
 use Rattle.stub_replay.specs.Measured.{stub_pcr}
 use Rattle.tool_words.specs.declared.command.BuildWords.{BuildWords}
-use Rattle.tool_words.specs.declared.command.Command.TheVariants.{Build}
+use Rattle.tool_words.specs.declared.command.Command.TheVariants as command
+use Rattle.tool_words.specs.declared.command.One.TheVariants.{Build}
 use Rattle.tool_words.specs.Meaning.{meaning}
 use Rattle.word_grammar.specs.Grammar.{Word}
 use Rattle.image_build.specs.Building.{BuiltImage, build_answer, build_of, built_line, material_of, named_as, named_files}
@@ -28,6 +29,6 @@ ValuesOfBuilds =
 -- most 16,777,216 words, each other one adds at most one file or text, and no file or text has more than 256 MiB.
 abbrev pub BuildsAreCountable : Type 0
 BuildsAreCountable = (words : List Word) (build : BuildWords) (from : BuildSources) (built : BuildParts) (view : Files)
-    → meaning words ≡ Ok (Build build) → named_files build ≡ Ok (named_as from)
+    → meaning words ≡ Ok (command.One (Build build)) → named_files build ≡ Ok (named_as from)
     → BuiltFrom from built → material_of view (named_as from) ≡ Ok (material_as (contents view) built)
     → IsCountable built.parts.items built.sbat.items

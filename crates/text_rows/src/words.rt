@@ -18,11 +18,20 @@ fn fault_text(alloc: Global, fault: &WordsFault) -> Result<String, AllocError> {
     }
 }
 
+// A command as rows have it: by its name, without its kind.
+fn command_text(alloc: Global, command: &Command) -> Result<String, AllocError> {
+    match command {
+        Command::Script => format!(in alloc; "{command:?}"),
+        Command::Several(several) => format!(in alloc; "{several:?}"),
+        Command::One(one) => format!(in alloc; "{one:?}"),
+    }
+}
+
 // The command that words mean, or the usage line.
 fn meaning_text(alloc: Global, words: &Vec<String>) -> Result<String, AllocError> {
     let meaning = Command::read(alloc, words);
     let text = match &meaning {
-        Ok(command) => format!(in alloc; "{command:?}"),
+        Ok(command) => command_text(alloc, command),
         Err(fault) => fault_text(alloc, fault),
     };
     drop(meaning);

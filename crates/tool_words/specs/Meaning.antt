@@ -7,6 +7,8 @@ use Rattle.word_grammar.specs.declared.grammar.Takes.{Takes}
 use Rattle.word_grammar.specs.declared.grammar.Takes.TheVariants.{Required, Once, Repeated, Flag}
 use Rattle.tool_words.specs.declared.command.Command.{Command}
 use Rattle.tool_words.specs.declared.command.Command.TheVariants as command
+use Rattle.tool_words.specs.declared.command.One.TheVariants as one
+use Rattle.tool_words.specs.declared.command.Several.TheVariants as several
 use Rattle.tool_words.specs.declared.command.BuildWords.{BuildWords}
 use Rattle.tool_words.specs.declared.command.CalculateWords.{CalculateWords}
 use Rattle.tool_words.specs.declared.command.PartWords.{PartWords}
@@ -193,29 +195,30 @@ keep_words g = record {
 
 -- the command with all its fields
 abbrev pub command_from : CommandName → GatheredItems → Command
-command_from name.Build g = command.Build (build_words g)
-command_from name.Inspect g = command.Inspect (g.operand 0) (is_some (g.last (codes "--json")))
-command_from name.Calculate g = command.Calculate (calculate_words g)
+command_from name.Build g = command.One (one.Build (build_words g))
+command_from name.Inspect g = command.One (one.Inspect (g.operand 0) (is_some (g.last (codes "--json"))))
+command_from name.Calculate g = command.One (one.Calculate (calculate_words g))
 command_from name.Image g =
-    command.Image (g.operand 0) (g.all (codes "--bank")) (g.all (codes "--phase")) (is_some (g.last (codes "--json")))
-command_from name.ListEntries g = command.List (esp g.last) (is_some (g.last (codes "--json")))
-command_from name.Unlink g = command.Unlink (g.operand 0) (esp g.last)
-command_from name.Identify g = command.Identify (g.operand 0)
-command_from name.Tidy g = command.Tidy (esp g.last)
-command_from name.Install g = command.Install (g.operand 0) (g.operand 1) (g.last (codes "--tries")) (esp g.last)
-command_from name.Boot g = command.Boot (esp g.last)
-command_from name.BlessGood g = command.Bless bless.Good (g.operand 0) (esp g.last)
-command_from name.BlessBad g = command.Bless bless.Bad (g.operand 0) (esp g.last)
-command_from name.BlessIndeterminate g = command.Bless bless.Indeterminate (g.operand 0) (esp g.last)
-command_from name.BlessStatus g = command.Bless bless.Status (g.operand 0) (esp g.last)
-command_from name.LoaderShow g = command.LoaderShow (esp g.last)
-command_from name.LoaderDefault g = command.LoaderDefault (g.operand 0) (esp g.last)
-command_from name.LoaderTimeout g = command.LoaderTimeout (g.operand 0) (esp g.last)
-command_from name.Type1Install g = command.Type1Install (type1_words g)
-command_from name.Type1Cleanup g = command.Type1Cleanup (esp g.last)
-command_from name.Keep g = command.Keep (keep_words g)
+    command.One
+    (one.Image (g.operand 0) (g.all (codes "--bank")) (g.all (codes "--phase")) (is_some (g.last (codes "--json"))))
+command_from name.ListEntries g = command.One (one.List (esp g.last) (is_some (g.last (codes "--json"))))
+command_from name.Unlink g = command.One (one.Unlink (g.operand 0) (esp g.last))
+command_from name.Identify g = command.One (one.Identify (g.operand 0))
+command_from name.Tidy g = command.One (one.Tidy (esp g.last))
+command_from name.Install g = command.One (one.Install (g.operand 0) (g.operand 1) (g.last (codes "--tries")) (esp g.last))
+command_from name.Boot g = command.One (one.Boot (esp g.last))
+command_from name.BlessGood g = command.One (one.Bless bless.Good (g.operand 0) (esp g.last))
+command_from name.BlessBad g = command.One (one.Bless bless.Bad (g.operand 0) (esp g.last))
+command_from name.BlessIndeterminate g = command.One (one.Bless bless.Indeterminate (g.operand 0) (esp g.last))
+command_from name.BlessStatus g = command.One (one.Bless bless.Status (g.operand 0) (esp g.last))
+command_from name.LoaderShow g = command.One (one.LoaderShow (esp g.last))
+command_from name.LoaderDefault g = command.One (one.LoaderDefault (g.operand 0) (esp g.last))
+command_from name.LoaderTimeout g = command.One (one.LoaderTimeout (g.operand 0) (esp g.last))
+command_from name.Type1Install g = command.Several (several.Type1Install (type1_words g))
+command_from name.Type1Cleanup g = command.Several (several.Type1Cleanup (esp g.last))
+command_from name.Keep g = command.Several (several.Keep (keep_words g))
 command_from name.Script g = command.Script
-command_from name.Demo g = command.Demo (g.operand 0) (g.operand 1)
+command_from name.Demo g = command.Several (several.Demo (g.operand 0) (g.operand 1))
 
 -- the command of the items, where they are as many and as required
 abbrev pub command_with : CommandName → List Item → Result Command UsageReason

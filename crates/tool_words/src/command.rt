@@ -1,10 +1,34 @@
 //! What the words of a run come to.
 
-use boot_base::{BootPath, Bytes, Text, TextList};
+use boot_base::{Text, TextList};
 
 /// A command of the program with all that its words say. Texts are as given.
 #[derive(Debug, Drop)]
 pub enum Command {
+    /// `script`: the commands that stand on the input, a line each.
+    Script,
+    /// A command of several actions, which are looked for before the first is done.
+    Several(Several),
+    /// A command of one action, which is its own.
+    One(One),
+}
+
+/// A command of several actions.
+#[derive(Debug, Drop)]
+pub enum Several {
+    /// `type1 install`: an entry of type 1 with its payloads.
+    Type1Install(Type1Words),
+    /// `type1 cleanup`: removes the payloads that no entry names.
+    Type1Cleanup { esp: Text },
+    /// `keep`: removes all but the first entries of the menu.
+    Keep(KeepWords),
+    /// `demo`: commands drawn by a seed, over a machine in memory. Its one action tells what came of them.
+    Demo { seed: Text, count: Text },
+}
+
+/// A command of one action.
+#[derive(Debug, Drop)]
+pub enum One {
     /// `ukify build`: one image from a stub and its parts.
     Build(BuildWords),
     /// `measure calculate`: the predicted values of an image of these parts.
@@ -69,35 +93,6 @@ pub enum Command {
     LoaderTimeout {
         value: Text,
         esp: Text,
-    },
-    /// `type1 install`: an entry of type 1 with its payloads.
-    Type1Install(Type1Words),
-    /// `type1 cleanup`: removes the payloads that no entry names.
-    Type1Cleanup {
-        esp: Text,
-    },
-    /// `keep`: removes all but the first entries of the menu.
-    Keep(KeepWords),
-    /// A file's bytes come to stand at another path too. No words say so.
-    Put {
-        file: BootPath,
-        target: BootPath,
-    },
-    /// An entry's text comes to stand at a path. No words say so.
-    Enter {
-        path: BootPath,
-        text: Bytes,
-    },
-    /// A file goes. No words say so.
-    Remove {
-        path: BootPath,
-    },
-    /// `script`: the commands that stand on the input, a line each.
-    Script,
-    /// `demo`: commands drawn by a seed, over a machine in memory.
-    Demo {
-        seed: Text,
-        count: Text,
     },
 }
 

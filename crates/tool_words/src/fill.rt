@@ -7,8 +7,8 @@ ghost use Rattle.tool_words.specs.Shown.{items_shown};
 ghost use Rattle.word_grammar.specs.declared.grammar.CommandName.TheVariants.{Build, Calculate, Image, Install, Unlink, LoaderDefault, LoaderTimeout, Type1Install, Keep, Demo};
 
 use crate::command::{
-    BlessWord, BuildWords, CalculateWords, Command, EntryTexts, Given, KeepWords, PartWords,
-    Type1Words,
+    BlessWord, BuildWords, CalculateWords, Command, EntryTexts, Given, KeepWords, One, PartWords,
+    Several, Type1Words,
 };
 use crate::items::Item;
 use crate::values::{all_values, last_value, operand_at};
@@ -137,7 +137,7 @@ fn build_parts(alloc: Global, items: &[Item<'_>]) -> Result<PartWords<Given>, Al
 fn build(alloc: Global, items: &[Item<'_>]) -> Result<Command, AllocError>
     ensures { IfOk result (λ made. made ≡ command_from Build (gather_items Build (items_shown items.now))) }
 {
-    Ok(Command::Build(BuildWords {
+    Ok(Command::One(One::Build(BuildWords {
         stub: required_value(alloc, items, "--stub")?,
         linux: required_value(alloc, items, "--linux")?,
         output: required_value(alloc, items, "--output")?,
@@ -145,7 +145,7 @@ fn build(alloc: Global, items: &[Item<'_>]) -> Result<Command, AllocError>
         initrds: all_values(alloc, items, "--initrd")?,
         sections: all_values(alloc, items, "--section")?,
         measure: is_given(items, "--measure"),
-    }))
+    })))
 }
 
 // The parts of a calculation.
@@ -169,38 +169,38 @@ fn calculate_parts(alloc: Global, items: &[Item<'_>]) -> Result<PartWords<Text>,
 fn calculate(alloc: Global, items: &[Item<'_>]) -> Result<Command, AllocError>
     ensures { IfOk result (λ made. made ≡ command_from Calculate (gather_items Calculate (items_shown items.now))) }
 {
-    Ok(Command::Calculate(CalculateWords {
+    Ok(Command::One(One::Calculate(CalculateWords {
         linux: required_value(alloc, items, "--linux")?,
         initrd: optional_value(alloc, items, "--initrd")?,
         parts: calculate_parts(alloc, items)?,
         banks: all_values(alloc, items, "--bank")?,
         phases: all_values(alloc, items, "--phase")?,
         json: is_given(items, "--json"),
-    }))
+    })))
 }
 
 // `measure image`.
 fn image(alloc: Global, items: &[Item<'_>]) -> Result<Command, AllocError>
     ensures { IfOk result (λ made. made ≡ command_from Image (gather_items Image (items_shown items.now))) }
 {
-    Ok(Command::Image {
+    Ok(Command::One(One::Image {
         file: operand(alloc, items, 0)?,
         banks: all_values(alloc, items, "--bank")?,
         phases: all_values(alloc, items, "--phase")?,
         json: is_given(items, "--json"),
-    })
+    }))
 }
 
 // `install`.
 fn install(alloc: Global, items: &[Item<'_>]) -> Result<Command, AllocError>
     ensures { IfOk result (λ made. made ≡ command_from Install (gather_items Install (items_shown items.now))) }
 {
-    Ok(Command::Install {
+    Ok(Command::One(One::Install {
         file: operand(alloc, items, 0)?,
         name: operand(alloc, items, 1)?,
         tries: optional_value(alloc, items, "--tries")?,
         esp: esp(alloc, items)?,
-    })
+    }))
 }
 
 // The texts of an entry that names payloads.
@@ -222,46 +222,46 @@ fn type1_install(alloc: Global, items: &[Item<'_>]) -> Result<Command, AllocErro
     ensures { IfOk result
         (λ made. made ≡ command_from Type1Install (gather_items Type1Install (items_shown items.now))) }
 {
-    Ok(Command::Type1Install(Type1Words {
+    Ok(Command::Several(Several::Type1Install(Type1Words {
         name: operand(alloc, items, 0)?,
         linux: required_value(alloc, items, "--linux")?,
         initrds: all_values(alloc, items, "--initrd")?,
         texts: entry_texts(alloc, items)?,
         esp: esp(alloc, items)?,
-    }))
+    })))
 }
 
 // `demo`.
 fn demo(alloc: Global, items: &[Item<'_>]) -> Result<Command, AllocError>
     ensures { IfOk result (λ made. made ≡ command_from Demo (gather_items Demo (items_shown items.now))) }
 {
-    Ok(Command::Demo {
+    Ok(Command::Several(Several::Demo {
         seed: operand(alloc, items, 0)?,
         count: operand(alloc, items, 1)?,
-    })
+    }))
 }
 
 // `bless` with this verb.
 fn bless(alloc: Global, verb: BlessWord, items: &[Item<'_>]) -> Result<Command, AllocError>
-    ensures { IfOk result (λ made. made ≡ Command.Bless verb
+    ensures { IfOk result (λ made. made ≡ Command.One (One.Bless verb
         (slice_index_or (operands (items_shown items.now)) 0 [])
-        (esp_meant (λ option. last_option_value option (items_shown items.now)))) }
+        (esp_meant (λ option. last_option_value option (items_shown items.now))))) }
 {
-    Ok(Command::Bless {
+    Ok(Command::One(One::Bless {
         verb,
         path: operand(alloc, items, 0)?,
         esp: esp(alloc, items)?,
-    })
+    }))
 }
 
 // `bootctl unlink`.
 fn unlink(alloc: Global, items: &[Item<'_>]) -> Result<Command, AllocError>
     ensures { IfOk result (λ made. made ≡ command_from Unlink (gather_items Unlink (items_shown items.now))) }
 {
-    Ok(Command::Unlink {
+    Ok(Command::One(One::Unlink {
         name: operand(alloc, items, 0)?,
         esp: esp(alloc, items)?,
-    })
+    }))
 }
 
 // `loader set-default`.
@@ -269,10 +269,10 @@ fn loader_default(alloc: Global, items: &[Item<'_>]) -> Result<Command, AllocErr
     ensures { IfOk result
         (λ made. made ≡ command_from LoaderDefault (gather_items LoaderDefault (items_shown items.now))) }
 {
-    Ok(Command::LoaderDefault {
+    Ok(Command::One(One::LoaderDefault {
         pattern: operand(alloc, items, 0)?,
         esp: esp(alloc, items)?,
-    })
+    }))
 }
 
 // `loader set-timeout`.
@@ -280,22 +280,22 @@ fn loader_timeout(alloc: Global, items: &[Item<'_>]) -> Result<Command, AllocErr
     ensures { IfOk result
         (λ made. made ≡ command_from LoaderTimeout (gather_items LoaderTimeout (items_shown items.now))) }
 {
-    Ok(Command::LoaderTimeout {
+    Ok(Command::One(One::LoaderTimeout {
         value: operand(alloc, items, 0)?,
         esp: esp(alloc, items)?,
-    })
+    }))
 }
 
 // `keep`.
 fn keep(alloc: Global, items: &[Item<'_>]) -> Result<Command, AllocError>
     ensures { IfOk result (λ made. made ≡ command_from Keep (gather_items Keep (items_shown items.now))) }
 {
-    Ok(Command::Keep(KeepWords {
+    Ok(Command::Several(Several::Keep(KeepWords {
         number: operand(alloc, items, 0)?,
         per_key: is_given(items, "--per-key"),
         dry_run: is_given(items, "--dry-run"),
         esp: esp(alloc, items)?,
-    }))
+    })))
 }
 
 /// The command that these items give. Its operands have been counted, and its required options looked for.
@@ -308,40 +308,40 @@ pub(crate) fn fill(
 {
     match command {
         CommandName::Build => build(alloc, items),
-        CommandName::Inspect => Ok(Command::Inspect {
+        CommandName::Inspect => Ok(Command::One(One::Inspect {
             file: operand(alloc, items, 0)?,
             json: is_given(items, "--json"),
-        }),
+        })),
         CommandName::Calculate => calculate(alloc, items),
         CommandName::Image => image(alloc, items),
-        CommandName::ListEntries => Ok(Command::List {
+        CommandName::ListEntries => Ok(Command::One(One::List {
             esp: esp(alloc, items)?,
             json: is_given(items, "--json"),
-        }),
+        })),
         CommandName::Unlink => unlink(alloc, items),
-        CommandName::Identify => Ok(Command::Identify {
+        CommandName::Identify => Ok(Command::One(One::Identify {
             file: operand(alloc, items, 0)?,
-        }),
-        CommandName::Tidy => Ok(Command::Tidy {
+        })),
+        CommandName::Tidy => Ok(Command::One(One::Tidy {
             esp: esp(alloc, items)?,
-        }),
+        })),
         CommandName::Install => install(alloc, items),
-        CommandName::Boot => Ok(Command::Boot {
+        CommandName::Boot => Ok(Command::One(One::Boot {
             esp: esp(alloc, items)?,
-        }),
+        })),
         CommandName::BlessGood => bless(alloc, BlessWord::Good, items),
         CommandName::BlessBad => bless(alloc, BlessWord::Bad, items),
         CommandName::BlessIndeterminate => bless(alloc, BlessWord::Indeterminate, items),
         CommandName::BlessStatus => bless(alloc, BlessWord::Status, items),
-        CommandName::LoaderShow => Ok(Command::LoaderShow {
+        CommandName::LoaderShow => Ok(Command::One(One::LoaderShow {
             esp: esp(alloc, items)?,
-        }),
+        })),
         CommandName::LoaderDefault => loader_default(alloc, items),
         CommandName::LoaderTimeout => loader_timeout(alloc, items),
         CommandName::Type1Install => type1_install(alloc, items),
-        CommandName::Type1Cleanup => Ok(Command::Type1Cleanup {
+        CommandName::Type1Cleanup => Ok(Command::Several(Several::Type1Cleanup {
             esp: esp(alloc, items)?,
-        }),
+        })),
         CommandName::Keep => keep(alloc, items),
         CommandName::Script => Ok(Command::Script),
         CommandName::Demo => demo(alloc, items),

@@ -5,8 +5,8 @@ use Rattle.boot_base.specs.declared.refusal.Refusal.{Refusal}
 use Rattle.boot_machine.specs.Disk.{Files}
 use Rattle.boot_texts.specs.EntryText.{entry_text}
 use Rattle.boot_texts.specs.declared.entry.Type1.{Type1}
-use Rattle.tool_words.specs.declared.command.Command.{Command}
-use Rattle.tool_words.specs.declared.command.Command.TheVariants as command
+use Rattle.tool_words.specs.declared.action.Action.{Action}
+use Rattle.tool_words.specs.declared.action.Action.TheVariants as action
 use Rattle.tool_words.specs.declared.command.Type1Words.{Type1Words}
 use Rattle.command_plans.specs.Declining.{◌>>=◌}
 use Rattle.command_plans.specs.Files.{bytes_at, each}
@@ -66,28 +66,28 @@ module _ (view : Files) (words : Type1Words) (plan : Type1Plan) (ok : install_pl
       (refused_too fault (each (bytes_at view) files) (map (payload_of view) files) (install_commands view plan) (subst (UnsaidFor fault) (each_payloads view files) why))
 
   commands_are : (linux : Payload) (initrds : List Payload) → map (payload_of view) files ≡ linux ∷ initrds
-      → install_commands view plan ≡ put_in (payload_folder plan.esp) linux ∷ (map (put_in (payload_folder plan.esp)) initrds ++ command.Enter plan.entry (entry_text (fields_with plan.texts linux initrds)) ∷ [])
+      → install_commands view plan ≡ put_in (payload_folder plan.esp) linux ∷ (map (put_in (payload_folder plan.esp)) initrds ++ action.Enter plan.entry (entry_text (fields_with plan.texts linux initrds)) ∷ [])
   commands_are linux initrds is =
       let folder = payload_folder plan.esp in
       let first : payload_of view plan.linux ≡ linux = cc in
       let others : map (payload_of view) plan.initrds ≡ initrds = cc in
-      let whole : Payload → List Payload → List Command =
-      λ l is. put_in folder l ∷ (map (put_in folder) is ++ command.Enter plan.entry (entry_text (fields_with plan.texts l is)) ∷ []) in
+      let whole : Payload → List Payload → List Action =
+      λ l is. put_in folder l ∷ (map (put_in folder) is ++ action.Enter plan.entry (entry_text (fields_with plan.texts l is)) ∷ []) in
       let puts = map_both (put_in folder) (payload_of view) (put_of view plan.esp) (λ file. refl) plan.initrds in
       let values = map_both value_of_payload (payload_of view) (value_of_file view) (λ file. refl) plan.initrds in
       let with_values : List (List ℕ) → Type1 = entry_fields plan.texts (value_of_file view plan.linux) in
-      ap (λ (l : List Command). put_of view plan.esp plan.linux ∷ (l ++ enter_of view plan ∷ [])) (sym puts)
-      ∙ ap (λ (vs : List (List ℕ)). put_of view plan.esp plan.linux ∷ (map (put_in folder) (map (payload_of view) plan.initrds) ++ command.Enter plan.entry (entry_text (with_values vs)) ∷ [])) (sym values)
+      ap (λ (l : List Action). put_of view plan.esp plan.linux ∷ (l ++ enter_of view plan ∷ [])) (sym puts)
+      ∙ ap (λ (vs : List (List ℕ)). put_of view plan.esp plan.linux ∷ (map (put_in folder) (map (payload_of view) plan.initrds) ++ action.Enter plan.entry (entry_text (with_values vs)) ∷ [])) (sym values)
       ∙ ap (λ (l : Payload). whole l (map (payload_of view) plan.initrds)) first
       ∙ ap (whole linux) others
 
   -- of files that are all there
   pub expansion_made : (linux : Payload) (initrds : List Payload) → each (payload_at view) (plan.linux ∷ plan.initrds) ≡ Ok (linux ∷ initrds)
-      → install_expansion view words ≡ Ok (put_in (payload_folder plan.esp) linux ∷ (map (put_in (payload_folder plan.esp)) initrds ++ command.Enter plan.entry (entry_text (fields_with plan.texts linux initrds)) ∷ []))
+      → install_expansion view words ≡ Ok (put_in (payload_folder plan.esp) linux ∷ (map (put_in (payload_folder plan.esp)) initrds ++ action.Enter plan.entry (entry_text (fields_with plan.texts linux initrds)) ∷ []))
   unfolding install_expansion
   expansion_made linux initrds made =
       let found = by_reads (each (bytes_at view) files) (map (payload_of view) files) (linux ∷ initrds) (install_commands view plan) (sym (each_payloads view files) ∙ made) in
-      done_next (install_plan words) plan (planned_install view) ok ∙ found.0 ∙ ap (λ (l : List Command). Ok l) (commands_are linux initrds found.1)
+      done_next (install_plan words) plan (planned_install view) ok ∙ found.0 ∙ ap (λ (l : List Action). Ok l) (commands_are linux initrds found.1)
 
 -- ---- the kernel and then the initrds
 

@@ -6,8 +6,8 @@ use Rattle.boot_base.specs.Paths.{Path}
 use Rattle.boot_base.specs.declared.refusal.Refusal.{Refusal}
 use Rattle.boot_machine.specs.Disk.{Files}
 use Rattle.menu_order.specs.declared.item.MenuItem.{MenuItem}
-use Rattle.tool_words.specs.declared.command.Command.{Command}
-use Rattle.tool_words.specs.declared.command.Command.TheVariants as command
+use Rattle.tool_words.specs.declared.action.Action.{Action}
+use Rattle.tool_words.specs.declared.action.Action.TheVariants as action
 use Rattle.command_plans.specs.Declining.{◌>>=◌, path_in, path_under}
 use Rattle.command_plans.specs.Folders.{folders_of}
 use Rattle.command_plans.specs.Menus.{menu_at}
@@ -23,10 +23,10 @@ abbrev pub unnamed_payloads : Files → Path → List MenuItem → List Path
 unnamed_payloads view esp items = filter (is_unnamed esp items) (keys view)
 
 -- the commands of a cleanup, or what it is refused for
-unfoldable pub cleanup_expansion : Files → List ℕ → Result (List Command) Refusal
+unfoldable pub cleanup_expansion : Files → List ℕ → Result (List Action) Refusal
 cleanup_expansion view word =
     folders_of word >>= λ folders.
     path_in word >>= λ esp.
     path_under esp payload_probe >>= λ _.
     menu_at view folders >>= λ menu.
-    Ok (map command.Remove (unnamed_payloads view esp menu))
+    Ok (map action.Remove (unnamed_payloads view esp menu))

@@ -10,8 +10,8 @@ use Rattle.boot_texts.specs.EntryText.{entry_text, is_field, payload_value}
 use Rattle.boot_texts.specs.declared.entry.Type1.{Type1}
 use Rattle.menu_order.specs.Counter.{suffix_text}
 use Rattle.menu_order.specs.declared.counted.Suffix.TheVariants.{Conf}
-use Rattle.tool_words.specs.declared.command.Command.{Command}
-use Rattle.tool_words.specs.declared.command.Command.TheVariants as command
+use Rattle.tool_words.specs.declared.action.Action.{Action}
+use Rattle.tool_words.specs.declared.action.Action.TheVariants as action
 use Rattle.tool_words.specs.declared.command.EntryTexts.{EntryTexts}
 use Rattle.tool_words.specs.declared.command.Type1Words.{Type1Words}
 use Rattle.command_plans.specs.Declining.{◌>>=◌, install_name, path_in, path_under, printed_path}
@@ -107,8 +107,8 @@ install_plan words =
 -- ---- what it stands for
 
 -- the payload of a file is put
-abbrev pub put_of : Files → Path → Path → Command
-put_of view esp file = command.Put file (payload_path esp (contents view file))
+abbrev pub put_of : Files → Path → Path → Action
+put_of view esp file = action.Put file (payload_path esp (contents view file))
 
 -- how the entry names the payload of a file
 abbrev pub value_of_file : Files → Path → List ℕ
@@ -136,19 +136,19 @@ fields_of view plan =
     entry_fields plan.texts (value_of_file view plan.linux) (map (value_of_file view) plan.initrds)
 
 -- the entry is entered
-abbrev pub enter_of : Files → Type1Plan → Command
-enter_of view plan = command.Enter plan.entry (entry_text (fields_of view plan))
+abbrev pub enter_of : Files → Type1Plan → Action
+enter_of view plan = action.Enter plan.entry (entry_text (fields_of view plan))
 
 -- the files are put and then the entry is entered, by what the view shows of the files
-abbrev pub install_commands : Files → Type1Plan → List Command
+abbrev pub install_commands : Files → Type1Plan → List Action
 install_commands view plan =
     put_of view plan.esp plan.linux ∷ (map (put_of view plan.esp) plan.initrds ++ enter_of view plan ∷ [])
 
 -- the commands, if each of the files is there and isn't too large
-abbrev pub planned_install : Files → Type1Plan → Result (List Command) Refusal
+abbrev pub planned_install : Files → Type1Plan → Result (List Action) Refusal
 planned_install view plan =
     each (bytes_at view) (plan.linux ∷ plan.initrds) >>= λ bytes. Ok (install_commands view plan)
 
 -- the commands of an installation, or what it is refused for
-unfoldable pub install_expansion : Files → Type1Words → Result (List Command) Refusal
+unfoldable pub install_expansion : Files → Type1Words → Result (List Action) Refusal
 install_expansion view words = install_plan words >>= planned_install view

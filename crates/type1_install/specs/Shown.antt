@@ -6,8 +6,8 @@ use Rattle.boot_machine.specs.Disk.{Files}
 use Rattle.boot_machine.specs.Rows.{contents}
 use Rattle.boot_texts.specs.EntryText.{IsFieldIf, is_payload_name, payload_value}
 use Rattle.boot_texts.specs.declared.entry.Type1.{Type1}
-use Rattle.tool_words.specs.declared.command.Command.{Command}
-use Rattle.tool_words.specs.declared.command.Command.TheVariants as command
+use Rattle.tool_words.specs.declared.action.Action.{Action}
+use Rattle.tool_words.specs.declared.action.Action.TheVariants as action
 use Rattle.command_plans.specs.Declining.{◌>>=◌}
 use Rattle.command_plans.specs.Files.{bytes_at}
 use Rattle.tool_words.specs.declared.command.EntryTexts.{EntryTexts}
@@ -48,9 +48,9 @@ payload_at view file = bytes_at view file >>= λ bytes. Ok (payload_of view file
 abbrev pub HasPayloadName : Payload → Type 0
 HasPayloadName payload = is_payload_name payload.name ≡ true
 
--- the command that puts it into a folder
-abbrev pub put_in : Path → Payload → Command
-put_in folder payload = command.Put payload.file (under folder payload.name)
+-- the action that puts it into a folder
+abbrev pub put_in : Path → Payload → Action
+put_in folder payload = action.Put payload.file (under folder payload.name)
 
 -- how an entry names it
 abbrev pub value_of_payload : Payload → List ℕ
@@ -67,10 +67,3 @@ pub record AreFields (texts : EntryTexts) : Type 0 where
 -- what an entry of these texts and payloads says
 abbrev pub fields_with : EntryTexts → Payload → List Payload → Type1
 fields_with texts linux initrds = entry_fields texts (value_of_payload linux) (map value_of_payload initrds)
-
--- no words say the command
-abbrev pub IsWordless : Command → Type 0
-IsWordless (command.Put file target) = Unit {0}
-IsWordless (command.Enter path text) = Unit {0}
-IsWordless (command.Remove path) = Unit {0}
-IsWordless c = ⊥

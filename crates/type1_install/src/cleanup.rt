@@ -1,11 +1,10 @@
 //! The commands that `type1 cleanup` stands for.
 ghost use Rattle.std.specs.Prelude.{◌≡◌, ◌≤◌, ◌+◌, All, IfErr, IfOk, IsTrue, length, map};
 ghost use Rattle.boot_machine.specs.Prelude.{Looks, seen, IsNamesOf};
-ghost use Rattle.tool_words.specs.declared.command.Command.TheVariants.{Remove};
+ghost use Rattle.tool_words.specs.declared.action.Action.TheVariants.{Remove};
 ghost use Rattle.command_plans.specs.Prelude.{CountsUnsaid, Says};
 ghost use Rattle.type1_install.specs.Cleaning.{cleanup_expansion, unnamed_payloads};
 ghost use Rattle.type1_install.specs.Payloads.{payload_folder};
-ghost use Rattle.type1_install.specs.Shown.{IsWordless};
 ghost use Rattle.type1_install.specs.Unnamed.{IsNoRefusal};
 
 use crate::naming::unnamed;
@@ -15,7 +14,7 @@ use boot_machine::Machine;
 use command_plans::{Unsaid, folders_in, menu_at, path_in, push};
 use menu_order::MenuItem;
 use std::alloc::{AllocError, Global};
-use tool_words::Command;
+use tool_words::Action;
 
 // The names of the files directly in a folder.
 fn names_in<M: Machine>(
@@ -51,14 +50,13 @@ fn unnamed_payloads<M: Machine>(
 }
 
 /// The commands that remove these files.
-pub fn removals(alloc: Global, paths: &[BootPath]) -> Result<Vec<Command>, AllocError>
-    ensures commands { IfOk result (λ commands. commands.items ≡ map Remove paths.now) }
-    ensures wordless { IfOk result (λ commands. All IsWordless commands.items) }
+pub fn removals(alloc: Global, paths: &[BootPath]) -> Result<Vec<Action>, AllocError>
+    ensures { IfOk result (λ commands. commands.items ≡ map Remove paths.now) }
 {
     let mut commands = Vec::new(alloc);
     for path in paths {
         let path = path.copy(alloc)?;
-        push(&mut commands, Command::Remove { path })?;
+        push(&mut commands, Action::Remove { path })?;
     }
     Ok(commands)
 }
@@ -69,10 +67,9 @@ pub fn cleanup_expansion<M: Machine>(
     alloc: Global,
     esp: &str,
     machine: &mut M,
-) -> Result<Vec<Command>, Unsaid>
+) -> Result<Vec<Action>, Unsaid>
     ensures says { IsTrue M.tells → Says (λ commands. commands.items) result
         (cleanup_expansion (seen (M.state machine.old)) esp.now) }
-    ensures wordless { IfOk result (λ commands. All IsWordless commands.items) }
     ensures looks { Looks M.tells M.time M.state M.counts (CountsUnsaid result) machine.old machine.new }
 {
     let folders = folders_in(alloc, esp)?;

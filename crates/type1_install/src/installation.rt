@@ -2,10 +2,10 @@
 ghost use Rattle.std.specs.Prelude.{◌≡◌, ◌≤◌, ◌+◌, ◌++◌, ◌∷◌, [], All, IfOk, IsTrue, OnOk, length, map, option_to_list};
 ghost use Rattle.boot_machine.specs.Prelude.{Looks, seen};
 ghost use Rattle.boot_texts.specs.EntryText.{entry_text};
-ghost use Rattle.tool_words.specs.declared.command.Command.TheVariants.{Enter};
+ghost use Rattle.tool_words.specs.declared.action.Action.TheVariants.{Enter};
 ghost use Rattle.command_plans.specs.Prelude.{CountsUnsaid, Says};
 ghost use Rattle.type1_install.specs.Installing.{install_expansion};
-ghost use Rattle.type1_install.specs.Shown.{AreFields, IsWordless, HasPayloadName, fields_with, put_in, value_of_payload};
+ghost use Rattle.type1_install.specs.Shown.{AreFields, HasPayloadName, fields_with, put_in, value_of_payload};
 
 use crate::install_words::{Place, install_plan};
 use crate::payload::{Payload, payload_at, payloads_at};
@@ -15,17 +15,16 @@ use boot_machine::Machine;
 use boot_texts::{Type1, entry_text};
 use command_plans::{Unsaid, push};
 use std::alloc::{AllocError, Global};
-use tool_words::{Command, EntryTexts, Type1Words};
+use tool_words::{Action, EntryTexts, Type1Words};
 
-fn put_in(alloc: Global, folder: &BootPath, payload: &Payload) -> Result<Command, AllocError>
+fn put_in(alloc: Global, folder: &BootPath, payload: &Payload) -> Result<Action, AllocError>
     requires room { length folder.now + 65 ≤ 1024 }
     requires name { HasPayloadName payload.now }
-    ensures command { IfOk result (λ command. command ≡ put_in folder.now payload.now) }
-    ensures wordless { IfOk result IsWordless }
+    ensures { IfOk result (λ command. command ≡ put_in folder.now payload.now) }
 {
     let target = payload_path(alloc, folder, payload.name.as_str())?;
     let file = payload.file.copy(alloc)?;
-    Ok(Command::Put { file, target })
+    Ok(Action::Put { file, target })
 }
 
 // Puts the commands behind the others that put these payloads into the folder.
@@ -33,12 +32,11 @@ fn add_puts(
     alloc: Global,
     folder: &BootPath,
     payloads: &[Payload],
-    commands: &mut Vec<Command>,
+    commands: &mut Vec<Action>,
 ) -> Result<(), AllocError>
     requires room { length folder.now + 65 ≤ 1024 }
     requires names { All HasPayloadName payloads.now }
-    ensures commands { OnOk result (commands.new.items ≡ commands.old.items ++ map (put_in folder.now) payloads.now) }
-    ensures wordless { OnOk result (All IsWordless commands.old.items → All IsWordless commands.new.items) }
+    ensures { OnOk result (commands.new.items ≡ commands.old.items ++ map (put_in folder.now) payloads.now) }
 {
     for payload in payloads {
         let command = put_in(alloc, folder, payload)?;
@@ -115,19 +113,18 @@ fn enter_in(
     texts: &EntryTexts,
     linux: &Payload,
     initrds: &[Payload],
-) -> Result<Command, AllocError>
+) -> Result<Action, AllocError>
     requires texts { AreFields texts.now }
     requires linux { HasPayloadName linux.now }
     requires initrds { All HasPayloadName initrds.now }
     requires few { length initrds.now ≤ 64 }
-    ensures command { IfOk result (λ command. command
+    ensures { IfOk result (λ command. command
         ≡ Enter entry.now (entry_text (fields_with texts.now linux.now initrds.now))) }
-    ensures wordless { IfOk result IsWordless }
 {
     let fields = fields_with(alloc, texts, linux, initrds)?;
     let text = entry_text(alloc, &fields)?;
     let path = entry.copy(alloc)?;
-    Ok(Command::Enter {
+    Ok(Action::Enter {
         path,
         text: Bytes::from(text),
     })
@@ -140,16 +137,15 @@ fn install_commands(
     texts: &EntryTexts,
     linux: &Payload,
     initrds: &[Payload],
-) -> Result<Vec<Command>, AllocError>
+) -> Result<Vec<Action>, AllocError>
     requires room { length place.now.folder + 65 ≤ 1024 }
     requires texts { AreFields texts.now }
     requires linux { HasPayloadName linux.now }
     requires initrds { All HasPayloadName initrds.now }
     requires few { length initrds.now ≤ 64 }
-    ensures commands { IfOk result (λ commands. commands.items
+    ensures { IfOk result (λ commands. commands.items
         ≡ put_in place.now.folder linux.now ∷ (map (put_in place.now.folder) initrds.now
         ++ Enter place.now.entry (entry_text (fields_with texts.now linux.now initrds.now)) ∷ [])) }
-    ensures wordless { IfOk result (λ commands. All IsWordless commands.items) }
 {
     let mut commands = Vec::new(alloc);
     let put = put_in(alloc, &place.folder, linux)?;
@@ -166,10 +162,9 @@ pub fn install_expansion<M: Machine>(
     alloc: Global,
     words: &Type1Words,
     machine: &mut M,
-) -> Result<Vec<Command>, Unsaid>
+) -> Result<Vec<Action>, Unsaid>
     ensures says { IsTrue M.tells → Says (λ commands. commands.items) result
         (install_expansion (seen (M.state machine.old)) words.now) }
-    ensures wordless { IfOk result (λ commands. All IsWordless commands.items) }
     ensures looks { Looks M.tells M.time M.state M.counts (CountsUnsaid result) machine.old machine.new }
 {
     let plan = install_plan(alloc, words)?;

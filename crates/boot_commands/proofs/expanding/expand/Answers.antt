@@ -1,44 +1,51 @@
-use Rattle.std.proofs.Common.{refl, sym, subst}
+use Rattle.std.proofs.Common.{ℕ, List, sym, subst}
 use Rattle.std.proofs.lemmas.Result.{IfOk-weaker}
 use Rattle.boot_machine.specs.Sent.{seen}
+use Rattle.boot_machine.proofs.Reading.{looks_none}
 use Rattle.command_plans.specs.Unsaying.{Says}
-use Rattle.tool_words.specs.declared.command.Command.{Command}
+use Rattle.tool_words.specs.declared.command.Several.{Several}
 use Rattle.type1_install.specs.Cleaning.{cleanup_expansion}
-use Rattle.boot_commands.specs.Expanding.{Finds}
-use Rattle.boot_commands.proofs.Expansions.{stands_alone, step_of}
-use Rattle.boot_commands.proofs.Finding.{step_alone}
+use Rattle.boot_commands.specs.Demonstration.{demo_result}
+use Rattle.boot_commands.specs.Expanding.{StandsFor}
+use Rattle.boot_commands.proofs.Expansions.{clean_stands, demo_stands, install_stands, keep_stands}
 use Rattle.boot_commands.proofs.expanding.expand.Goals as goal
 
-pub returns-in-Type1Install-clause-finds : goal.returns-in-Type1Install-clause-finds
-returns-in-Type1Install-clause-finds g c =
+pub returns-in-Type1Install-clause-stands : goal.returns-in-Type1Install-clause-stands
+returns-in-Type1Install-clause-stands g c =
     let old = g.M.Machine.state c.args.machine.now in
-    IfOk-weaker c.expand_install.result _ _
-    (λ found finds told. subst (λ (x : Command). Finds old x found) (sym c.in-Type1Install.is) (finds old _ (c.install_expansion-commands.ensures.says told)))
-    c.expand_install.ensures.finds
+    IfOk-weaker c.install_or_refusal.result _ _
+    (λ actions are told. subst (λ (x : Several). StandsFor old x actions.items) (sym c.in-Type1Install.is)
+    (install_stands old _ actions.items (are _ (c.install_expansion-actions.ensures.says told))))
+    c.install_or_refusal.ensures.actions
 
-pub returns-in-Type1Cleanup-clause-finds : goal.returns-in-Type1Cleanup-clause-finds
-returns-in-Type1Cleanup-clause-finds g c =
+pub returns-in-Type1Cleanup-clause-stands : goal.returns-in-Type1Cleanup-clause-stands
+returns-in-Type1Cleanup-clause-stands g c =
     let old = g.M.Machine.state c.args.machine.now in
-    IfOk-weaker c.expand_cleanup.result _ _
-    (λ found finds told. subst (λ (x : Command). Finds old x found) (sym c.in-Type1Cleanup.is)
-    (finds old _ (subst (λ esp. Says (λ commands. commands.items) c.cleanup_expansion-commands.result (cleanup_expansion (seen old) esp)) c.as_str.ensures (c.cleanup_expansion-commands.ensures.says told))))
-    c.expand_cleanup.ensures.finds
+    IfOk-weaker c.clean_or_refusal.result _ _
+    (λ actions are told. subst (λ (x : Several). StandsFor old x actions.items) (sym c.in-Type1Cleanup.is)
+    (clean_stands old _ actions.items (are _
+    (subst (λ esp. Says (λ actions. actions.items) c.cleanup_expansion-actions.result (cleanup_expansion (seen old) esp)) c.as_str.ensures (c.cleanup_expansion-actions.ensures.says told)))))
+    c.clean_or_refusal.ensures.actions
 
-pub returns-in-Keep-clause-finds : goal.returns-in-Keep-clause-finds
-returns-in-Keep-clause-finds g c =
+pub returns-in-Keep-clause-stands : goal.returns-in-Keep-clause-stands
+returns-in-Keep-clause-stands g c =
     let old = g.M.Machine.state c.args.machine.now in
-    IfOk-weaker c.expand_keep.result _ _
-    (λ found finds told. subst (λ (x : Command). Finds old x found) (sym c.in-Keep.is) (finds old _ refl (c.keep_paths-paths.ensures.says told)))
-    c.expand_keep.ensures.finds
+    IfOk-weaker c.keep_or_refusal.result _ _
+    (λ actions are told. subst (λ (x : Several). StandsFor old x actions.items) (sym c.in-Keep.is)
+    (keep_stands old _ actions.items (are _ (c.keep_paths-paths.ensures.says told))))
+    c.keep_or_refusal.ensures.actions
 
-pub plan_of-requires : goal.plan_of-requires
-plan_of-requires g c = record {
-  step = step_of c.args.command.now c.requires.alone c.requires.worded
-      (stands_alone c.args.command.now c.in_default.not-Type1Install c.in_default.not-Type1Cleanup c.in_default.not-Keep);
-}
+pub returns-in-Demo-clause-stands : goal.returns-in-Demo-clause-stands
+returns-in-Demo-clause-stands g c =
+    let old = g.M.Machine.state c.args.machine.now in
+    IfOk-weaker c.text_or_refusal.result _ _
+    (λ actions are told. subst (λ (x : Several). StandsFor old x actions.items) (sym c.in-Demo.is)
+    (demo_stands old _ _ actions.items (are _
+    (subst (λ count. Says (λ text. text.items) c.demo_result-text.result (demo_result c.in-Demo.seed count)) c.as_str-in-Demo-2.ensures
+    (subst (λ seed. Says (λ text. text.items) c.demo_result-text.result (demo_result seed c.as_str-in-Demo-2.result.now)) c.as_str-in-Demo.ensures c.demo_result-text.ensures.says)))))
+    c.text_or_refusal.ensures.actions
 
-pub returns-in_ok-plan_of-in_default-clause-finds : goal.returns-in_ok-plan_of-in_default-clause-finds
-returns-in_ok-plan_of-in_default-clause-finds g c told =
-    step_alone (g.M.Machine.state c.args.machine.now) c.args.command.now c.in_ok-plan_of-in_default.field-0
-    (stands_alone c.args.command.now c.in_default.not-Type1Install c.in_default.not-Type1Cleanup c.in_default.not-Keep)
-    (c.in_ok-plan_of-in_default.ensures.plans told) (c.in_ok-plan_of-in_default.ensures.tidies told)
+pub returns-in-Demo-clause-looks : goal.returns-in-Demo-clause-looks
+returns-in-Demo-clause-looks g c =
+    let now = g.M.Machine.counts c.args.machine.now in
+    looks_none (g.met.M.Machine.only_now c.args.machine.now) (c.text_or_refusal.ensures.counts now now (c.demo_result-text.ensures.counts now))

@@ -9,8 +9,13 @@ use Rattle.boot_run.proofs.lines.run_line.Goals as goal
 
 pub returns-in-Plain-clause-performs : goal.returns-in-Plain-clause-performs
 returns-in-Plain-clause-performs g c told firm =
-    performed_rested g.M.Machine.time g.M.Machine.state c.args.machine.now c.step.new.machine c.args.line.now c.step.result (c.requires.rested told (ap is_unread c.in-Plain.is))
-    (subst (λ line. Performs g.M.Machine.time g.M.Machine.state end_of c.args.machine.now c.step.new.machine (line_deed (seen (g.M.Machine.state c.args.machine.now)) line) c.step.result) (sym c.in-Plain.is) (c.step.ensures.performs told firm))
+    performed_rested g.M.Machine.time g.M.Machine.state c.args.machine.now c.run_one.new.machine c.args.line.now c.run_one.result (c.requires.rested told (ap is_unread c.in-Plain.is))
+    (subst (λ line. Performs g.M.Machine.time g.M.Machine.state end_of c.args.machine.now c.run_one.new.machine (line_deed (seen (g.M.Machine.state c.args.machine.now)) line) c.run_one.result) (sym c.in-Plain.is) (c.run_one.ensures.performs told firm))
+
+pub returns-in-Part-clause-performs : goal.returns-in-Part-clause-performs
+returns-in-Part-clause-performs g c told firm =
+    performed_rested g.M.Machine.time g.M.Machine.state c.args.machine.now c.run_action.new.machine c.args.line.now c.run_action.result (c.requires.rested told (ap is_unread c.in-Part.is))
+    (subst (λ line. Performs g.M.Machine.time g.M.Machine.state end_of c.args.machine.now c.run_action.new.machine (line_deed (seen (g.M.Machine.state c.args.machine.now)) line) c.run_action.result) (sym c.in-Part.is) (c.run_action.ensures.performs told firm))
 
 pub returns-in-Numbered-clause-performs : goal.returns-in-Numbered-clause-performs
 returns-in-Numbered-clause-performs g c told firm =
@@ -19,6 +24,9 @@ returns-in-Numbered-clause-performs g c told firm =
 
 pub returns-in-Plain-clause-only_prints : goal.returns-in-Plain-clause-only_prints
 returns-in-Plain-clause-only_prints g c told firm is = cc (sym (ap is_unread c.in-Plain.is) ∙ is)
+
+pub returns-in-Part-clause-only_prints : goal.returns-in-Part-clause-only_prints
+returns-in-Part-clause-only_prints g c told firm is = cc (sym (ap is_unread c.in-Part.is) ∙ is)
 
 pub returns-in-Numbered-clause-only_prints : goal.returns-in-Numbered-clause-only_prints
 returns-in-Numbered-clause-only_prints g c told firm is = cc (sym (ap is_unread c.in-Numbered.is) ∙ is)
@@ -56,9 +64,16 @@ returns-in-TooLong-clause-rests g c told rested = leaves_rested c.too_long.resul
 pub returns-in-Plain-clause-tidies : goal.returns-in-Plain-clause-tidies
 returns-in-Plain-clause-tidies g c told =
     let old = g.M.Machine.state c.args.machine.now in
-    let now = g.M.Machine.state c.step.new.machine in
-    subst (λ line. WherePrinted c.step.result old now (TidiedBy now.files line)) (sym c.in-Plain.is)
-    (where_tidied c.step.result c.in-Plain.command old now (c.step.ensures.tidies told))
+    let now = g.M.Machine.state c.run_one.new.machine in
+    subst (λ line. WherePrinted c.run_one.result old now (TidiedBy now.files line)) (sym c.in-Plain.is)
+    (where_tidied c.run_one.result c.in-Plain.command old now (c.run_one.ensures.tidies told))
+
+pub returns-in-Part-clause-tidies : goal.returns-in-Part-clause-tidies
+returns-in-Part-clause-tidies g c told =
+    let old = g.M.Machine.state c.args.machine.now in
+    let now = g.M.Machine.state c.run_action.new.machine in
+    subst (λ line. WherePrinted c.run_action.result old now (TidiedBy now.files line)) (sym c.in-Part.is)
+    (where_so c.run_action.result old now Unit tt)
 
 pub returns-in-Numbered-clause-tidies : goal.returns-in-Numbered-clause-tidies
 returns-in-Numbered-clause-tidies g c told =

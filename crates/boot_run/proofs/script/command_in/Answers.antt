@@ -4,7 +4,7 @@ use Rattle.std.specs.Prelude.{IfOk}
 use Rattle.std.specs.Str.{chars}
 use Rattle.tool_words.specs.Line.{is_open, line_words}
 use Rattle.tool_words.specs.Meaning.{meaning}
-use Rattle.tool_words.specs.declared.command.Command.{Command}
+use Rattle.tool_words.specs.declared.command.One.{One}
 use Rattle.boot_run.specs.AskedLines.{in_script}
 use Rattle.boot_run.proofs.ScriptLines.{command_of_words, none_of_bytes, not_open, not_utf8}
 use Rattle.boot_run.proofs.script.command_in.Goals as goal
@@ -20,4 +20,4 @@ returns-in-Ok-split_line c =
     let meant =
     ap (λ (words : List (List ℕ)). in_script (meaning words)) (c.in-Ok-split_line.ensures.words ∙ ap (λ (bytes : List ℕ). line_words (chars bytes)) text)
     ∙ sym (command_of_words piece (is_utf8-from_IsUtf8 piece c.in-Ok.ensures.cases.1) (subst (λ (bytes : List ℕ). is_open (chars bytes) ≡ false) text closed)) in
-    subst (λ (found : Option Command). IfOk c.command_of.result (λ read. read ≡ found)) meant c.command_of.ensures
+    subst (λ (found : Option One). IfOk c.command_of.result (λ read. read ≡ found)) meant c.command_of.ensures

@@ -13,13 +13,7 @@ use Rattle.boot_run.specs.declared.line.Line.{Line}
 use Rattle.boot_run.proofs.Acked.{clean_none}
 use Rattle.boot_run.proofs.Taken.{no_lines, at_end_by, fits_memory, lines_are, on_ok_by, takes_usage}
 use Rattle.boot_run.proofs.Topping.{runs_lines, runs_nothing}
-use Rattle.boot_run.proofs.Worded.{worded, worded_meant}
 use Rattle.boot_run.proofs.top.run_to_end.Goals as goal
-
-pub run_command-requires : goal.run_command-requires
-run_command-requires g c =
-    let words = map string_bytes c.args.words.now.items in
-    record { worded = worded_meant (meaning words) c.in-Ok.command c.in-Ok.ensures (worded words) }
 
 pub returns-in-Ok-clause-runs : goal.returns-in-Ok-clause-runs
 returns-in-Ok-clause-runs g c told =

@@ -1,10 +1,8 @@
 use Rattle.std.proofs.Common.{◌≡◌, ◌++◌, map, take}
-use Rattle.std.specs.Prelude.{All}
-use Rattle.type1_install.specs.Shown.{IsWordless, put_in}
+use Rattle.type1_install.specs.Shown.{put_in}
 use Rattle.type1_install.proofs.installation.add_puts.Given as goal
 
 abbrev pub invariant-loop-payload : goal.invariant-loop-payload
 invariant-loop-payload l = record {
   made : l.commands.items ≡ l.initial.commands.items ++ map (put_in l.folder) (take l.payload-index l.payloads);
-  wordless : All IsWordless l.initial.commands.items → All IsWordless l.commands.items;
 }

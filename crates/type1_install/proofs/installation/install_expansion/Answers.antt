@@ -8,8 +8,8 @@ use Rattle.command_plans.specs.Files.{each}
 use Rattle.command_plans.specs.Unsaying.{UnsaidFor}
 use Rattle.command_plans.proofs.Unsaying.{says_unsaid}
 use Rattle.boot_texts.specs.EntryText.{entry_text}
-use Rattle.tool_words.specs.declared.command.Command.{Command}
-use Rattle.tool_words.specs.declared.command.Command.TheVariants as command
+use Rattle.tool_words.specs.declared.action.Action.{Action}
+use Rattle.tool_words.specs.declared.action.Action.TheVariants as action
 use Rattle.type1_install.specs.Shown.{HasPayloadName, fields_with, payload_at, plan_shown, put_in}
 use Rattle.type1_install.specs.declared.payload.Payload.{Payload}
 use Rattle.type1_install.proofs.Expanding.{both_made, expansion_made, expansion_refused, first_unsaid, later_unsaid}
@@ -56,8 +56,8 @@ returns-clause-looks g c = looks_on c.payload_at.ensures.looks c.payloads_at.ens
 
 pub returns-clause-says : goal.returns-clause-says
 returns-clause-says g c told =
-    let made : Path → List Payload → List Command =
-    λ folder initrds. put_in folder c.in_ok-linux.linux ∷ (map (put_in folder) initrds ++ command.Enter c.in_ok-plan.plan.place.entry (entry_text (fields_with c.args.words.now.texts c.in_ok-linux.linux initrds)) ∷ []) in
+    let made : Path → List Payload → List Action =
+    λ folder initrds. put_in folder c.in_ok-linux.linux ∷ (map (put_in folder) initrds ++ action.Enter c.in_ok-plan.plan.place.entry (entry_text (fields_with c.args.words.now.texts c.in_ok-linux.linux initrds)) ∷ []) in
     let view = seen (g.M.Machine.state c.args.machine.now) in
     let plan = plan_shown c.args.words.now.texts c.in_ok-plan.plan in
     let same = (c.payload_at.ensures.looks.reads told).same in
@@ -66,4 +66,4 @@ returns-clause-says g c told =
     (subst (λ (s : State). each (payload_at (seen s)) c.deref.result.now ≡ Ok c.in_ok-initrds.initrds.items) same (c.in_ok-initrds.ensures.says told)) in
     expansion_made view c.args.words.now plan c.in_ok-plan.ensures.means c.in_ok-linux.linux c.in_ok-initrds.initrds.items
     (both_made view plan.linux plan.initrds c.in_ok-linux.linux (c.in_ok-linux.ensures.says told) c.in_ok-initrds.initrds.items later)
-    ∙ ap (λ (l : List Command). Ok l) (sym (c.in_ok-install_commands.ensures.commands ∙ (λ i. made (c.in_ok-plan.ensures.folder i) (c.deref-2.ensures.value i))))
+    ∙ ap (λ (l : List Action). Ok l) (sym (c.in_ok-install_commands.ensures ∙ (λ i. made (c.in_ok-plan.ensures.folder i) (c.deref-2.ensures.value i))))
