@@ -1,5 +1,5 @@
 -- A run of `keep` removes what is doomed, in order.
-use Rattle.std.proofs.Common.{◌≡◌, ◌≢◌, ◌⊎◌, ℕ, zero, suc, ◌+◌, ◌≤◌, Bool, true, false, not, cond, ◌||◌, List, [], ◌∷◌, map, take, length, Option, Some, None, inl, inr, ⊎_elim, refl, sym, ap, ◌∙◌, subst, arith, Result, Ok, Err}
+use Rattle.std.proofs.Common.{◌≡◌, ◌≢◌, ℕ, zero, suc, ◌+◌, ◌≤◌, Bool, true, false, not, cond, ◌||◌, List, [], ◌∷◌, map, take, length, Option, Some, None, inl, inr, ⊎_elim, refl, sym, ap, ◌∙◌, subst, arith, Result, Ok, Err}
 use Rattle.std.specs.Prelude.{Contains, bytes_eq}
 use Rattle.std.specs.List.{IsDistinct, list_any}
 use Rattle.std.specs.FinMap as maps
@@ -13,10 +13,9 @@ use Rattle.boot_folder.specs.declared.folders.Folders.{Folders}
 use Rattle.boot_folder.proofs.EntryFiles.{bytes_self}
 use Rattle.boot_folder.proofs.Members.{passing, passing_from}
 use Rattle.boot_folder.proofs.Removing.{count_removed, menu_own, menu_removed}
-use Rattle.boot_machine.specs.Disk.{Files, IsIn, is_same_path}
+use Rattle.boot_machine.specs.Disk.{Files, is_same_path}
 use Rattle.boot_machine.specs.proofs.Maps.{get-remove, is_same_path-true, same_files}
 use Rattle.boot_machine.specs.Sent.{latest_view}
-use Rattle.command_plans.specs.Answers.{is_refusal}
 use Rattle.command_plans.specs.Changes.{removal, unlink_answer}
 use Rattle.command_plans.specs.Declining.{◌>>=◌}
 use Rattle.command_plans.specs.Menus.{menu_at}
@@ -43,7 +42,7 @@ use Rattle.boot_run.proofs.UpToRefused.{none_refused}
 use Rattle.boot_history.specs.Asking.{AllLines}
 use Rattle.boot_history.specs.GoodEntries.{LineSpares}
 use Rattle.boot_history.specs.Histories.{IsHistory, Run}
-use Rattle.boot_history.specs.Newest.{AllowsKeep, KeepSparesLaw, LacksDoomed, NewestLaw, ToldLaw, UnrefusedLaw, keep_command}
+use Rattle.boot_history.specs.Newest.{AllowsKeep, KeepSparesLaw, NewestLaw, ToldLaw, UnrefusedLaw, keep_command}
 use Rattle.boot_history.proofs.Alike.{length-replies}
 use Rattle.boot_history.proofs.Counting.{one_run}
 

@@ -1,7 +1,6 @@
 -- A `keep` removes no payload.
 use Rattle.std.proofs.Common.{◌≡◌, ℕ, zero, suc, Bool, true, false, List, [], ◌∷◌, map, take, Result, Ok, Err, refl, sym, ap, ◌∙◌, subst}
 use Rattle.std.specs.Prelude.{Contains, nat_lt}
-use Rattle.std.specs.FinMap as maps
 use Rattle.std.specs.List.{AllByRecursion}
 use Rattle.boot_base.specs.Paths.{Path, file_name_of}
 use Rattle.boot_base.specs.declared.refusal.Refusal.{Refusal}

@@ -1,8 +1,9 @@
 // Runs in turn, and a run that is stopped.
 use crate::{run_each, stop_law};
+use boot_base::BootPath;
 use boot_run::run;
 use machine_fuse::Fuse;
-use memory_machine::{CrashChoice, MemMachine};
+use memory_machine::{CrashChoice, MemFile, MemMachine};
 use std::alloc::{AllocError, Global};
 use std::process::Abort;
 use std::str;
@@ -66,6 +67,47 @@ fn a_run_prints_nothing_that_is_stopped_at_once(rt: HostRuntime) -> Result<(), F
         let left = fuse.into_inner().crash(alloc, &choice)?;
         stop_law::<MemMachine>();
         check_printed(&rt, alloc, &left, wanted)?;
+    }
+    Ok(())
+}
+
+// A machine with one file, whose nine bytes are an entry.
+fn machine_with(alloc: Global, path: &str) -> Result<MemMachine, Fail> {
+    let path = BootPath::read(alloc, path)?.into_file();
+    let bytes = b"linux /k\n".to_vec(alloc)?;
+    Ok(MemMachine::new(alloc, vec![in alloc; MemFile { path, bytes }]?)?)
+}
+
+// The status of a run of which a machine with that file passes so many calls, and how many bytes it has read.
+fn run_within(alloc: Global, path: &str, line: &str, calls: u64) -> Result<(u8, u64), Fail> {
+    let words = words_of(alloc, line)?;
+    let mut fuse = Fuse::new(machine_with(alloc, path)?, calls);
+    let status = run(alloc, &words, &mut fuse);
+    let mut count = 0;
+    for read in fuse.into_inner().reads() {
+        count = read.length.saturating_add(count);
+    }
+    Ok((status, count))
+}
+
+// A `keep` that removes nothing makes as many calls as a list, so it looks once. An installation reads its kernel twice:
+// for the digest and for the copy. The last call of each run prints.
+#[test]
+fn what_a_command_comes_to_is_found_once(rt: HostRuntime) -> Result<(), Fail> {
+    let alloc = rt.alloc();
+    let entry = "efi/loader/entries/a.conf";
+    for (path, line, calls, status, bytes) in [
+        (entry, "bootctl list", 8, 0, 9),
+        (entry, "keep 1", 8, 0, 9),
+        (entry, "keep 1 --dry-run", 8, 0, 9),
+        (entry, "keep x", 4, 1, 0),
+        (entry, "type1 cleanup", 9, 0, 9),
+        (entry, "type1 install b --linux=k", 5, 1, 0),
+        ("k", "type1 install b --linux=k", 22, 0, 18),
+    ] {
+        assert_eq!(rt; run_within(alloc, path, line, calls)?, (status, bytes));
+        let stopped = run_within(alloc, path, line, calls.saturating_sub(1))?;
+        assert_eq!(rt; stopped, (4, bytes));
     }
     Ok(())
 }

@@ -1,4 +1,4 @@
-use Rattle.std.proofs.Common.{◌≡◌, ℕ, map, string_bytes, ◌∙◌, arith}
+use Rattle.std.proofs.Common.{map, string_bytes, ◌∙◌, arith}
 use Rattle.std.proofs.Math.ListN.{length-set}
 use Rattle.boot_history.proofs.Pushing.{IsRunBy, mapped_next, one_longer, status_next}
 use Rattle.boot_history.proofs.each.run_each.Goals as goal
