@@ -1,0 +1,4 @@
+mod Cuts
+mod Maps
+mod NameSets
+mod Checks

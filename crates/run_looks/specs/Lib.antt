@@ -1,0 +1,5 @@
+pub mod Parts
+pub mod Maps
+pub mod Names
+pub mod Looks
+pub mod Standing
