@@ -2,3 +2,4 @@ mod Cuts
 mod Maps
 mod NameSets
 mod Checks
+mod Kept

@@ -3,3 +3,4 @@ pub mod Maps
 pub mod Names
 pub mod Looks
 pub mod Standing
+pub mod Recent

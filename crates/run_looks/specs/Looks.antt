@@ -1,5 +1,5 @@
 -- What a run has looked at.
-use Rattle.std.specs.Prelude.{◌≡◌, ◌⊎◌, ◌==◌, ◌&&◌, ℕ, Bool, true, false, List, [], ◌∷◌, ◌++◌, Option, IfSome, is_some, if◌then◌else◌}
+use Rattle.std.specs.Prelude.{◌≡◌, ◌⊎◌, ◌==◌, ◌&&◌, ◌+◌, ◌-◌, ◌^◌, min, ℕ, Bool, true, false, List, [], ◌∷◌, ◌++◌, Option, IfSome, is_some, if◌then◌else◌}
 use Rattle.std.specs.Option.{option_map_or}
 use Rattle.std.specs.Ordering.{nat_cmp}
 use Rattle.std.specs.Cmp.Lexicographic.{slice_cmp}
@@ -81,3 +81,7 @@ abbrev pub has_listed : RunLooks → List ℕ → Bool
 has_listed looks path =
     option_map_or (λ listing. set.contains listing.names (file_name_of path)) (map.get looks.listings
     (folder_before path)) false
+
+-- a reply is given: no path was looked at since then
+abbrev pub after_reply : RunLooks → RunLooks
+after_reply looks = record looks { recent = []; reply = min (looks.reply + 1) (2 ^ 64 - 1) }

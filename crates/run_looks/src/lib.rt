@@ -8,6 +8,7 @@
 mod check;
 mod disk;
 mod identity;
+mod laws;
 mod looks;
 mod map;
 mod names;
@@ -16,6 +17,7 @@ mod recent;
 
 pub use disk::{CheckFault, LiveDisk};
 pub use identity::{Identity, Listing, Look};
+pub use laws::look_laws;
 pub use looks::{LookFault, RunLooks};
 pub use map::PathMap;
 pub use names::LastingNames;

@@ -1,5 +1,5 @@
 //! What a run has looked at, and hasn't changed since.
-ghost use Rattle.std.specs.Prelude.{◌≡◌, ◌≢◌, ◌↔◌, ◌∷◌, ◌++◌, ◌&&◌, ◌+◌, ◌^◌, ◌-◌, [], false, true, not, is_some, min, MatchResult, OnOk, OnErr, IfErr, IfOk, IsTrue};
+ghost use Rattle.std.specs.Prelude.{◌≡◌, ◌≢◌, ◌↔◌, ◌∷◌, ◌++◌, ◌&&◌, [], false, true, not, OnOk, OnErr, IfErr, IfOk, IsTrue};
 ghost use Rattle.std.specs.Option.{option_map_or};
 ghost use Rattle.std.specs.FinMap as map;
 ghost use Rattle.std.specs.FinSet as set;
@@ -51,7 +51,7 @@ pub struct RunLooks {
 }
 
 impl RunLooks {
-    ghost use Rattle.run_looks.specs.Looks.{HadNames, IsStarved, found_first, has_listed, is_known_file, touched_at, with_look, with_names, without_names, without_path};
+    ghost use Rattle.run_looks.specs.Looks.{HadNames, IsStarved, after_reply, found_first, has_listed, is_known_file, touched_at, with_look, with_names, without_names, without_path};
     ghost use Rattle.run_looks.specs.declared.looks.LookFault.TheVariants.{Changed, Memory};
 
     /// Nothing. It takes no memory.
@@ -208,7 +208,7 @@ impl RunLooks {
 
     /// A reply is given.
     pub fn end_reply(&mut self)
-        ensures { self.new ≡ record self.old { recent = []; reply = min (self.old.reply + 1) (2 ^ 64 - 1) } }
+        ensures { self.new ≡ after_reply self.old }
     {
         self.reply = self.reply.saturating_add(1);
         self.recent.clear();
