@@ -1,5 +1,5 @@
 -- What the machine on a real folder tells: its counts, and nothing of what it holds.
-use Rattle.std.specs.Prelude.{◌≡◌, false, [], Result, MatchResult}
+use Rattle.std.specs.Prelude.{◌≡◌, false, [], None, Result, MatchResult}
 use Rattle.std.specs.FinMap as map
 use Rattle.std.specs.FinSet as set
 use Rattle.boot_machine.specs.Counts.{Counts, DiskFailsOnce, PipeFailsOnce}
@@ -7,6 +7,7 @@ use Rattle.boot_machine.specs.Disk.{State}
 use Rattle.boot_machine.specs.declared.fault.ReadFault.{ReadFault}
 use Rattle.boot_machine.specs.declared.fault.ReadFault.TheVariants.{Memory, Disk}
 use Rattle.name_syncs.specs.Waiting.{Waiting}
+use Rattle.run_looks.specs.Standing.{Standing}
 use Rattle.host_machine.specs.declared.faults.Faults.{Faults}
 
 -- the counts of faults, as the clauses of a machine speak of them
@@ -43,3 +44,7 @@ no_state = record { files = map.empty; earlier = []; soft = set.empty; printed =
 -- what waits for a disk that tells nothing, of which no clause speaks
 abbrev pub nothing_told : Waiting
 nothing_told = record { files = λ _. false; folders = λ _. false; syncs = λ _. false; asked = [] }
+
+-- what stands on a disk that tells nothing, of which no clause speaks
+abbrev pub nothing_stands : Standing
+nothing_stands = record { files = λ _. None; names = λ _. set.empty }

@@ -6,11 +6,11 @@
 //! it as it is spelled, and no other name there may be the same file.
 use crate::answers::read_once_at;
 use crate::calls::{link_metadata_at, unlink_path};
-use crate::intent::parted;
 use crate::kept::{copy_path, is_same};
 use crate::listing::names_in;
 use boot_base::TEMP_SUFFIX;
 use fat_rules::{Facts, fat_time, is_in_capitals, may_be_of_one_file, may_share};
+use run_looks::parted;
 use std::alloc::Global;
 use std::fs::{File, Metadata};
 use std::io::ErrorKind;

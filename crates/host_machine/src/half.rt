@@ -6,12 +6,12 @@ use crate::calls::metadata_at;
 use crate::clusters::{
     Spelling, facts_of, file_at, folder_of, has_time_of_fat, path_beside, spelling_at,
 };
-use crate::intent::parted;
 use crate::kept::copy_path;
 use crate::listing::names_in;
 use boot_base::IntentNames;
 pub(crate) use fat_rules::Removal;
 use fat_rules::{Facts, Step, can_be_alias_of, removal_of, step_of_none, step_of_one};
+use run_looks::parted;
 use std::alloc::Global;
 use std::fs::Metadata;
 use std::io;

@@ -23,11 +23,6 @@ fn read_from(alloc: Global, file: &File) -> io::Result<Option<IntentNames>> {
     Ok(IntentNames::read(alloc, &bytes[..count])?)
 }
 
-// The folder of a path, and the name in it.
-pub(crate) fn parted(path: &str) -> (&str, &str) {
-    path.rsplit_once('/').unwrap_or(("", path))
-}
-
 /// An intent that this run holds by its lock.
 #[derive(Drop)]
 pub(crate) struct HeldIntent {

@@ -6,9 +6,9 @@
 //! it replaces, moves or removes; and, with others, the files that it has read for that.
 use crate::answers::{changed_fault, met_fault};
 use crate::calls::{metadata_at, metadata_of, open_file, open_folder, open_known};
-use crate::intent::parted;
 use boot_base::{INTENT, TEMP_SUFFIX, ends_as_temp};
 use name_syncs::Folders;
+use run_looks::parted;
 use std::alloc::{AllocError, Global};
 use std::fs::{File, Metadata, TryLockError};
 use std::io::ErrorKind;

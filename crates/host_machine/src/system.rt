@@ -14,18 +14,19 @@ use crate::clusters::{
     temp_of, twins_of,
 };
 use crate::half::{Removal, Rescue, removal_of_old, rescue_of};
-use crate::intent::{HeldIntent, parted, require_intent, require_no_other_move};
+use crate::intent::{HeldIntent, require_intent, require_no_other_move};
 use crate::kept::{
     KeptFile, PRIVATE, PUBLIC, copy_path, create_locked, mode_of, open_locked, require_not_written,
     require_replaceable, set_mode,
 };
 use crate::listing::{files_among, names_in};
 use crate::locks::{Hold, Locks, is_payload, is_payload_folder};
-use crate::looks::Looks;
+use crate::looks::{hold_looks, identity_of, look_answer, require_all_same, require_same};
 use crate::reports::Reports;
 use crate::syncs::{SystemDisk, require_writable, sync_file, sync_folder};
 use boot_base::{FileName, INTENT, IntentNames, TEMP_SUFFIX, ends_as_temp};
 use name_syncs::{Named, sync_changed, sync_seen};
+use run_looks::{RunLooks, parted};
 use std::alloc::Global;
 use std::fs::{File, Metadata, OpenOptions};
 use std::io::ErrorKind;
@@ -37,7 +38,7 @@ use std::{io, mem};
 pub(crate) struct System<R: Runtime<File = File> + AllocGlobal> {
     rt: R,
     named: Named,
-    looks: Looks,
+    looks: RunLooks,
     locks: Locks,
     /// the intent of this run's move, or the one that a stop has left, with its lock
     intent: Option<HeldIntent>,
@@ -62,7 +63,7 @@ pub(crate) struct System<R: Runtime<File = File> + AllocGlobal> {
 impl<R: Runtime<File = File> + AllocGlobal> System<R> {
     pub(crate) fn new(rt: R) -> Self {
         let named = Named::new(rt.alloc());
-        let looks = Looks::new(rt.alloc());
+        let looks = RunLooks::new(rt.alloc());
         let locks = Locks::new(rt.alloc());
         let leftovers = Vec::new(rt.alloc());
         System {
@@ -124,7 +125,8 @@ impl<R: Runtime<File = File> + AllocGlobal> System<R> {
         if path == INTENT {
             return Ok(());
         }
-        if self.looks.add(path, found)? {
+        let answer = self.looks.add(path, identity_of(found));
+        if look_answer(self.rt.alloc(), path, answer)? {
             self.named.look_again(path)?;
         } else {
             self.named.look_at(path)?;
@@ -194,7 +196,8 @@ impl<R: Runtime<File = File> + AllocGlobal> System<R> {
         let files = files_among(&self.rt, alloc, folder, names.as_slice())?;
         require_no_other_move(&self.rt, self.intent.as_ref())?;
         self.note_leftovers(folder, names.as_slice())?;
-        self.looks.add_names(folder, names)?;
+        let answer = self.looks.add_names(folder, names);
+        look_answer(self.rt.alloc(), folder, answer)?;
         Ok(files)
     }
 
@@ -250,11 +253,11 @@ impl<R: Runtime<File = File> + AllocGlobal> System<R> {
         }
         self.locks.hold_changed(&self.rt, path)?;
         self.locks.hold_payloads(&self.rt)?;
-        self.looks.hold(&self.rt, &mut self.locks)?;
+        hold_looks(&self.rt, &self.looks, &mut self.locks)?;
         if self.locks.take_new_folder() {
-            self.looks.require_all_same(&self.rt)
+            require_all_same(&self.rt, &self.looks)
         } else {
-            self.looks.require_same(&self.rt)
+            require_same(&self.rt, &mut self.looks)
         }
     }
 
@@ -611,7 +614,7 @@ impl<R: Runtime<File = File> + AllocGlobal> System<R> {
         require_writable(&self.rt, self.removed.as_ref(), reports)?;
         sync_seen(&mut disk, &mut self.named);
         if has_changed_nothing && self.looks.has_unchecked() {
-            reports.report("look", ".", self.looks.require_same(&self.rt))?;
+            reports.report("look", ".", require_same(&self.rt, &mut self.looks))?;
         }
         self.keep_intent();
         self.removed = None;

@@ -2,7 +2,8 @@
 use Rattle.std.proofs.Common.{◌≡◌, ◌<◌, ◌≤◌, ◌+◌, ◌-◌, ◌^◌, ◌==◌, ℕ, Bool, true, false, cond, List, [], ◌∷◌, ◌++◌, min, Option, Some, None, refl, sym, ap, ◌∙◌, subst, arith, inl, inr}
 use Rattle.std.specs.Prelude.{IfSome, All, bytes_eq, if◌then◌else◌}
 use Rattle.std.specs.Option.{option_map_or}
-use Rattle.std.specs.Cmp.Lexicographic.{nat_list_cmp_total}
+use Rattle.std.specs.Ordering.{nat_cmp}
+use Rattle.std.specs.Cmp.Lexicographic.{nat_list_cmp_total, slice_cmp}
 use Rattle.std.specs.FinMap as map
 use Rattle.std.proofs.lemmas.Bool.{cases_Bool, cond-false, eqb-true, or_cases, or_left, or_right}
 use Rattle.std.proofs.lemmas.Cmp.{nat_list_eq_equiv}
@@ -120,3 +121,22 @@ holds_of P (known ∷ paths) path all there =
       | inl here ↦ subst P (sym ((bytes_eq-Decides path known).0 here)) (All-head P known paths all)
       | inr behind ↦ holds_of P paths path (All-tail P known paths all) behind
     ]
+
+-- ---- before the first look
+
+not_empty : (found : Option Look) (reply : ℕ) → found ≡ None → option_map_or (λ look. look.reply == reply) found false ≡ true → ⊥
+not_empty None reply none is = cc
+not_empty (Some look) reply none is = cc
+
+none_bounded : (found : Option Look) (P : Look → Type 0) → found ≡ None → IfSome found P
+none_bounded None P none = tt
+none_bounded (Some look) P none = absurd (cc)
+
+pub empty_is_whole : (looks : RunLooks) → looks.files ≡ map.empty → RecentIsWhole looks
+empty_is_whole looks none =
+    let nothing : (q : List ℕ) → map.get looks.files q ≡ None =
+    λ q. ap (λ files. map.get files q) none ∙ map.get-empty (slice_cmp nat_cmp) q in
+    record {
+      on_list = λ q is. absurd (not_empty (map.get looks.files q) looks.reply (nothing q) is);
+      earlier = λ q. none_bounded (map.get looks.files q) (λ look. look.reply ≤ looks.reply) (nothing q);
+    }

@@ -52,6 +52,7 @@ pub struct RunLooks {
 
 impl RunLooks {
     ghost use Rattle.run_looks.specs.Looks.{HadNames, IsStarved, after_reply, found_first, has_listed, is_known_file, touched_at, with_look, with_names, without_names, without_path};
+    ghost use Rattle.run_looks.specs.Recent.{RecentIsWhole};
     ghost use Rattle.run_looks.specs.declared.looks.LookFault.TheVariants.{Changed, Memory};
 
     /// Nothing. It takes no memory.
@@ -60,6 +61,8 @@ impl RunLooks {
         ensures recent { result.recent ≡ [] }
         ensures has_unchecked { result.has_unchecked ≡ false }
         ensures listings { result.listings ≡ map.empty }
+        ensures reply { result.reply ≡ 0 }
+        ensures whole { RecentIsWhole result }
     {
         RunLooks {
             alloc,
