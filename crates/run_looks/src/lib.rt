@@ -13,7 +13,6 @@ mod looks;
 mod map;
 mod names;
 mod parts;
-mod recent;
 
 pub use disk::{CheckFault, LiveDisk};
 pub use identity::{Identity, Listing, Look};
@@ -22,4 +21,3 @@ pub use looks::{LookFault, RunLooks};
 pub use map::PathMap;
 pub use names::LastingNames;
 pub use parts::parted;
-pub use recent::RecentPaths;

@@ -11,8 +11,7 @@ use crate::identity::{Identity, Listing, Look, is_same};
 use crate::map::PathMap;
 use crate::names::LastingNames;
 use crate::parts::parted;
-use crate::recent::RecentPaths;
-use boot_base::ends_as_temp;
+use boot_base::{Text, TextList, ends_as_temp};
 use std::alloc::{AllocError, Global};
 
 /// Why a look isn't taken.
@@ -41,7 +40,7 @@ pub struct RunLooks {
     /// What stood first at each path.
     pub files: PathMap<Look>,
     /// The paths that were looked at since the last reply.
-    pub recent: RecentPaths,
+    pub recent: TextList,
     /// Whether one of them, or a listing, came since all were last found the same.
     pub has_unchecked: bool,
     /// Which names each folder had first.
@@ -67,7 +66,7 @@ impl RunLooks {
         RunLooks {
             alloc,
             files: PathMap::new(alloc),
-            recent: RecentPaths::new(alloc),
+            recent: TextList::new(alloc),
             has_unchecked: false,
             listings: PathMap::new(alloc),
             reply: 0,
@@ -119,7 +118,8 @@ impl RunLooks {
         ensures err { OnErr result (self.new ≡ record self.old { has_unchecked = true }) }
     {
         self.has_unchecked = true;
-        self.recent.add(path)
+        let path = Text::of(self.alloc, path)?;
+        self.recent.push(path)
     }
 
     /// A folder has these names. Those of temporary files count for nothing.
@@ -214,7 +214,7 @@ impl RunLooks {
         ensures { self.new ≡ after_reply self.old }
     {
         self.reply = self.reply.saturating_add(1);
-        self.recent.clear();
+        self.recent = TextList::new(self.alloc);
     }
 
     /// Whether something was looked at since all was last found the same.
