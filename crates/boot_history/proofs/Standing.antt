@@ -106,7 +106,6 @@ listed_law view esp folders path read entry few =
     let menu = boot_menu view folders in
     let among = ((entries_menu view folders).entries entry.item).1 entry.entry in
     record {
-      menu = menu;
       text = rw (read, le-ltb 4096 (entry_count view folders) few) (some_said menu entry.item among);
       item = entry.item;
       at = entry.at;

@@ -1,7 +1,7 @@
 -- A good entry stays that no command is told to take away.
 use Rattle.std.specs.Prelude.{◌≡◌, ℕ, ◌≤◌, Bool, true, false, List, ◌++◌, Contains, Ok}
 use Rattle.boot_base.specs.Paths.{Path}
-use Rattle.boot_folder.specs.Entries.{entry_count}
+use Rattle.boot_folder.specs.Entries.{boot_menu, entry_count}
 use Rattle.boot_folder.specs.Listing.{list_text}
 use Rattle.boot_folder.specs.declared.folders.Folders.{Folders}
 use Rattle.boot_machine.specs.Disk.{Files}
@@ -38,7 +38,7 @@ SpareFrom path state runs = EachAsks keeps_entries (LineSpares path) state runs
 
 -- Where a good entry of an EFI system partition stands at a path in each view at the start of some run of a history,
 -- and no command from that run on is told to build over it, to unlink it, or to bless it as bad or as indeterminate,
--- one stands there in each later view.
+-- and no `keep` removes it, one stands there in each later view.
 abbrev pub GoodEntryLaw : Type 0
 GoodEntryLaw =
     (esp : List ℕ) (folders : Folders) (path : Path) (first : List Files) (before later : List Run)
@@ -46,16 +46,15 @@ GoodEntryLaw =
     → AllViews (HasGoodEntry folders path) (state_after first before) → SpareFrom path (state_after first before) later
     → AllAlong (HasGoodEntry folders path) (state_after first before) later
 
--- the list of an ESP is the text of a menu, and the entry at this path is in it
-pub record IsListed (view : Files) (esp : List ℕ) (path : Path) : Type 0 where
-  pub menu : List MenuItem
-  pub text : list_result view esp false ≡ Ok (list_text menu)
+-- the list of an ESP is the text of the menu of its folders, and the entry at this path is in that
+pub record IsListed (view : Files) (esp : List ℕ) (folders : Folders) (path : Path) : Type 0 where
+  pub text : list_result view esp false ≡ Ok (list_text (boot_menu view folders))
   pub item : MenuItem
   pub at : item.path ≡ path
-  pub among : Contains menu item
+  pub among : Contains (boot_menu view folders) item
 
 -- a good entry is listed where the two folders hold at most 4,096 entry files
 abbrev pub ListedLaw : Type 0
 ListedLaw =
     (view : Files) (esp : List ℕ) (folders : Folders) (path : Path) → folders_of esp ≡ Ok folders
-    → HasGoodEntry folders path view → entry_count view folders ≤ 4096 → IsListed view esp path
+    → HasGoodEntry folders path view → entry_count view folders ≤ 4096 → IsListed view esp folders path

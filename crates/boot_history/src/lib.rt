@@ -42,17 +42,17 @@ pub fn kept_law()
 
 /// A good entry stays: where a valid entry of an EFI system partition, without a boot counter, stands at a path in each
 /// view at the start of some run, and no command from that run on is told to build over it, to unlink it, or to bless
-/// it as bad or as indeterminate, one stands there in each later view. It is listed where the two folders hold at most
-/// 4,096 entry files.
+/// it as bad or as indeterminate, and no `keep` removes it, one stands there in each later view. It is listed where the
+/// two folders hold at most 4,096 entry files.
 pub fn good_entry_law()
     ensures stays { GoodEntryLaw }
     ensures listed { ListedLaw }
 {}
 
-/// The payloads of entries stay: where each payload that an entry of an EFI system partition names is there, with its
-/// digest for its name, in each view at the start of some run, and no build from that run on has its output directly in
-/// the partition's folder of payloads or in that of its entries of type 1, it is so in each later view. An installation,
-/// a cleanup and a `keep` keep it after each number of their actions.
+/// The payloads of entries stay: where each payload that an entry of an EFI system partition names as its kernel or an
+/// initrd is there, with its digest for its name, in each view at the start of some run, and no build from that run on
+/// has its output directly in the partition's folder of payloads or in that of its entries of type 1, it is so in each
+/// later view. An installation, a cleanup and a `keep` keep it after each number of their actions.
 pub fn payload_law()
     ensures stays { PayloadLaw }
     ensures installs { InstallKeepsLaw }
@@ -60,10 +60,10 @@ pub fn payload_law()
     ensures removals { RemovalKeepsLaw }
 {}
 
-/// Keeping the newest: at each moment since the start of a `keep` that isn't refused, on a machine where boot sees one
-/// view, the menu is that at the start without a first part of the doomed entries, as many as are acknowledged or one
-/// more. Each entry that is kept is in it, and once all is said or the run has come to its end no other. No reply of it
-/// is a refusal, and it spares each entry that isn't doomed. One that only tells changes nothing.
+/// Keeping the newest: at each moment since the start of a `keep` that isn't refused and doesn't only tell, on a machine
+/// where boot sees one view, the menu is that at the start without a first part of the doomed entries, as many as are
+/// acknowledged or one more. Each entry that is kept is in it, and once all is said or the run has come to its end no
+/// other. No reply of it is a refusal, and it spares each entry that isn't doomed. One that only tells changes nothing.
 pub fn newest_law()
     ensures newest { NewestLaw }
     ensures told { ToldLaw }
