@@ -7,17 +7,18 @@ use Rattle.word_grammar.specs.Grammar.{Word}
 use Rattle.tool_words.specs.Meaning.{meaning}
 use Rattle.tool_words.specs.declared.command.Command.{Command}
 use Rattle.tool_words.specs.declared.fault.UsageReason.{UsageReason}
+use Rattle.boot_machine.specs.Counts.{Counts}
 use Rattle.boot_machine.specs.Disk.{Files, State}
 use Rattle.boot_machine.specs.Sent.{Sent, Adds, latest_view, recovered_now, recovered_views}
 use Rattle.boot_machine.proofs.Seeing.{latest_view-recovered_views}
 use Rattle.command_plans.specs.Deeds.{Finished}
 use Rattle.boot_run.specs.AskedLines.{asked_lines_of, lines_for, lines_to_run, taken_by}
-use Rattle.boot_run.specs.Endings.{AnswersRefusals, FitsWords, TakesInput, end_at, ended_of, status_of}
+use Rattle.boot_run.specs.Endings.{AnswersRefusals, FitsWords, HasCause, TakesInput, end_at, ended_of, status_of}
 use Rattle.boot_run.specs.Step.{Leads, join_replies, some_refused}
 use Rattle.boot_run.specs.declared.ended.Ended.{Ended}
 use Rattle.boot_run.specs.declared.ended.Ended.TheVariants.{Done, Refused, Usage, Disk, Pipe, Memory}
 use Rattle.boot_run.specs.declared.line.Line.{Line}
-use Rattle.boot_history.specs.Histories.{EndBy, EndsBy, FitsReplies, HasHistory, IsHistory, Run, TakesFrom, TakeTurns, asked_at, state_after}
+use Rattle.boot_history.specs.Histories.{EndBy, EndsBy, FitsReplies, HasHistory, HaveCauses, IsHistory, Run, TakesFrom, TakeTurns, asked_at, state_after}
 
 history_push : (old : List Files) (runs : List Run) (run : Run) → IsHistory old runs
     → Leads (state_after old runs) (asked_at (latest_view (state_after old runs)) run) run.left run.sent run.end
@@ -47,6 +48,13 @@ ends_push old [] run (other ∷ statuses) status told ends = absurd told
 ends_push old (first ∷ runs) run [] status told ends = absurd told
 ends_push old (first ∷ runs) run (other ∷ statuses) status told ends =
     (told.0, ends_push first.left runs run statuses status told.1 ends)
+
+causes_push : (statuses : List ℕ) (status : ℕ) (old mid new : Counts) → HaveCauses statuses old mid
+    → HasCause (ended_of status) mid new → HaveCauses (statuses ++ status ∷ []) old new
+causes_push [] status old mid new same cause =
+    (new, subst (λ counts. HasCause (ended_of status) counts new) same cause, refl)
+causes_push (first ∷ statuses) status old mid new causes cause =
+    (causes.0, causes.1, causes_push statuses status causes.0 mid new causes.2 cause)
 
 pub no_run : (old : State) → HasHistory [] [] old old []
 no_run old = record { runs = []; history = tt; left = refl; fed = refl; told = tt; spoken = refl; said = refl }
@@ -158,3 +166,10 @@ pub status_next : (statuses : List ℕ) (i : ℕ) (status : ℕ) → i < length 
 status_next statuses i status lt =
     let more : i + 1 ≡ suc i = omega arith in
     ap (λ n. take n (set statuses i status)) more ∙ take-suc-set statuses i status lt
+
+pub causes_next : (statuses : List ℕ) (i status : ℕ) (old mid new : Counts) → i < length statuses
+    → HaveCauses (take i statuses) old mid → HasCause (ended_of status) mid new
+    → HaveCauses (take (i + 1) (set statuses i status)) old new
+causes_next statuses i status old mid new lt causes cause =
+    subst (λ it. HaveCauses it old new) (sym (status_next statuses i status lt))
+    (causes_push (take i statuses) status old mid new causes cause)

@@ -5,6 +5,7 @@ use Rattle.std.specs.Prelude.{◌≡◌, ◌≢◌, ◌≤◌, ℕ, List, [], �
 use Rattle.word_grammar.specs.Grammar.{Word}
 use Rattle.tool_words.specs.Meaning.{meaning}
 use Rattle.tool_words.specs.declared.fault.UsageReason.{UsageReason}
+use Rattle.boot_machine.specs.Counts.{Counts}
 use Rattle.boot_machine.specs.Disk.{Files, State, IsIn, recovered_view}
 use Rattle.boot_machine.specs.Images.{IsImage, IsSettled}
 use Rattle.boot_machine.specs.Moments.{EachSince, Timeline}
@@ -12,7 +13,7 @@ use Rattle.boot_machine.specs.Sent.{Sent, Adds, latest_view, recovered_views}
 use Rattle.boot_machine.specs.declared.machine.Printed.{Printed}
 use Rattle.command_plans.specs.Deeds.{End, Finished, Stopped}
 use Rattle.boot_run.specs.AskedLines.{asked_lines, asked_lines_of, taken_by}
-use Rattle.boot_run.specs.Endings.{AnswersRefusals, AnswersUsage, end_at, ended_of, status_of}
+use Rattle.boot_run.specs.Endings.{AnswersRefusals, AnswersUsage, HasCause, end_at, ended_of, status_of}
 use Rattle.boot_run.specs.Step.{IsOneView, Leads, join_replies, some_refused}
 use Rattle.boot_run.specs.declared.ended.Ended.{Ended}
 use Rattle.boot_run.specs.declared.line.Line.{Line}
@@ -101,6 +102,12 @@ pub record HasHistory (words : List (List Word)) (statuses : List ℕ) (old new 
   pub told : EndBy (recovered_views old) runs statuses
   pub spoken : map (λ run. run.words) runs ≡ words
   pub said : join_replies (map (λ run. run.sent) runs) ≡ sent
+
+-- The counts of faults go on from run to run: 3 and 4 only where that count rose, and every other status leaves both.
+abbrev pub HaveCauses : List ℕ → Counts → Counts → Type 0
+HaveCauses [] old new = new ≡ old
+HaveCauses (status ∷ statuses) old new =
+    (mid : Counts) × HasCause (ended_of status) old mid × HaveCauses statuses mid new
 
 -- a run of these words led from this state to a stop that leaves these files, and by then this is printed
 abbrev pub StopsBy : List Word → State → Files → List Printed → Type 0

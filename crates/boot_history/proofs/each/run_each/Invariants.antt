@@ -2,12 +2,13 @@ use Rattle.std.proofs.Common.{◌≡◌, length}
 use Rattle.std.specs.Prelude.{IsTrue, map, string_bytes, take}
 use Rattle.boot_machine.specs.Images.{IsFirm}
 use Rattle.boot_machine.specs.Sent.{Adds}
-use Rattle.boot_history.specs.Histories.{HasHistory}
+use Rattle.boot_history.specs.Histories.{HasHistory, HaveCauses}
 use Rattle.boot_history.proofs.each.run_each.Given as goal
 
 abbrev pub invariant-loop-index : goal.invariant-loop-index
 invariant-loop-index g l =
     (length l.statuses ≡ length l.calls)
+    × HaveCauses (take l.index l.statuses) (g.M.Machine.counts l.fn.machine) (g.M.Machine.counts l.machine)
     × (IsTrue g.M.Machine.tells → IsFirm (g.M.Machine.state l.fn.machine)
     → IsFirm (g.M.Machine.state l.machine)
     × Adds (g.M.Machine.state l.fn.machine).printed (g.M.Machine.state l.machine).printed
