@@ -5,4 +5,5 @@ pub mod Keeping
 pub mod Newest
 pub mod Numbers
 pub mod Payloads
+pub mod Replying
 pub mod Unrefused

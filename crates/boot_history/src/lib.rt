@@ -9,6 +9,7 @@ ghost use Rattle.boot_history.specs.Keeping.{KeptLaw};
 ghost use Rattle.boot_history.specs.Newest.{KeepSparesLaw, NewestLaw, ToldLaw, UnrefusedLaw};
 ghost use Rattle.boot_history.specs.Numbers.{HistoryLaw};
 ghost use Rattle.boot_history.specs.Payloads.{CleanupKeepsLaw, InstallKeepsLaw, PayloadLaw, RemovalKeepsLaw};
+ghost use Rattle.boot_history.specs.Replying.{ReplyLaw};
 ghost use Rattle.boot_history.specs.Unrefused.{ExpansionUnrefusedLaw, WholeExpansionLaw};
 
 mod each;
@@ -69,6 +70,11 @@ pub fn newest_law()
     ensures told { ToldLaw }
     ensures unrefused { UnrefusedLaw }
     ensures spares { KeepSparesLaw }
+{}
+
+/// No reply is empty, so from what is printed one can tell how many replies are whole.
+pub fn reply_law()
+    ensures { ReplyLaw }
 {}
 
 /// An installation, a cleanup and a `keep` are done whole, unless they are refused, which is their one action: no other of
