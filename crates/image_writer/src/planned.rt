@@ -1,6 +1,6 @@
 //! A whole image, from its plan to its place among the boot files.
 
-ghost use Rattle.std.specs.Prelude.{◌≡◌, ℕ, List, IsTrue, OnOk};
+ghost use Rattle.std.specs.Prelude.{[], ◌∷◌, ◌≡◌, ℕ, List, IsTrue, OnOk};
 ghost use Rattle.std.specs.FinMap as map;
 ghost use Rattle.boot_machine.specs.Prelude.{CountsDisk, IsFirm, TakesAtMost, recovered_view, view};
 ghost use Rattle.install_steps.specs.Steps.{CanStep, IsDone, LeavesAlone, LeavesReady, StepsTo};
@@ -37,7 +37,8 @@ pub fn write_planned<M: Machine>(
         → StepsTo M.time M.state
         (map.insert (recovered_view (M.state machine.old).files) target.now.path image) machine.old machine.new }
     ensures ready { OnOk result (IsTrue M.tells → LeavesReady (M.state machine.old) (M.state machine.new)) }
-    ensures alone { LeavesAlone M.tells M.time M.state M.counts (CountsDisk result) machine.old machine.new }
+    ensures alone { LeavesAlone M.tells M.time M.state M.counts (CountsDisk result) (target.now.temp ∷ []) machine.old
+        machine.new }
     ensures taken { IsTrue M.tells → TakesAtMost (writing_length plan.now sources.now)
         (M.taken machine.old) (M.taken machine.new) }
 {

@@ -1,7 +1,7 @@
 -- What the steps of an installation do to what boot sees.
-use Rattle.std.specs.Prelude.{if◌then◌else◌, None, ◌≡◌, ◌≢◌, ◌⊎◌, ◌&&◌, not, Bool, true, false, IsTrue, List, Some, Result, MatchResult}
+use Rattle.std.specs.Prelude.{if◌then◌else◌, None, ◌≡◌, ◌≢◌, ◌⊎◌, ◌&&◌, not, Bool, true, false, IsTrue, List, ◌++◌, Some, Result, MatchResult}
 use Rattle.std.specs.FinMap as map
-use Rattle.boot_base.specs.Paths.{Path, intent, intent_bytes, is_temp}
+use Rattle.boot_base.specs.Paths.{Path, intent, intent_bytes, is_temp, temp_end}
 use Rattle.boot_machine.specs.Disk.{Files, State, HasOneCandidate, IsRested, has, intent_names, is_same_path, recovered_view}
 use Rattle.boot_machine.specs.Images.{IsImage, IsFirm}
 use Rattle.boot_machine.specs.Moments.{Timeline, EachSince}
@@ -71,11 +71,17 @@ abbrev pub ReadyUnless : {T E : Type 0} → E → Result T E → State → State
 ReadyUnless fault result old new =
     MatchResult result (λ _. LeavesReady old new) (λ other. other ≢ fault → LeavesReady old new)
 
--- What a step leaves alone, whatever its answer: what is printed, at every moment too, and the input. The counts of
--- faults are as its answer says.
+-- each temporary file but these has what it had, and none of the others is new
+abbrev pub KeepsTempsBut : List Path → Files → Files → Type 0
+KeepsTempsBut own old new =
+    (q : Path) → is_temp q ≡ true → is_listed own q ≡ false → map.get new q ≡ map.get old q
+
+-- What a step leaves alone that has these temporary files of its own, whatever its answer: what is printed, at every
+-- moment too, the input, and the temporary files of others. The counts of faults are as its answer says.
 pub record LeavesAlone {D : Type 0} (tells : Bool) (time : Timeline D) (state : D → State) (counts : D → Counts)
-    (causes : Counts → Counts → Type 0) (old new : D) : Type 0 where
+    (causes : Counts → Counts → Type 0) (own : List Path) (old new : D) : Type 0 where
   pub keeps : IsTrue tells → Keeps (state old) (state new)
+  pub temps : IsTrue tells → KeepsTempsBut own (state old).files (state new).files
   pub quiet : IsTrue tells → PrintsNothing time state old new
   pub counted : causes (counts old) (counts new)
 
@@ -103,9 +109,11 @@ pub record Intends (from to : Path) (old new : Files) : Type 0 where
   pub named : intent_names new ≡ Some (from, to)
   pub alike : (q : Path) → is_temp q ≡ false → is_same_path q intent ≡ false → map.get new q ≡ map.get old q
 
--- the intent of a move from one path to another: it stands at its own path, and its bytes name both
+-- the intent of a move from one path to another: it stands at its own path, is written beside it first, and its bytes
+-- name both
 abbrev pub IsIntentOf : Path → Path → Intent → Type 0
-IsIntentOf from to made = (made.path ≡ intent) × (made.bytes ≡ intent_bytes from to)
+IsIntentOf from to made =
+    (made.path ≡ intent) × (made.bytes ≡ intent_bytes from to) × (made.temp ≡ intent ++ temp_end)
 
 -- the disk failed, or the counts stay
 abbrev pub recover_fault : RecoverFault → Counts → Counts → Type 0

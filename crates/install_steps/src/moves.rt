@@ -1,5 +1,5 @@
 //! Moving a file under an intent, which says at a stop which of its two names counts.
-ghost use Rattle.std.specs.Prelude.{◌≡◌, ◌≢◌, true, false, IfOk, IsTrue, OnOk, IsErrOf, Some};
+ghost use Rattle.std.specs.Prelude.{[], ◌∷◌, ◌≡◌, ◌≢◌, true, false, IfOk, IsTrue, OnOk, IsErrOf, Some};
 ghost use Rattle.boot_base.specs.Paths.{intent_bytes};
 ghost use Rattle.boot_machine.specs.Prelude.{CountsDisk, HasOneCandidate, IsFirm, Looks, TakesNone, has, move_in, recovered_view, intent_names};
 ghost use Rattle.install_steps.specs.Steps.{CanStep, CountsMove, Intends, IsDone, IsIntentOf, LeavesAlone, LeavesReady, NoNewTemp, ReadyUnless, StepsTo, after_move};
@@ -60,7 +60,8 @@ fn put_intent<M: Machine>(
         → Intends from.now to.now (M.state machine.old).files (M.state machine.new).files) }
     ensures one { OnOk result (IsTrue M.tells → HasOneCandidate (M.state machine.new)) }
     ensures temps { OnOk result (IsTrue M.tells → NoNewTemp (M.state machine.old) (M.state machine.new)) }
-    ensures alone { LeavesAlone M.tells M.time M.state M.counts (CountsDisk result) machine.old machine.new }
+    ensures alone { LeavesAlone M.tells M.time M.state M.counts (CountsDisk result) (intent.now.temp ∷ []) machine.old
+        machine.new }
     ensures taken { IsTrue M.tells → TakesNone (M.taken machine.old) (M.taken machine.new) }
 {
     from.know_normal();
@@ -85,10 +86,11 @@ fn rename_synced<M: Machine>(
     ensures files { OnOk result (IsTrue M.tells
         → (M.state machine.new).files ≡ move_in from.now to.now (M.state machine.old).files) }
     ensures one { OnOk result (IsTrue M.tells → HasOneCandidate (M.state machine.new)) }
-    ensures alone { LeavesAlone M.tells M.time M.state M.counts (CountsDisk result) machine.old machine.new }
+    ensures alone { LeavesAlone M.tells M.time M.state M.counts (CountsDisk result) [] machine.old machine.new }
     ensures taken { IsTrue M.tells → TakesNone (M.taken machine.old) (M.taken machine.new) }
 {
     from.know();
+    to.know();
     machine.rename_name(from, to)?;
     machine.sync_names()
 }
@@ -109,7 +111,8 @@ fn move_intended<M: Machine>(
     ensures step { IsTrue M.tells → IsFirm (M.state machine.old) → StepsTo M.time M.state
         (move_in from.now to.now (recovered_view (M.state machine.old).files)) machine.old machine.new }
     ensures ready { OnOk result (IsTrue M.tells → LeavesReady (M.state machine.old) (M.state machine.new)) }
-    ensures alone { LeavesAlone M.tells M.time M.state M.counts (CountsDisk result) machine.old machine.new }
+    ensures alone { LeavesAlone M.tells M.time M.state M.counts (CountsDisk result) (intent.now.temp ∷ []) machine.old
+        machine.new }
     ensures taken { IsTrue M.tells → TakesNone (M.taken machine.old) (M.taken machine.new) }
 {
     from.know();
@@ -165,7 +168,8 @@ pub fn move_name<M: Machine>(
         × (has (recovered_view (M.state machine.old).files) to.now ≡ true)
         × (M.state machine.new ≡ M.state machine.old) }
     ensures ready { IsTrue M.tells → ReadyUnless MoveFault.Disk result (M.state machine.old) (M.state machine.new) }
-    ensures alone { LeavesAlone M.tells M.time M.state M.counts (CountsMove result) machine.old machine.new }
+    ensures alone { LeavesAlone M.tells M.time M.state M.counts (CountsMove result) (intent.now.temp ∷ []) machine.old
+        machine.new }
     ensures taken { IsTrue M.tells → TakesNone (M.taken machine.old) (M.taken machine.new) }
 {
     from.know();

@@ -1,5 +1,5 @@
 //! Finishing or undoing the rename that a stop has left half done.
-ghost use Rattle.std.specs.Prelude.{◌≡◌, ◌⊎◌, true, false, length, IsTrue, IfOk, OnOk, Some, option_map};
+ghost use Rattle.std.specs.Prelude.{[], ◌≡◌, ◌⊎◌, true, false, length, IsTrue, IfOk, OnOk, Some, option_map};
 ghost use Rattle.boot_base.specs.Intents.{names_of};
 ghost use Rattle.boot_base.specs.Paths.{intent as intent_path};
 ghost use Rattle.boot_machine.specs.Prelude.{CountsDisk, EachSince, HasOneCandidate, IsFirm, IsSettled, Looks, TakesAtMost, TakesNone, contents, has, recovered_view, HasNoHalfRename, intent_names};
@@ -45,7 +45,7 @@ fn drop_left<M: Machine>(machine: &mut M, names: &IntentNames) -> Result<(), Dis
     ensures there { OnOk result (IsTrue M.tells → has (M.state machine.new).files intent_path ≡ true) }
     ensures one { OnOk result (IsTrue M.tells → HasOneCandidate (M.state machine.new)) }
     ensures temps { IsTrue M.tells → NoNewTemp (M.state machine.old) (M.state machine.new) }
-    ensures alone { LeavesAlone M.tells M.time M.state M.counts (CountsDisk result) machine.old machine.new }
+    ensures alone { LeavesAlone M.tells M.time M.state M.counts (CountsDisk result) [] machine.old machine.new }
     ensures taken { IsTrue M.tells → TakesNone (M.taken machine.old) (M.taken machine.new) }
 {
     if machine.size(names.from.file())?.is_none() {
@@ -67,7 +67,7 @@ fn drop_intent<M: Machine>(machine: &mut M, intent: &FilePath) -> Result<(), Dis
         (recovered_view (M.state machine.old).files) machine.old machine.new }
     ensures ready { OnOk result (IsTrue M.tells → CanStep (M.state machine.new)) }
     ensures temps { IsTrue M.tells → NoNewTemp (M.state machine.old) (M.state machine.new) }
-    ensures alone { LeavesAlone M.tells M.time M.state M.counts (CountsDisk result) machine.old machine.new }
+    ensures alone { LeavesAlone M.tells M.time M.state M.counts (CountsDisk result) [] machine.old machine.new }
     ensures taken { IsTrue M.tells → TakesNone (M.taken machine.old) (M.taken machine.new) }
 {
     unlink_synced(machine, intent)
@@ -85,7 +85,7 @@ fn finish_left<M: Machine>(
         (recovered_view (M.state machine.old).files) machine.old machine.new }
     ensures ready { OnOk result (IsTrue M.tells → CanStep (M.state machine.new)) }
     ensures temps { IsTrue M.tells → NoNewTemp (M.state machine.old) (M.state machine.new) }
-    ensures alone { LeavesAlone M.tells M.time M.state M.counts (CountsRecover result) machine.old machine.new }
+    ensures alone { LeavesAlone M.tells M.time M.state M.counts (CountsRecover result) [] machine.old machine.new }
     ensures taken { IsTrue M.tells → TakesAtMost 2050 (M.taken machine.old) (M.taken machine.new) }
 {
     let Some(size) = machine.size(intent)? else {
@@ -118,7 +118,7 @@ pub fn recover<M: Machine>(
     ensures settled { OnOk result (IsTrue M.tells → IsFirm (M.state machine.old) → IsSettled (M.state machine.new)) }
     ensures ready { OnOk result (IsTrue M.tells → CanStep (M.state machine.new)) }
     ensures temps { IsTrue M.tells → NoNewTemp (M.state machine.old) (M.state machine.new) }
-    ensures alone { LeavesAlone M.tells M.time M.state M.counts (CountsRecover result) machine.old machine.new }
+    ensures alone { LeavesAlone M.tells M.time M.state M.counts (CountsRecover result) [] machine.old machine.new }
     ensures taken { IsTrue M.tells → TakesAtMost 2050 (M.taken machine.old) (M.taken machine.new) }
 {
     settle(machine)?;

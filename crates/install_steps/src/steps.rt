@@ -1,5 +1,5 @@
 //! Settling the names, and the small steps: one change of names that is synced.
-ghost use Rattle.std.specs.Prelude.{◌≡◌, ◌≢◌, true, false, IsTrue, OnOk, OnErr, IsErrOf, All, bytes_eq};
+ghost use Rattle.std.specs.Prelude.{[], ◌≡◌, ◌≢◌, true, false, IsTrue, OnOk, OnErr, IsErrOf, All, bytes_eq};
 ghost use Rattle.std.specs.List.{IsDistinct};
 ghost use Rattle.std.specs.FinMap as map;
 ghost use Rattle.boot_machine.specs.Prelude.{CountsDisk, EachSince, HasOneCandidate, IsFirm, IsImage, IsSettled, TakesNone, has, recovered_view};
@@ -20,7 +20,7 @@ pub fn settle<M: Machine>(machine: &mut M) -> Result<(), DiskFault>
     ensures same { OnErr result (IsTrue M.tells → M.state machine.new ≡ M.state machine.old) }
     ensures moments { IsTrue M.tells → EachSince M.time machine.old machine.new
         (λ m o. IsImage (M.state machine.old) m × (o ≡ (M.state machine.old).printed)) }
-    ensures alone { LeavesAlone M.tells M.time M.state M.counts (CountsDisk result) machine.old machine.new }
+    ensures alone { LeavesAlone M.tells M.time M.state M.counts (CountsDisk result) [] machine.old machine.new }
     ensures taken { IsTrue M.tells → TakesNone (M.taken machine.old) (M.taken machine.new) }
 {
     machine.sync_names()
@@ -40,7 +40,7 @@ pub fn drop_name<M: Machine>(machine: &mut M, path: &BootPath) -> Result<(), Ste
         → (has (recovered_view (M.state machine.old).files) path.now ≡ false)
         × (M.state machine.new ≡ M.state machine.old) }
     ensures ready { IsTrue M.tells → ReadyUnless StepFault.Disk result (M.state machine.old) (M.state machine.new) }
-    ensures alone { LeavesAlone M.tells M.time M.state M.counts (CountsStep result) machine.old machine.new }
+    ensures alone { LeavesAlone M.tells M.time M.state M.counts (CountsStep result) [] machine.old machine.new }
     ensures taken { IsTrue M.tells → TakesNone (M.taken machine.old) (M.taken machine.new) }
 {
     let path = path.file();
@@ -65,7 +65,7 @@ pub fn drop_leftovers<M: Machine>(machine: &mut M, paths: &[TempPath]) -> Result
     ensures gone { OnOk result (IsTrue M.tells
         → Lacks paths.now (M.state machine.old).files (M.state machine.new).files) }
     ensures ready { OnOk result (IsTrue M.tells → LeavesReady (M.state machine.old) (M.state machine.new)) }
-    ensures alone { LeavesAlone M.tells M.time M.state M.counts (CountsDisk result) machine.old machine.new }
+    ensures alone { LeavesAlone M.tells M.time M.state M.counts (CountsDisk result) paths.now machine.old machine.new }
     ensures taken { IsTrue M.tells → TakesNone (M.taken machine.old) (M.taken machine.new) }
 {
     for path in paths {
@@ -86,9 +86,10 @@ pub(crate) fn unlink_synced<M: Machine>(machine: &mut M, path: &FilePath) -> Res
         → (M.state machine.new).files ≡ map.remove (M.state machine.old).files path.now) }
     ensures one { OnOk result (IsTrue M.tells → HasOneCandidate (M.state machine.new)) }
     ensures temps { IsTrue M.tells → NoNewTemp (M.state machine.old) (M.state machine.new) }
-    ensures alone { LeavesAlone M.tells M.time M.state M.counts (CountsDisk result) machine.old machine.new }
+    ensures alone { LeavesAlone M.tells M.time M.state M.counts (CountsDisk result) [] machine.old machine.new }
     ensures taken { IsTrue M.tells → TakesNone (M.taken machine.old) (M.taken machine.new) }
 {
+    path.know();
     machine.unlink(path)?;
     machine.sync_names()
 }

@@ -1,5 +1,5 @@
 //! Writes files: bytes at hand, and copies of whole files.
-ghost use Rattle.std.specs.Prelude.{◌≡◌, ◌≤◌, ℕ, List, true, false, length, IsTrue, OnOk, IsErrOf};
+ghost use Rattle.std.specs.Prelude.{[], ◌∷◌, ◌≡◌, ◌≤◌, ℕ, List, true, false, length, IsTrue, OnOk, IsErrOf};
 ghost use Rattle.std.specs.FinMap as map;
 ghost use Rattle.boot_machine.specs.Prelude.{CountsDisk, HasOneCandidate, IsFirm, IsSettled, TakesAtMost, TakesNone, contents, has, move_in, recovered_view};
 ghost use Rattle.boot_base.specs.Limits.{file_limit};
@@ -25,7 +25,8 @@ pub fn write_bytes<M: Machine>(
     ensures step { IsTrue M.tells → IsFirm (M.state machine.old) → StepsTo M.time M.state
         (map.insert (recovered_view (M.state machine.old).files) target.now.path bytes.now) machine.old machine.new }
     ensures ready { OnOk result (IsTrue M.tells → LeavesReady (M.state machine.old) (M.state machine.new)) }
-    ensures alone { LeavesAlone M.tells M.time M.state M.counts (CountsDisk result) machine.old machine.new }
+    ensures alone { LeavesAlone M.tells M.time M.state M.counts (CountsDisk result) (target.now.temp ∷ []) machine.old
+        machine.new }
     ensures taken { IsTrue M.tells → TakesNone (M.taken machine.old) (M.taken machine.new) }
 {
     target.path.know();
@@ -59,7 +60,8 @@ pub fn write_whole<M: Machine>(
         → (has (recovered_view (M.state machine.old).files) from.now ≡ false)
         × (M.state machine.new ≡ M.state machine.old) }
     ensures ready { IsTrue M.tells → ReadyUnless StepFault.Disk result (M.state machine.old) (M.state machine.new) }
-    ensures alone { LeavesAlone M.tells M.time M.state M.counts (CountsStep result) machine.old machine.new }
+    ensures alone { LeavesAlone M.tells M.time M.state M.counts (CountsStep result) (target.now.temp ∷ []) machine.old
+        machine.new }
     ensures taken { IsTrue M.tells → TakesAtMost (length (contents (M.state machine.old).files from.now))
         (M.taken machine.old) (M.taken machine.new) }
 {
@@ -94,7 +96,8 @@ pub fn put_in_place<M: Machine>(
     ensures files { OnOk result (IsTrue M.tells
         → (M.state machine.new).files ≡ move_in temp.now path.now (M.state machine.old).files) }
     ensures one { OnOk result (IsTrue M.tells → HasOneCandidate (M.state machine.new)) }
-    ensures alone { LeavesAlone M.tells M.time M.state M.counts (CountsDisk result) machine.old machine.new }
+    ensures alone { LeavesAlone M.tells M.time M.state M.counts (CountsDisk result) (temp.now ∷ []) machine.old
+        machine.new }
     ensures taken { IsTrue M.tells → TakesNone (M.taken machine.old) (M.taken machine.new) }
 {
     path.know();

@@ -1,4 +1,4 @@
-use Rattle.std.proofs.Common.{◌≡◌, [], refl, sym, ap, ◌∙◌, subst, rules}
+use Rattle.std.proofs.Common.{◌≡◌, [], ◌∷◌, refl, sym, ap, ◌∙◌, subst, rules}
 use Rattle.std.specs.FinMap as map
 use Rattle.boot_machine.specs.Disk.{Files, recovered_view, view}
 use Rattle.boot_machine.specs.Rows.{contents, move_in}
@@ -11,6 +11,7 @@ use Rattle.image_writer.proofs.Assembled.{one_image}
 use Rattle.install_steps.specs.Steps.{StepsTo, IsDone}
 use Rattle.install_steps.proofs.AppendLemmas.{goes-appends, contents-created, sees_written, calm_left, temps_left}
 use Rattle.install_steps.proofs.StepLemmas.{begins_same, firm_so_far, settled_so_far, steps_same, steps_on, ok_both, ok_then, off_intent}
+use Rattle.install_steps.proofs.KeepLemmas.{own_alone}
 use Rattle.install_steps.proofs.QuietLemmas.{alone_by, quiet-create, quiet_appends, quiet_of, quiet_start, quiet_then}
 use Rattle.image_writer.proofs.planned.write_planned.Goals as goal
 
@@ -81,20 +82,20 @@ returns-clause-done g c = ok_then c.put_in_place.result c.put_in_place.ensures.d
 
 pub returns-in_err-create-clause-alone : goal.returns-in_err-create-clause-alone
 returns-in_err-create-clause-alone g c = alone_by (λ told.
-    let start = quiet_start g.M.Machine.time g.M.Machine.state c.args.machine.now (λ m o. g.met.M.Machine.only_now c.args.machine.now m o told) in
-    quiet-create _ _ _ _ _ start (λ m o. g.met.M.Machine.only_now c.args.machine.now m o told) (c.create.ensures.moments told) c.create.result c.args.target.now.temp (c.create.ensures.row told)) (search rules)
+    let start = quiet_start g.M.Machine.time g.M.Machine.state (c.args.target.now.temp ∷ []) c.args.machine.now (λ m o. g.met.M.Machine.only_now c.args.machine.now m o told) in
+    quiet-create _ _ _ _ _ start (λ m o. g.met.M.Machine.only_now c.args.machine.now m o told) (c.create.ensures.moments told) c.create.result c.args.target.now.temp (own_alone c.args.target.now.temp) (c.create.ensures.row told)) (search rules)
 
 pub returns-in_err-write_image-clause-alone : goal.returns-in_err-write_image-clause-alone
 returns-in_err-write_image-clause-alone g c = alone_by (λ told.
-    let start = quiet_start g.M.Machine.time g.M.Machine.state c.args.machine.now (λ m o. g.met.M.Machine.only_now c.args.machine.now m o told) in
-    let made = quiet-create _ _ _ _ _ start (λ m o. g.met.M.Machine.only_now c.args.machine.now m o told) (c.create.ensures.moments told) c.create.result c.args.target.now.temp (c.create.ensures.row told) in
-    quiet_appends _ _ c.args.target.now.temp _ _ _ made (c.write_image.ensures.appends.only told)) (search rules)
+    let start = quiet_start g.M.Machine.time g.M.Machine.state (c.args.target.now.temp ∷ []) c.args.machine.now (λ m o. g.met.M.Machine.only_now c.args.machine.now m o told) in
+    let made = quiet-create _ _ _ _ _ start (λ m o. g.met.M.Machine.only_now c.args.machine.now m o told) (c.create.ensures.moments told) c.create.result c.args.target.now.temp (own_alone c.args.target.now.temp) (c.create.ensures.row told) in
+    quiet_appends _ _ c.args.target.now.temp _ _ _ (own_alone c.args.target.now.temp) made (c.write_image.ensures.appends.only told)) (search rules)
 
 pub returns-clause-alone : goal.returns-clause-alone
 returns-clause-alone g c = alone_by (λ told.
-    let start = quiet_start g.M.Machine.time g.M.Machine.state c.args.machine.now (λ m o. g.met.M.Machine.only_now c.args.machine.now m o told) in
-    let made = quiet-create _ _ _ _ _ start (λ m o. g.met.M.Machine.only_now c.args.machine.now m o told) (c.create.ensures.moments told) c.create.result c.args.target.now.temp (c.create.ensures.row told) in
-    let written = quiet_appends _ _ c.args.target.now.temp _ _ _ made (c.write_image.ensures.appends.only told) in
+    let start = quiet_start g.M.Machine.time g.M.Machine.state (c.args.target.now.temp ∷ []) c.args.machine.now (λ m o. g.met.M.Machine.only_now c.args.machine.now m o told) in
+    let made = quiet-create _ _ _ _ _ start (λ m o. g.met.M.Machine.only_now c.args.machine.now m o told) (c.create.ensures.moments told) c.create.result c.args.target.now.temp (own_alone c.args.target.now.temp) (c.create.ensures.row told) in
+    let written = quiet_appends _ _ c.args.target.now.temp _ _ _ (own_alone c.args.target.now.temp) made (c.write_image.ensures.appends.only told) in
     quiet_then _ _ _ _ _ written (quiet_of c.put_in_place.ensures.alone told)) (search rules)
 
 pub returns-clause-ready : goal.returns-clause-ready

@@ -1,4 +1,4 @@
-use Rattle.std.proofs.Common.{◌≡◌, inl, inr, refl, ap, ◌∙◌, rules}
+use Rattle.std.proofs.Common.{◌≡◌, inl, inr, refl, ap, ◌∙◌, rules, [], ◌∷◌}
 use Rattle.std.specs.FinMap as map
 use Rattle.boot_machine.specs.Disk.{recovered_view}
 use Rattle.boot_machine.specs.Rows.{move_in}
@@ -6,7 +6,7 @@ use Rattle.boot_machine.proofs.Recovering.{calm-removed}
 use Rattle.boot_machine.proofs.Views.{has-removed, temps-move_in}
 use Rattle.install_steps.proofs.MoveLemmas.{apart_of, intended_view, intended_there, moved_view, dropped_view, intent_there}
 use Rattle.install_steps.proofs.StepLemmas.{steps_part, steps_then, done_after, ok_both}
-use Rattle.install_steps.proofs.QuietLemmas.{alone_by, quiet_of, quiet_then}
+use Rattle.install_steps.proofs.QuietLemmas.{alone_by, quiet_of, quiet_then, quiet_bare}
 use Rattle.install_steps.proofs.moves.move_intended.Goals as goal
 
 pub put_intent-requires-clause-differ : goal.put_intent-requires-clause-differ
@@ -82,10 +82,10 @@ returns-clause-ready g c = ok_both c.unlink_synced.result c.unlink_synced.ensure
 pub returns-in_err-rename_synced-clause-alone : goal.returns-in_err-rename_synced-clause-alone
 returns-in_err-rename_synced-clause-alone g c = alone_by (λ told.
     let put = quiet_of c.put_intent.ensures.alone told in
-    quiet_then _ _ _ _ _ put (quiet_of c.rename_synced.ensures.alone told)) (search rules)
+    quiet_then _ _ _ _ _ put (quiet_bare (c.args.intent.now.temp ∷ []) c.rename_synced.ensures.alone told)) (search rules)
 
 pub returns-clause-alone : goal.returns-clause-alone
 returns-clause-alone g c = alone_by (λ told.
     let put = quiet_of c.put_intent.ensures.alone told in
-    let renamed = quiet_then _ _ _ _ _ put (quiet_of c.rename_synced.ensures.alone told) in
-    quiet_then _ _ _ _ _ renamed (quiet_of c.unlink_synced.ensures.alone told)) (search rules)
+    let renamed = quiet_then _ _ _ _ _ put (quiet_bare (c.args.intent.now.temp ∷ []) c.rename_synced.ensures.alone told) in
+    quiet_then _ _ _ _ _ renamed (quiet_bare (c.args.intent.now.temp ∷ []) c.unlink_synced.ensures.alone told)) (search rules)

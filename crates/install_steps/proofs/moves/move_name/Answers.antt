@@ -1,4 +1,4 @@
-use Rattle.std.proofs.Common.{◌≡◌, inl, inr, sym, ap, ◌∙◌, subst, rules}
+use Rattle.std.proofs.Common.{◌≡◌, inl, inr, sym, ap, ◌∙◌, subst, rules, [], ◌∷◌}
 use Rattle.std.specs.Prelude.{IsErrOf}
 use Rattle.boot_machine.specs.Disk.{State, recovered_view}
 use Rattle.boot_machine.specs.Rows.{move_in}
@@ -19,7 +19,7 @@ returns-in_err-allow_move-clause-step g c told firm =
 
 pub returns-in_err-allow_move-clause-alone : goal.returns-in_err-allow_move-clause-alone
 returns-in_err-allow_move-clause-alone g c = alone_by (λ told.
-    let start = quiet_start g.M.Machine.time g.M.Machine.state c.args.machine.now (λ m o left. g.met.M.Machine.only_now c.args.machine.now m o told left) in
+    let start = quiet_start g.M.Machine.time g.M.Machine.state (c.args.intent.now.temp ∷ []) c.args.machine.now (λ m o left. g.met.M.Machine.only_now c.args.machine.now m o told left) in
     quiet_reads _ _ _ _ _ start (c.allow_move.ensures.looks.reads told)) (search rules)
 
 pub returns-in_err-allow_move-clause-not_found : goal.returns-in_err-allow_move-clause-not_found
@@ -58,7 +58,7 @@ returns-in_err-move_intended-clause-step g c told firm =
 
 pub returns-in_err-move_intended-clause-alone : goal.returns-in_err-move_intended-clause-alone
 returns-in_err-move_intended-clause-alone g c = alone_by (λ told.
-    let start = quiet_start g.M.Machine.time g.M.Machine.state c.args.machine.now (λ m o left. g.met.M.Machine.only_now c.args.machine.now m o told left) in
+    let start = quiet_start g.M.Machine.time g.M.Machine.state (c.args.intent.now.temp ∷ []) c.args.machine.now (λ m o left. g.met.M.Machine.only_now c.args.machine.now m o told left) in
     let looked = quiet_reads _ _ _ _ _ start (c.allow_move.ensures.looks.reads told) in
     quiet_then _ _ _ _ _ looked (quiet_of c.move_intended.ensures.alone told)) (search rules)
 
@@ -93,6 +93,6 @@ returns-clause-found g c told =
 
 pub returns-clause-alone : goal.returns-clause-alone
 returns-clause-alone g c = alone_by (λ told.
-    let start = quiet_start g.M.Machine.time g.M.Machine.state c.args.machine.now (λ m o left. g.met.M.Machine.only_now c.args.machine.now m o told left) in
+    let start = quiet_start g.M.Machine.time g.M.Machine.state (c.args.intent.now.temp ∷ []) c.args.machine.now (λ m o left. g.met.M.Machine.only_now c.args.machine.now m o told left) in
     let looked = quiet_reads _ _ _ _ _ start (c.allow_move.ensures.looks.reads told) in
     quiet_then _ _ _ _ _ looked (quiet_of c.move_intended.ensures.alone told)) (search rules)

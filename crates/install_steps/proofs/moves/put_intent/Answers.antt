@@ -1,4 +1,5 @@
-use Rattle.std.proofs.Common.{◌≡◌, ◌∙◌, [], refl, sym, subst, rules}
+use Rattle.install_steps.proofs.KeepLemmas.{own_alone}
+use Rattle.std.proofs.Common.{◌≡◌, ◌∙◌, [], refl, sym, subst, rules, ◌∷◌}
 use Rattle.std.specs.FinMap as map
 use Rattle.boot_machine.specs.Disk.{Files, recovered_view}
 use Rattle.boot_machine.specs.Rows.{contents, move_in}
@@ -80,18 +81,18 @@ returns-clause-temps g c = ok_then c.put_in_place.result c.put_in_place.ensures.
 
 pub returns-in_err-create-clause-alone : goal.returns-in_err-create-clause-alone
 returns-in_err-create-clause-alone g c = alone_by (λ told.
-    let start = quiet_start g.M.Machine.time g.M.Machine.state c.args.machine.now (λ m o left. g.met.M.Machine.only_now c.args.machine.now m o told left) in
-    quiet-create _ _ _ _ _ start (λ m o left. g.met.M.Machine.only_now c.args.machine.now m o told left) (c.create.ensures.moments told) c.create.result c.args.intent.now.temp (c.create.ensures.row told)) (search rules)
+    let start = quiet_start g.M.Machine.time g.M.Machine.state (c.args.intent.now.temp ∷ []) c.args.machine.now (λ m o left. g.met.M.Machine.only_now c.args.machine.now m o told left) in
+    quiet-create _ _ _ _ _ start (λ m o left. g.met.M.Machine.only_now c.args.machine.now m o told left) (c.create.ensures.moments told) c.create.result c.args.intent.now.temp (own_alone c.args.intent.now.temp) (c.create.ensures.row told)) (search rules)
 
 pub returns-in_err-append-clause-alone : goal.returns-in_err-append-clause-alone
 returns-in_err-append-clause-alone g c = alone_by (λ told.
-    let start = quiet_start g.M.Machine.time g.M.Machine.state c.args.machine.now (λ m o left. g.met.M.Machine.only_now c.args.machine.now m o told left) in
-    let made = quiet-create _ _ _ _ _ start (λ m o left. g.met.M.Machine.only_now c.args.machine.now m o told left) (c.create.ensures.moments told) c.create.result c.args.intent.now.temp (c.create.ensures.row told) in
-    quiet_appends _ _ c.args.intent.now.temp _ _ _ made (c.append.ensures.appends.only told)) (search rules)
+    let start = quiet_start g.M.Machine.time g.M.Machine.state (c.args.intent.now.temp ∷ []) c.args.machine.now (λ m o left. g.met.M.Machine.only_now c.args.machine.now m o told left) in
+    let made = quiet-create _ _ _ _ _ start (λ m o left. g.met.M.Machine.only_now c.args.machine.now m o told left) (c.create.ensures.moments told) c.create.result c.args.intent.now.temp (own_alone c.args.intent.now.temp) (c.create.ensures.row told) in
+    quiet_appends _ _ c.args.intent.now.temp _ _ _ (own_alone c.args.intent.now.temp) made (c.append.ensures.appends.only told)) (search rules)
 
 pub returns-clause-alone : goal.returns-clause-alone
 returns-clause-alone g c = alone_by (λ told.
-    let start = quiet_start g.M.Machine.time g.M.Machine.state c.args.machine.now (λ m o left. g.met.M.Machine.only_now c.args.machine.now m o told left) in
-    let made = quiet-create _ _ _ _ _ start (λ m o left. g.met.M.Machine.only_now c.args.machine.now m o told left) (c.create.ensures.moments told) c.create.result c.args.intent.now.temp (c.create.ensures.row told) in
-    let first = quiet_appends _ _ c.args.intent.now.temp _ _ _ made (c.append.ensures.appends.only told) in
+    let start = quiet_start g.M.Machine.time g.M.Machine.state (c.args.intent.now.temp ∷ []) c.args.machine.now (λ m o left. g.met.M.Machine.only_now c.args.machine.now m o told left) in
+    let made = quiet-create _ _ _ _ _ start (λ m o left. g.met.M.Machine.only_now c.args.machine.now m o told left) (c.create.ensures.moments told) c.create.result c.args.intent.now.temp (own_alone c.args.intent.now.temp) (c.create.ensures.row told) in
+    let first = quiet_appends _ _ c.args.intent.now.temp _ _ _ (own_alone c.args.intent.now.temp) made (c.append.ensures.appends.only told) in
     quiet_then _ _ _ _ _ first (quiet_of c.put_in_place.ensures.alone told)) (search rules)

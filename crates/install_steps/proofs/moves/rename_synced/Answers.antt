@@ -1,4 +1,4 @@
-use Rattle.std.proofs.Common.{inr, refl, rules}
+use Rattle.std.proofs.Common.{inr, refl, rules, [], inl}
 use Rattle.boot_machine.specs.Disk.{recovered_view}
 use Rattle.boot_machine.specs.Rows.{move_in}
 use Rattle.boot_machine.proofs.Recovering.{names_of, not_soft, recovered_view-half_moved}
@@ -37,11 +37,11 @@ returns-clause-one g c = on_ok _ _ c.sync_names.result c.sync_names.ensures.row 
 
 pub returns-in_err-rename_name-clause-alone : goal.returns-in_err-rename_name-clause-alone
 returns-in_err-rename_name-clause-alone g c = alone_by (λ told.
-    let start = quiet_start g.M.Machine.time g.M.Machine.state c.args.machine.now (λ m o left. g.met.M.Machine.only_now c.args.machine.now m o told left) in
-    quiet-rename _ _ _ _ _ start (λ m o left. g.met.M.Machine.only_now c.args.machine.now m o told left) (c.rename_name.ensures.moments told) c.rename_name.result c.args.from.now c.args.to.now (c.rename_name.ensures.row told)) (search rules)
+    let start = quiet_start g.M.Machine.time g.M.Machine.state [] c.args.machine.now (λ m o left. g.met.M.Machine.only_now c.args.machine.now m o told left) in
+    quiet-rename _ _ _ _ _ start (λ m o left. g.met.M.Machine.only_now c.args.machine.now m o told left) (c.rename_name.ensures.moments told) c.rename_name.result c.args.from.now c.args.to.now (inl c.know.ensures.lasting) c.know-2.ensures.lasting (c.rename_name.ensures.row told)) (search rules)
 
 pub returns-clause-alone : goal.returns-clause-alone
 returns-clause-alone g c = alone_by (λ told.
-    let start = quiet_start g.M.Machine.time g.M.Machine.state c.args.machine.now (λ m o left. g.met.M.Machine.only_now c.args.machine.now m o told left) in
-    let renamed = quiet-rename _ _ _ _ _ start (λ m o left. g.met.M.Machine.only_now c.args.machine.now m o told left) (c.rename_name.ensures.moments told) c.rename_name.result c.args.from.now c.args.to.now (c.rename_name.ensures.row told) in
+    let start = quiet_start g.M.Machine.time g.M.Machine.state [] c.args.machine.now (λ m o left. g.met.M.Machine.only_now c.args.machine.now m o told left) in
+    let renamed = quiet-rename _ _ _ _ _ start (λ m o left. g.met.M.Machine.only_now c.args.machine.now m o told left) (c.rename_name.ensures.moments told) c.rename_name.result c.args.from.now c.args.to.now (inl c.know.ensures.lasting) c.know-2.ensures.lasting (c.rename_name.ensures.row told) in
     quiet-sync_names _ _ _ _ _ renamed (λ m o. g.met.M.Machine.only_now c.rename_name.new.self m o told) (c.sync_names.ensures.moments told) c.sync_names.result (c.sync_names.ensures.row told)) (search rules)

@@ -1,4 +1,4 @@
-use Rattle.std.proofs.Common.{◌≡◌, inl, true, false, ap, ◌∙◌, rules}
+use Rattle.std.proofs.Common.{◌≡◌, inl, true, false, ap, ◌∙◌, rules, []}
 use Rattle.std.specs.FinMap as map
 use Rattle.boot_machine.specs.Disk.{State, has, recovered_view}
 use Rattle.boot_machine.proofs.Recovering.{intent_there, whole-first, whole-second, whole-removed, intent_kept, recovered_view-drop_left}
@@ -82,29 +82,29 @@ returns-clause-there g c = ok_then c.unlink_synced.result c.unlink_synced.ensure
 
 pub returns-in_err-size-clause-alone : goal.returns-in_err-size-clause-alone
 returns-in_err-size-clause-alone g c = alone_by (λ told.
-    let start = quiet_start g.M.Machine.time g.M.Machine.state c.args.machine.now (λ m o left. g.met.M.Machine.only_now c.args.machine.now m o told left) in
+    let start = quiet_start g.M.Machine.time g.M.Machine.state [] c.args.machine.now (λ m o left. g.met.M.Machine.only_now c.args.machine.now m o told left) in
     quiet-read _ _ _ _ _ start (λ m o left. g.met.M.Machine.only_now c.args.machine.now m o told left) (c.size.ensures.moments told) (c.size.ensures.row told).same) (search rules)
 
 pub returns-then-is_none-clause-alone : goal.returns-then-is_none-clause-alone
 returns-then-is_none-clause-alone g c = alone_by (λ told.
-    let start = quiet_start g.M.Machine.time g.M.Machine.state c.args.machine.now (λ m o left. g.met.M.Machine.only_now c.args.machine.now m o told left) in
+    let start = quiet_start g.M.Machine.time g.M.Machine.state [] c.args.machine.now (λ m o left. g.met.M.Machine.only_now c.args.machine.now m o told left) in
     quiet-read _ _ _ _ _ start (λ m o left. g.met.M.Machine.only_now c.args.machine.now m o told left) (c.size.ensures.moments told) (c.size.ensures.row told).same) (search rules)
 
 pub returns-in_err-size-2-clause-alone : goal.returns-in_err-size-2-clause-alone
 returns-in_err-size-2-clause-alone g c = alone_by (λ told.
-    let start = quiet_start g.M.Machine.time g.M.Machine.state c.args.machine.now (λ m o left. g.met.M.Machine.only_now c.args.machine.now m o told left) in
+    let start = quiet_start g.M.Machine.time g.M.Machine.state [] c.args.machine.now (λ m o left. g.met.M.Machine.only_now c.args.machine.now m o told left) in
     let looked = quiet-read _ _ _ _ _ start (λ m o left. g.met.M.Machine.only_now c.args.machine.now m o told left) (c.size.ensures.moments told) (c.size.ensures.row told).same in
     quiet-read _ _ _ _ _ looked (λ m o. g.met.M.Machine.only_now c.size.new.self m o told) (c.size-2.ensures.moments told) (c.size-2.ensures.row told).same) (search rules)
 
 pub returns-then-is_none-2-clause-alone : goal.returns-then-is_none-2-clause-alone
 returns-then-is_none-2-clause-alone g c = alone_by (λ told.
-    let start = quiet_start g.M.Machine.time g.M.Machine.state c.args.machine.now (λ m o left. g.met.M.Machine.only_now c.args.machine.now m o told left) in
+    let start = quiet_start g.M.Machine.time g.M.Machine.state [] c.args.machine.now (λ m o left. g.met.M.Machine.only_now c.args.machine.now m o told left) in
     let looked = quiet-read _ _ _ _ _ start (λ m o left. g.met.M.Machine.only_now c.args.machine.now m o told left) (c.size.ensures.moments told) (c.size.ensures.row told).same in
     quiet-read _ _ _ _ _ looked (λ m o. g.met.M.Machine.only_now c.size.new.self m o told) (c.size-2.ensures.moments told) (c.size-2.ensures.row told).same) (search rules)
 
 pub returns-clause-alone : goal.returns-clause-alone
 returns-clause-alone g c = alone_by (λ told.
-    let start = quiet_start g.M.Machine.time g.M.Machine.state c.args.machine.now (λ m o left. g.met.M.Machine.only_now c.args.machine.now m o told left) in
+    let start = quiet_start g.M.Machine.time g.M.Machine.state [] c.args.machine.now (λ m o left. g.met.M.Machine.only_now c.args.machine.now m o told left) in
     let looked = quiet-read _ _ _ _ _ start (λ m o left. g.met.M.Machine.only_now c.args.machine.now m o told left) (c.size.ensures.moments told) (c.size.ensures.row told).same in
     let looked2 = quiet-read _ _ _ _ _ looked (λ m o. g.met.M.Machine.only_now c.size.new.self m o told) (c.size-2.ensures.moments told) (c.size-2.ensures.row told).same in
     quiet_then _ _ _ _ _ looked2 (quiet_of c.unlink_synced.ensures.alone told)) (search rules)

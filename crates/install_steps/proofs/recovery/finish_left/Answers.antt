@@ -1,4 +1,4 @@
-use Rattle.std.proofs.Common.{◌≡◌, ⊎_elim, inl, sym, ap, ◌∙◌, None, rules}
+use Rattle.std.proofs.Common.{◌≡◌, ⊎_elim, inl, sym, ap, ◌∙◌, None, rules, []}
 use Rattle.std.specs.Option.{option_map}
 use Rattle.boot_machine.specs.Disk.{State, intent_names, recovered_view}
 use Rattle.boot_machine.proofs.Recovering.{whole-unread}
@@ -108,30 +108,30 @@ returns-clause-step g c told firm =
 
 pub returns-in_err-size-clause-alone : goal.returns-in_err-size-clause-alone
 returns-in_err-size-clause-alone g c = alone_by (λ told.
-    let start = quiet_start g.M.Machine.time g.M.Machine.state c.args.machine.now (λ m o left. g.met.M.Machine.only_now c.args.machine.now m o told left) in
+    let start = quiet_start g.M.Machine.time g.M.Machine.state [] c.args.machine.now (λ m o left. g.met.M.Machine.only_now c.args.machine.now m o told left) in
     quiet-read _ _ _ _ _ start (λ m o left. g.met.M.Machine.only_now c.args.machine.now m o told left) (c.size.ensures.moments told) (c.size.ensures.row told).same) (search rules)
 
 pub returns-in_default-clause-alone : goal.returns-in_default-clause-alone
 returns-in_default-clause-alone g c = alone_by (λ told.
-    let start = quiet_start g.M.Machine.time g.M.Machine.state c.args.machine.now (λ m o left. g.met.M.Machine.only_now c.args.machine.now m o told left) in
+    let start = quiet_start g.M.Machine.time g.M.Machine.state [] c.args.machine.now (λ m o left. g.met.M.Machine.only_now c.args.machine.now m o told left) in
     quiet-read _ _ _ _ _ start (λ m o left. g.met.M.Machine.only_now c.args.machine.now m o told left) (c.size.ensures.moments told) (c.size.ensures.row told).same) (search rules)
 
 pub returns-in_err-names-clause-alone : goal.returns-in_err-names-clause-alone
 returns-in_err-names-clause-alone g c = alone_by (λ told.
-    let start = quiet_start g.M.Machine.time g.M.Machine.state c.args.machine.now (λ m o left. g.met.M.Machine.only_now c.args.machine.now m o told left) in
+    let start = quiet_start g.M.Machine.time g.M.Machine.state [] c.args.machine.now (λ m o left. g.met.M.Machine.only_now c.args.machine.now m o told left) in
     let looked = quiet-read _ _ _ _ _ start (λ m o left. g.met.M.Machine.only_now c.args.machine.now m o told left) (c.size.ensures.moments told) (c.size.ensures.row told).same in
     quiet_reads _ _ _ _ _ looked (c.left_names.ensures.looks.reads told)) (search rules)
 
 pub returns-in_err-drop_left-clause-alone : goal.returns-in_err-drop_left-clause-alone
 returns-in_err-drop_left-clause-alone g c = alone_by (λ told.
-    let start = quiet_start g.M.Machine.time g.M.Machine.state c.args.machine.now (λ m o left. g.met.M.Machine.only_now c.args.machine.now m o told left) in
+    let start = quiet_start g.M.Machine.time g.M.Machine.state [] c.args.machine.now (λ m o left. g.met.M.Machine.only_now c.args.machine.now m o told left) in
     let looked = quiet-read _ _ _ _ _ start (λ m o left. g.met.M.Machine.only_now c.args.machine.now m o told left) (c.size.ensures.moments told) (c.size.ensures.row told).same in
     let named = quiet_reads _ _ _ _ _ looked (c.left_names.ensures.looks.reads told) in
     quiet_then _ _ _ _ _ named (quiet_of c.drop_left.ensures.alone told)) (search rules)
 
 pub returns-in_err-drop_intent-2-clause-alone : goal.returns-in_err-drop_intent-2-clause-alone
 returns-in_err-drop_intent-2-clause-alone g c = alone_by (λ told.
-    let start = quiet_start g.M.Machine.time g.M.Machine.state c.args.machine.now (λ m o left. g.met.M.Machine.only_now c.args.machine.now m o told left) in
+    let start = quiet_start g.M.Machine.time g.M.Machine.state [] c.args.machine.now (λ m o left. g.met.M.Machine.only_now c.args.machine.now m o told left) in
     let looked = quiet-read _ _ _ _ _ start (λ m o left. g.met.M.Machine.only_now c.args.machine.now m o told left) (c.size.ensures.moments told) (c.size.ensures.row told).same in
     let named = quiet_reads _ _ _ _ _ looked (c.left_names.ensures.looks.reads told) in
     let dropped = quiet_then _ _ _ _ _ named (quiet_of c.drop_left.ensures.alone told) in
@@ -139,7 +139,7 @@ returns-in_err-drop_intent-2-clause-alone g c = alone_by (λ told.
 
 pub returns-clause-alone : goal.returns-clause-alone
 returns-clause-alone g c = alone_by (λ told.
-    let start = quiet_start g.M.Machine.time g.M.Machine.state c.args.machine.now (λ m o left. g.met.M.Machine.only_now c.args.machine.now m o told left) in
+    let start = quiet_start g.M.Machine.time g.M.Machine.state [] c.args.machine.now (λ m o left. g.met.M.Machine.only_now c.args.machine.now m o told left) in
     let looked = quiet-read _ _ _ _ _ start (λ m o left. g.met.M.Machine.only_now c.args.machine.now m o told left) (c.size.ensures.moments told) (c.size.ensures.row told).same in
     let named = quiet_reads _ _ _ _ _ looked (c.left_names.ensures.looks.reads told) in
     let dropped = quiet_then _ _ _ _ _ named (quiet_of c.drop_left.ensures.alone told) in
@@ -147,14 +147,14 @@ returns-clause-alone g c = alone_by (λ told.
 
 pub returns-in_err-drop_intent-clause-alone : goal.returns-in_err-drop_intent-clause-alone
 returns-in_err-drop_intent-clause-alone g c = alone_by (λ told.
-    let start = quiet_start g.M.Machine.time g.M.Machine.state c.args.machine.now (λ m o left. g.met.M.Machine.only_now c.args.machine.now m o told left) in
+    let start = quiet_start g.M.Machine.time g.M.Machine.state [] c.args.machine.now (λ m o left. g.met.M.Machine.only_now c.args.machine.now m o told left) in
     let looked = quiet-read _ _ _ _ _ start (λ m o left. g.met.M.Machine.only_now c.args.machine.now m o told left) (c.size.ensures.moments told) (c.size.ensures.row told).same in
     let named = quiet_reads _ _ _ _ _ looked (c.left_names.ensures.looks.reads told) in
     quiet_then _ _ _ _ _ named (quiet_of c.drop_intent.ensures.alone told)) (search rules)
 
 pub returns-in_default-2-clause-alone : goal.returns-in_default-2-clause-alone
 returns-in_default-2-clause-alone g c = alone_by (λ told.
-    let start = quiet_start g.M.Machine.time g.M.Machine.state c.args.machine.now (λ m o left. g.met.M.Machine.only_now c.args.machine.now m o told left) in
+    let start = quiet_start g.M.Machine.time g.M.Machine.state [] c.args.machine.now (λ m o left. g.met.M.Machine.only_now c.args.machine.now m o told left) in
     let looked = quiet-read _ _ _ _ _ start (λ m o left. g.met.M.Machine.only_now c.args.machine.now m o told left) (c.size.ensures.moments told) (c.size.ensures.row told).same in
     let named = quiet_reads _ _ _ _ _ looked (c.left_names.ensures.looks.reads told) in
     quiet_then _ _ _ _ _ named (quiet_of c.drop_intent.ensures.alone told)) (search rules)

@@ -1,17 +1,17 @@
-use Rattle.std.proofs.Common.{◌≡◌, ⊎_elim, true, refl, sym, subst, ◌∙◌, [], rules}
+use Rattle.std.proofs.Common.{◌≡◌, inr, ⊎_elim, true, refl, sym, subst, ◌∙◌, [], rules}
 use Rattle.std.specs.FinMap as map
 use Rattle.boot_machine.specs.Disk.{has, recovered_view}
 use Rattle.boot_machine.proofs.Recovering.{recovered_view-remove_temp}
 use Rattle.boot_machine.proofs.Soft.{now_sees}
 use Rattle.boot_machine.proofs.Going.{goes-unlink, goes-sync_names}
 use Rattle.install_steps.proofs.StepLemmas.{OldOrNext, begins, steps_to, is_done}
-use Rattle.install_steps.proofs.LeftoverLemmas.{calm_lacks, lacks_all, lacks_none, lacks_more, none_new, still_there}
+use Rattle.install_steps.proofs.LeftoverLemmas.{calm_lacks, lacks_all, lacks_none, lacks_more, listed_at, none_new, still_there}
 use Rattle.install_steps.proofs.QuietLemmas.{alone_by, quiet-sync_names, quiet-unlink, quiet_start}
 use Rattle.install_steps.proofs.steps.drop_leftovers.Goals as goal
 
 pub loop-path-init : goal.loop-path-init
 loop-path-init g c = record {
-  quiet = λ told. quiet_start g.M.Machine.time g.M.Machine.state c.args.machine.now (λ m o left. g.met.M.Machine.only_now c.args.machine.now m o told left);
+  quiet = λ told. quiet_start g.M.Machine.time g.M.Machine.state c.args.paths.now c.args.machine.now (λ m o left. g.met.M.Machine.only_now c.args.machine.now m o told left);
   going = λ told firm. begins g.M.Machine.time g.M.Machine.state (recovered_view (g.M.Machine.state c.args.machine.now).files) c.args.machine.now (λ m o left. g.met.M.Machine.only_now c.args.machine.now m o told left) (g.met.M.Machine.sound c.args.machine.now told) firm (c.requires.ready told).one;
   lacks = λ told. lacks_none (g.M.Machine.state c.args.machine.now).files;
   taken = λ told. refl;
@@ -35,7 +35,7 @@ returns-in_err-unlink_temp-clause-step g c told firm =
 
 pub loop-path-preserved : goal.loop-path-preserved
 loop-path-preserved g c = record {
-  quiet = λ told. quiet-unlink _ _ _ _ _ (c.loop-path.invariant.quiet told) (λ m o. g.met.M.Machine.only_now c.loop-path.machine m o told) (c.unlink_temp.ensures.moments told) c.unlink_temp.result c.path-item.result (c.unlink_temp.ensures.row told);
+  quiet = λ told. quiet-unlink _ _ _ _ _ (c.loop-path.invariant.quiet told) (λ m o. g.met.M.Machine.only_now c.loop-path.machine m o told) (c.unlink_temp.ensures.moments told) c.unlink_temp.result c.path-item.result (inr (listed_at c.args.paths.now c.loop-path.path-index c.path-item.result c.loop-path-test.true c.path-item.is)) (c.unlink_temp.ensures.row told);
   going = λ told firm.
       let s = g.M.Machine.state c.args.machine.now in
       let now = g.M.Machine.state c.loop-path.machine in
@@ -80,7 +80,7 @@ returns-clause-ready g c told = record {
 
 pub returns-in_err-unlink_temp-clause-alone : goal.returns-in_err-unlink_temp-clause-alone
 returns-in_err-unlink_temp-clause-alone g c = alone_by (λ told.
-    quiet-unlink _ _ _ _ _ (c.loop-path.invariant.quiet told) (λ m o. g.met.M.Machine.only_now c.loop-path.machine m o told) (c.unlink_temp.ensures.moments told) c.unlink_temp.result c.path-item.result (c.unlink_temp.ensures.row told)) (search rules)
+    quiet-unlink _ _ _ _ _ (c.loop-path.invariant.quiet told) (λ m o. g.met.M.Machine.only_now c.loop-path.machine m o told) (c.unlink_temp.ensures.moments told) c.unlink_temp.result c.path-item.result (inr (listed_at c.args.paths.now c.loop-path.path-index c.path-item.result c.loop-path-test.true c.path-item.is)) (c.unlink_temp.ensures.row told)) (search rules)
 
 pub returns-in_err-sync_names-clause-alone : goal.returns-in_err-sync_names-clause-alone
 returns-in_err-sync_names-clause-alone g c = alone_by (λ told.

@@ -1,4 +1,4 @@
-use Rattle.std.proofs.Common.{inr, refl, rules}
+use Rattle.std.proofs.Common.{inr, refl, rules, [], inl}
 use Rattle.std.specs.FinMap as map
 use Rattle.boot_machine.specs.Disk.{recovered_view}
 use Rattle.boot_machine.specs.Rows.{after_unlink}
@@ -46,11 +46,11 @@ returns-clause-temps g c told =
 
 pub returns-in_err-unlink-clause-alone : goal.returns-in_err-unlink-clause-alone
 returns-in_err-unlink-clause-alone g c = alone_by (λ told.
-    let start = quiet_start g.M.Machine.time g.M.Machine.state c.args.machine.now (λ m o left. g.met.M.Machine.only_now c.args.machine.now m o told left) in
-    quiet-unlink _ _ _ _ _ start (λ m o left. g.met.M.Machine.only_now c.args.machine.now m o told left) (c.unlink.ensures.moments told) c.unlink.result c.args.path.now (c.unlink.ensures.row told)) (search rules)
+    let start = quiet_start g.M.Machine.time g.M.Machine.state [] c.args.machine.now (λ m o left. g.met.M.Machine.only_now c.args.machine.now m o told left) in
+    quiet-unlink _ _ _ _ _ start (λ m o left. g.met.M.Machine.only_now c.args.machine.now m o told left) (c.unlink.ensures.moments told) c.unlink.result c.args.path.now (inl c.know.ensures) (c.unlink.ensures.row told)) (search rules)
 
 pub returns-clause-alone : goal.returns-clause-alone
 returns-clause-alone g c = alone_by (λ told.
-    let start = quiet_start g.M.Machine.time g.M.Machine.state c.args.machine.now (λ m o left. g.met.M.Machine.only_now c.args.machine.now m o told left) in
-    let gone = quiet-unlink _ _ _ _ _ start (λ m o left. g.met.M.Machine.only_now c.args.machine.now m o told left) (c.unlink.ensures.moments told) c.unlink.result c.args.path.now (c.unlink.ensures.row told) in
+    let start = quiet_start g.M.Machine.time g.M.Machine.state [] c.args.machine.now (λ m o left. g.met.M.Machine.only_now c.args.machine.now m o told left) in
+    let gone = quiet-unlink _ _ _ _ _ start (λ m o left. g.met.M.Machine.only_now c.args.machine.now m o told left) (c.unlink.ensures.moments told) c.unlink.result c.args.path.now (inl c.know.ensures) (c.unlink.ensures.row told) in
     quiet-sync_names _ _ _ _ _ gone (λ m o. g.met.M.Machine.only_now c.unlink.new.self m o told) (c.sync_names.ensures.moments told) c.sync_names.result (c.sync_names.ensures.row told)) (search rules)

@@ -1,4 +1,5 @@
-use Rattle.std.proofs.Common.{◌≡◌, inr, false, refl, [], ◌∙◌, rules}
+use Rattle.install_steps.proofs.KeepLemmas.{own_alone}
+use Rattle.std.proofs.Common.{◌≡◌, inr, false, refl, [], ◌∙◌, rules, ◌∷◌}
 use Rattle.std.specs.FinMap as map
 use Rattle.std.specs.FinSet as set
 use Rattle.boot_machine.specs.Disk.{recovered_view}
@@ -63,18 +64,18 @@ returns-clause-one g c = on_ok _ _ c.sync_names.result c.sync_names.ensures.row 
 
 pub returns-in_err-sync_file-clause-alone : goal.returns-in_err-sync_file-clause-alone
 returns-in_err-sync_file-clause-alone g c = alone_by (λ told.
-    let start = quiet_start g.M.Machine.time g.M.Machine.state c.args.machine.now (λ m o left. g.met.M.Machine.only_now c.args.machine.now m o told left) in
+    let start = quiet_start g.M.Machine.time g.M.Machine.state (c.args.temp.now ∷ []) c.args.machine.now (λ m o left. g.met.M.Machine.only_now c.args.machine.now m o told left) in
     quiet-sync_file _ _ _ _ _ start (λ m o left. g.met.M.Machine.only_now c.args.machine.now m o told left) (c.sync_file.ensures.moments told) c.sync_file.result c.args.temp.now (c.sync_file.ensures.row told)) (search rules)
 
 pub returns-in_err-rename_temp-clause-alone : goal.returns-in_err-rename_temp-clause-alone
 returns-in_err-rename_temp-clause-alone g c = alone_by (λ told.
-    let start = quiet_start g.M.Machine.time g.M.Machine.state c.args.machine.now (λ m o left. g.met.M.Machine.only_now c.args.machine.now m o told left) in
+    let start = quiet_start g.M.Machine.time g.M.Machine.state (c.args.temp.now ∷ []) c.args.machine.now (λ m o left. g.met.M.Machine.only_now c.args.machine.now m o told left) in
     let synced = quiet-sync_file _ _ _ _ _ start (λ m o left. g.met.M.Machine.only_now c.args.machine.now m o told left) (c.sync_file.ensures.moments told) c.sync_file.result c.args.temp.now (c.sync_file.ensures.row told) in
-    quiet-rename _ _ _ _ _ synced (λ m o. g.met.M.Machine.only_now c.sync_file.new.self m o told) (c.rename_temp.ensures.moments told) c.rename_temp.result c.args.temp.now c.args.path.now (c.rename_temp.ensures.row told)) (search rules)
+    quiet-rename _ _ _ _ _ synced (λ m o. g.met.M.Machine.only_now c.sync_file.new.self m o told) (c.rename_temp.ensures.moments told) c.rename_temp.result c.args.temp.now c.args.path.now (own_alone c.args.temp.now) c.know.ensures (c.rename_temp.ensures.row told)) (search rules)
 
 pub returns-clause-alone : goal.returns-clause-alone
 returns-clause-alone g c = alone_by (λ told.
-    let start = quiet_start g.M.Machine.time g.M.Machine.state c.args.machine.now (λ m o left. g.met.M.Machine.only_now c.args.machine.now m o told left) in
+    let start = quiet_start g.M.Machine.time g.M.Machine.state (c.args.temp.now ∷ []) c.args.machine.now (λ m o left. g.met.M.Machine.only_now c.args.machine.now m o told left) in
     let synced = quiet-sync_file _ _ _ _ _ start (λ m o left. g.met.M.Machine.only_now c.args.machine.now m o told left) (c.sync_file.ensures.moments told) c.sync_file.result c.args.temp.now (c.sync_file.ensures.row told) in
-    let renamed = quiet-rename _ _ _ _ _ synced (λ m o. g.met.M.Machine.only_now c.sync_file.new.self m o told) (c.rename_temp.ensures.moments told) c.rename_temp.result c.args.temp.now c.args.path.now (c.rename_temp.ensures.row told) in
+    let renamed = quiet-rename _ _ _ _ _ synced (λ m o. g.met.M.Machine.only_now c.sync_file.new.self m o told) (c.rename_temp.ensures.moments told) c.rename_temp.result c.args.temp.now c.args.path.now (own_alone c.args.temp.now) c.know.ensures (c.rename_temp.ensures.row told) in
     quiet-sync_names _ _ _ _ _ renamed (λ m o. g.met.M.Machine.only_now c.rename_temp.new.self m o told) (c.sync_names.ensures.moments told) c.sync_names.result (c.sync_names.ensures.row told)) (search rules)

@@ -1,4 +1,5 @@
-use Rattle.std.proofs.Common.{◌≡◌, subst, rules}
+use Rattle.install_steps.proofs.KeepLemmas.{own_alone}
+use Rattle.std.proofs.Common.{◌≡◌, subst, rules, [], ◌∷◌}
 use Rattle.std.specs.FinMap as map
 use Rattle.boot_machine.specs.Disk.{Files, recovered_view}
 use Rattle.boot_machine.specs.Rows.{move_in}
@@ -68,18 +69,18 @@ returns-clause-ready g c = ok_both c.put_in_place.result c.put_in_place.ensures.
 
 pub returns-in_err-create-clause-alone : goal.returns-in_err-create-clause-alone
 returns-in_err-create-clause-alone g c = alone_by (λ told.
-    let start = quiet_start g.M.Machine.time g.M.Machine.state c.args.machine.now (λ m o left. g.met.M.Machine.only_now c.args.machine.now m o told left) in
-    quiet-create _ _ _ _ _ start (λ m o left. g.met.M.Machine.only_now c.args.machine.now m o told left) (c.create.ensures.moments told) c.create.result c.args.target.now.temp (c.create.ensures.row told)) (search rules)
+    let start = quiet_start g.M.Machine.time g.M.Machine.state (c.args.target.now.temp ∷ []) c.args.machine.now (λ m o left. g.met.M.Machine.only_now c.args.machine.now m o told left) in
+    quiet-create _ _ _ _ _ start (λ m o left. g.met.M.Machine.only_now c.args.machine.now m o told left) (c.create.ensures.moments told) c.create.result c.args.target.now.temp (own_alone c.args.target.now.temp) (c.create.ensures.row told)) (search rules)
 
 pub returns-in_err-append-clause-alone : goal.returns-in_err-append-clause-alone
 returns-in_err-append-clause-alone g c = alone_by (λ told.
-    let start = quiet_start g.M.Machine.time g.M.Machine.state c.args.machine.now (λ m o left. g.met.M.Machine.only_now c.args.machine.now m o told left) in
-    let made = quiet-create _ _ _ _ _ start (λ m o left. g.met.M.Machine.only_now c.args.machine.now m o told left) (c.create.ensures.moments told) c.create.result c.args.target.now.temp (c.create.ensures.row told) in
-    quiet-append _ _ _ _ _ made (λ m o. g.met.M.Machine.only_now c.create.new.self m o told) (c.append.ensures.moments told) c.append.result c.args.target.now.temp c.args.bytes.now (c.append.ensures.row told)) (search rules)
+    let start = quiet_start g.M.Machine.time g.M.Machine.state (c.args.target.now.temp ∷ []) c.args.machine.now (λ m o left. g.met.M.Machine.only_now c.args.machine.now m o told left) in
+    let made = quiet-create _ _ _ _ _ start (λ m o left. g.met.M.Machine.only_now c.args.machine.now m o told left) (c.create.ensures.moments told) c.create.result c.args.target.now.temp (own_alone c.args.target.now.temp) (c.create.ensures.row told) in
+    quiet-append _ _ _ _ _ made (λ m o. g.met.M.Machine.only_now c.create.new.self m o told) (c.append.ensures.moments told) c.append.result c.args.target.now.temp c.args.bytes.now (own_alone c.args.target.now.temp) (c.append.ensures.row told)) (search rules)
 
 pub returns-clause-alone : goal.returns-clause-alone
 returns-clause-alone g c = alone_by (λ told.
-    let start = quiet_start g.M.Machine.time g.M.Machine.state c.args.machine.now (λ m o left. g.met.M.Machine.only_now c.args.machine.now m o told left) in
-    let made = quiet-create _ _ _ _ _ start (λ m o left. g.met.M.Machine.only_now c.args.machine.now m o told left) (c.create.ensures.moments told) c.create.result c.args.target.now.temp (c.create.ensures.row told) in
-    let written = quiet-append _ _ _ _ _ made (λ m o. g.met.M.Machine.only_now c.create.new.self m o told) (c.append.ensures.moments told) c.append.result c.args.target.now.temp c.args.bytes.now (c.append.ensures.row told) in
+    let start = quiet_start g.M.Machine.time g.M.Machine.state (c.args.target.now.temp ∷ []) c.args.machine.now (λ m o left. g.met.M.Machine.only_now c.args.machine.now m o told left) in
+    let made = quiet-create _ _ _ _ _ start (λ m o left. g.met.M.Machine.only_now c.args.machine.now m o told left) (c.create.ensures.moments told) c.create.result c.args.target.now.temp (own_alone c.args.target.now.temp) (c.create.ensures.row told) in
+    let written = quiet-append _ _ _ _ _ made (λ m o. g.met.M.Machine.only_now c.create.new.self m o told) (c.append.ensures.moments told) c.append.result c.args.target.now.temp c.args.bytes.now (own_alone c.args.target.now.temp) (c.append.ensures.row told) in
     quiet_then _ _ _ _ _ written (quiet_of c.put_in_place.ensures.alone told)) (search rules)

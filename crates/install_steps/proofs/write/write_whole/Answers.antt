@@ -1,4 +1,4 @@
-use Rattle.std.proofs.Common.{◌≡◌, ◌≤◌, false, length, [], refl, ◌∙◌, subst, rules, arith}
+use Rattle.std.proofs.Common.{◌≡◌, ◌≤◌, false, length, [], refl, ◌∙◌, subst, rules, arith, ◌∷◌}
 use Rattle.std.specs.FinMap as map
 use Rattle.boot_machine.specs.Disk.{Files, has}
 use Rattle.boot_machine.specs.Rows.{contents}
@@ -9,7 +9,7 @@ use Rattle.install_steps.specs.Steps.{StepsTo, IsDone}
 use Rattle.install_steps.proofs.Appending.{appends-there}
 use Rattle.install_steps.proofs.AppendLemmas.{calm_left, copied_file, goes-appends, temps_left}
 use Rattle.install_steps.proofs.CopyLemmas.{sees_copy, size_there, size_within}
-use Rattle.install_steps.proofs.KeepLemmas.{takes_first, takes_later, takes_nothing, takes_part}
+use Rattle.install_steps.proofs.KeepLemmas.{takes_first, takes_later, takes_nothing, takes_part, own_alone}
 use Rattle.install_steps.proofs.RefusedLemmas.{told_at}
 use Rattle.install_steps.proofs.StepLemmas.{begins_same, firm_so_far, settled_so_far, steps_same, steps_on, off_intent}
 use Rattle.install_steps.proofs.QuietLemmas.{alone_by, quiet-create, quiet-read, quiet_appends, quiet_of, quiet_start, quiet_then}
@@ -120,41 +120,41 @@ returns-clause-ready g c told =
 
 pub returns-in_err-size-clause-alone : goal.returns-in_err-size-clause-alone
 returns-in_err-size-clause-alone g c = alone_by (λ told.
-    let start = quiet_start g.M.Machine.time g.M.Machine.state c.args.machine.now (λ m o left. g.met.M.Machine.only_now c.args.machine.now m o told left) in
+    let start = quiet_start g.M.Machine.time g.M.Machine.state (c.args.target.now.temp ∷ []) c.args.machine.now (λ m o left. g.met.M.Machine.only_now c.args.machine.now m o told left) in
     quiet-read _ _ _ _ _ start (λ m o left. g.met.M.Machine.only_now c.args.machine.now m o told left) (c.size.ensures.moments told) (c.size.ensures.row told).same) (search rules)
 
 pub returns-in_default-clause-alone : goal.returns-in_default-clause-alone
 returns-in_default-clause-alone g c = alone_by (λ told.
-    let start = quiet_start g.M.Machine.time g.M.Machine.state c.args.machine.now (λ m o left. g.met.M.Machine.only_now c.args.machine.now m o told left) in
+    let start = quiet_start g.M.Machine.time g.M.Machine.state (c.args.target.now.temp ∷ []) c.args.machine.now (λ m o left. g.met.M.Machine.only_now c.args.machine.now m o told left) in
     quiet-read _ _ _ _ _ start (λ m o left. g.met.M.Machine.only_now c.args.machine.now m o told left) (c.size.ensures.moments told) (c.size.ensures.row told).same) (search rules)
 
 pub returns-in_err-create-clause-alone : goal.returns-in_err-create-clause-alone
 returns-in_err-create-clause-alone g c = alone_by (λ told.
-    let start = quiet_start g.M.Machine.time g.M.Machine.state c.args.machine.now (λ m o left. g.met.M.Machine.only_now c.args.machine.now m o told left) in
+    let start = quiet_start g.M.Machine.time g.M.Machine.state (c.args.target.now.temp ∷ []) c.args.machine.now (λ m o left. g.met.M.Machine.only_now c.args.machine.now m o told left) in
     let looked = quiet-read _ _ _ _ _ start (λ m o left. g.met.M.Machine.only_now c.args.machine.now m o told left) (c.size.ensures.moments told) (c.size.ensures.row told).same in
-    quiet-create _ _ _ _ _ looked (λ m o. g.met.M.Machine.only_now c.size.new.self m o told) (c.create.ensures.moments told) c.create.result c.args.target.now.temp (c.create.ensures.row told)) (search rules)
+    quiet-create _ _ _ _ _ looked (λ m o. g.met.M.Machine.only_now c.size.new.self m o told) (c.create.ensures.moments told) c.create.result c.args.target.now.temp (own_alone c.args.target.now.temp) (c.create.ensures.row told)) (search rules)
 
 pub returns-in_err-copy_part-clause-alone : goal.returns-in_err-copy_part-clause-alone
 returns-in_err-copy_part-clause-alone g c = alone_by (λ told.
-    let start = quiet_start g.M.Machine.time g.M.Machine.state c.args.machine.now (λ m o left. g.met.M.Machine.only_now c.args.machine.now m o told left) in
+    let start = quiet_start g.M.Machine.time g.M.Machine.state (c.args.target.now.temp ∷ []) c.args.machine.now (λ m o left. g.met.M.Machine.only_now c.args.machine.now m o told left) in
     let looked = quiet-read _ _ _ _ _ start (λ m o left. g.met.M.Machine.only_now c.args.machine.now m o told left) (c.size.ensures.moments told) (c.size.ensures.row told).same in
-    let made = quiet-create _ _ _ _ _ looked (λ m o. g.met.M.Machine.only_now c.size.new.self m o told) (c.create.ensures.moments told) c.create.result c.args.target.now.temp (c.create.ensures.row told) in
-    quiet_appends _ _ c.args.target.now.temp _ _ _ made (c.copy_part.ensures.appends.only told)) (search rules)
+    let made = quiet-create _ _ _ _ _ looked (λ m o. g.met.M.Machine.only_now c.size.new.self m o told) (c.create.ensures.moments told) c.create.result c.args.target.now.temp (own_alone c.args.target.now.temp) (c.create.ensures.row told) in
+    quiet_appends _ _ c.args.target.now.temp _ _ _ (own_alone c.args.target.now.temp) made (c.copy_part.ensures.appends.only told)) (search rules)
 
 pub returns-in_err-put_in_place-clause-alone : goal.returns-in_err-put_in_place-clause-alone
 returns-in_err-put_in_place-clause-alone g c = alone_by (λ told.
-    let start = quiet_start g.M.Machine.time g.M.Machine.state c.args.machine.now (λ m o left. g.met.M.Machine.only_now c.args.machine.now m o told left) in
+    let start = quiet_start g.M.Machine.time g.M.Machine.state (c.args.target.now.temp ∷ []) c.args.machine.now (λ m o left. g.met.M.Machine.only_now c.args.machine.now m o told left) in
     let looked = quiet-read _ _ _ _ _ start (λ m o left. g.met.M.Machine.only_now c.args.machine.now m o told left) (c.size.ensures.moments told) (c.size.ensures.row told).same in
-    let made = quiet-create _ _ _ _ _ looked (λ m o. g.met.M.Machine.only_now c.size.new.self m o told) (c.create.ensures.moments told) c.create.result c.args.target.now.temp (c.create.ensures.row told) in
-    let written = quiet_appends _ _ c.args.target.now.temp _ _ _ made (c.copy_part.ensures.appends.only told) in
+    let made = quiet-create _ _ _ _ _ looked (λ m o. g.met.M.Machine.only_now c.size.new.self m o told) (c.create.ensures.moments told) c.create.result c.args.target.now.temp (own_alone c.args.target.now.temp) (c.create.ensures.row told) in
+    let written = quiet_appends _ _ c.args.target.now.temp _ _ _ (own_alone c.args.target.now.temp) made (c.copy_part.ensures.appends.only told) in
     quiet_then _ _ _ _ _ written (quiet_of c.put_in_place.ensures.alone told)) (search rules)
 
 pub returns-clause-alone : goal.returns-clause-alone
 returns-clause-alone g c = alone_by (λ told.
-    let start = quiet_start g.M.Machine.time g.M.Machine.state c.args.machine.now (λ m o left. g.met.M.Machine.only_now c.args.machine.now m o told left) in
+    let start = quiet_start g.M.Machine.time g.M.Machine.state (c.args.target.now.temp ∷ []) c.args.machine.now (λ m o left. g.met.M.Machine.only_now c.args.machine.now m o told left) in
     let looked = quiet-read _ _ _ _ _ start (λ m o left. g.met.M.Machine.only_now c.args.machine.now m o told left) (c.size.ensures.moments told) (c.size.ensures.row told).same in
-    let made = quiet-create _ _ _ _ _ looked (λ m o. g.met.M.Machine.only_now c.size.new.self m o told) (c.create.ensures.moments told) c.create.result c.args.target.now.temp (c.create.ensures.row told) in
-    let written = quiet_appends _ _ c.args.target.now.temp _ _ _ made (c.copy_part.ensures.appends.only told) in
+    let made = quiet-create _ _ _ _ _ looked (λ m o. g.met.M.Machine.only_now c.size.new.self m o told) (c.create.ensures.moments told) c.create.result c.args.target.now.temp (own_alone c.args.target.now.temp) (c.create.ensures.row told) in
+    let written = quiet_appends _ _ c.args.target.now.temp _ _ _ (own_alone c.args.target.now.temp) made (c.copy_part.ensures.appends.only told) in
     quiet_then _ _ _ _ _ written (quiet_of c.put_in_place.ensures.alone told)) (search rules)
 
 pub returns-in_err-size-clause-taken : goal.returns-in_err-size-clause-taken
