@@ -4,6 +4,7 @@ mod Effects
 pub mod Exits
 mod Known
 mod Scanned
+pub mod Sparing
 mod WithoutRepeats
 pub mod Performed
 pub mod Registers

@@ -28,6 +28,9 @@ module _ (outcome : Outcome) (to : Channel) (bytes : (List ℕ)) (done new : Sta
   pub replied_input : (result : Result Outcome MachineFault) → Replied outcome to bytes done new result → new.input ≡ done.input
   replied_input result is = ap (λ (s : State). s.input) (shown result is).1
 
+  pub replied_files : (result : Result Outcome MachineFault) → Replied outcome to bytes done new result → new.files ≡ done.files
+  replied_files result is = ap (λ (s : State). s.files) (shown result is).1
+
   pub replied_rests : (result : Result Outcome MachineFault) → Replied outcome to bytes done new result → IsRested done → LeavesRestedBy result new
   replied_rests (Ok told) is rested = subst IsRested (sym is.1) rested
   replied_rests (Err Disk) is rested = tt

@@ -8,6 +8,7 @@ pub mod Deeds
 pub mod Makeable
 pub mod Performs
 pub mod Plans
+pub mod Telling
 pub mod Folders
 pub mod Menus
 pub mod Refusing

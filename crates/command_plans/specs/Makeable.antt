@@ -1,5 +1,6 @@
--- What is true of every plan: its change can be made, and a refused command changes nothing.
-use Rattle.std.specs.Prelude.{◌≡◌, Bool, true, false, bytes_eq}
+-- What is true of every plan: its change can be made, a refused command changes nothing, and who drops temporary files
+-- says so.
+use Rattle.std.specs.Prelude.{◌≡◌, ℕ, Bool, true, false, List, bytes_eq, codes}
 use Rattle.std.specs.List.{IsDistinct}
 use Rattle.boot_base.specs.Paths.{Path}
 use Rattle.boot_base.specs.Refusals.{line_of, number_of}
@@ -50,3 +51,21 @@ changes_nothing (Move from to intent gone exists) = false
 -- a refused command changes nothing, and leaves temporary files where they are
 abbrev pub IsIdleIfRefused : Outcome → Change → Type 0
 IsIdleIfRefused outcome change = is_refusal outcome ≡ true → changes_nothing change ≡ true
+
+-- whether the change drops the temporary files of others
+abbrev pub drops_temps : Change → Bool
+drops_temps Nothing = false
+drops_temps (Remove path gone) = false
+drops_temps (Leftovers temps) = true
+drops_temps (Write image sources target) = false
+drops_temps (Put target bytes) = false
+drops_temps (Copy from target gone) = false
+drops_temps (Move from to intent gone exists) = false
+
+-- the reply of the command that drops them
+abbrev pub cleaned_text : List ℕ
+cleaned_text = codes "cleaned\n"
+
+-- who drops them says so
+abbrev pub SaysCleaned : Change → List ℕ → Type 0
+SaysCleaned change text = drops_temps change ≡ true → bytes_eq text cleaned_text ≡ true

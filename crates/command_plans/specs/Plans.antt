@@ -1,8 +1,8 @@
 -- A plan: the change that a command is going to make, and its whole reply.
-use Rattle.std.specs.Prelude.{◌≡◌, ◌≤◌, ℕ, true, false, All, Result, Ok, MatchResult, length}
-use Rattle.std.specs.FinMap.{insert, remove}
+use Rattle.std.specs.Prelude.{◌≡◌, ◌≢◌, ◌≤◌, ℕ, true, false, List, [], ◌∷◌, ◌++◌, All, Result, Ok, MatchResult, bytes_eq, length}
+use Rattle.std.specs.FinMap.{get, insert, remove}
 use Rattle.boot_base.specs.Limits.{file_limit}
-use Rattle.boot_base.specs.Paths.{Path}
+use Rattle.boot_base.specs.Paths.{Path, intent, is_temp, temp_end}
 use Rattle.boot_base.specs.declared.refusal.Refusal.{Refusal}
 use Rattle.boot_machine.specs.Disk.{Files, State, has}
 use Rattle.boot_machine.specs.Rows.{contents, move_in}
@@ -15,6 +15,7 @@ use Rattle.install_steps.specs.Steps.{Lacks}
 use Rattle.command_plans.specs.Unsaying.{UnsaidFor}
 use Rattle.command_plans.specs.declared.unsaid.Unsaid.{Unsaid}
 use Rattle.command_plans.specs.Answers.{Answer}
+use Rattle.command_plans.specs.Makeable.{cleaned_text}
 use Rattle.command_plans.specs.declared.outcome.MachineFault.{MachineFault}
 use Rattle.command_plans.specs.declared.outcome.MachineFault.TheVariants as faults
 use Rattle.command_plans.specs.declared.plan.Change.{Change}
@@ -65,6 +66,16 @@ making_length view (Put target bytes) = 0
 making_length view (Copy from target gone) = length (contents view from)
 making_length view (Move from to intent gone exists) = 0
 
+-- the temporary files of a change: those that it drops, and the one in which what it writes stands first
+abbrev pub own_temps : Change → List Path
+own_temps Nothing = []
+own_temps (Remove path gone) = []
+own_temps (Leftovers temps) = temps.items
+own_temps (Write image sources target) = target.temp ∷ []
+own_temps (Put target bytes) = target.temp ∷ []
+own_temps (Copy from target gone) = target.temp ∷ []
+own_temps (Move from to intent gone exists) = intent.temp ∷ []
+
 -- what of the temporary files is gone after a change: of no change none, and no other file
 abbrev pub Drops : Change → Files → Files → Type 0
 Drops Nothing old new = new ≡ old
@@ -99,3 +110,10 @@ PlansAs s result meant = MatchResult result
 pub record Plans (s : State) (plan : Plan) (answer : Answer) : Type 0 where
   pub answer_is : answer_of_plan (seen s) plan ≡ answer
   pub can_make : CanMake s plan.change
+
+-- A command leaves each temporary file as it is, but the one beside a file that stands after it and the one beside the
+-- intent, unless it says that it cleaned.
+abbrev pub SparesTemps : Answer → Files → Files → Type 0
+SparesTemps answer old new = (q : Path) → is_temp q ≡ true → bytes_eq answer.text cleaned_text ≡ false
+    → ((p : Path) → q ≡ p ++ temp_end → (has answer.after p ≡ false) × (p ≢ intent))
+    → get new q ≡ get old q

@@ -1,12 +1,13 @@
 //! A plan is carried out.
-ghost use Rattle.std.specs.Prelude.{◌≡◌, ◌≤◌, ℕ, true, length, take, IfOk, IsErrOf, MatchResult, OnOk, IsTrue};
+ghost use Rattle.std.specs.Prelude.{[], ◌∷◌, ◌≡◌, ◌≤◌, ℕ, true, length, take, IfOk, IsErrOf, MatchResult, OnOk, IsTrue};
 ghost use Rattle.std.specs.FinMap.{insert};
 ghost use Rattle.boot_base.specs.Limits.{file_limit};
 ghost use Rattle.boot_machine.specs.Prelude.{CountsDisk, EachSince, IsFirm, IsRested, TakesAtMost, TakesNone, contents, has, on_channel, seen, with_printed, PrintsPart};
 ghost use Rattle.image_writer.specs.Sourced.{IsSourced};
 ghost use Rattle.image_writer.specs.Taken.{writing_length};
-ghost use Rattle.install_steps.specs.Steps.{CanStep, CountsStep, IsDone, LeavesAlone, LeavesReady, ReadyUnless, StepsTo};
-ghost use Rattle.command_plans.specs.Prelude.{channel_of, deed_of_answer, CountsFault, LeavesNoTempBy, LeavesRestedBy, Performs, end_by, IsMakeable, CanMake, Drops, DropsBy, with_copy, effect, making_length, answer_of_plan, view_with_image};
+ghost use Rattle.install_steps.specs.Steps.{CanStep, CountsStep, IsDone, KeepsTempsBut, LeavesAlone, LeavesReady, ReadyUnless, StepsTo};
+ghost use Rattle.command_plans.specs.Prelude.{channel_of, deed_of_answer, CountsFault, LeavesNoTempBy, LeavesRestedBy, Performs, end_by, IsMakeable, CanMake, Drops, DropsBy, with_copy, effect, making_length, own_temps, answer_of_plan, view_with_image};
+ghost use Rattle.command_plans.specs.Telling.{CanApply, CanTell};
 
 use crate::outcome::{MachineFault, Outcome};
 use crate::plan::{Change, Plan, RefusalLine};
@@ -34,7 +35,8 @@ fn write<M: Machine>(
     ensures step { IsTrue M.tells → IsFirm (M.state machine.old) → StepsTo M.time M.state
         (view_with_image image.now sources.now target.now.path (seen (M.state machine.old))) machine.old machine.new }
     ensures ready { OnOk result (IsTrue M.tells → LeavesReady (M.state machine.old) (M.state machine.new)) }
-    ensures alone { LeavesAlone M.tells M.time M.state M.counts (CountsDisk result) machine.old machine.new }
+    ensures alone { LeavesAlone M.tells M.time M.state M.counts (CountsDisk result) (target.now.temp ∷ []) machine.old
+        machine.new }
     ensures taken { IsTrue M.tells → TakesAtMost (writing_length image.now sources.now)
         (M.taken machine.old) (M.taken machine.new) }
 {
@@ -50,7 +52,8 @@ fn put<M: Machine>(bytes: &[u8], target: &Target, machine: &mut M) -> Result<(),
     ensures step { IsTrue M.tells → IsFirm (M.state machine.old) → StepsTo M.time M.state
         (insert (seen (M.state machine.old)) target.now.path bytes.now) machine.old machine.new }
     ensures ready { OnOk result (IsTrue M.tells → LeavesReady (M.state machine.old) (M.state machine.new)) }
-    ensures alone { LeavesAlone M.tells M.time M.state M.counts (CountsDisk result) machine.old machine.new }
+    ensures alone { LeavesAlone M.tells M.time M.state M.counts (CountsDisk result) (target.now.temp ∷ []) machine.old
+        machine.new }
     ensures taken { IsTrue M.tells → TakesNone (M.taken machine.old) (M.taken machine.new) }
 {
     write_bytes(machine, target, bytes)
@@ -68,7 +71,8 @@ fn copy<M: Machine>(from: &BootPath, target: &Target, machine: &mut M) -> Result
         (with_copy from.now target.now.path (seen (M.state machine.old))) machine.old machine.new }
     ensures found { IsErrOf result StepFault.NotFound → IsTrue M.tells → ⊥ }
     ensures ready { IsTrue M.tells → ReadyUnless StepFault.Disk result (M.state machine.old) (M.state machine.new) }
-    ensures alone { LeavesAlone M.tells M.time M.state M.counts (CountsStep result) machine.old machine.new }
+    ensures alone { LeavesAlone M.tells M.time M.state M.counts (CountsStep result) (target.now.temp ∷ []) machine.old
+        machine.new }
     ensures taken { IsTrue M.tells → TakesAtMost (length (contents (seen (M.state machine.old)) from.now))
         (M.taken machine.old) (M.taken machine.new) }
 {
@@ -95,12 +99,14 @@ fn apply<'a, M: Machine>(change: &'a Change, machine: &mut M) -> Result<Applied<
     ensures done { OnOk result (IsTrue M.tells → IsFirm (M.state machine.old)
         → IsDone (M.state machine.new) (effect (seen (M.state machine.old)) change.now)) }
     ensures made { IfOk result (λ applied. IsTrue M.tells → applied ≡ Applied.Done) }
+    ensures line { IfOk result (CanApply change.now) }
     ensures step { IsTrue M.tells → IsFirm (M.state machine.old) → StepsTo M.time M.state
         (effect (seen (M.state machine.old)) change.now) machine.old machine.new }
     ensures drops { OnOk result (IsTrue M.tells
         → Drops change.now (M.state machine.old).files (M.state machine.new).files) }
     ensures ready { OnOk result (IsTrue M.tells → LeavesReady (M.state machine.old) (M.state machine.new)) }
-    ensures alone { LeavesAlone M.tells M.time M.state M.counts (CountsDisk result) machine.old machine.new }
+    ensures alone { LeavesAlone M.tells M.time M.state M.counts (CountsDisk result) (own_temps change.now) machine.old
+        machine.new }
     ensures taken { IsTrue M.tells → TakesAtMost (making_length (seen (M.state machine.old)) change.now)
         (M.taken machine.old) (M.taken machine.new) }
 {
@@ -161,6 +167,7 @@ fn reply<M: Machine>(
     ensures moments { IsTrue M.tells → EachSince M.time machine.old machine.new
         (PrintsPart (M.state machine.old) (on_channel (channel_of outcome) text.now)) }
     ensures counts { CountsFault result (M.counts machine.old) (M.counts machine.new) }
+    ensures same { IfOk result (λ told. told ≡ outcome) }
     ensures taken { IsTrue M.tells → TakesNone (M.taken machine.old) (M.taken machine.new) }
 {
     print_all(outcome.channel(), text, machine)?;
@@ -176,10 +183,14 @@ pub fn perform<M: Machine>(plan: &Plan, machine: &mut M) -> Result<Outcome, Mach
         (deed_of_answer (answer_of_plan (seen (M.state machine.old)) plan.now)) result }
     ensures drops { IsTrue M.tells → DropsBy result plan.now.change (M.state machine.old).files
         (M.state machine.new).files }
+    ensures others { IsTrue M.tells → KeepsTempsBut (own_temps plan.now.change) (M.state machine.old).files
+        (M.state machine.new).files }
     ensures input { IsTrue M.tells → (M.state machine.new).input ≡ (M.state machine.old).input }
     ensures rests { IsTrue M.tells → LeavesRestedBy result (M.state machine.new) }
     ensures temps { IsTrue M.tells → LeavesNoTempBy result (M.state machine.old) (M.state machine.new) }
     ensures counts { CountsFault result (M.counts machine.old) (M.counts machine.new) }
+    // On any machine, also on one that has changed its mind about a file.
+    ensures told { IfOk result (CanTell plan.now) }
     ensures taken { IsTrue M.tells → TakesAtMost (making_length (seen (M.state machine.old)) plan.now.change)
         (M.taken machine.old) (M.taken machine.new) }
 {

@@ -1,6 +1,6 @@
 //! What a command is going to do, and say.
 ghost use Rattle.std.proofs.Props.{props};
-ghost use Rattle.command_plans.specs.Makeable.{IsIdleIfRefused, IsMakeable};
+ghost use Rattle.command_plans.specs.Makeable.{IsIdleIfRefused, IsMakeable, SaysCleaned};
 ghost use Rattle.command_plans.specs.proofs.Facts.{is_makeable_prop};
 
 use crate::outcome::Outcome;
@@ -72,4 +72,6 @@ pub struct Plan {
     pub ghost makeable: { IsMakeable change } by { is_makeable_prop change },
     /// A refused command changes nothing.
     pub ghost idle: { IsIdleIfRefused outcome change } by { Prim.hlevel props },
+    /// Who drops the temporary files of others says `cleaned`.
+    pub ghost says: { SaysCleaned change text } by { Prim.hlevel props },
 }

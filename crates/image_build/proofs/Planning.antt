@@ -11,7 +11,7 @@ use Rattle.boot_machine.specs.Disk.{Files, State}
 use Rattle.boot_machine.specs.Sent.{seen}
 use Rattle.std.specs.FinMap.{insert}
 use Rattle.command_plans.specs.Answers.{done_answer}
-use Rattle.command_plans.specs.Makeable.{IsIdleIfRefused, IsMakeable}
+use Rattle.command_plans.specs.Makeable.{IsIdleIfRefused, IsMakeable, SaysCleaned}
 use Rattle.command_plans.specs.Plans.{Plans}
 use Rattle.command_plans.specs.declared.plan.Plan.{Plan as CommandPlan}
 use Rattle.command_plans.specs.declared.plan.Change.TheVariants as changes
@@ -137,9 +137,9 @@ length-planned_image plan sources view is =
 
 -- a plan that writes it
 pub written_plan : (s : State) (plan : PlannedBuild) (target : Target) (measure : Bool) (text : List ℕ) (makeable : IsMakeable (changes.Write plan.image.plan plan.image.sources target))
-    → (idle : IsIdleIfRefused outcomes.Done (changes.Write plan.image.plan plan.image.sources target)) → IsSourced plan.image.plan plan.image.sources (seen s) → target.path ≡ plan.output → text ≡ built_text measure (built_as (seen s) plan)
-    → Plans s (record { change = changes.Write plan.image.plan plan.image.sources target; outcome = outcomes.Done; text = text; makeable = makeable; idle = idle }) (built_answer (seen s) measure (Ok (built_as (seen s) plan)))
-written_plan s plan target measure text makeable idle sourced path_is text_is =
+    → (idle : IsIdleIfRefused outcomes.Done (changes.Write plan.image.plan plan.image.sources target)) → (says : SaysCleaned (changes.Write plan.image.plan plan.image.sources target) text) → IsSourced plan.image.plan plan.image.sources (seen s) → target.path ≡ plan.output → text ≡ built_text measure (built_as (seen s) plan)
+    → Plans s (record { change = changes.Write plan.image.plan plan.image.sources target; outcome = outcomes.Done; text = text; makeable = makeable; idle = idle; says = says }) (built_answer (seen s) measure (Ok (built_as (seen s) plan)))
+written_plan s plan target measure text makeable idle says sourced path_is text_is =
     let image = planned_image plan.image.plan plan.image.sources (seen s) in
     record {
       answer_is = ap (λ (path : Path). done_answer (insert (seen s) path image) text) path_is ∙ ap (done_answer (insert (seen s) plan.output image)) text_is;

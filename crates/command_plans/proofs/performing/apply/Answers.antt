@@ -5,7 +5,7 @@ use Rattle.boot_machine.proofs.Recovering.{recovered_view-calm}
 use Rattle.boot_machine.proofs.Seeing.{sees, only_view}
 use Rattle.install_steps.specs.Steps.{IsDone, StepsTo}
 use Rattle.install_steps.proofs.QuietLemmas.{alone_by, quiet_start}
-use Rattle.command_plans.specs.Plans.{effect}
+use Rattle.command_plans.specs.Plans.{effect, own_temps}
 use Rattle.command_plans.specs.declared.plan.Change.TheVariants.{Nothing}
 use Rattle.command_plans.proofs.Effects.{left_rested, moved_rested, moves, moves_over_none, removed_rested, removes}
 use Rattle.command_plans.proofs.performing.apply.Goals as goal
@@ -34,7 +34,7 @@ returns-in-Nothing-clause-step g c told firm =
     }
 
 pub returns-in-Nothing-clause-alone : goal.returns-in-Nothing-clause-alone
-returns-in-Nothing-clause-alone g c = alone_by (λ told. quiet_start g.M.Machine.time g.M.Machine.state c.args.machine.now (λ m o. g.met.M.Machine.only_now c.args.machine.now m o told)) (search rules)
+returns-in-Nothing-clause-alone g c = alone_by (λ told. quiet_start g.M.Machine.time g.M.Machine.state (own_temps c.args.change.now) c.args.machine.now (λ m o. g.met.M.Machine.only_now c.args.machine.now m o told)) (search rules)
 
 pub returns-in-Ok-clause-done : goal.returns-in-Ok-clause-done
 returns-in-Ok-clause-done g c told firm =

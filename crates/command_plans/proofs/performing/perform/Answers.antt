@@ -5,10 +5,11 @@ use Rattle.boot_machine.specs.Rows.{on_channel}
 use Rattle.boot_machine.specs.Sent.{PrintsPart, seen}
 use Rattle.boot_machine.proofs.Seeing.{sees}
 use Rattle.install_steps.specs.Steps.{IsDone, NoNewTemp, Sees}
+use Rattle.install_steps.proofs.KeepLemmas.{others_none, others_on, others_same}
 use Rattle.command_plans.specs.Answers.{channel_of}
-use Rattle.command_plans.specs.Plans.{Drops, effect, making_length}
+use Rattle.command_plans.specs.Plans.{Drops, effect, making_length, own_temps}
 use Rattle.command_plans.proofs.Performed.{settle_failed, change_failed, replied}
-use Rattle.command_plans.proofs.Replies.{Replied, replied_drops, replied_input, replied_rests, replied_temps}
+use Rattle.command_plans.proofs.Replies.{Replied, replied_drops, replied_files, replied_input, replied_rests, replied_temps}
 use Rattle.command_plans.proofs.performing.perform.Goals as goal
 
 pub returns-in_err-settle-clause-performs : goal.returns-in_err-settle-clause-performs
@@ -83,3 +84,16 @@ pub returns-in-Done-clause-taken : goal.returns-in-Done-clause-taken
 returns-in-Done-clause-taken g c told =
     let same = ap (λ files. making_length (view files) c.args.plan.now.change) (c.settle.ensures.files told) in
     omega (arith, same, c.settle.ensures.taken told, c.apply.ensures.taken told, c.reply.ensures.taken told)
+
+pub returns-in_err-settle-clause-others : goal.returns-in_err-settle-clause-others
+returns-in_err-settle-clause-others g c told = others_none _ _ _ (c.settle.ensures.alone.temps told)
+
+pub returns-in_err-apply-clause-others : goal.returns-in_err-apply-clause-others
+returns-in_err-apply-clause-others g c told =
+    others_on _ _ _ _ (others_none (own_temps c.args.plan.now.change) _ _ (c.settle.ensures.alone.temps told)) (c.apply.ensures.alone.temps told)
+
+pub returns-in-Done-clause-others : goal.returns-in-Done-clause-others
+returns-in-Done-clause-others g c told =
+    let own = own_temps c.args.plan.now.change in
+    let made = others_on own _ _ _ (others_none own _ _ (c.settle.ensures.alone.temps told)) (c.apply.ensures.alone.temps told) in
+    others_on own _ _ _ made (others_same own _ _ (replied_files _ _ _ (g.M.Machine.state c.apply.new.machine) _ c.reply.result (c.reply.ensures.printed told)))
