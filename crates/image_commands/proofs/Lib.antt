@@ -1,7 +1,10 @@
 mod Calculated
 mod Heads
 mod Inspecting
+mod JsonReadBack
 mod Parts
+mod PhaseTexts
 mod Printed
 mod Registers
+mod SectionSizes
 mod Taking

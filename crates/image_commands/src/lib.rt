@@ -12,4 +12,7 @@ pub use calculate::plan_calculate;
 pub use identify::plan_identify;
 pub use image::plan_image;
 pub use inspect::plan_inspect;
-pub use laws::{calculated_parts_are_the_measured_ones, calculated_values_are_the_stubs};
+pub use laws::{
+    calculated_parts_are_the_measured_ones, calculated_values_are_the_stubs,
+    printed_json_reads_back,
+};

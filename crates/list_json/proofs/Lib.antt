@@ -8,3 +8,5 @@ pub mod Some
 pub mod Rows
 pub mod ReadBack
 pub mod MenuLine
+pub mod Held
+pub mod HeldAnswers

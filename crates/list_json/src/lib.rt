@@ -15,6 +15,6 @@ mod registers;
 
 pub use fault::JsonFault;
 pub use inspection::{Inspected, inspect_json};
-pub use laws::keys_ascend;
+pub use laws::{answers_read_back, keys_ascend};
 pub use menu::menu_json;
 pub use registers::pcr_json;
