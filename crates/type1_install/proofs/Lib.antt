@@ -4,6 +4,7 @@ pub mod Installing
 pub mod Planned
 pub mod Cleaning
 mod SameBytes
+mod Taken
 mod Appending
 mod Places
 mod Words

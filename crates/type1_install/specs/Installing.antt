@@ -1,5 +1,5 @@
 -- The commands that `type1 install` stands for on a view, or what it is refused for (profile).
-use Rattle.std.specs.Prelude.{ℕ, List, [], ◌∷◌, ◌++◌, bytes_eq, codes, length, map, nat_lt, replicate, Some, None, Result, Ok, Err, if◌then◌else◌}
+use Rattle.std.specs.Prelude.{ℕ, List, [], ◌∷◌, ◌++◌, bytes_eq, codes, length, map, nat_lt, replicate, sum_by, Some, None, Result, Ok, Err, if◌then◌else◌}
 use Rattle.std.specs.Option.{option_to_list}
 use Rattle.boot_base.specs.Paths.{Path, file_name_of, under}
 use Rattle.boot_base.specs.declared.refusal.Refusal.{Refusal}
@@ -152,3 +152,16 @@ planned_install view plan =
 -- the commands of an installation, or what it is refused for
 unfoldable pub install_expansion : Files → Type1Words → Result (List Action) Refusal
 install_expansion view words = install_plan words >>= planned_install view
+
+-- ---- what is read to find it
+
+-- how many bytes of a file are read for its digest: each once, and none of a file that is refused
+abbrev pub digesting_length : Result (List ℕ) Refusal → ℕ
+digesting_length (Ok bytes) = length bytes
+digesting_length (Err why) = 0
+
+-- how many bytes of files are read to find the commands of an installation, at most: those of its kernel and its initrds
+abbrev pub installing_length : Files → Result Type1Plan Refusal → ℕ
+installing_length view (Ok plan) =
+    sum_by (λ file. digesting_length (bytes_at view file)) (plan.linux ∷ plan.initrds)
+installing_length view (Err why) = 0

@@ -1,6 +1,6 @@
 -- Payloads: kernels and initrds that stand in an EFI system partition under their digests, where entries name them
 -- (profile).
-use Rattle.std.specs.Prelude.{◌≡◌, ℕ, ◌&&◌, Bool, true, false, List, ◌++◌, bytes_eq, codes, if◌then◌else◌, Option, Some, None, Contains}
+use Rattle.std.specs.Prelude.{◌≡◌, ℕ, ◌&&◌, Bool, false, List, ◌++◌, bytes_eq, codes, if◌then◌else◌, Option, Some, None}
 use Rattle.std.specs.FinMap as map
 use Rattle.std.specs.List.{list_any}
 use Rattle.std.specs.Option.{option_to_list}
@@ -11,7 +11,6 @@ use Rattle.pcr_values.specs.Banks.{digest_of}
 use Rattle.pcr_values.specs.declared.bank.Bank.TheVariants as banks
 use Rattle.boot_machine.specs.Disk.{Files}
 use Rattle.menu_order.specs.declared.item.MenuItem.{MenuItem}
-use Rattle.boot_folder.specs.Entries.{IsEntry}
 use Rattle.boot_folder.specs.declared.folders.Folders.{Folders}
 use Rattle.boot_texts.specs.EntryText.{is_payload_name}
 
@@ -63,12 +62,3 @@ pub record HasPayload (esp : Path) (name : List ℕ) (view : Files) : Type 0 whe
 abbrev pub folders_at : Path → Folders
 folders_at esp =
     record { entries = under esp (codes "loader/entries"); images = under esp (codes "EFI/Linux") }
-
--- each payload that an entry names as its kernel or an initrd is there, and has its digest for its name
-abbrev pub ArePayloadsThere : Path → Files → Type 0
-ArePayloadsThere esp view =
-    (item : MenuItem) → IsEntry view (folders_at esp) item
-    → (value : List ℕ) → Contains (option_to_list item.linux ++ item.initrds) value
-    → (name : List ℕ) → is_payload_name name ≡ true
-    → path_of_value esp value ≡ Some (under (payload_folder esp) name)
-    → HasPayload esp name view

@@ -1,7 +1,7 @@
 //! Whether two files have the same bytes.
-ghost use Rattle.std.specs.Prelude.{◌≡◌, ◌<◌, ◌≤◌, ◌+◌, ◌^◌, drop, length, true, IfOk, IsTrue};
+ghost use Rattle.std.specs.Prelude.{◌≡◌, ◌≢◌, ◌↔◌, ◌<◌, ◌≤◌, ◌+◌, ◌*◌, ◌^◌, drop, length, true, IfOk, IsTrue};
 ghost use Rattle.boot_base.specs.Limits.{file_limit};
-ghost use Rattle.boot_machine.specs.Prelude.{CountsDisk, Looks, contents, fill_with_zeros};
+ghost use Rattle.boot_machine.specs.Prelude.{CountsDisk, Looks, TakesAtMost, contents, fill_with_zeros};
 
 use boot_base::{BootPath, Buffer, PIECE_SIZE};
 use boot_machine::{DiskFault, Machine, read_piece};
@@ -22,7 +22,12 @@ fn same_piece<M: Machine>(
     ensures same { IfOk result (λ count. IsTrue M.tells
         → fill_with_zeros (drop at (contents (M.state machine.old).files first.now)) count
         ≡ fill_with_zeros (drop at (contents (M.state machine.old).files second.now)) count) }
+    ensures differ { IfOk result (λ count. IsTrue M.tells → count ≡ 0
+        → contents (M.state machine.old).files first.now ≢ contents (M.state machine.old).files second.now) }
     ensures looks { Looks M.tells M.time M.state M.counts (CountsDisk result) machine.old machine.new }
+    ensures taken { IsTrue M.tells → TakesAtMost (2 * left) (M.taken machine.old) (M.taken machine.new) }
+    ensures taken_same { IfOk result (λ count. IsTrue M.tells → 0 < count
+        → TakesAtMost (2 * count) (M.taken machine.old) (M.taken machine.new)) }
 {
     let count = read_piece(machine, first.file(), at, left, one)?;
     let again = read_piece(machine, second.file(), at, left, other)?;
@@ -33,7 +38,8 @@ fn same_piece<M: Machine>(
     }
 }
 
-/// Whether the files of `size` bytes at two paths have the same bytes. They are read in pieces, as far as they are the same.
+/// Whether the files of `size` bytes at two paths have the same bytes. They are read in pieces, each byte once, as far
+/// as they are the same.
 pub(crate) fn are_alike<M: Machine>(
     first: &BootPath,
     second: &BootPath,
@@ -44,9 +50,10 @@ pub(crate) fn are_alike<M: Machine>(
     ensures same { IfOk result (λ alike. IsTrue M.tells
         → length (contents (M.state machine.old).files first.now) ≡ size
         → length (contents (M.state machine.old).files second.now) ≡ size
-        → alike ≡ true
-        → contents (M.state machine.old).files first.now ≡ contents (M.state machine.old).files second.now) }
+        → (alike ≡ true)
+        ↔ (contents (M.state machine.old).files first.now ≡ contents (M.state machine.old).files second.now)) }
     ensures looks { Looks M.tells M.time M.state M.counts (CountsDisk result) machine.old machine.new }
+    ensures taken { IsTrue M.tells → TakesAtMost (2 * size) (M.taken machine.old) (M.taken machine.new) }
 {
     let mut one: Buffer = [0; PIECE_SIZE];
     let mut other: Buffer = [0; PIECE_SIZE];

@@ -1,8 +1,8 @@
 //! The commands that `type1 cleanup` stands for.
 ghost use Rattle.std.specs.Prelude.{◌≡◌, ◌≤◌, ◌+◌, All, IfErr, IfOk, IsTrue, length, map};
-ghost use Rattle.boot_machine.specs.Prelude.{Looks, seen, IsNamesOf};
+ghost use Rattle.boot_machine.specs.Prelude.{Looks, TakesAtMost, seen, IsNamesOf};
 ghost use Rattle.tool_words.specs.declared.action.Action.TheVariants.{Remove};
-ghost use Rattle.command_plans.specs.Prelude.{CountsUnsaid, Says};
+ghost use Rattle.command_plans.specs.Prelude.{CountsUnsaid, Says, folders_of, menu_limit};
 ghost use Rattle.type1_install.specs.Cleaning.{cleanup_expansion, unnamed_payloads};
 ghost use Rattle.type1_install.specs.Payloads.{payload_folder};
 ghost use Rattle.type1_install.specs.Unnamed.{IsNoRefusal};
@@ -26,6 +26,7 @@ fn names_in<M: Machine>(
         → IsNamesOf (M.state machine.old).files folder.now names.items) }
     ensures faults { IfErr result IsNoRefusal }
     ensures looks { Looks M.tells M.time M.state M.counts (CountsUnsaid result) machine.old machine.new }
+    ensures taken { IsTrue M.tells → TakesAtMost 0 (M.taken machine.old) (M.taken machine.new) }
 {
     Ok(machine.names(alloc, folder)?)
 }
@@ -44,6 +45,7 @@ fn unnamed_payloads<M: Machine>(
         → unnamed_payloads (seen (M.state machine.old)) esp.now items.now ≡ paths.items) }
     ensures faults { IfErr result IsNoRefusal }
     ensures looks { Looks M.tells M.time M.state M.counts (CountsUnsaid result) machine.old machine.new }
+    ensures taken { IsTrue M.tells → TakesAtMost 0 (M.taken machine.old) (M.taken machine.new) }
 {
     let names = names_in(alloc, folder, machine)?;
     Ok(unnamed(alloc, esp, folder, items, &names)?)
@@ -71,6 +73,9 @@ pub fn cleanup_expansion<M: Machine>(
     ensures says { IsTrue M.tells → Says (λ commands. commands.items) result
         (cleanup_expansion (seen (M.state machine.old)) esp.now) }
     ensures looks { Looks M.tells M.time M.state M.counts (CountsUnsaid result) machine.old machine.new }
+    ensures taken { IsTrue M.tells
+        → TakesAtMost (menu_limit (M.state machine.old).files (folders_of esp.now)) (M.taken machine.old)
+        (M.taken machine.new) }
 {
     let folders = folders_in(alloc, esp)?;
     let esp = path_in(alloc, esp)?;

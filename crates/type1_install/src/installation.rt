@@ -1,10 +1,10 @@
 //! The commands that `type1 install` stands for.
 ghost use Rattle.std.specs.Prelude.{◌≡◌, ◌≤◌, ◌+◌, ◌++◌, ◌∷◌, [], All, IfOk, IsTrue, OnOk, length, map, option_to_list};
-ghost use Rattle.boot_machine.specs.Prelude.{Looks, seen};
+ghost use Rattle.boot_machine.specs.Prelude.{Looks, TakesAtMost, seen};
 ghost use Rattle.boot_texts.specs.EntryText.{entry_text};
 ghost use Rattle.tool_words.specs.declared.action.Action.TheVariants.{Enter};
 ghost use Rattle.command_plans.specs.Prelude.{CountsUnsaid, Says};
-ghost use Rattle.type1_install.specs.Installing.{install_expansion};
+ghost use Rattle.type1_install.specs.Installing.{install_expansion, install_plan, installing_length};
 ghost use Rattle.type1_install.specs.Shown.{AreFields, HasPayloadName, fields_with, put_in, value_of_payload};
 
 use crate::install_words::{Place, install_plan};
@@ -166,6 +166,9 @@ pub fn install_expansion<M: Machine>(
     ensures says { IsTrue M.tells → Says (λ commands. commands.items) result
         (install_expansion (seen (M.state machine.old)) words.now) }
     ensures looks { Looks M.tells M.time M.state M.counts (CountsUnsaid result) machine.old machine.new }
+    ensures taken { IsTrue M.tells → TakesAtMost
+        (installing_length (seen (M.state machine.old)) (install_plan words.now)) (M.taken machine.old)
+        (M.taken machine.new) }
 {
     let plan = install_plan(alloc, words)?;
     let mut buffer = [0; PIECE_SIZE];

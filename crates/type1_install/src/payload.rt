@@ -1,12 +1,13 @@
 //! The payloads that files are, found by reads in pieces.
-ghost use Rattle.std.specs.Prelude.{◌≡◌, ◌≤◌, true, length, All, IfOk, IsTrue};
+ghost use Rattle.std.specs.Prelude.{◌≡◌, ◌≤◌, true, length, sum_by, All, IfOk, IsTrue};
 ghost use Rattle.hex.specs.Hex.{encode_lower};
 ghost use Rattle.boot_base.specs.Limits.{file_limit};
-ghost use Rattle.boot_machine.specs.Prelude.{CountsDisk, Looks, contents, seen};
+ghost use Rattle.boot_machine.specs.Prelude.{CountsDisk, Looks, TakesAtMost, contents, seen};
 ghost use Rattle.boot_texts.specs.EntryText.{is_payload_name};
 ghost use Rattle.pcr_values.specs.Prelude.{digest_of, bank_of, bytes_of_digest};
 ghost use Rattle.pcr_values.specs.declared.bank.Bank.TheVariants.{Sha256};
-ghost use Rattle.command_plans.specs.Prelude.{CountsUnsaid, Says, each};
+ghost use Rattle.command_plans.specs.Prelude.{CountsUnsaid, Says, bytes_at, each};
+ghost use Rattle.type1_install.specs.Installing.{digesting_length};
 ghost use Rattle.type1_install.specs.Shown.{HasPayloadName, payload_at};
 
 use boot_base::{BootPath, Buffer, Text};
@@ -37,6 +38,7 @@ fn file_digest<M: Machine>(
         → length (contents (M.state machine.old).files path.now) ≡ size
         → bytes_of_digest digest ≡ digest_of Sha256 (contents (M.state machine.old).files path.now)) }
     ensures looks { Looks M.tells M.time M.state M.counts (CountsDisk result) machine.old machine.new }
+    ensures taken { IsTrue M.tells → TakesAtMost size (M.taken machine.old) (M.taken machine.new) }
 {
     let range = LoadedRange {
         place: 0,
@@ -74,6 +76,9 @@ pub(crate) fn payload_at<M: Machine>(
         → Says (λ payload. payload) result (payload_at (seen (M.state machine.old)) file.now) }
     ensures name { IfOk result HasPayloadName }
     ensures looks { Looks M.tells M.time M.state M.counts (CountsUnsaid result) machine.old machine.new }
+    ensures taken { IsTrue M.tells → TakesAtMost
+        (digesting_length (bytes_at (seen (M.state machine.old)) file.now)) (M.taken machine.old)
+        (M.taken machine.new) }
 {
     let size = readable_size(alloc, file, machine)?;
     let digest = file_digest(file, size, machine, buffer)?;
@@ -94,6 +99,9 @@ pub(crate) fn payloads_at<M: Machine>(
     ensures names { IfOk result (λ payloads. All HasPayloadName payloads.items) }
     ensures count { IfOk result (λ payloads. length payloads.items ≡ length files.now) }
     ensures looks { Looks M.tells M.time M.state M.counts (CountsUnsaid result) machine.old machine.new }
+    ensures taken { IsTrue M.tells → TakesAtMost
+        (sum_by (λ file. digesting_length (bytes_at (seen (M.state machine.old)) file)) files.now)
+        (M.taken machine.old) (M.taken machine.new) }
 {
     let mut payloads = Vec::new(alloc);
     for file in files {

@@ -1,18 +1,18 @@
 //! The commands that an installation and a cleanup are made of.
-ghost use Rattle.std.specs.Prelude.{◌≡◌, ◌≤◌, ℕ, length, true, List, Some, IfErr, IfOk, IsTrue};
+ghost use Rattle.std.specs.Prelude.{◌≡◌, ◌↔◌, ◌≤◌, ℕ, length, true, List, Some, IfErr, IfOk, IsTrue};
 ghost use Rattle.std.specs.FinMap.{get, insert};
 ghost use Rattle.boot_base.specs.Limits.{file_limit};
 ghost use Rattle.boot_machine.specs.Prelude.{Looks, State, TakesAtMost, contents, seen};
 ghost use Rattle.command_plans.specs.Prelude.{CanCopy, CountsStop, CountsUnsaid, Plans, PlansAs, done_answer, unlink_answer};
 ghost use Rattle.type1_install.specs.Unnamed.{IsNoRefusal};
-ghost use Rattle.type1_install.specs.Placing.{enter_answer, payload_text, put_answer, put_result};
+ghost use Rattle.type1_install.specs.Placing.{LeavesStanding, comparing_length, enter_answer, payload_text, put_answer, put_result};
 
 use crate::alike::are_alike;
 use boot_base::{BootPath, Bytes, Target};
 use boot_machine::Machine;
 use command_plans::{
-    Change, Outcome, Plan, Stop, Unsaid, answer_or_refusal, installed_text, plan_copy,
-    plan_removal, readable_size,
+    Change, Outcome, Plan, Stop, Unsaid, installed_text, plan_copy, plan_removal, plan_unsaid,
+    readable_size,
 };
 use std::alloc::{AllocError, Global};
 
@@ -38,8 +38,9 @@ fn put_plan(alloc: Global, file: &BootPath, target: &BootPath) -> Result<Plan, A
 // The plan of a payload that stands at its place already: nothing is changed, so that no cut can harm a file that
 // entries name.
 fn standing_plan(alloc: Global, target: &BootPath) -> Result<Plan, AllocError>
-    ensures { IfOk result (λ plan. (s : State) (bytes : List ℕ) → get (seen s) target.now ≡ Some bytes
+    ensures plans { IfOk result (λ plan. (s : State) (bytes : List ℕ) → get (seen s) target.now ≡ Some bytes
         → Plans s plan (done_answer (insert (seen s) target.now bytes) (payload_text target.now))) }
+    ensures idle { IfOk result (λ plan. plan.change ≡ Change.Nothing) }
 {
     Ok(Plan {
         change: Change::Nothing,
@@ -58,10 +59,14 @@ fn is_copied<M: Machine>(
 ) -> Result<bool, Unsaid>
     requires limit { size ≤ file_limit }
     ensures copied { IfOk result (λ copied. IsTrue M.tells
-        → length (contents (M.state machine.old).files file.now) ≡ size → copied ≡ true
-        → get (seen (M.state machine.old)) target.now ≡ Some (contents (M.state machine.old).files file.now)) }
+        → length (contents (M.state machine.old).files file.now) ≡ size
+        → (copied ≡ true)
+        ↔ (get (seen (M.state machine.old)) target.now ≡ Some (contents (M.state machine.old).files file.now))) }
     ensures faults { IfErr result IsNoRefusal }
     ensures looks { Looks M.tells M.time M.state M.counts (CountsUnsaid result) machine.old machine.new }
+    ensures taken { IsTrue M.tells → length (contents (seen (M.state machine.old)) file.now) ≡ size → TakesAtMost
+        (comparing_length (seen (M.state machine.old)) file.now target.now) (M.taken machine.old)
+        (M.taken machine.new) }
 {
     match readable_size(alloc, target, machine) {
         Ok(length) if length == size => Ok(are_alike(file, target, size, machine)?),
@@ -83,7 +88,12 @@ fn put<M: Machine>(
 ) -> Result<Plan, Unsaid>
     ensures plans { IsTrue M.tells → PlansAs (M.state machine.old) result
         (put_result (seen (M.state machine.old)) file.now target.now) }
+    ensures stands { IfOk result (λ plan. IsTrue M.tells
+        → LeavesStanding (seen (M.state machine.old)) file.now target.now plan.change) }
     ensures looks { Looks M.tells M.time M.state M.counts (CountsUnsaid result) machine.old machine.new }
+    ensures taken { IsTrue M.tells → TakesAtMost
+        (comparing_length (seen (M.state machine.old)) file.now target.now) (M.taken machine.old)
+        (M.taken machine.new) }
 {
     let size = readable_size(alloc, file, machine)?;
     if is_copied(alloc, file, size, target, machine)? {
@@ -92,8 +102,8 @@ fn put<M: Machine>(
     Ok(put_plan(alloc, file, target)?)
 }
 
-/// What the copy of a file to the place of its payload is going to do: nothing if these bytes stand there already. Its bytes
-/// are read only to tell that.
+/// What the copy of a file to the place of its payload is going to do: nothing if these bytes stand there already. To
+/// tell that, they are compared with those of a file of the same length that stands there, each byte read once.
 pub fn plan_put<M: Machine>(
     alloc: Global,
     file: &BootPath,
@@ -102,10 +112,17 @@ pub fn plan_put<M: Machine>(
 ) -> Result<Plan, Stop>
     ensures plans { IfOk result (λ plan. IsTrue M.tells → Plans (M.state machine.old) plan
         (put_answer (seen (M.state machine.old)) file.now target.now)) }
+    ensures stands { IfOk result (λ plan. IsTrue M.tells
+        → LeavesStanding (seen (M.state machine.old)) file.now target.now plan.change) }
     ensures looks { Looks M.tells M.time M.state M.counts (CountsStop result) machine.old machine.new }
+    ensures taken { IsTrue M.tells → TakesAtMost
+        (comparing_length (seen (M.state machine.old)) file.now target.now) (M.taken machine.old)
+        (M.taken machine.new) }
 {
-    let plan = put(alloc, file, target, machine);
-    answer_or_refusal(alloc, plan)
+    match put(alloc, file, target, machine) {
+        Ok(plan) => Ok(plan),
+        Err(unsaid) => plan_unsaid(alloc, unsaid),
+    }
 }
 
 /// What the entering of an entry's text is going to do.

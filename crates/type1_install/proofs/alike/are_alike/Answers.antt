@@ -18,6 +18,7 @@ loop-done-init g c =
           reads_none g.M.Machine.time g.M.Machine.state c.args.machine.now
           (λ m o left. g.met.M.Machine.only_now c.args.machine.now m o told left);
       counts = refl;
+      taken = λ told. omega arith;
     }
 
 pub returns-in_err-count-clause-looks : goal.returns-in_err-count-clause-looks
@@ -52,4 +53,14 @@ loop-done-preserved g c =
           reads_on g.M.Machine.time g.M.Machine.state c.args.machine.now c.loop-done.machine c.same_piece.new.machine
           (before.reads told) (c.same_piece.ensures.looks.reads told);
       counts = search rules;
+      taken = λ told. omega (arith, before.taken told, c.in_ok-count.ensures.taken_same told (omega (arith, c.if-count-eq0.false)));
     }
+
+pub returns-in_err-count-clause-taken : goal.returns-in_err-count-clause-taken
+returns-in_err-count-clause-taken g c told = omega (arith, c.loop-done.invariant.taken told, c.same_piece.ensures.taken told)
+
+pub returns-then-count-eq0-clause-taken : goal.returns-then-count-eq0-clause-taken
+returns-then-count-eq0-clause-taken g c told = omega (arith, c.loop-done.invariant.taken told, c.same_piece.ensures.taken told)
+
+pub returns-clause-taken : goal.returns-clause-taken
+returns-clause-taken g c told = omega (arith, c.loop-done.invariant.taken told)

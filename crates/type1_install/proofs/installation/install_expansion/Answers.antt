@@ -1,18 +1,21 @@
 use Rattle.std.proofs.Common.{◌≡◌, ◌∙◌, ◌∷◌, ◌++◌, [], Ok, List, ap, arith, length, map, subst, sym, rules}
-use Rattle.std.specs.Prelude.{All}
+use Rattle.std.specs.Prelude.{All, sum_by}
 use Rattle.boot_base.specs.Paths.{Path}
 use Rattle.boot_machine.specs.Disk.{State}
+use Rattle.boot_machine.specs.Reading.{TakesAtMost}
 use Rattle.boot_machine.specs.Sent.{seen}
 use Rattle.boot_machine.proofs.Reading.{looks_none, looks_on}
-use Rattle.command_plans.specs.Files.{each}
+use Rattle.command_plans.specs.Files.{bytes_at, each}
 use Rattle.command_plans.specs.Unsaying.{UnsaidFor}
 use Rattle.command_plans.proofs.Unsaying.{says_unsaid}
 use Rattle.boot_texts.specs.EntryText.{entry_text}
 use Rattle.tool_words.specs.declared.action.Action.{Action}
 use Rattle.tool_words.specs.declared.action.Action.TheVariants as action
+use Rattle.type1_install.specs.Installing.{digesting_length, install_plan}
 use Rattle.type1_install.specs.Shown.{HasPayloadName, fields_with, payload_at, plan_shown, put_in}
 use Rattle.type1_install.specs.declared.payload.Payload.{Payload}
 use Rattle.type1_install.proofs.Expanding.{both_made, expansion_made, expansion_refused, first_unsaid, later_unsaid}
+use Rattle.type1_install.proofs.Taken.{installed}
 use Rattle.type1_install.proofs.installation.install_expansion.Goals as goal
 
 pub returns-in_err-plan-clause-looks : goal.returns-in_err-plan-clause-looks
@@ -67,3 +70,39 @@ returns-clause-says g c told =
     expansion_made view c.args.words.now plan c.in_ok-plan.ensures.means c.in_ok-linux.linux c.in_ok-initrds.initrds.items
     (both_made view plan.linux plan.initrds c.in_ok-linux.linux (c.in_ok-linux.ensures.says told) c.in_ok-initrds.initrds.items later)
     ∙ ap (λ (l : List Action). Ok l) (sym (c.in_ok-install_commands.ensures ∙ (λ i. made (c.in_ok-plan.ensures.folder i) (c.deref-2.ensures.value i))))
+
+pub returns-in_err-linux-clause-taken : goal.returns-in_err-linux-clause-taken
+returns-in_err-linux-clause-taken g c told =
+    let view = seen (g.M.Machine.state c.args.machine.now) in
+    let plan = plan_shown c.args.words.now.texts c.in_ok-plan.plan in
+    installed view (install_plan c.args.words.now) plan _ _ _ c.in_ok-plan.ensures.means (c.payload_at.ensures.taken told) (omega arith)
+
+pub returns-in_err-initrds-clause-taken : goal.returns-in_err-initrds-clause-taken
+returns-in_err-initrds-clause-taken g c told =
+    let view = seen (g.M.Machine.state c.args.machine.now) in
+    let plan = plan_shown c.args.words.now.texts c.in_ok-plan.plan in
+    let took : List Path → State → Type 0 =
+    λ files s. TakesAtMost (sum_by (λ file. digesting_length (bytes_at (seen s) file)) files) (g.M.Machine.taken c.payload_at.new.machine) (g.M.Machine.taken c.payloads_at.new.machine) in
+    installed view (install_plan c.args.words.now) plan _ _ _ c.in_ok-plan.ensures.means (c.payload_at.ensures.taken told)
+    (subst (λ (files : List Path). took files (g.M.Machine.state c.args.machine.now)) c.deref.ensures.value
+    (subst (took c.deref.result.now) (c.payload_at.ensures.looks.reads told).same (c.payloads_at.ensures.taken told)))
+
+pub returns-in_err-install_commands-clause-taken : goal.returns-in_err-install_commands-clause-taken
+returns-in_err-install_commands-clause-taken g c told =
+    let view = seen (g.M.Machine.state c.args.machine.now) in
+    let plan = plan_shown c.args.words.now.texts c.in_ok-plan.plan in
+    let took : List Path → State → Type 0 =
+    λ files s. TakesAtMost (sum_by (λ file. digesting_length (bytes_at (seen s) file)) files) (g.M.Machine.taken c.payload_at.new.machine) (g.M.Machine.taken c.payloads_at.new.machine) in
+    installed view (install_plan c.args.words.now) plan _ _ _ c.in_ok-plan.ensures.means (c.payload_at.ensures.taken told)
+    (subst (λ (files : List Path). took files (g.M.Machine.state c.args.machine.now)) c.deref.ensures.value
+    (subst (took c.deref.result.now) (c.payload_at.ensures.looks.reads told).same (c.payloads_at.ensures.taken told)))
+
+pub returns-clause-taken : goal.returns-clause-taken
+returns-clause-taken g c told =
+    let view = seen (g.M.Machine.state c.args.machine.now) in
+    let plan = plan_shown c.args.words.now.texts c.in_ok-plan.plan in
+    let took : List Path → State → Type 0 =
+    λ files s. TakesAtMost (sum_by (λ file. digesting_length (bytes_at (seen s) file)) files) (g.M.Machine.taken c.payload_at.new.machine) (g.M.Machine.taken c.payloads_at.new.machine) in
+    installed view (install_plan c.args.words.now) plan _ _ _ c.in_ok-plan.ensures.means (c.payload_at.ensures.taken told)
+    (subst (λ (files : List Path). took files (g.M.Machine.state c.args.machine.now)) c.deref.ensures.value
+    (subst (took c.deref.result.now) (c.payload_at.ensures.looks.reads told).same (c.payloads_at.ensures.taken told)))

@@ -6,6 +6,7 @@ use Rattle.boot_machine.proofs.Reading.{looks_on}
 use Rattle.command_plans.specs.Files.{bytes_at}
 use Rattle.command_plans.proofs.Unsaying.{says_unsaid}
 use Rattle.type1_install.proofs.Payloads.{payload_made, unsaid_first}
+use Rattle.type1_install.proofs.Taken.{digested}
 use Rattle.type1_install.proofs.payload.payload_at.Goals as goal
 
 pub returns-in_err-size-clause-says : goal.returns-in_err-size-clause-says
@@ -35,3 +36,23 @@ returns-clause-says g c told =
     payload_made (seen s) mid.files path _ _ _ _ (c.in_ok-size.ensures.file told) (c.in_ok-size.ensures.held told ∙ sym same)
     (c.in_ok-digest.ensures.value told (ap length same ∙ c.in_ok-size.ensures.size told))
     c.in_ok-name.ensures.digits c.in_ok-file.ensures
+
+pub returns-in_err-digest-clause-taken : goal.returns-in_err-digest-clause-taken
+returns-in_err-digest-clause-taken g c told =
+    digested (seen (g.M.Machine.state c.args.machine.now)) c.args.file.now _ _ _ _ _ (c.in_ok-size.ensures.file told) (c.in_ok-size.ensures.size told)
+    (c.readable_size.ensures.taken told) (c.file_digest.ensures.taken told)
+
+pub returns-in_err-name-clause-taken : goal.returns-in_err-name-clause-taken
+returns-in_err-name-clause-taken g c told =
+    digested (seen (g.M.Machine.state c.args.machine.now)) c.args.file.now _ _ _ _ _ (c.in_ok-size.ensures.file told) (c.in_ok-size.ensures.size told)
+    (c.readable_size.ensures.taken told) (c.file_digest.ensures.taken told)
+
+pub returns-in_err-file-clause-taken : goal.returns-in_err-file-clause-taken
+returns-in_err-file-clause-taken g c told =
+    digested (seen (g.M.Machine.state c.args.machine.now)) c.args.file.now _ _ _ _ _ (c.in_ok-size.ensures.file told) (c.in_ok-size.ensures.size told)
+    (c.readable_size.ensures.taken told) (c.file_digest.ensures.taken told)
+
+pub returns-clause-taken : goal.returns-clause-taken
+returns-clause-taken g c told =
+    digested (seen (g.M.Machine.state c.args.machine.now)) c.args.file.now _ _ _ _ _ (c.in_ok-size.ensures.file told) (c.in_ok-size.ensures.size told)
+    (c.readable_size.ensures.taken told) (c.file_digest.ensures.taken told)

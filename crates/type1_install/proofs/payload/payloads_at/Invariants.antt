@@ -1,8 +1,9 @@
 use Rattle.std.proofs.Common.{◌≡◌, IsTrue, Ok, length, take}
-use Rattle.std.specs.Prelude.{All}
-use Rattle.boot_machine.specs.Reading.{OnlyReads}
+use Rattle.std.specs.Prelude.{All, sum_by}
+use Rattle.boot_machine.specs.Reading.{OnlyReads, TakesAtMost}
 use Rattle.boot_machine.specs.Sent.{seen}
-use Rattle.command_plans.specs.Files.{each}
+use Rattle.command_plans.specs.Files.{bytes_at, each}
+use Rattle.type1_install.specs.Installing.{digesting_length}
 use Rattle.type1_install.specs.Shown.{HasPayloadName, payload_at}
 use Rattle.type1_install.proofs.payload.payloads_at.Given as goal
 
@@ -13,4 +14,7 @@ invariant-loop-file g l = record {
   count : length l.payloads.items ≡ l.file-index;
   reads : IsTrue g.M.Machine.tells → OnlyReads g.M.Machine.time g.M.Machine.state l.initial.machine l.machine;
   counts : g.M.Machine.counts l.machine ≡ g.M.Machine.counts l.initial.machine;
+  taken : IsTrue g.M.Machine.tells
+      → TakesAtMost (sum_by (λ file. digesting_length (bytes_at (seen (g.M.Machine.state l.initial.machine)) file)) (take l.file-index l.files)) (g.M.Machine.taken l.initial.machine)
+      (g.M.Machine.taken l.machine);
 }

@@ -34,9 +34,9 @@ returns-then-branch-clause-plans g c told =
     let same = (c.readable_size.ensures.looks.reads told).same in
     let there : get (seen old) target ≡ Some bytes =
     subst (λ (s : State). get (seen s) target ≡ Some (contents s.files file)) same
-    (c.in_ok-is_copied.ensures.copied told
-    (ap (λ (s : State). length (contents s.files file)) same ∙ c.in_ok-size.ensures.size told) c.if-branch.true) in
-    let plan = c.in_ok-standing_plan.ensures old bytes there in (
+    ((c.in_ok-is_copied.ensures.copied told
+    (ap (λ (s : State). length (contents s.files file)) same ∙ c.in_ok-size.ensures.size told)).0 c.if-branch.true) in
+    let plan = c.in_ok-standing_plan.ensures.plans old bytes there in (
       done_next (bytes_at (seen old) file) bytes
           (λ read. Ok (done_answer (insert (seen old) target read) (payload_text target)))
           (c.in_ok-size.ensures.file told)

@@ -6,8 +6,8 @@ use Rattle.type1_install.specs.Placing.{payload_text}
 use Rattle.type1_install.proofs.SameBytes.{insert_same}
 use Rattle.type1_install.proofs.placing.standing_plan.Goals as goal
 
-pub returns : goal.returns
-returns c s bytes there =
+pub returns-clause-plans : goal.returns-clause-plans
+returns-clause-plans c s bytes there =
     let target = c.args.target.now in
     record {
       answer_is =
