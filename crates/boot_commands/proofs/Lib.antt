@@ -8,6 +8,7 @@ mod Reading
 mod Replied
 pub mod Replies
 pub mod Sparing
+mod Temps
 mod Tidies
 mod Turning
 pub mod Unrefused

@@ -1,9 +1,9 @@
 //! One action of a command of several, from its reads to the end of its reply.
 ghost use Rattle.std.specs.Prelude.{◌≡◌, IfOk, IsTrue};
-ghost use Rattle.boot_machine.specs.Prelude.{IsFirm, IsRested, Looks, State, seen};
-ghost use Rattle.boot_commands.specs.Commands.{Behaves, action_deed};
+ghost use Rattle.boot_machine.specs.Prelude.{IsFirm, IsRested, Looks, State, TakesAtMost, seen};
+ghost use Rattle.boot_commands.specs.Commands.{Behaves, action_deed, action_length};
 ghost use Rattle.boot_commands.specs.Replies.{action_reply, told_text};
-ghost use Rattle.command_plans.specs.Prelude.{CountsStop, LeavesRested, Performs, Plans, done_answer, end_of};
+ghost use Rattle.command_plans.specs.Prelude.{CountsStop, LeavesRested, Performs, Plans, SparesTemps, done_answer, end_of};
 
 use crate::carrying::carry_out;
 use boot_base::Bytes;
@@ -45,6 +45,8 @@ pub fn plan_action<M: Machine>(
     ensures plans { IfOk result (λ plan. IsTrue M.tells
         → Plans (M.state machine.old) plan (action_reply (seen (M.state machine.old)) action.now)) }
     ensures looks { Looks M.tells M.time M.state M.counts (CountsStop result) machine.old machine.new }
+    ensures taken { IsTrue M.tells → TakesAtMost (action_length (seen (M.state machine.old)) action.now)
+        (M.taken machine.old) (M.taken machine.new) }
 {
     match action {
         Action::Put { file, target } => plan_put(alloc, file, target, machine),
@@ -74,6 +76,8 @@ pub fn run_action<M: Machine>(
     ensures performs { IsTrue M.tells → IsFirm (M.state machine.old)
         → Performs M.time M.state end_of machine.old machine.new
         (action_deed (seen (M.state machine.old)) action.now) result }
+    ensures spares { IsTrue M.tells → SparesTemps (action_reply (seen (M.state machine.old)) action.now)
+        (M.state machine.old).files (M.state machine.new).files }
     ensures rests { IsTrue M.tells → LeavesRested result (M.state machine.new) }
     ensures behaves { Behaves M.tells M.state M.counts machine.old machine.new result }
 {

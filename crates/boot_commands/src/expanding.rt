@@ -2,8 +2,8 @@
 ghost use Rattle.std.specs.Prelude.{◌≡◌, ◌||◌, List, Result, ℕ, All, IfOk, IsTrue, [], ◌∷◌, length, nat_eq};
 ghost use Rattle.boot_base.specs.Paths.{Path};
 ghost use Rattle.boot_base.specs.declared.refusal.Refusal.{Refusal};
-ghost use Rattle.boot_machine.specs.Prelude.{Counts, Looks};
-ghost use Rattle.boot_commands.specs.Expanding.{RefusesUnsaid, StandsFor};
+ghost use Rattle.boot_machine.specs.Prelude.{Counts, Looks, TakesAtMost};
+ghost use Rattle.boot_commands.specs.Expanding.{RefusesUnsaid, StandsFor, expanding_length};
 ghost use Rattle.boot_commands.specs.Expansions.{actions_or_refusal, clean_or_idle, keep_actions};
 ghost use Rattle.command_plans.specs.Prelude.{CountsStop, CountsUnsaid, Says, unsaid_counts};
 ghost use Rattle.tool_words.specs.declared.action.Action.TheVariants.{Tell};
@@ -25,6 +25,8 @@ pub fn expand<M: Machine>(
 ) -> Result<Vec<Action>, Stop>
     ensures stands { IfOk result (λ actions. IsTrue M.tells → StandsFor (M.state machine.old) command.now actions.items) }
     ensures looks { Looks M.tells M.time M.state M.counts (CountsStop result) machine.old machine.new }
+    ensures taken { IsTrue M.tells → TakesAtMost (expanding_length (M.state machine.old) command.now)
+        (M.taken machine.old) (M.taken machine.new) }
 {
     match command {
         Several::Type1Install(words) => {

@@ -1,9 +1,9 @@
 //! One command of one action, from its reads to the end of its reply.
 ghost use Rattle.std.specs.Prelude.{◌≡◌, IfOk, IsTrue};
 ghost use Rattle.boot_machine.specs.Prelude.{Files, IsFirm, IsRested, Looks, seen};
-ghost use Rattle.boot_commands.specs.Commands.{Behaves, LeavesTidied, TidiesTo, one_deed};
+ghost use Rattle.boot_commands.specs.Commands.{Behaves, LeavesTidied, MayOwn, TidiesThere, TidiesTo, one_deed};
 ghost use Rattle.boot_commands.specs.Replies.{one_reply};
-ghost use Rattle.command_plans.specs.Prelude.{CountsStop, Drops, LeavesRested, Performs, Plans, end_of};
+ghost use Rattle.command_plans.specs.Prelude.{CountsStop, Drops, LeavesRested, Performs, Plans, SparesTemps, end_of, own_temps};
 
 use crate::carrying::carry_out;
 use boot_machine::Machine;
@@ -22,6 +22,7 @@ pub fn plan_one<M: Machine>(alloc: Global, command: &One, machine: &mut M) -> Re
         → Plans (M.state machine.old) plan (one_reply (seen (M.state machine.old)) command.now)) }
     ensures tidies { IfOk result (λ plan. IsTrue M.tells
         → (files : Files) → Drops plan.change (M.state machine.old).files files → LeavesTidied command.now files) }
+    ensures owns { IfOk result (λ plan. IsTrue M.tells → MayOwn command.now (own_temps plan.change)) }
     ensures looks { Looks M.tells M.time M.state M.counts (CountsStop result) machine.old machine.new }
 {
     match command {
@@ -87,6 +88,10 @@ pub fn run_one<M: Machine>(alloc: Global, command: &One, machine: &mut M) -> Res
         (one_deed (seen (M.state machine.old)) command.now) result }
     ensures tidies { IsTrue M.tells
         → TidiesTo result command.now (M.state machine.old) (M.state machine.new) }
+    ensures there { IsTrue M.tells
+        → TidiesThere command.now (M.state machine.old).files (M.state machine.new).files }
+    ensures spares { IsTrue M.tells → SparesTemps (one_reply (seen (M.state machine.old)) command.now)
+        (M.state machine.old).files (M.state machine.new).files }
     ensures rests { IsTrue M.tells → LeavesRested result (M.state machine.new) }
     ensures behaves { Behaves M.tells M.state M.counts machine.old machine.new result }
 {

@@ -1,6 +1,7 @@
 -- What words that are declined at once come to.
-use Rattle.std.proofs.Common.{◌≡◌, Result, Ok, Err, sym, subst}
-use Rattle.std.specs.Prelude.{IfOk}
+use Rattle.std.proofs.Common.{◌≡◌, true, [], Result, Ok, Err, refl, sym, ap, subst}
+use Rattle.std.proofs.lemmas.List.Elements.{All-nil}
+use Rattle.std.specs.Prelude.{All, IfOk}
 use Rattle.boot_base.specs.declared.refusal.Refusal.{Refusal}
 use Rattle.boot_machine.specs.Disk.{Files, State}
 use Rattle.boot_machine.specs.Sent.{seen}
@@ -10,13 +11,16 @@ use Rattle.command_plans.specs.Unsaying.{unsaid_of}
 use Rattle.command_plans.specs.declared.declined.Declined.{Declined}
 use Rattle.command_plans.specs.declared.declined.Declined.TheVariants as declines
 use Rattle.command_plans.specs.declared.unsaid.Unsaid.{Unsaid}
-use Rattle.command_plans.specs.Answers.{Answer}
-use Rattle.command_plans.specs.Plans.{Drops, Plans}
+use Rattle.command_plans.specs.Answers.{Answer, is_refusal}
+use Rattle.command_plans.specs.Makeable.{changes_nothing}
+use Rattle.command_plans.specs.Plans.{Drops, Plans, own_temps}
 use Rattle.command_plans.specs.Refusing.{PlansDeclined, PlansUnsaid, RefusesWords, unless_refused}
 use Rattle.command_plans.specs.declared.outcome.Stop.{Stop}
+use Rattle.command_plans.specs.declared.plan.Change.{Change}
+use Rattle.command_plans.specs.declared.plan.Change.TheVariants.{Nothing, Remove, Leftovers, Write, Put, Copy, Move}
 use Rattle.command_plans.specs.declared.plan.Plan.{Plan}
 use Rattle.command_plans.proofs.Worded.{declined_words}
-use Rattle.entry_commands.specs.Tidying.{CleanAt}
+use Rattle.entry_commands.specs.Tidying.{CleanAt, StandsAt}
 
 -- the plan is that of the refusal
 as_declined : (declined : Declined) (fault : Unsaid) (plan : Plan) → fault ≡ unsaid_of declined → PlansUnsaid fault plan → PlansDeclined declined plan
@@ -53,3 +57,25 @@ pub tidied_unless : (read : Result Folders Refusal) (declined : Declined) (fault
     → IfOk result (PlansUnsaid fault) → IfOk result (λ plan. Told → (files : Files) → Drops plan.change old files → CleanAt files read)
 tidied_unless read declined fault (Ok plan) Told old is why plans = λ told files dropped. clean_declined files read declined plan why (as_declined declined fault plan is plans)
 tidied_unless read declined fault (Err stop) Told old is why plans = tt
+
+-- a change of nothing has no temporary file
+own_none : (change : Change) → changes_nothing change ≡ true → own_temps change ≡ []
+own_none Nothing is = refl
+own_none (Remove path gone) is = cc
+own_none (Leftovers temps) is = cc
+own_none (Write image sources target) is = cc
+own_none (Put target bytes) is = cc
+own_none (Copy from target gone) is = cc
+own_none (Move from to intent gone exists) is = cc
+
+none_declined : (s : State) (declined : Declined) (plan : Plan) → PlansDeclined declined plan → own_temps plan.change ≡ []
+none_declined s declines.Memory plan plans = absurd plans
+none_declined s (declines.Refused other) plan plans =
+    own_none plan.change (plan.idle (ap (λ (answer : Answer). is_refusal answer.outcome) (plans s).answer_is))
+
+-- and no temporary file is dropped
+pub within_unless : (read : Result Folders Refusal) (declined : Declined) (fault : Unsaid) (result : Result Plan Stop) (Told : Type 0) (s : State) → fault ≡ unsaid_of declined
+    → IfOk result (PlansUnsaid fault) → IfOk result (λ plan. Told → All (StandsAt read) (own_temps plan.change))
+within_unless read declined fault (Ok plan) Told s is plans =
+    λ told. subst (All (StandsAt read)) (sym (none_declined s declined plan (as_declined declined fault plan is plans))) (All-nil (StandsAt read))
+within_unless read declined fault (Err stop) Told s is plans = tt

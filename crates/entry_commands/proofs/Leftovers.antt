@@ -9,7 +9,7 @@ use Rattle.boot_machine.specs.Disk.{Files, has}
 use Rattle.boot_machine.specs.Listed.{is_listed}
 use Rattle.boot_machine.specs.Rows.{IsNamesOf}
 use Rattle.install_steps.specs.Steps.{Lacks}
-use Rattle.entry_commands.specs.Tidying.{HasLeftovers, IsClean, leftovers_among}
+use Rattle.entry_commands.specs.Tidying.{HasLeftovers, IsClean, IsDirectlyIn, leftovers_among}
 
 -- every one of these has what each of those has
 pub all_among : {X : Type 0} (P : X → Type 0) (xs ys : List X) → ((x : X) → Contains xs x → Contains ys x) → All P ys → All P xs
@@ -27,6 +27,11 @@ module _ (folder : Path) where
   leftovers_there files names are =
       among_there (λ temp. has files temp ≡ true) names
       (All-weaker (Contains names) (λ name. has files (under folder name) ≡ true) (λ name is. ((are.each name).0 is).1) names (All-contains_itself names))
+
+  pub leftovers_within : (files : Files) (names : List (List ℕ)) → IsNamesOf files folder names → All (IsDirectlyIn folder) (leftovers_among folder names)
+  leftovers_within files names are =
+      among_there (IsDirectlyIn folder) names
+      (All-weaker (Contains names) (λ name. IsDirectlyIn folder (under folder name)) (λ name is. (name, ((are.each name).0 is).0, refl)) names (All-contains_itself names))
 
   -- the name's path is among these, where it is that of a temporary file
   abbrev IsKept : List Path → List ℕ → Type 0

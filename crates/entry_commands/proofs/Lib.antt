@@ -6,6 +6,8 @@ pub mod ImageNames
 pub mod InstalledEntry
 pub mod Kept
 mod Leftovers
+mod ListedCounters
+mod ListedJson
 pub mod Renamed
 pub mod Replies
 pub mod Reported

@@ -4,6 +4,7 @@ pub mod Counts
 pub mod GoodEntries
 pub mod Installing
 pub mod Keeping
+pub mod Laws
 pub mod Listing
 pub mod Moving
 pub mod Tidying

@@ -1,15 +1,17 @@
 -- `tidy`: no temporary file is left directly in the folders of boot entries.
-use Rattle.std.specs.Prelude.{◌≡◌, ℕ, true, false, List, codes, Result, Ok, Err, Contains, map, filter}
+use Rattle.std.specs.Prelude.{◌≡◌, ◌⊎◌, ℕ, true, false, List, Result, Ok, Err, Contains, map, filter}
+use Rattle.std.specs.FinMap.{get}
 use Rattle.boot_base.specs.Paths.{Path, under, is_file_name, is_temp}
 use Rattle.boot_base.specs.declared.refusal.Refusal.{Refusal}
 use Rattle.boot_machine.specs.Disk.{Files, has}
 use Rattle.command_plans.specs.Answers.{Answer, done_answer}
 use Rattle.command_plans.specs.Folders.{folders_of}
+use Rattle.command_plans.specs.Makeable.{cleaned_text}
 use Rattle.boot_folder.specs.declared.folders.Folders.{Folders}
 
 -- the view stays
 abbrev pub tidy_answer : Files → Folders → Answer
-tidy_answer view folders = done_answer view (codes "cleaned\n")
+tidy_answer view folders = done_answer view cleaned_text
 
 -- no temporary file is directly in the folder
 abbrev pub IsClean : Files → Path → Type 0
@@ -38,3 +40,17 @@ abbrev pub HasLeftovers : Files → Path → List Path → Type 0
 HasLeftovers files folder temps =
     (name : List ℕ) → is_file_name name ≡ true → is_temp name ≡ true → has files (under folder name) ≡ true
     → Contains temps (under folder name)
+
+-- the path of a file directly in the folder
+abbrev pub IsDirectlyIn : Path → Path → Type 0
+IsDirectlyIn folder q = (name : List ℕ) × (is_file_name name ≡ true) × (q ≡ under folder name)
+
+-- the path of a file directly in one of the two folders, if there are such
+abbrev pub StandsAt : Result Folders Refusal → Path → Type 0
+StandsAt (Ok folders) q = IsDirectlyIn folders.entries q ⊎ IsDirectlyIn folders.images q
+StandsAt (Err why) q = ⊥
+
+-- the temporary files that stand elsewhere than in the two folders of the ESP that a word names are as they were
+abbrev pub KeepsElsewhere : List ℕ → Files → Files → Type 0
+KeepsElsewhere word old new =
+    (q : Path) → is_temp q ≡ true → (StandsAt (folders_of word) q → ⊥) → get new q ≡ get old q

@@ -1,10 +1,10 @@
 //! `tidy`.
-ghost use Rattle.std.specs.Prelude.{◌≡◌, All, Contains, IfOk, IsTrue, bytes_eq, true};
+ghost use Rattle.std.specs.Prelude.{◌≡◌, All, Contains, IfOk, IsTrue, Ok, bytes_eq, true};
 ghost use Rattle.std.specs.List.{IsDistinct};
 ghost use Rattle.boot_base.specs.Paths.{Path};
 ghost use Rattle.boot_machine.specs.Prelude.{Files, Looks, State, TakesAtMost, has, seen};
-ghost use Rattle.command_plans.specs.Prelude.{CountsStop, Drops, Plans, RefusesWords, folders_of, unless_refused};
-ghost use Rattle.entry_commands.specs.Tidying.{AreClean, HasLeftovers, IsTidied, leftovers_among, tidy_answer};
+ghost use Rattle.command_plans.specs.Prelude.{CountsStop, Drops, Plans, RefusesWords, folders_of, own_temps, unless_refused};
+ghost use Rattle.entry_commands.specs.Tidying.{AreClean, HasLeftovers, IsDirectlyIn, IsTidied, StandsAt, leftovers_among, tidy_answer};
 
 use boot_base::{BootPath, Bytes, FileName, TempPath};
 use boot_folder::Folders;
@@ -39,6 +39,7 @@ fn leftovers_in<M: Machine>(
         → All (λ temp. has (M.state machine.old).files temp ≡ true) temps.items) }
     ensures all { IfOk result (λ temps. IsTrue M.tells
         → HasLeftovers (M.state machine.old).files folder.now temps.items) }
+    ensures within { IfOk result (λ temps. IsTrue M.tells → All (IsDirectlyIn folder.now) temps.items) }
     ensures looks { Looks M.tells M.time M.state M.counts (CountsStop result) machine.old machine.new }
     ensures taken { IsTrue M.tells → TakesAtMost 0 (M.taken machine.old) (M.taken machine.new) }
 {
@@ -70,6 +71,7 @@ fn leftovers<M: Machine>(
         → HasLeftovers (M.state machine.old).files folders.now.entries temps.items) }
     ensures images { IfOk result (λ temps. IsTrue M.tells
         → HasLeftovers (M.state machine.old).files folders.now.images temps.items) }
+    ensures within { IfOk result (λ temps. IsTrue M.tells → All (StandsAt (Ok folders.now)) temps.items) }
     ensures looks { Looks M.tells M.time M.state M.counts (CountsStop result) machine.old machine.new }
     ensures taken { IsTrue M.tells → TakesAtMost 0 (M.taken machine.old) (M.taken machine.new) }
 {
@@ -85,6 +87,8 @@ fn tidy<M: Machine>(alloc: Global, folders: &Folders, machine: &mut M) -> Result
         (tidy_answer (seen (M.state machine.old)) folders.now)) }
     ensures tidies { IfOk result (λ plan. IsTrue M.tells
         → (files : Files) → Drops plan.change (M.state machine.old).files files → AreClean files folders.now) }
+    ensures within { IfOk result (λ plan. IsTrue M.tells
+        → All (StandsAt (Ok folders.now)) (own_temps plan.change)) }
     ensures looks { Looks M.tells M.time M.state M.counts (CountsStop result) machine.old machine.new }
     ensures taken { IsTrue M.tells → TakesAtMost 0 (M.taken machine.old) (M.taken machine.new) }
 {
@@ -103,6 +107,8 @@ pub fn plan_tidy<M: Machine>(alloc: Global, esp: &str, machine: &mut M) -> Resul
         (unless_refused (seen (M.state machine.old)) (folders_of esp.now) (tidy_answer (seen (M.state machine.old))))) }
     ensures tidies { IfOk result (λ plan. IsTrue M.tells → (files : Files)
         → Drops plan.change (M.state machine.old).files files → IsTidied esp.now files) }
+    ensures within { IfOk result (λ plan. IsTrue M.tells
+        → All (StandsAt (folders_of esp.now)) (own_temps plan.change)) }
     ensures looks { Looks M.tells M.time M.state M.counts (CountsStop result) machine.old machine.new }
     ensures taken { IsTrue M.tells → TakesAtMost 0 (M.taken machine.old) (M.taken machine.new) }
     ensures words { RefusesWords (folders_of esp.now) result }

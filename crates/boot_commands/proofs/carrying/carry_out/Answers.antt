@@ -3,6 +3,7 @@ use Rattle.boot_machine.specs.Sent.{seen}
 use Rattle.command_plans.specs.Deeds.{deed_of_answer}
 use Rattle.command_plans.specs.Plans.{answer_of_plan}
 use Rattle.command_plans.proofs.Performed.{done_by, stopped_by}
+use Rattle.command_plans.proofs.Sparing.{spares}
 use Rattle.boot_commands.proofs.Tidies.{tidies_failed}
 use Rattle.boot_commands.proofs.carrying.carry_out.Goals as goal
 
@@ -25,3 +26,9 @@ returns-in_err-result-clause-tidies g c told command so =
 
 pub returns-clause-tidies : goal.returns-clause-tidies
 returns-clause-tidies g c told command so = so _ (c.in_ok-result.ensures.drops told)
+
+pub returns-in_err-result-clause-spares : goal.returns-in_err-result-clause-spares
+returns-in_err-result-clause-spares g c told = spares (seen (g.M.Machine.state c.args.machine.now)) _ _ c.args.plan (c.perform-result.ensures.others told)
+
+pub returns-clause-spares : goal.returns-clause-spares
+returns-clause-spares g c told = spares (seen (g.M.Machine.state c.args.machine.now)) _ _ c.args.plan (c.perform-result.ensures.others told)

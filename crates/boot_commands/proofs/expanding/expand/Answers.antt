@@ -1,12 +1,15 @@
 use Rattle.std.proofs.Common.{ℕ, List, sym, subst}
 use Rattle.std.proofs.lemmas.Result.{IfOk-weaker}
+use Rattle.boot_machine.specs.Reading.{TakesAtMost}
 use Rattle.boot_machine.specs.Sent.{seen}
 use Rattle.boot_machine.proofs.Reading.{looks_none}
+use Rattle.command_plans.specs.Folders.{folders_of}
+use Rattle.command_plans.specs.Menus.{menu_limit}
 use Rattle.command_plans.specs.Unsaying.{Says}
 use Rattle.tool_words.specs.declared.command.Several.{Several}
 use Rattle.type1_install.specs.Cleaning.{cleanup_expansion}
 use Rattle.boot_commands.specs.Demonstration.{demo_result}
-use Rattle.boot_commands.specs.Expanding.{StandsFor}
+use Rattle.boot_commands.specs.Expanding.{StandsFor, expanding_length}
 use Rattle.boot_commands.proofs.Expansions.{clean_stands, demo_stands, install_stands, keep_stands}
 use Rattle.boot_commands.proofs.expanding.expand.Goals as goal
 
@@ -49,3 +52,22 @@ pub returns-in-Demo-clause-looks : goal.returns-in-Demo-clause-looks
 returns-in-Demo-clause-looks g c =
     let now = g.M.Machine.counts c.args.machine.now in
     looks_none (g.met.M.Machine.only_now c.args.machine.now) (c.text_or_refusal.ensures.counts now now (c.demo_result-text.ensures.counts now))
+
+pub returns-in-Type1Install-clause-taken : goal.returns-in-Type1Install-clause-taken
+returns-in-Type1Install-clause-taken g c told =
+    let old = g.M.Machine.state c.args.machine.now in
+    subst (λ (x : Several). TakesAtMost (expanding_length old x) (g.M.Machine.taken c.args.machine.now) (g.M.Machine.taken c.install_expansion-actions.new.machine)) (sym c.in-Type1Install.is)
+    (c.install_expansion-actions.ensures.taken told)
+
+pub returns-in-Type1Cleanup-clause-taken : goal.returns-in-Type1Cleanup-clause-taken
+returns-in-Type1Cleanup-clause-taken g c told =
+    let old = g.M.Machine.state c.args.machine.now in
+    let took : ℕ → Type 0 = λ limit. TakesAtMost limit (g.M.Machine.taken c.args.machine.now) (g.M.Machine.taken c.cleanup_expansion-actions.new.machine) in
+    subst (λ (x : Several). took (expanding_length old x)) (sym c.in-Type1Cleanup.is)
+    (subst (λ esp. took (menu_limit old.files (folders_of esp))) c.as_str.ensures (c.cleanup_expansion-actions.ensures.taken told))
+
+pub returns-in-Keep-clause-taken : goal.returns-in-Keep-clause-taken
+returns-in-Keep-clause-taken g c told =
+    let old = g.M.Machine.state c.args.machine.now in
+    subst (λ (x : Several). TakesAtMost (expanding_length old x) (g.M.Machine.taken c.args.machine.now) (g.M.Machine.taken c.keep_paths-paths.new.machine)) (sym c.in-Keep.is)
+    (c.keep_paths-paths.ensures.taken told)

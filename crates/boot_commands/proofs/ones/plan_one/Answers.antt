@@ -1,10 +1,11 @@
 use Rattle.std.proofs.Common.{ℕ, List, sym, subst}
-use Rattle.std.specs.Prelude.{IfOk, IsTrue}
+use Rattle.std.specs.Prelude.{All, IfOk, IsTrue}
 use Rattle.boot_machine.specs.Disk.{Files}
-use Rattle.command_plans.specs.Plans.{Drops}
-use Rattle.entry_commands.specs.Tidying.{IsTidied}
+use Rattle.command_plans.specs.Folders.{folders_of}
+use Rattle.command_plans.specs.Plans.{Drops, own_temps}
+use Rattle.entry_commands.specs.Tidying.{IsTidied, StandsAt}
 use Rattle.tool_words.specs.declared.command.One.{One}
-use Rattle.boot_commands.specs.Commands.{LeavesTidied}
+use Rattle.boot_commands.specs.Commands.{LeavesTidied, MayOwn}
 use Rattle.boot_commands.proofs.ones.plan_one.Goals as goal
 
 pub returns-in-Tidy-clause-tidies : goal.returns-in-Tidy-clause-tidies
@@ -13,3 +14,9 @@ returns-in-Tidy-clause-tidies g c =
     let tidied = λ (esp : List ℕ). IfOk c.plan_tidy.result (λ plan. IsTrue g.M.Machine.tells → (files : Files) → Drops plan.change files_of files → IsTidied esp files) in
     let leaves = λ (command : One). IfOk c.plan_tidy.result (λ plan. IsTrue g.M.Machine.tells → (files : Files) → Drops plan.change files_of files → LeavesTidied command files) in
     subst leaves (sym c.in-Tidy.is) (subst tidied c.as_str-in-Tidy.ensures c.plan_tidy.ensures.tidies)
+
+pub returns-in-Tidy-clause-owns : goal.returns-in-Tidy-clause-owns
+returns-in-Tidy-clause-owns g c =
+    let within = λ (esp : List ℕ). IfOk c.plan_tidy.result (λ plan. IsTrue g.M.Machine.tells → All (StandsAt (folders_of esp)) (own_temps plan.change)) in
+    let owns = λ (command : One). IfOk c.plan_tidy.result (λ plan. IsTrue g.M.Machine.tells → MayOwn command (own_temps plan.change)) in
+    subst owns (sym c.in-Tidy.is) (subst within c.as_str-in-Tidy.ensures c.plan_tidy.ensures.within)

@@ -1,9 +1,9 @@
-use Rattle.std.proofs.Common.{◌≡◌, List, true, sym, subst, rules}
+use Rattle.std.proofs.Common.{◌≡◌, inl, inr, List, Ok, true, sym, subst, rules}
 use Rattle.std.specs.Prelude.{All, Contains}
-use Rattle.std.proofs.lemmas.List.Elements.{All-append, Contains-append_left, Contains-append_right}
+use Rattle.std.proofs.lemmas.List.Elements.{All-append, All-weaker, Contains-append_left, Contains-append_right}
 use Rattle.boot_machine.specs.Disk.{State, has}
 use Rattle.boot_base.specs.Paths.{Path}
-use Rattle.entry_commands.specs.Tidying.{HasLeftovers}
+use Rattle.entry_commands.specs.Tidying.{HasLeftovers, IsDirectlyIn, StandsAt}
 use Rattle.entry_commands.proofs.Leftovers.{all_among, found_more}
 use Rattle.boot_machine.proofs.Reading.{looks_on}
 use Rattle.entry_commands.proofs.tidy.leftovers.Goals as goal
@@ -38,3 +38,13 @@ returns-clause-images g c told =
     found_more files c.args.folders.now.images c.in_ok-images.images.items c.each_once.result.items
     (λ temp is. c.each_once.ensures.all temp (subst (λ (l : List Path). Contains l temp) (sym c.in_ok-append.ensures.items) (Contains-append_right c.in_ok-temps.temps.items c.in_ok-images.images.items temp is)))
     (subst (λ (s : State). HasLeftovers s.files c.args.folders.now.images c.in_ok-images.images.items) (c.leftovers_in.ensures.looks.reads told).same (c.in_ok-images.ensures.all told))
+
+pub returns-clause-within : goal.returns-clause-within
+returns-clause-within g c told =
+    let folders = c.args.folders.now in
+    let at = StandsAt (Ok folders) in
+    all_among at c.each_once.result.items c.append.new.self.items c.each_once.ensures.among
+    (subst (All at) (sym c.in_ok-append.ensures.items)
+    (All-append at c.in_ok-temps.temps.items c.in_ok-images.images.items
+    (All-weaker (IsDirectlyIn folders.entries) at (λ q is. inl is) c.in_ok-temps.temps.items (c.in_ok-temps.ensures.within told))
+    (All-weaker (IsDirectlyIn folders.images) at (λ q is. inr is) c.in_ok-images.images.items (c.in_ok-images.ensures.within told))))

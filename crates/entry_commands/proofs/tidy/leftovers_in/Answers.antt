@@ -1,8 +1,8 @@
 use Rattle.std.proofs.Common.{◌≡◌, ℕ, List, true, sym, ap, ◌∙◌, subst, rules}
 use Rattle.std.specs.Prelude.{All}
 use Rattle.boot_machine.specs.Disk.{has}
-use Rattle.entry_commands.specs.Tidying.{HasLeftovers, leftovers_among}
-use Rattle.entry_commands.proofs.Leftovers.{leftovers_there, leftovers_all}
+use Rattle.entry_commands.specs.Tidying.{HasLeftovers, IsDirectlyIn, leftovers_among}
+use Rattle.entry_commands.proofs.Leftovers.{leftovers_there, leftovers_all, leftovers_within}
 use Rattle.boot_machine.proofs.Reading.{looks_once}
 use Rattle.entry_commands.proofs.tidy.leftovers_in.Goals as goal
 
@@ -28,3 +28,9 @@ returns-clause-all g c told =
     let temps = c.in_ok-leftovers_among.ensures ∙ ap (leftovers_among c.args.folder.now) c.as_slice.ensures.value in
     subst (HasLeftovers files c.args.folder.now) (sym temps)
     (leftovers_all c.args.folder.now files c.in_ok-names.names.items (c.in_ok-names.ensures.row told).names)
+
+pub returns-clause-within : goal.returns-clause-within
+returns-clause-within g c told =
+    let temps = c.in_ok-leftovers_among.ensures ∙ ap (leftovers_among c.args.folder.now) c.as_slice.ensures.value in
+    subst (All (IsDirectlyIn c.args.folder.now)) (sym temps)
+    (leftovers_within c.args.folder.now (g.M.Machine.state c.args.machine.now).files c.in_ok-names.names.items (c.in_ok-names.ensures.row told).names)

@@ -1,9 +1,13 @@
-use Rattle.std.proofs.Common.{rules}
+use Rattle.std.proofs.Common.{Result, rules, subst, sym}
+use Rattle.std.specs.Prelude.{All, IfOk, IsTrue}
+use Rattle.boot_base.specs.declared.refusal.Refusal.{Refusal}
+use Rattle.boot_folder.specs.declared.folders.Folders.{Folders}
 use Rattle.boot_machine.specs.Sent.{seen}
 use Rattle.boot_machine.proofs.Reading.{looks_none}
 use Rattle.command_plans.specs.Folders.{folders_of}
-use Rattle.entry_commands.specs.Tidying.{tidy_answer}
-use Rattle.entry_commands.proofs.Declined.{plans_unless, refuses_at_once, tidied_unless}
+use Rattle.command_plans.specs.Plans.{own_temps}
+use Rattle.entry_commands.specs.Tidying.{StandsAt, tidy_answer}
+use Rattle.entry_commands.proofs.Declined.{plans_unless, refuses_at_once, tidied_unless, within_unless}
 use Rattle.entry_commands.proofs.tidy.plan_tidy.Goals as goal
 
 pub returns-in-Err-clause-plans : goal.returns-in-Err-clause-plans
@@ -21,3 +25,11 @@ returns-in-Err-clause-words g c =
 
 pub returns-in-Err-clause-looks : goal.returns-in-Err-clause-looks
 returns-in-Err-clause-looks g c = looks_none (g.met.M.Machine.only_now c.args.machine.now) (search rules)
+
+pub returns-in-Err-clause-within : goal.returns-in-Err-clause-within
+returns-in-Err-clause-within g c =
+    within_unless (folders_of c.args.esp.now) c.in-Err.declined c.from.result c.plan_unsaid.result _ (g.M.Machine.state c.args.machine.now) c.from.ensures c.plan_unsaid.ensures.plans
+
+pub returns-in-Ok-clause-within : goal.returns-in-Ok-clause-within
+returns-in-Ok-clause-within g c =
+    subst (λ (read : Result Folders Refusal). IfOk c.tidy.result (λ plan. IsTrue g.M.Machine.tells → All (StandsAt read) (own_temps plan.change))) (sym c.in-Ok.ensures) c.tidy.ensures.within
