@@ -1,6 +1,9 @@
 mod Alike
 mod Counting
 mod Keeping
+mod NamedClean
+mod NamedKept
+mod NamedPut
 mod Newest
 mod PayloadMoves
 mod Payloads
@@ -9,3 +12,4 @@ mod PayloadsStay
 mod Pushing
 mod Standing
 mod Starting
+mod Stopping

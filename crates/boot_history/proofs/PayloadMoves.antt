@@ -25,15 +25,17 @@ use Rattle.entry_commands.proofs.Renamed.{AreSiblings, long_suffix, some_same, s
 use Rattle.entry_commands.proofs.Siblings.{decimal_lacks}
 use Rattle.boot_base.proofs.Beside.{kept_from_long}
 use Rattle.command_plans.proofs.Steps.{clash}
-use Rattle.type1_install.specs.Payloads.{ArePayloadsThere, folders_at}
+use Rattle.type1_install.specs.Payloads.{folders_at}
 use Rattle.type1_install.proofs.Installing.{IsNormal, child_normal, under_is, under_normal}
-use Rattle.type1_install.proofs.PayloadsKept.{IsConfFile, conf_name, move_kept, suffix_not_payload}
+use Rattle.type1_install.proofs.PayloadsKept.{IsConfFile, conf_name, suffix_not_payload}
+use Rattle.boot_history.specs.Payloads.{AreNamedThere}
+use Rattle.boot_history.proofs.NamedKept.{move_kept}
 
 conf_type : (name : List ℕ) (suffix : Suffix) → has_suffix suffix name ≡ true → has_suffix Conf name ≡ true → suffix ≡ Conf
 conf_type name Conf of_type conf = refl
 conf_type name Efi of_type conf = absurd (clash conf (one_type name of_type))
 
-module _ (esp : Path) (old new : Path) (are : AreSiblings old new) where
+module _ (counts : List ℕ → Bool) (esp : Path) (old new : Path) (are : AreSiblings old new) where
   back : IsConfFile esp new → IsConfFile esp old
   back conf =
       let entries = (folders_at esp).entries in
@@ -51,9 +53,9 @@ module _ (esp : Path) (old new : Path) (are : AreSiblings old new) where
       }
 
   -- a file that gets the other name
-  pub moved : (view : Files) → ArePayloadsThere esp view → has view old ≡ true → ArePayloadsThere esp (move_in old new view)
+  pub moved : (view : Files) → AreNamedThere counts esp view → has view old ≡ true → AreNamedThere counts esp (move_in old new view)
   moved view ok there =
-      move_kept esp view ok old new
+      move_kept counts esp view ok old new
       (suffix_not_payload esp old are.suffix (ap (has_suffix are.suffix) are.old_last ∙ are.one_ends))
       (suffix_not_payload esp new are.suffix (ap (has_suffix are.suffix) are.new_last ∙ are.two_ends))
       there back

@@ -22,13 +22,13 @@ use Rattle.entry_commands.proofs.Kept.{doomed_are, doomed_in}
 use Rattle.entry_commands.specs.Counts.{count_in}
 use Rattle.boot_commands.specs.Expansions.{keep_actions}
 use Rattle.entry_commands.specs.Keeping.{keep_result}
-use Rattle.type1_install.specs.Payloads.{ArePayloadsThere}
 use Rattle.type1_install.proofs.Cleaning.{menu_is}
-use Rattle.type1_install.proofs.PayloadsKept.{NotPayload, remove_kept, suffix_not_payload}
+use Rattle.type1_install.proofs.PayloadsKept.{NotPayload, suffix_not_payload}
 use Rattle.boot_run.specs.Lines.{line_deed}
 use Rattle.boot_run.specs.Step.{view_after}
 use Rattle.boot_run.specs.declared.line.Line.TheVariants.{Part}
-use Rattle.boot_history.specs.Payloads.{RemovalKeepsLaw}
+use Rattle.boot_history.specs.Payloads.{AreNamedThere, RemovalKeepsLaw}
+use Rattle.boot_history.proofs.NamedKept.{remove_kept}
 use Rattle.boot_history.proofs.Newest.{lines_are, lines_of, removal_lines, removed}
 use Rattle.boot_history.proofs.Payloads.{refused_keeps, told_keeps}
 
@@ -62,28 +62,28 @@ found_apart esp view words paths is =
     (entries_apart esp view folders (doomed_records number.0 words.per_key menu) (λ item there.
     ((entries_menu view folders).entries item).0 (subst (λ (m : List MenuItem). Contains m item) (sym menu_are) (doomed_in number.0 words.per_key menu item there))))
 
-removals_kept : (esp : Path) (view : Files) (paths : List Path) → ArePayloadsThere esp view → AllApart esp paths
-    → (n : ℕ) → ArePayloadsThere esp (view_after view (take n (removal_lines paths)))
-removals_kept esp view paths ok apart zero = ok
-removals_kept esp view [] ok apart (suc n) = ok
-removals_kept esp view (path ∷ paths) ok apart (suc n) =
-    removals_kept esp (line_deed view (Part (action.Remove path))).after paths
-    (subst (ArePayloadsThere esp) (sym (removed view path)) (remove_kept esp view ok path apart.0)) apart.1 n
+removals_kept : (counts : List ℕ → Bool) (esp : Path) (view : Files) (paths : List Path) → AreNamedThere counts esp view → AllApart esp paths
+    → (n : ℕ) → AreNamedThere counts esp (view_after view (take n (removal_lines paths)))
+removals_kept counts esp view paths ok apart zero = ok
+removals_kept counts esp view [] ok apart (suc n) = ok
+removals_kept counts esp view (path ∷ paths) ok apart (suc n) =
+    removals_kept counts esp (line_deed view (Part (action.Remove path))).after paths
+    (subst (AreNamedThere counts esp) (sym (removed view path)) (remove_kept counts esp view ok path apart.0)) apart.1 n
 
-module _ (esp : Path) (view : Files) (words : KeepWords) (ok : ArePayloadsThere esp view) where
+module _ (counts : List ℕ → Bool) (esp : Path) (view : Files) (words : KeepWords) (ok : AreNamedThere counts esp view) where
   by_words : (dry_run : Bool) (paths : List Path) → AllApart esp paths → (n : ℕ)
-      → ArePayloadsThere esp (view_after view (take n (map Part (keep_actions dry_run paths))))
-  by_words true paths apart n = told_keeps esp view _ ok n
-  by_words false [] apart n = told_keeps esp view _ ok n
-  by_words false (path ∷ paths) apart n = removals_kept esp view (path ∷ paths) ok apart n
+      → AreNamedThere counts esp (view_after view (take n (map Part (keep_actions dry_run paths))))
+  by_words true paths apart n = told_keeps counts esp view _ ok n
+  by_words false [] apart n = told_keeps counts esp view _ ok n
+  by_words false (path ∷ paths) apart n = removals_kept counts esp view (path ∷ paths) ok apart n
 
   by_found : (found : Result (List Path) Refusal) → keep_result view words ≡ found → (n : ℕ)
-      → ArePayloadsThere esp (view_after view (take n (lines_of words found)))
+      → AreNamedThere counts esp (view_after view (take n (lines_of words found)))
   unfolding lines_of
-  by_found (Err why) is n = refused_keeps esp view why ok n
+  by_found (Err why) is n = refused_keeps counts esp view why ok n
   by_found (Ok paths) is n = by_words words.dry_run paths (found_apart esp view words paths is) n
 
 pub keep_keeps : RemovalKeepsLaw
-keep_keeps esp view input words ok n =
-    subst (λ lines. ArePayloadsThere esp (view_after view (take n lines))) (sym (lines_are view input words))
-    (by_found esp view words ok (keep_result view words) refl n)
+keep_keeps counts esp view input words ok n =
+    subst (λ lines. AreNamedThere counts esp (view_after view (take n lines))) (sym (lines_are view input words))
+    (by_found counts esp view words ok (keep_result view words) refl n)

@@ -56,11 +56,11 @@ use Rattle.command_plans.proofs.Steps.{done_by}
 use Rattle.loader_commands.specs.Places.{conf_below, conf_path}
 use Rattle.loader_commands.specs.Setting.{changed_text, conf_update, set_answer, set_result, value_in}
 use Rattle.loader_commands.specs.Showing.{show_result}
-use Rattle.type1_install.specs.Payloads.{ArePayloadsThere, folders_at, payload_folder}
+use Rattle.type1_install.specs.Payloads.{folders_at, payload_folder}
 use Rattle.type1_install.proofs.Cleaning.{folders_are}
 use Rattle.type1_install.proofs.Cleaning.{menu_is}
 use Rattle.type1_install.proofs.Installing.{IsNormal, under_is}
-use Rattle.type1_install.proofs.PayloadsKept.{IsConfFile, NotPayload, conf_name, payload_slash, put_kept, remove_kept, some_if, suffix_not_payload, uki_names, value_ok}
+use Rattle.type1_install.proofs.PayloadsKept.{IsConfFile, NotPayload, conf_name, payload_slash, some_if, suffix_not_payload, uki_names, value_ok}
 use Rattle.type1_install.proofs.Planned.{word_normal}
 use Rattle.boot_commands.specs.Demonstration.{demo_result}
 use Rattle.boot_commands.specs.Expansions.{expansion}
@@ -76,8 +76,9 @@ use Rattle.boot_run.proofs.ScriptLines.{each_line}
 use Rattle.boot_history.specs.Asking.{AllLines, EachAsks, EachMeans}
 use Rattle.boot_history.specs.Histories.{Run, state_after}
 use Rattle.boot_history.specs.Keeping.{KeptBy, KeptFrom}
-use Rattle.boot_history.specs.Payloads.{BuildsApart, LineApart, PayloadLaw, is_directly_in, keeps_payloads}
+use Rattle.boot_history.specs.Payloads.{AreNamedThere, BuildsApart, LineApart, PayloadLaw, is_directly_in, keeps_payloads}
 use Rattle.boot_history.proofs.Keeping.{kept_later}
+use Rattle.boot_history.proofs.NamedKept.{put_kept, remove_kept}
 use Rattle.boot_history.proofs.PayloadMoves.{booted_beside, moved, normal_folder}
 use Rattle.boot_history.proofs.Payloads.{cleanup_keeps, install_keeps, refused_keeps, told_keeps}
 use Rattle.boot_history.proofs.PayloadsNewest.{keep_keeps}
@@ -165,74 +166,74 @@ unlink_apart esp name word at is =
 abbrev Apart : Path → Path → Type 0
 Apart esp output = (is_directly_in (payload_folder esp) output ≡ false) × (is_directly_in (folders_at esp).entries output ≡ false)
 
-module _ (esp : Path) (view : Files) (ok : ArePayloadsThere esp view) where
-  kept_said : (text : Result (List ℕ) Refusal) → ArePayloadsThere esp (answer_of_read view text).after
+module _ (counts : List ℕ → Bool) (esp : Path) (view : Files) (ok : AreNamedThere counts esp view) where
+  kept_said : (text : Result (List ℕ) Refusal) → AreNamedThere counts esp (answer_of_read view text).after
   kept_said (Ok text) = ok
   kept_said (Err why) = ok
 
   kept_unless : {X : Type 0} (read : Result X Refusal) (next : X → Answer)
-      → ((x : X) → read ≡ Ok x → ArePayloadsThere esp (next x).after)
-      → ArePayloadsThere esp (unless_refused view read next).after
+      → ((x : X) → read ≡ Ok x → AreNamedThere counts esp (next x).after)
+      → AreNamedThere counts esp (unless_refused view read next).after
   kept_unless (Ok x) next each = each x refl
   kept_unless (Err why) next each = ok
 
   kept_built : (measure : Bool) (output : Result Path Refusal) (built : Result BuiltImage Refusal)
-      → IfOk built (λ built. output ≡ Ok built.output) → IfOk output (Apart esp) → ArePayloadsThere esp (built_answer view measure built).after
+      → IfOk built (λ built. output ≡ Ok built.output) → IfOk output (Apart esp) → AreNamedThere counts esp (built_answer view measure built).after
   kept_built measure output (Err why) is apart = ok
   kept_built measure output (Ok built) is apart =
       let entries = (folders_at esp).entries in
       let at = built.output in
       let facts = subst (λ (r : Result Path Refusal). IfOk r (Apart esp)) is apart in
-      put_kept esp view ok at built.image
+      put_kept counts esp view ok at built.image
       (λ name fits. apart_from (payload_folder esp) at name facts.0 (file_name_under (payload_folder esp) name (payload_slash name fits)))
       (λ conf. absurd (apart_from entries at conf.name facts.1 (file_name_under entries conf.name (name_parts conf.name conf.is_name).1) conf.at))
 
-  kept_unlink : (at : Path) → NotPayload esp at → ArePayloadsThere esp (unlink_answer view at).after
+  kept_unlink : (at : Path) → NotPayload esp at → AreNamedThere counts esp (unlink_answer view at).after
   kept_unlink at apart = by (map_of.get view at)
     where
-      by : (found : Option (List ℕ)) → ArePayloadsThere esp (removal view at found).after
+      by : (found : Option (List ℕ)) → AreNamedThere counts esp (removal view at found).after
       by None = ok
-      by (Some bytes) = remove_kept esp view ok at apart
+      by (Some bytes) = remove_kept counts esp view ok at apart
 
-  kept_install : (file name : List ℕ) (tries : Option (List ℕ)) (word : List ℕ) → ArePayloadsThere esp (install_answer view file name tries word).after
+  kept_install : (file name : List ℕ) (tries : Option (List ℕ)) (word : List ℕ) → AreNamedThere counts esp (install_answer view file name tries word).after
   kept_install file name tries word =
-      after_answered (ArePayloadsThere esp) view (install_result view file name tries word) ok (λ answer is.
+      after_answered (AreNamedThere counts esp) view (install_result view file name tries word) ok (λ answer is.
       let words = done_by (installation_of file name tries word) _ answer is in
       let image = done_by (installed_image view words.0) _ answer words.2 in
       let of_type = target_of_type file name word tries words.0 words.1 in
-      subst (λ (a : Answer). ArePayloadsThere esp a.after) (ok_is _ answer image.2)
-      (put_kept esp view ok words.0.target image.0 (suffix_not_payload esp words.0.target Efi of_type)
+      subst (λ (a : Answer). AreNamedThere counts esp a.after) (ok_is _ answer image.2)
+      (put_kept counts esp view ok words.0.target image.0 (suffix_not_payload esp words.0.target Efi of_type)
       (λ conf. absurd (no_conf esp words.0.target of_type conf))))
 
-  kept_set : (key : ConfKey) (value word : List ℕ) → ArePayloadsThere esp (set_answer view key value word).after
+  kept_set : (key : ConfKey) (value word : List ℕ) → AreNamedThere counts esp (set_answer view key value word).after
   kept_set key value word =
-      after_answered (ArePayloadsThere esp) view (set_result view key value word) ok (λ answer is.
+      after_answered (AreNamedThere counts esp) view (set_result view key value word) ok (λ answer is.
       let change = done_by (conf_update view key value word) _ answer is in
       let valued = done_by (value_in key value) _ change.0 change.1 in
       let at = done_by (conf_path word) _ change.0 valued.2 in
       let text = done_by (changed_text view key valued.0 at.0) _ change.0 at.2 in
       let place : at.0 ≡ change.0.0 = ap (λ (c : Path × List ℕ). c.0) (ok_is (at.0, text.0) change.0 text.2) in
       let apart = subst (λ (p : Path). NotPayload esp p × (IsConfFile esp p → ⊥)) place (conf_apart esp word at.0 at.1) in
-      subst (λ (a : Answer). ArePayloadsThere esp a.after) (ok_is _ answer change.2)
-      (put_kept esp view ok change.0.0 change.0.1 apart.0 (λ conf. absurd (apart.1 conf))))
+      subst (λ (a : Answer). AreNamedThere counts esp a.after) (ok_is _ answer change.2)
+      (put_kept counts esp view ok change.0.0 change.0.1 apart.0 (λ conf. absurd (apart.1 conf))))
 
   -- ---- a boot
 
   renamed : (from to : Path) → AreSiblings from to → has view from ≡ true → (answer : Answer) → renamed_entry view from to ≡ Ok answer
-      → ArePayloadsThere esp answer.after
+      → AreNamedThere counts esp answer.after
   renamed from to are there answer is = by (has view to) is
     where
       by : (taken : Bool)
           → (if taken then Err (refusals.TargetExists (printed_path to)) else Ok (done_answer (move_in from to view) (booted_text to))) ≡ Ok answer
-          → ArePayloadsThere esp answer.after
+          → AreNamedThere counts esp answer.after
       by true is = absurd (err_ok (refusals.TargetExists (printed_path to)) answer is)
-      by false is = subst (λ (a : Answer). ArePayloadsThere esp a.after) (ok_is _ answer is) (moved esp from to are view ok there)
+      by false is = subst (λ (a : Answer). AreNamedThere counts esp a.after) (ok_is _ answer is) (moved counts esp from to are view ok there)
 
   booted : (folder from : Path) (name : List ℕ) → IsNormal folder → is_file_name name ≡ true → from ≡ under folder name → path_of from ≡ Some from
       → has view from ≡ true → (found : Option (List ℕ)) → booted_name_of name ≡ found → (answer : Answer)
-      → booted_entry view folder from found ≡ Ok answer → ArePayloadsThere esp answer.after
+      → booted_entry view folder from found ≡ Ok answer → AreNamedThere counts esp answer.after
   booted folder from name normal is_name stands reads there None named answer is =
-      subst (λ (a : Answer). ArePayloadsThere esp a.after) (ok_is _ answer is) ok
+      subst (λ (a : Answer). AreNamedThere counts esp a.after) (ok_is _ answer is) ok
   booted folder from name normal is_name stands reads there (Some other) named answer is =
       let target = done_by (path_under folder other) _ answer is in
       renamed from target.0 (booted_beside folder name other from target.0 normal is_name stands reads named target.1) there answer target.2
@@ -240,7 +241,7 @@ module _ (esp : Path) (view : Files) (ok : ArePayloadsThere esp view) where
   boot_item : (word : List ℕ) (folders : Folders) → folders_of word ≡ Ok folders → (menu : List MenuItem) → menu_at view folders ≡ Ok menu
       → (item : MenuItem) → first_of menu ≡ Ok item → (answer : Answer)
       → booted_entry view (folder_of folders item.suffix) item.path (booted_name_of (file_name_of item.path)) ≡ Ok answer
-      → ArePayloadsThere esp answer.after
+      → AreNamedThere counts esp answer.after
   boot_item word folders read menu got item first answer is =
       let at = done_by (path_in word) _ folders read in
       let are = folders_are word at.0 folders at.1 read in
@@ -254,15 +255,15 @@ module _ (esp : Path) (view : Files) (ok : ArePayloadsThere esp view) where
       booted folder item.path e.name normal e.is_name stands e.is_path (ap is_some e.there) (booted_name_of (file_name_of item.path))
       (ap booted_name_of (sym last)) answer is
 
-  kept_boot : (word : List ℕ) → ArePayloadsThere esp (boot_answer view word).after
-  kept_boot word = after_answered (ArePayloadsThere esp) view (boot_result view word) ok (λ answer is.
+  kept_boot : (word : List ℕ) → AreNamedThere counts esp (boot_answer view word).after
+  kept_boot word = after_answered (AreNamedThere counts esp) view (boot_result view word) ok (λ answer is.
       let read = done_by (folders_of word) _ answer is in
       let menu = done_by (menu_at view read.0) _ answer read.2 in
       let first = done_by (first_of menu.0) _ answer menu.2 in
       boot_item word read.0 read.1 menu.0 menu.1 first.0 first.1 answer first.2)
 
   -- a case for each command
-  stays : (c : One) → BuildsApart esp c → ArePayloadsThere esp (one_reply view c).after
+  stays : (c : One) → BuildsApart esp c → AreNamedThere counts esp (one_reply view c).after
   unfolding one_reply
   stays (one.Build words) apart = kept_built words.measure (path_in words.output) (build_of view words) (build_output view words) apart
   stays (one.Calculate words) apart = kept_said (calculate_result view words)
@@ -274,7 +275,7 @@ module _ (esp : Path) (view : Files) (ok : ArePayloadsThere esp view) where
   stays (one.Boot word) apart = kept_boot word
   stays (one.Unlink name word) apart = kept_unless (entry_path name word) (unlink_answer view) (λ at is. kept_unlink at (unlink_apart esp name word at is))
   stays (one.Install file name tries word) apart = kept_install file name tries word
-  stays (one.Bless verb path word) apart = blessed (ArePayloadsThere esp) view ok (λ old new are there. moved esp old new are view ok there) verb path word
+  stays (one.Bless verb path word) apart = blessed (AreNamedThere counts esp) view ok (λ old new are there. moved counts esp old new are view ok there) verb path word
   stays (one.LoaderShow word) apart = kept_said (show_result view word)
   stays (one.LoaderDefault pattern word) apart = kept_set Default pattern word
   stays (one.LoaderTimeout value word) apart = kept_set Timeout value word
@@ -289,49 +290,49 @@ NoPart (Numbered number c) = Unit {0}
 NoPart (Unread number) = Unit {0}
 NoPart TooLong = Unit {0}
 
-lines_keep : (esp : Path) (view : Files) (lines : List Line) → ArePayloadsThere esp view → AllLines (LineApart esp) lines → All NoPart lines
-    → (n : ℕ) → ArePayloadsThere esp (view_after view (take n lines))
-lines_keep esp view lines ok apart none zero = ok
-lines_keep esp view [] ok apart none (suc n) = ok
-lines_keep esp view (Plain c ∷ lines) ok apart none (suc n) =
-    lines_keep esp (line_deed view (Plain c)).after lines (stays esp view ok c apart.0) apart.1 (All-tail NoPart (Plain c) lines none) n
-lines_keep esp view (Part action ∷ lines) ok apart none (suc n) = absurd (All-head NoPart (Part action) lines none)
-lines_keep esp view (Numbered number c ∷ lines) ok apart none (suc n) =
-    lines_keep esp (line_deed view (Numbered number c)).after lines (stays esp view ok c apart.0) apart.1 (All-tail NoPart (Numbered number c) lines none) n
-lines_keep esp view (Unread number ∷ lines) ok apart none (suc n) = lines_keep esp view lines ok apart.1 (All-tail NoPart (Unread number) lines none) n
-lines_keep esp view (TooLong ∷ lines) ok apart none (suc n) = lines_keep esp view lines ok apart.1 (All-tail NoPart TooLong lines none) n
+lines_keep : (counts : List ℕ → Bool) (esp : Path) (view : Files) (lines : List Line) → AreNamedThere counts esp view → AllLines (LineApart esp) lines → All NoPart lines
+    → (n : ℕ) → AreNamedThere counts esp (view_after view (take n lines))
+lines_keep counts esp view lines ok apart none zero = ok
+lines_keep counts esp view [] ok apart none (suc n) = ok
+lines_keep counts esp view (Plain c ∷ lines) ok apart none (suc n) =
+    lines_keep counts esp (line_deed view (Plain c)).after lines (stays counts esp view ok c apart.0) apart.1 (All-tail NoPart (Plain c) lines none) n
+lines_keep counts esp view (Part action ∷ lines) ok apart none (suc n) = absurd (All-head NoPart (Part action) lines none)
+lines_keep counts esp view (Numbered number c ∷ lines) ok apart none (suc n) =
+    lines_keep counts esp (line_deed view (Numbered number c)).after lines (stays counts esp view ok c apart.0) apart.1 (All-tail NoPart (Numbered number c) lines none) n
+lines_keep counts esp view (Unread number ∷ lines) ok apart none (suc n) = lines_keep counts esp view lines ok apart.1 (All-tail NoPart (Unread number) lines none) n
+lines_keep counts esp view (TooLong ∷ lines) ok apart none (suc n) = lines_keep counts esp view lines ok apart.1 (All-tail NoPart TooLong lines none) n
 
 -- a demonstration tells something, or is refused
-demo_keeps : (esp : Path) (view : Files) (seed count : List ℕ) → ArePayloadsThere esp view
-    → (n : ℕ) → ArePayloadsThere esp (view_after view (take n (map Part (expansion view (several.Demo seed count)))))
+demo_keeps : (counts : List ℕ → Bool) (esp : Path) (view : Files) (seed count : List ℕ) → AreNamedThere counts esp view
+    → (n : ℕ) → AreNamedThere counts esp (view_after view (take n (map Part (expansion view (several.Demo seed count)))))
 unfolding expansion
-demo_keeps esp view seed count ok =
-    made_or_refused (λ actions. (n : ℕ) → ArePayloadsThere esp (view_after view (take n (map Part actions)))) (λ why. refused_keeps esp view why ok) _
-    (demo_result seed count) (λ text. told_keeps esp view text ok)
+demo_keeps counts esp view seed count ok =
+    made_or_refused (λ actions. (n : ℕ) → AreNamedThere counts esp (view_after view (take n (map Part actions)))) (λ why. refused_keeps counts esp view why ok) _
+    (demo_result seed count) (λ text. told_keeps counts esp view text ok)
 
-after_meant : (esp : Path) (view : Files) (input : List ℕ) (meant : Result Command UsageReason)
-    → EachMeans keeps_payloads (LineApart esp) view input meant → ArePayloadsThere esp view
-    → KeptBy (ArePayloadsThere esp) view (lines_to_run input view meant)
-after_meant esp view input (Err reason) apart ok = tt
-after_meant esp view input (Ok (command.Several (several.Type1Install words))) apart ok = install_keeps esp view input words ok
-after_meant esp view input (Ok (command.Several (several.Type1Cleanup word))) apart ok = cleanup_keeps esp view input word ok
-after_meant esp view input (Ok (command.Several (several.Keep words))) apart ok = keep_keeps esp view input words ok
-after_meant esp view input (Ok (command.Several (several.Demo seed count))) apart ok = demo_keeps esp view seed count ok
-after_meant esp view input (Ok (command.One c)) apart ok =
-    lines_keep esp view (Plain c ∷ []) ok (apart refl) (All-cons NoPart (Plain c) [] tt (All-nil NoPart))
-after_meant esp view input (Ok command.Script) apart ok =
-    lines_keep esp view (lines_for input view command.Script) ok (apart refl)
+after_meant : (counts : List ℕ → Bool) (esp : Path) (view : Files) (input : List ℕ) (meant : Result Command UsageReason)
+    → EachMeans keeps_payloads (LineApart esp) view input meant → AreNamedThere counts esp view
+    → KeptBy (AreNamedThere counts esp) view (lines_to_run input view meant)
+after_meant counts esp view input (Err reason) apart ok = tt
+after_meant counts esp view input (Ok (command.Several (several.Type1Install words))) apart ok = install_keeps counts esp view input words ok
+after_meant counts esp view input (Ok (command.Several (several.Type1Cleanup word))) apart ok = cleanup_keeps counts esp view input word ok
+after_meant counts esp view input (Ok (command.Several (several.Keep words))) apart ok = keep_keeps counts esp view input words ok
+after_meant counts esp view input (Ok (command.Several (several.Demo seed count))) apart ok = demo_keeps counts esp view seed count ok
+after_meant counts esp view input (Ok (command.One c)) apart ok =
+    lines_keep counts esp view (Plain c ∷ []) ok (apart refl) (All-cons NoPart (Plain c) [] tt (All-nil NoPart))
+after_meant counts esp view input (Ok command.Script) apart ok =
+    lines_keep counts esp view (lines_for input view command.Script) ok (apart refl)
     (each_line NoPart (λ number c. tt) (λ number. tt) tt (take 1048577 input))
 
-kept_from : (esp : Path) (state : List Files) (runs : List Run) → EachAsks keeps_payloads (LineApart esp) state runs
-    → KeptFrom (ArePayloadsThere esp) state runs
-kept_from esp state [] apart = tt
-kept_from esp state (run ∷ runs) apart = (
-  λ ok. after_meant esp (latest_view state) run.input (meaning run.words) apart.0 ok,
-  kept_from esp run.left runs apart.1,
+kept_from : (counts : List ℕ → Bool) (esp : Path) (state : List Files) (runs : List Run) → EachAsks keeps_payloads (LineApart esp) state runs
+    → KeptFrom (AreNamedThere counts esp) state runs
+kept_from counts esp state [] apart = tt
+kept_from counts esp state (run ∷ runs) apart = (
+  λ ok. after_meant counts esp (latest_view state) run.input (meaning run.words) apart.0 ok,
+  kept_from counts esp run.left runs apart.1,
 )
 
 pub payload_law : PayloadLaw
-payload_law esp first before later start history all apart =
-    kept_later (ArePayloadsThere esp) first before later start history all
-    (kept_from esp (state_after first before) later apart)
+payload_law counts esp first before later start history all apart =
+    kept_later (AreNamedThere counts esp) first before later start history all
+    (kept_from counts esp (state_after first before) later apart)

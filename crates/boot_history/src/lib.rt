@@ -13,11 +13,13 @@ ghost use Rattle.boot_history.specs.Replying.{ReplyLaw};
 ghost use Rattle.boot_history.specs.Unrefused.{ExpansionUnrefusedLaw, WholeExpansionLaw};
 
 mod each;
+mod stop;
 #[cfg(test)]
 mod tests;
 
 use boot_machine::Machine;
 pub use each::run_each;
+pub use stop::run_and_stop;
 
 /// The law of histories. A history begins where boot sees one view whatever a stop leaves, as on a settled machine, and
 /// is a list of runs, each of which may be stopped. Each view at its end is due to a number of whole commands of each
@@ -50,10 +52,11 @@ pub fn good_entry_law()
     ensures listed { ListedLaw }
 {}
 
-/// The payloads of entries stay: where each payload that an entry of an EFI system partition names as its kernel or an
-/// initrd is there, with its digest for its name, in each view at the start of some run, and no build from that run on
-/// has its output directly in the partition's folder of payloads or in that of its entries of type 1, it is so in each
-/// later view. An installation, a cleanup and a `keep` keep it after each number of their actions.
+/// The payloads of entries stay, whichever of their names count: where each payload that an entry of an EFI system
+/// partition names as its kernel or an initrd, and whose name counts, is there, with its digest for its name, in each
+/// view at the start of some run, and no build from that run on has its output directly in the partition's folder of
+/// payloads or in that of its entries of type 1, it is so in each later view. So what one entry names stays, whatever
+/// other entries name. An installation, a cleanup and a `keep` keep it after each number of their actions.
 pub fn payload_law()
     ensures stays { PayloadLaw }
     ensures installs { InstallKeepsLaw }

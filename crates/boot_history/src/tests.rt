@@ -1,5 +1,8 @@
 // Runs in turn, and a run that is stopped.
-use crate::{run_each, stop_law};
+mod fickle;
+mod minds;
+
+use crate::{run_and_stop, run_each, stop_law};
 use boot_base::BootPath;
 use boot_run::run;
 use machine_fuse::Fuse;
@@ -58,13 +61,11 @@ fn a_run_prints_nothing_that_is_stopped_at_once(rt: HostRuntime) -> Result<(), F
     let alloc = rt.alloc();
     let words = words_of(alloc, "tidy")?;
     for (calls, wanted) in [(0, ""), (1000, "cleaned\n")] {
-        let mut fuse = Fuse::new(empty_machine(alloc)?, calls);
-        run(alloc, &words, &mut fuse);
         let choice = CrashChoice {
             candidate: 0,
             fill: Vec::new(alloc),
         };
-        let left = fuse.into_inner().crash(alloc, &choice)?;
+        let left = run_and_stop(alloc, &words, empty_machine(alloc)?, calls, &choice)?;
         stop_law::<MemMachine>();
         check_printed(&rt, alloc, &left, wanted)?;
     }
