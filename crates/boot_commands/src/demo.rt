@@ -1,7 +1,5 @@
 //! `demo`: commands that are drawn by a seed, over a machine in memory, and what came of them.
 ghost use Rattle.std.specs.Prelude.{◌≡◌, ◌≤◌, string_bytes, IfOk, Some, false};
-ghost use Rattle.std.specs.Char.{is_ascii_digit};
-ghost use Rattle.std.specs.List.{list_all};
 ghost use Rattle.boot_base.specs.Paths.{path_of};
 ghost use Rattle.boot_machine.specs.Prelude.{Counts, seen, view};
 ghost use Rattle.command_plans.specs.Prelude.{CountsUnsaid, Means, Says};
@@ -18,18 +16,13 @@ use crate::draws::Draws;
 use boot_base::{BootPath, Refusal, Text};
 use command_plans::{Declined, Unsaid};
 use memory_machine::{MemFile, MemMachine};
+use menu_order::has_digits_alone;
 use pcr_values::{Bank, Digest};
 use std::alloc::{AllocError, Global};
 use tool_words::One;
 
 /// The most commands.
 const COUNT_LIMIT: u64 = 10_000;
-
-fn has_digits_alone(word: &str) -> bool
-    ensures { result ≡ list_all is_ascii_digit word.now }
-{
-    word.bytes().all(|byte| byte.is_ascii_digit())
-}
 
 fn is_long_number(word: &str) -> bool
     ensures { result ≡ is_long_number word.now }

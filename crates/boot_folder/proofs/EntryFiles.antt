@@ -1,6 +1,6 @@
 -- The entries of boot files: what is listed is what is an entry, and each once.
 use Rattle.std.proofs.Common.{◌≡◌, ◌↔◌, ◌⊎◌, ℕ, ◌+◌, ◌*◌, ◌≤◌, Bool, true, false, T, ◌&&◌, List, [], ◌∷◌, ◌++◌, map, filter, length, Option, Some, None, is_some, is_lt, is_eq, Less, Equal, Greater, Ordering, Result, Ok, Err, refl, sym, ap, ap₂, ◌∙◌, subst, inl, inr, ⊎_elim, arith}
-use Rattle.std.specs.Prelude.{AllPairs, Contains, bytes_eq, nat_le, option_and_then, if◌then◌else◌}
+use Rattle.std.specs.Prelude.{AllPairs, Contains, bytes_eq, codes, nat_le, option_and_then, if◌then◌else◌}
 use Rattle.std.specs.List.{IsDistinct, AllByRecursion, list_any}
 use Rattle.std.specs.FinMap as map
 use Rattle.std.specs.FinMap.Entries.{below_all}
@@ -25,8 +25,9 @@ use Rattle.boot_texts.specs.BootEntries.{boots, type1_of}
 use Rattle.menu_order.proofs.Menus.{menu_of_entries, one_menu}
 use Rattle.menu_order.specs.Menu.{HaveOwnPaths, IsBefore, IsMenu}
 use Rattle.menu_order.specs.declared.item.MenuItem.{MenuItem}
-use Rattle.boot_texts.specs.OsRelease.{title_of}
+use Rattle.boot_texts.specs.OsRelease.{os_pairs, title_of}
 use Rattle.pe_reader.specs.Grammar.{Headers, pe_of}
+use Rattle.pe_reader.specs.LoadedBytes.{loaded_in}
 use Rattle.pe_reader.specs.declared.fault.FailedCheck.{FailedCheck}
 use Rattle.boot_texts.specs.KeyValues.{Pair}
 use Rattle.boot_folder.specs.Entries.{IsEntry, boot_menu, entries_of, entry_at, entry_count, entry_if, entry_in, entry_of, folder_of, own_path, stands_in, type_count}
@@ -135,21 +136,29 @@ demand_met false missing rest item is = cc
 ok_same : {X E : Type 0} (x y : X) → ◌≡◌ {A = Result X E} (Ok x) (Ok y) → x ≡ y
 ok_same x y is = cc
 
-titled_path : (path : Path) (pairs : List Pair) (item : MenuItem) → titled_item path pairs ≡ Ok item → item.path ≡ path
+titled_from : (path : Path) (pairs : List Pair) (item : MenuItem) → titled_item path pairs ≡ Ok item → item ≡ type2_item path pairs
 unfolding titled_item
-titled_path path pairs item is =
-    ap (λ (i : MenuItem). i.path) (sym (ok_same (type2_item path pairs) item (demand_met (is_some (title_of pairs)) missing.Title (Ok (type2_item path pairs)) item is)))
+titled_from path pairs item is =
+    sym (ok_same (type2_item path pairs) item (demand_met (is_some (title_of pairs)) missing.Title (Ok (type2_item path pairs)) item is))
 
-uki_path : (path : Path) (bytes : List ℕ) (read : Result Headers FailedCheck) (item : MenuItem) → uki_from path bytes read ≡ Ok item → item.path ≡ path
+pairs_from : (path : Path) (bytes : List ℕ) (read : Result Headers FailedCheck) (item : MenuItem) → uki_from path bytes read ≡ Ok item
+    → (pairs : List Pair) × (item ≡ type2_item path pairs)
 unfolding uki_from
-uki_path path bytes (Err check) item is = cc
-uki_path path bytes (Ok headers) item is =
-    titled_path path _ item (demand_met _ missing.Osrel _ item (demand_met _ missing.Linux _ item is))
+pairs_from path bytes (Err check) item is = cc
+pairs_from path bytes (Ok headers) item is =
+    let pairs = os_pairs (loaded_in bytes (codes ".osrel") (Ok headers)) in
+    (pairs, titled_from path pairs item (demand_met _ missing.Osrel _ item (demand_met _ missing.Linux _ item is)))
+
+-- the entry of an image is made of the pairs of an os-release text
+pub image_pairs : (path : Path) (bytes : List ℕ) (item : MenuItem) → entry_of Efi path bytes ≡ Some item
+    → (pairs : List Pair) × (item ≡ type2_item path pairs)
+image_pairs path bytes item is =
+    pairs_from path bytes (pe_of bytes) item (found_if (nat_le (length bytes) 268435456) (uki_of path bytes) item is)
 
 -- an entry has the path that its file was read at
 valid_path : (suffix : Suffix) (path : Path) (bytes : List ℕ) (item : MenuItem) → entry_of suffix path bytes ≡ Some item → item.path ≡ path
 valid_path Conf path bytes item is = ap (λ (i : MenuItem). i.path) (sym (some_if (nat_le (length bytes) 65536 && boots bytes) (type1_item path (type1_of bytes)) item is))
-valid_path Efi path bytes item is = uki_path path bytes (pe_of bytes) item (found_if (nat_le (length bytes) 268435456) (uki_of path bytes) item is)
+valid_path Efi path bytes item is = ap (λ (i : MenuItem). i.path) (image_pairs path bytes item is).1
 
 none_some : {X : Type 0} (x : X) → None ≡ Some x → ⊥
 none_some x e = cc

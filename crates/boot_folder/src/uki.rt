@@ -15,7 +15,7 @@ use crate::name::split_name;
 use boot_base::{BootPath, Bytes, BytesList, TEXT_LIMIT};
 use boot_machine::{Machine, read_part, zeros};
 use boot_texts::OsRelease;
-use menu_order::{MenuItem, Suffix};
+use menu_order::{MenuItem, Suffix, copy_option};
 use pe_reader::{LoadedRange, Pe};
 use std::alloc::{AllocError, Global};
 
@@ -83,16 +83,6 @@ fn type2_item(alloc: Global, path: BootPath, release: &OsRelease) -> Result<Menu
         initrds: BytesList::new(alloc),
         options: BytesList::new(alloc),
     })
-}
-
-// A copy of a value that may be absent.
-fn copy_option(alloc: Global, value: Option<&[u8]>) -> Result<Option<Bytes>, AllocError>
-    ensures { IfOk result (λ copy. copy ≡ option_copied value.entry) }
-{
-    match value {
-        Some(bytes) => Ok(Some(Bytes::of(alloc, bytes)?)),
-        None => Ok(None),
-    }
 }
 
 // Where the loaded bytes of the first section of that name stand, nowhere where there is no such section.

@@ -1,24 +1,24 @@
 -- What changes of the boot files keep the payloads that count.
-use Rattle.std.proofs.Common.{◌≡◌, ◌⊎◌, ◌&&◌, inl, inr, ℕ, Bool, true, false, List, [], ◌++◌, Option, Some, None, is_some, length, refl, sym, ap, ◌∙◌, subst, arith}
+use Rattle.std.proofs.Common.{◌≡◌, ◌⊎◌, ◌&&◌, inl, inr, ℕ, Bool, true, List, [], ◌++◌, Option, Some, None, is_some, length, refl, sym, ap, ◌∙◌, subst, arith}
 use Rattle.std.specs.Prelude.{Contains, nat_le, unwrap_or}
 use Rattle.std.specs.FinMap as map
 use Rattle.std.specs.Option.{option_to_list}
-use Rattle.std.proofs.lemmas.Bool.{cond-true, cond-false}
+use Rattle.std.proofs.lemmas.Bool.{cond-true}
 use Rattle.boot_base.specs.Paths.{Path, is_file_name, path_of, under}
 use Rattle.menu_order.specs.Splits.{has_suffix}
 use Rattle.menu_order.specs.declared.counted.Suffix.{Suffix}
 use Rattle.menu_order.specs.declared.counted.Suffix.TheVariants.{Conf, Efi}
 use Rattle.menu_order.specs.declared.item.MenuItem.{MenuItem}
 use Rattle.boot_folder.specs.Entries.{entry_of, folder_of}
-use Rattle.boot_folder.specs.Records.{type1_entry, type1_item, uki_of, value_if_ok}
+use Rattle.boot_folder.proofs.EntryFiles.{image_pairs}
+use Rattle.boot_folder.specs.Records.{type1_entry, type1_item}
 use Rattle.boot_machine.specs.Disk.{Files, has}
 use Rattle.boot_machine.specs.proofs.Maps.{cases_same, get-insert_apart, get-insert_here, get-remove_apart, get-remove_here, same_apart}
 use Rattle.boot_machine.specs.Rows.{contents, move_in}
 use Rattle.boot_texts.specs.BootEntries.{boots, type1_of}
-use Rattle.pe_reader.specs.Grammar.{pe_of}
 use Rattle.boot_texts.specs.EntryText.{is_payload_name}
 use Rattle.type1_install.specs.Payloads.{HasPayload, folders_at, path_of_value, payload_folder, payload_path}
-use Rattle.type1_install.proofs.PayloadsKept.{IsConfFile, NamedOk, NotPayload, payload_not_conf, payload_stays, some_if, uki_names, value_ok}
+use Rattle.type1_install.proofs.PayloadsKept.{IsConfFile, NamedOk, NotPayload, payload_not_conf, payload_stays, some_if}
 use Rattle.boot_history.specs.Payloads.{AreNamedThere}
 
 no_value : (value : List ℕ) → Contains [] value → ⊥
@@ -63,17 +63,9 @@ module _ (counts : List ℕ → Bool) (esp : Path) (view next : Files) (ok : Are
       absurd (none_named item bytes valid value among)
     where
       none_named : (item : MenuItem) (bytes : List ℕ) → entry_of Efi item.path bytes ≡ Some item → (value : List ℕ) → Contains (option_to_list item.linux ++ item.initrds) value → ⊥
-      none_named item bytes valid value among = by_size (nat_le (length bytes) 268435456) refl
-        where
-          by_size : (b : Bool) → nat_le (length bytes) 268435456 ≡ b → ⊥
-          by_size true is =
-              let read = value_ok (uki_of item.path bytes) item (sym (cond-true (nat_le (length bytes) 268435456) (value_if_ok (uki_of item.path bytes)) None is) ∙ valid) in
-              let made = uki_names item.path bytes (pe_of bytes) item read in
-              no_value value (subst (λ (i : MenuItem). Contains (option_to_list i.linux ++ i.initrds) value) made.1 among)
-          by_size false is = none_is (sym (cond-false (nat_le (length bytes) 268435456) (value_if_ok (uki_of item.path bytes)) None is) ∙ valid)
-            where
-              none_is : None ≡ Some item → ⊥
-              none_is e = cc
+      none_named item bytes valid value among =
+          let made = image_pairs item.path bytes item valid in
+          no_value value (subst (λ (i : MenuItem). Contains (option_to_list i.linux ++ i.initrds) value) made.1 among)
 
   pub kept_by : AreNamedThere counts esp next
   kept_by item e value among name is counted names =

@@ -4,7 +4,7 @@ use Rattle.std.proofs.lemmas.List.Elements.{All-cons, All-head, All-nil, All-tai
 use Rattle.std.specs.Prelude.{All, IfOk, Contains, codes, is_some, nat_le, nat_lt, ◌&&◌, ◌||◌, if◌then◌else◌}
 use Rattle.std.specs.FinMap as map_of
 use Rattle.std.specs.List.{list_any}
-use Rattle.std.proofs.lemmas.Bool.{and_parts, cond-true, cond-false, or_cases}
+use Rattle.std.proofs.lemmas.Bool.{and_parts, or_cases}
 use Rattle.std.proofs.lemmas.Slice.Eq.{bytes_eq-Decides}
 use Rattle.boot_base.specs.Paths.{Path, file_name_of, is_file_name, is_kept, is_slash, normal_of, path_of, under}
 use Rattle.boot_base.specs.declared.refusal.Refusal.{Refusal}
@@ -18,9 +18,9 @@ use Rattle.boot_texts.specs.BootEntries.{boots, type1_of}
 use Rattle.boot_texts.specs.declared.conf_change.ConfKey.{ConfKey}
 use Rattle.boot_texts.specs.declared.conf_change.ConfKey.TheVariants.{Default, Timeout}
 use Rattle.boot_folder.specs.Entries.{IsEntry, boot_menu, entry_count, entry_of, folder_of}
-use Rattle.boot_folder.specs.Records.{type1_item, uki_of, value_if_ok}
+use Rattle.boot_folder.specs.Records.{type1_item}
 use Rattle.boot_folder.specs.declared.folders.Folders.{Folders}
-use Rattle.boot_folder.proofs.EntryFiles.{entries_menu, one_type}
+use Rattle.boot_folder.proofs.EntryFiles.{entries_menu, image_pairs, one_type}
 use Rattle.boot_folder.proofs.Places.{file_name_under, name_parts}
 use Rattle.boot_machine.specs.Disk.{Files, has}
 use Rattle.boot_machine.specs.Rows.{move_in}
@@ -30,7 +30,6 @@ use Rattle.command_plans.specs.Declining.{path_in, path_under, printed_path}
 use Rattle.command_plans.specs.Folders.{folders_of}
 use Rattle.command_plans.specs.Menus.{menu_at}
 use Rattle.command_plans.specs.Refusing.{unless_refused}
-use Rattle.pe_reader.specs.Grammar.{pe_of}
 use Rattle.tool_words.specs.Meaning.{meaning}
 use Rattle.tool_words.specs.declared.command.Command.{Command}
 use Rattle.tool_words.specs.declared.command.Command.TheVariants as command
@@ -60,7 +59,7 @@ use Rattle.type1_install.specs.Payloads.{folders_at, payload_folder}
 use Rattle.type1_install.proofs.Cleaning.{folders_are}
 use Rattle.type1_install.proofs.Cleaning.{menu_is}
 use Rattle.type1_install.proofs.Installing.{IsNormal, under_is}
-use Rattle.type1_install.proofs.PayloadsKept.{IsConfFile, NotPayload, conf_name, payload_slash, some_if, suffix_not_payload, uki_names, value_ok}
+use Rattle.type1_install.proofs.PayloadsKept.{IsConfFile, NotPayload, conf_name, payload_slash, some_if, suffix_not_payload}
 use Rattle.type1_install.proofs.Planned.{word_normal}
 use Rattle.boot_commands.specs.Demonstration.{demo_result}
 use Rattle.boot_commands.specs.Expansions.{expansion}
@@ -99,19 +98,7 @@ no_conf esp path efi conf =
 kind_is : (suffix : Suffix) (path : Path) (bytes : List ℕ) (item : MenuItem) → entry_of suffix path bytes ≡ Some item → item.suffix ≡ suffix
 kind_is Conf path bytes item valid =
     ap (λ (i : MenuItem). i.suffix) (sym (some_if (nat_le (length bytes) 65536 && boots bytes) (type1_item path (type1_of bytes)) item valid).1)
-kind_is Efi path bytes item valid = by (nat_le (length bytes) 268435456) refl
-  where
-    none_is : {P : Type 0} → None ≡ Some item → P
-    none_is e = absurd (impossible e)
-      where
-        impossible : None ≡ Some item → ⊥
-        impossible e = cc
-
-    by : (small : Bool) → nat_le (length bytes) 268435456 ≡ small → item.suffix ≡ Efi
-    by true is =
-        let read = value_ok (uki_of path bytes) item (sym (cond-true (nat_le (length bytes) 268435456) (value_if_ok (uki_of path bytes)) None is) ∙ valid) in
-        ap (λ (i : MenuItem). i.suffix) (uki_names path bytes (pe_of bytes) item read).1
-    by false is = none_is (sym (cond-false (nat_le (length bytes) 268435456) (value_if_ok (uki_of path bytes)) None is) ∙ valid)
+kind_is Efi path bytes item valid = ap (λ (i : MenuItem). i.suffix) (image_pairs path bytes item valid).1
 
 in_menu : (menu : List MenuItem) (item : MenuItem) → first_of menu ≡ Ok item → Contains menu item
 in_menu [] item is = absurd (err_ok refusals.NoEntries item is)

@@ -14,7 +14,8 @@ use boot_machine::{Machine, read_part, zeros};
 use pe_reader::{HeadFault, Pe, PeReason};
 use std::alloc::{AllocError, Global};
 
-fn too_large(alloc: Global, path: &BootPath, size: u64) -> Result<Refusal, AllocError>
+/// The refusal of a file of so many bytes, or of an image that would have so many: they are too many.
+pub fn too_large(alloc: Global, path: &BootPath, size: u64) -> Result<Refusal, AllocError>
     ensures { IfOk result (λ why. why ≡ Refusal.TooLarge (printed_path path.now) size) }
 {
     let path = printed_path(alloc, path)?;

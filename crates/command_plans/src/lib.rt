@@ -28,7 +28,7 @@ pub use changes::{gone_line, installed_text, plan_copy, plan_removal, printed_li
 pub use choices::{banks_of, paths_of};
 pub use declined::{Declined, check_name, not_there, path_in, path_under, printed_path};
 pub use files::{
-    file_bytes, file_part, head_of_size, image_head, not_pe, readable_size, sized_head,
+    file_bytes, file_part, head_of_size, image_head, not_pe, readable_size, sized_head, too_large,
 };
 pub use lists::push;
 pub use menus::{folders_in, menu_at};

@@ -1,15 +1,15 @@
 //! Where loader.conf and the entries stand, and what is read of them.
-ghost use Rattle.std.specs.Prelude.{◌≡◌, IfOk, IsTrue};
+ghost use Rattle.std.specs.Prelude.{IsTrue};
 ghost use Rattle.boot_base.specs.Limits.{text_limit};
 ghost use Rattle.boot_machine.specs.Prelude.{Looks, TakesAtMost, seen};
-ghost use Rattle.command_plans.specs.Prelude.{CountsUnsaid, Means, Says, printed_path};
+ghost use Rattle.command_plans.specs.Prelude.{CountsUnsaid, Means, Says};
 ghost use Rattle.loader_commands.specs.Places.{conf_bytes, conf_path, loader_paths};
 
-use boot_base::{BootPath, Refusal, TEXT_LIMIT};
+use boot_base::{BootPath, TEXT_LIMIT};
 use boot_folder::Folders;
 use boot_machine::Machine;
 use command_plans::{
-    Declined, Unsaid, file_part, folders_in, path_in, path_under, printed_path, seen_size,
+    Declined, Unsaid, file_part, folders_in, path_in, path_under, seen_size, too_large,
 };
 use std::alloc::{AllocError, Global};
 
@@ -40,14 +40,6 @@ pub(crate) fn loader_paths(alloc: Global, esp: &str) -> Result<LoaderPaths, Decl
     Ok(LoaderPaths { folders, conf })
 }
 
-/// The refusal of a loader.conf of so many bytes.
-pub(crate) fn too_long(alloc: Global, path: &BootPath, size: u64) -> Result<Refusal, AllocError>
-    ensures { IfOk result (λ why. why ≡ Refusal.TooLarge (printed_path path.now) size) }
-{
-    let path = printed_path(alloc, path)?;
-    Ok(Refusal::TooLarge { path, size })
-}
-
 /// The bytes of the loader.conf at a path, as many as it is told to have: none where no file is there.
 pub(crate) fn conf_bytes<M: Machine>(
     alloc: Global,
@@ -61,7 +53,7 @@ pub(crate) fn conf_bytes<M: Machine>(
 {
     match seen_size(path, machine)? {
         None => Ok(Vec::new(alloc)),
-        Some(size) if size > TEXT_LIMIT => Err(Unsaid::Refused(too_long(alloc, path, size)?)),
+        Some(size) if size > TEXT_LIMIT => Err(Unsaid::Refused(too_large(alloc, path, size)?)),
         Some(size) => file_part(alloc, path, 0, size, machine),
     }
 }

@@ -9,11 +9,11 @@ ghost use Rattle.boot_texts.specs.Conf.{IsConfValue, conf_key_name};
 ghost use Rattle.boot_texts.specs.FileLines.{text_with_value};
 ghost use Rattle.boot_texts.specs.declared.conf_change.ConfKey.TheVariants as keys;
 
-use crate::places::{conf_bytes, conf_path, too_long};
+use crate::places::{conf_bytes, conf_path};
 use boot_base::{BootPath, Bytes, Refusal, TEXT_LIMIT, Target, Text};
 use boot_machine::Machine;
 use boot_texts::{ConfKey, may_be_value, with_key};
-use command_plans::{Change, Declined, Outcome, Plan, Stop, Unsaid, answer_or_refusal};
+use command_plans::{Change, Declined, Outcome, Plan, Stop, Unsaid, answer_or_refusal, too_large};
 use std::alloc::{AllocError, Global};
 
 /// A change of a loader.conf: where it is written, its whole new text, and what is told of it.
@@ -52,7 +52,7 @@ fn within_limit(alloc: Global, path: &BootPath, text: Vec<u8>) -> Result<Vec<u8>
 {
     let size = text.len() as u64;
     if size > TEXT_LIMIT {
-        return Err(Unsaid::Refused(too_long(alloc, path, size)?));
+        return Err(Unsaid::Refused(too_large(alloc, path, size)?));
     }
     Ok(text)
 }

@@ -233,8 +233,8 @@ fn is_number(text: &str) -> bool
     !text.is_empty() && text.len() <= 9 && has_digits_alone(text)
 }
 
-// Whether each byte of a text is a digit.
-fn has_digits_alone(text: &str) -> bool
+/// Whether each byte of a text is a digit.
+pub fn has_digits_alone(text: &str) -> bool
     ensures { result ≡ list_all is_ascii_digit text.now }
 {
     text.bytes().all(|byte| byte.is_ascii_digit())

@@ -16,10 +16,10 @@ mod version;
 mod version_key;
 
 pub use bless::{BlessChoice, BlessVerb, Present, bless_choice};
-pub use counted::{Counted, MAX_COUNT, Suffix, counter_laws, read_count};
+pub use counted::{Counted, MAX_COUNT, Suffix, counter_laws, has_digits_alone, read_count};
 pub use install_name::is_install_name;
 pub use item::{Counter, MenuItem};
-pub use key::MenuKey;
+pub use key::{MenuKey, copy_option};
 pub use menu::{menu_laws, sort_menu};
 pub use version::{compare_versions, version_laws};
 pub use version_key::VersionKey;

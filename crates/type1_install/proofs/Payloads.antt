@@ -1,8 +1,7 @@
 -- The payloads that files are.
-use Rattle.std.proofs.Common.{◌≡◌, ◌≤◌, ◌<◌, ℕ, suc, true, List, [], ◌∷◌, ◌++◌, Result, Ok, eqb, length, take, drop, get_or, refl, sym, ap, ◌∙◌, subst, arith, append-nil}
+use Rattle.std.proofs.Common.{◌≡◌, ◌<◌, ℕ, suc, true, List, [], ◌∷◌, ◌++◌, Result, Ok, eqb, length, take, get_or, refl, sym, ap, ◌∙◌, subst, arith}
 use Rattle.std.specs.List.{list_all}
 use Rattle.std.proofs.lemmas.Bool.{and_from}
-use Rattle.std.proofs.lemmas.List.{take_all}
 use Rattle.hex.specs.Hex.{encode_lower}
 use Rattle.boot_base.specs.Paths.{Path}
 use Rattle.boot_base.specs.declared.refusal.Refusal.{Refusal}
@@ -11,8 +10,6 @@ use Rattle.boot_machine.specs.Rows.{contents}
 use Rattle.boot_texts.specs.EntryText.{is_hex_lower, is_payload_name}
 use Rattle.pcr_values.specs.Banks.{digest_of}
 use Rattle.pcr_values.specs.declared.bank.Bank.TheVariants.{Sha256}
-use Rattle.pe_reader.specs.LoadedBytes.{bytes_in}
-use Rattle.pe_reader.specs.declared.section.LoadedRange.{LoadedRange}
 use Rattle.command_plans.specs.Declining.{◌>>=◌}
 use Rattle.command_plans.specs.Files.{bytes_at, each}
 use Rattle.command_plans.specs.Unsaying.{UnsaidFor}
@@ -25,18 +22,7 @@ use Rattle.type1_install.specs.Payloads.{payload_name}
 use Rattle.type1_install.specs.Shown.{payload_at}
 use Rattle.type1_install.proofs.PayloadNames.{AreSmall, hex_digits, hex_length}
 
--- ---- the digest of a whole file
-
-abbrev pub whole_range : ℕ → LoadedRange
-whole_range size = record { place = 0; length = size; zeros = 0 }
-
-pub whole_bytes : (bytes : List ℕ) (size : ℕ) → length bytes ≡ size → bytes_in bytes (whole_range size) ≡ bytes
-whole_bytes bytes size same = append-nil (take size bytes) ∙ take_all size bytes (omega (arith, same))
-
-pub whole_there : (bytes : List ℕ) (size : ℕ) → length bytes ≡ size → size ≤ length (drop 0 bytes)
-whole_there bytes size same = omega (arith, same)
-
--- ---- its digits
+-- ---- the digits of a digest
 
 small_from : (bytes : List ℕ) → ((i : ℕ) → get_or bytes i 0 < 256) → AreSmall bytes
 small_from [] all = tt

@@ -1,6 +1,6 @@
 -- What changes of the boot files keep the payloads of entries.
-use Rattle.std.proofs.Common.{◌≡◌, ◌≢◌, ◌&&◌, inl, inr, ℕ, Bool, true, false, not, eqb, List, [], ◌∷◌, ◌++◌, Some, None, Result, Ok, Err, is_some, length, refl, sym, ap, ◌∙◌, arith}
-use Rattle.std.specs.Prelude.{Contains, codes, if◌then◌else◌, nat_le}
+use Rattle.std.proofs.Common.{◌≡◌, ◌≢◌, ◌&&◌, inl, inr, ℕ, Bool, true, false, eqb, List, [], ◌∷◌, ◌++◌, Some, None, length, refl, sym, ap, ◌∙◌, arith}
+use Rattle.std.specs.Prelude.{Contains, if◌then◌else◌, nat_le}
 use Rattle.std.specs.FinMap as map
 use Rattle.std.specs.List.{list_all, list_any}
 use Rattle.std.specs.Option.{option_to_list}
@@ -11,19 +11,10 @@ use Rattle.menu_order.specs.Splits.{has_suffix, stem_of}
 use Rattle.menu_order.proofs.Splitting.{suffix_cut}
 use Rattle.menu_order.specs.declared.counted.Suffix.{Suffix}
 use Rattle.menu_order.specs.declared.counted.Suffix.TheVariants.{Conf, Efi}
-use Rattle.menu_order.specs.declared.item.MenuItem.{MenuItem}
-use Rattle.boot_folder.specs.Records.{Unfit, titled_item, type2_item, uki_from, unless_missing, value_if_ok, is_os_length}
-use Rattle.boot_folder.specs.declared.fault.Missing.{Missing}
-use Rattle.boot_folder.specs.declared.fault.Missing.TheVariants as missing
 use Rattle.boot_folder.proofs.Places.{file_name_under, name_parts}
 use Rattle.boot_machine.specs.Disk.{Files, has}
 use Rattle.boot_machine.specs.proofs.Maps.{cases_same, get-insert_apart, get-insert_here}
 use Rattle.boot_texts.specs.BootEntries.{type1_of}
-use Rattle.boot_texts.specs.OsRelease.{os_pairs, title_of}
-use Rattle.boot_texts.specs.KeyValues.{Pair}
-use Rattle.pe_reader.specs.Grammar.{Headers}
-use Rattle.pe_reader.specs.LoadedBytes.{loaded_in}
-use Rattle.pe_reader.specs.declared.fault.FailedCheck.{FailedCheck}
 use Rattle.boot_texts.specs.EntryText.{is_hex_lower, is_payload_name}
 use Rattle.type1_install.specs.Payloads.{HasPayload, folders_at, path_of_value, payload_folder, payload_name, payload_path}
 use Rattle.type1_install.proofs.PayloadNames.{payload_name_fits}
@@ -130,26 +121,3 @@ NamedOk esp view text =
 pub some_if : {A : Type 0} (b : Bool) (x y : A) → (if b then Some x else None) ≡ Some y → (b ≡ true) × (x ≡ y)
 some_if true x y is = (refl, cc)
 some_if false x y is = cc
-
-unless_ok : (holds : Bool) (why : Missing) (rest : Result MenuItem Unfit) (item : MenuItem) → unless_missing holds why rest ≡ Ok item → rest ≡ Ok item
-unless_ok true why rest item is = is
-unless_ok false why rest item is = cc
-
-ok_same : (a b : MenuItem) → ◌≡◌ {A = Result MenuItem Unfit} (Ok a) (Ok b) → a ≡ b
-ok_same a b is = cc
-
-pub value_ok : (read : Result MenuItem Unfit) (item : MenuItem) → value_if_ok read ≡ Some item → read ≡ Ok item
-value_ok (Ok a) item is = cc
-value_ok (Err why) item is = cc
-
--- an image names no payload
-pub uki_names : (path : Path) (bytes : List ℕ) (read : Result Headers FailedCheck) (item : MenuItem) → uki_from path bytes read ≡ Ok item
-    → (pairs : List Pair) × (item ≡ type2_item path pairs)
-unfolding uki_from titled_item
-uki_names path bytes (Err check) item is = cc
-uki_names path bytes (Ok headers) item is =
-    let pairs = os_pairs (loaded_in bytes (codes ".osrel") (Ok headers)) in
-    let two = unless_ok (not (eqb (length (loaded_in bytes (codes ".linux") (Ok headers))) 0)) missing.Linux _ item is in
-    let three = unless_ok (is_os_length (length (loaded_in bytes (codes ".osrel") (Ok headers)))) missing.Osrel _ item two in
-    let four = unless_ok (is_some (title_of pairs)) missing.Title _ item three in
-    (pairs, sym (ok_same (type2_item path pairs) item four))

@@ -1,51 +1,26 @@
 //! The payloads that files are, found by reads in pieces.
-ghost use Rattle.std.specs.Prelude.{◌≡◌, ◌≤◌, true, length, sum_by, All, IfOk, IsTrue};
+ghost use Rattle.std.specs.Prelude.{◌≡◌, true, length, sum_by, All, IfOk, IsTrue};
 ghost use Rattle.hex.specs.Hex.{encode_lower};
-ghost use Rattle.boot_base.specs.Limits.{file_limit};
-ghost use Rattle.boot_machine.specs.Prelude.{CountsDisk, Looks, TakesAtMost, contents, seen};
+ghost use Rattle.boot_machine.specs.Prelude.{Looks, TakesAtMost, seen};
 ghost use Rattle.boot_texts.specs.EntryText.{is_payload_name};
-ghost use Rattle.pcr_values.specs.Prelude.{digest_of, bank_of, bytes_of_digest};
+ghost use Rattle.pcr_values.specs.Prelude.{bank_of, bytes_of_digest};
 ghost use Rattle.pcr_values.specs.declared.bank.Bank.TheVariants.{Sha256};
 ghost use Rattle.command_plans.specs.Prelude.{CountsUnsaid, Says, bytes_at, each};
 ghost use Rattle.type1_install.specs.Installing.{digesting_length};
 ghost use Rattle.type1_install.specs.Shown.{HasPayloadName, payload_at};
 
 use boot_base::{BootPath, Buffer, Text};
-use boot_machine::{DiskFault, Machine};
+use boot_machine::Machine;
 use command_plans::{Unsaid, push, readable_size};
+use file_digests::file_digest;
 use pcr_values::{Bank, Digest};
-use pe_reader::LoadedRange;
 use std::alloc::{AllocError, Global};
-use stub_replay::range_digest;
 
 /// A file with the name of its payload.
 #[derive(Drop)]
 pub(crate) struct Payload {
     pub(crate) file: BootPath,
     pub(crate) name: Text,
-}
-
-// The SHA-256 digest of the file of `size` bytes at a path.
-fn file_digest<M: Machine>(
-    path: &BootPath,
-    size: u64,
-    machine: &mut M,
-    buffer: &mut Buffer,
-) -> Result<Digest, DiskFault>
-    requires limit { size ≤ file_limit }
-    ensures bank { IfOk result (λ digest. bank_of digest ≡ Sha256) }
-    ensures value { IfOk result (λ digest. IsTrue M.tells
-        → length (contents (M.state machine.old).files path.now) ≡ size
-        → bytes_of_digest digest ≡ digest_of Sha256 (contents (M.state machine.old).files path.now)) }
-    ensures looks { Looks M.tells M.time M.state M.counts (CountsDisk result) machine.old machine.new }
-    ensures taken { IsTrue M.tells → TakesAtMost size (M.taken machine.old) (M.taken machine.new) }
-{
-    let range = LoadedRange {
-        place: 0,
-        length: size,
-        zeros: 0,
-    };
-    range_digest(Bank::Sha256, machine, path, range, buffer)
 }
 
 // The digest in digits.
@@ -81,7 +56,7 @@ pub(crate) fn payload_at<M: Machine>(
         (M.taken machine.new) }
 {
     let size = readable_size(alloc, file, machine)?;
-    let digest = file_digest(file, size, machine, buffer)?;
+    let digest = file_digest(Bank::Sha256, machine, file, size, buffer)?;
     let name = name_of(alloc, &digest)?;
     let file = file.copy(alloc)?;
     Ok(Payload { file, name })
