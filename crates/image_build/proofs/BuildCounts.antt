@@ -60,7 +60,8 @@ pub record AreBehind (words rest : List Word) : Type 0 where
 chosen_words : (c d : CommandName) (words rest : List Word) → (let r : Result (CommandName × List Word) UsageReason = Ok (c, words) in r) ≡ Ok (d, rest) → (c ≡ d) × (words ≡ rest)
 chosen_words c d words rest is = let same : (c, words) ≡ (d, rest) = cc is in (ap (λ (p : CommandName × List Word). p.0) same, ap (λ (p : CommandName × List Word). p.1) same)
 
-behind_verb : (found : Option CommandName) (first verb : Word) (words : List Word) (c : CommandName) (rest : List Word) → found_verb found verb words ≡ Ok (c, rest) → AreBehind (first ∷ verb ∷ words) rest
+behind_verb : (found : Option CommandName) (first verb : Word) (words : List Word) (c : CommandName) (rest : List Word)
+    → found_verb found verb words ≡ Ok (c, rest) → AreBehind (first ∷ verb ∷ words) rest
 behind_verb None first verb words c rest is = cc
 behind_verb (Some d) first verb words c rest is =
     subst (AreBehind (first ∷ verb ∷ words)) (chosen_words d c words rest is).1 (record { fewer = omega arith; short = λ short. short.1.1 })
@@ -76,7 +77,8 @@ behind_by false d first words c rest has verbs is =
     let same = (chosen_words d c words rest is).0 in
     absurd (let no : true ≡ false = sym verbs ∙ ap (λ (e : CommandName). is_some (row e).verb) (sym same) ∙ has in cc no)
 
-behind_found : (found : Option CommandName) (first : Word) (words : List Word) (c : CommandName) (rest : List Word) → is_some (row c).verb ≡ true → found_name found first words ≡ Ok (c, rest) → AreBehind (first ∷ words) rest
+behind_found : (found : Option CommandName) (first : Word) (words : List Word) (c : CommandName) (rest : List Word) → is_some (row c).verb ≡ true
+    → found_name found first words ≡ Ok (c, rest) → AreBehind (first ∷ words) rest
 behind_found None first words c rest verbs is = cc
 behind_found (Some d) first words c rest verbs is = behind_by (is_some (row d).verb) d first words c rest refl verbs is
 
@@ -155,7 +157,9 @@ wanted_light found sections short is =
     (omega (arith, each_length section_of extras sections is, repeated_few (repeats name.Build (codes "--section")) (all_values (codes "--section") found)))
     (sections_short extras sections (repeated_short (repeats name.Build (codes "--section")) (all_values (codes "--section") found) (values (codes "--section"))) is) in
     subst (λ (n : ℕ). AreLight n (wanted_parts (build_words (gather_items name.Build found)) sections))
-    (sym (nine f (codes "--os-release") (codes "--cmdline") (codes "--devicetree") (codes "--uname") (codes "--splash") (codes "--pcrpkey") (codes "--initrd") (codes "--microcode") (codes "--section")))
+    (sym
+    (nine f (codes "--os-release") (codes "--cmdline") (codes "--devicetree") (codes "--uname") (codes "--splash") (codes "--pcrpkey")
+    (codes "--initrd") (codes "--microcode") (codes "--section")))
     (light_more _ _ _ _
     (light_more _ _ _ _
     (light_more _ _ _ _
@@ -182,7 +186,8 @@ record IsBuiltOf (words : List Word) (build : BuildWords) : Type 0 where
   items_are : items name.Build rest ≡ Ok found
   words_are : build_words (gather_items name.Build found) ≡ build
 
-built_with : (c : CommandName) (words rest : List Word) (build : BuildWords) (found : List Item) → command_of words ≡ Ok (c, rest) → items c rest ≡ Ok found → command_with c found ≡ Ok (command.One (one.Build build)) → IsBuiltOf words build
+built_with : (c : CommandName) (words rest : List Word) (build : BuildWords) (found : List Item) → command_of words ≡ Ok (c, rest)
+    → items c rest ≡ Ok found → command_with c found ≡ Ok (command.One (one.Build build)) → IsBuiltOf words build
 built_with c words rest build found chosen read is =
     let count = bound (check_count (row c).operands (length (operands found))) _ (command.One (one.Build build)) is in
     let required = bound (all_required c (gather_items c found).last) _ (command.One (one.Build build)) count.2 in
@@ -274,5 +279,7 @@ build_bounded words build named is names =
     subst (λ (w : BuildWords). if_given source_of w.parts.sbat ≡ Ok named.sbat) (sym built.words_are) parts.3 in
     record {
       parts = record { few = omega (arith, bounds.few, most); light = omega (arith, bounds.light, most) };
-      sbat = sbat_short (last_option_value (codes "--sbat") built.found) named.sbat (last_is_short None (all_values (codes "--sbat") built.found) tt (values_short (codes "--sbat") built.found few.short)) said;
+      sbat =
+          sbat_short (last_option_value (codes "--sbat") built.found) named.sbat
+          (last_is_short None (all_values (codes "--sbat") built.found) tt (values_short (codes "--sbat") built.found few.short)) said;
     }

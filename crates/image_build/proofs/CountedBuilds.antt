@@ -31,7 +31,8 @@ use Rattle.image_build.proofs.Lines.{entries_before, entries_long, merged_long}
 abbrev ended_length : List ℕ → ℕ
 ended_length piece = length piece + 1
 
-in_limit : (b : Bool) (why : Refusal) (bytes found : List ℕ) → nat_lt file_limit (length bytes) ≡ b → (let r : Result (List ℕ) Refusal = if b then Err why else Ok bytes in r) ≡ Ok found → length found ≤ 268435456
+in_limit : (b : Bool) (why : Refusal) (bytes found : List ℕ) → nat_lt file_limit (length bytes) ≡ b
+    → (let r : Result (List ℕ) Refusal = if b then Err why else Ok bytes in r) ≡ Ok found → length found ≤ 268435456
 in_limit true why bytes found small is = cc
 in_limit false why bytes found small is = subst (λ (l : List ℕ). length l ≤ 268435456) (cc is) (ltb-false 268435456 (length bytes) small)
 
@@ -85,7 +86,9 @@ builds_countable words build from built view is names read means =
     let parts = bind_ok (each (part_bytes view) (named_as from).parts) _ found.0 linux.2 in
     let sbat = bind_ok (given_sbat view from.sbat) _ found.0 parts.2 in
     let same : record { stub = stub.0; linux = linux.0; parts = parts.0; sbat = sbat.0 } ≡ found.0 = cc sbat.2 in
-    let long = sbat_long (record { stub = stub.0; linux = linux.0; parts = parts.0; sbat = sbat.0 }) (read_limit from.stub (get view from.stub) stub.0 stub.1) (read_limit from.linux (get view from.linux) linux.0 linux.1)
+    let long =
+    sbat_long (record { stub = stub.0; linux = linux.0; parts = parts.0; sbat = sbat.0 })
+    (read_limit from.stub (get view from.stub) stub.0 stub.1) (read_limit from.linux (get view from.linux) linux.0 linux.1)
     (given_limit view from.sbat sbat.0 bounds.sbat sbat.1) in
     let whole : record { headers = made.0; stub = found.0.stub; linux = found.0.linux; parts = found.0.parts; sbat = sbat_of found.0 } ≡ material_as (contents view) built = cc made.2 in
     let text : sbat_of found.0 ≡ built.sbat.items = ap (λ (m : Material). m.sbat) whole in

@@ -75,7 +75,9 @@ filled_read files (part ∷ parts) pieced =
     let first = part_as files part in
     ap (λ (n : ℕ). cond (not (n == 0)) (first ∷ filter has_bytes (map (part_as files) parts)) (filter has_bytes (map (part_as files) parts))) here
     ∙ ap (λ (l : List (SectionName × List ℕ)). cond (not (part.length == 0)) (first ∷ l) l) rest
-    ∙ elim (part.length == 0) as (λ b. cond (not b) (first ∷ map (part_as files) (filter is_filled parts)) (map (part_as files) (filter is_filled parts)) ≡ map (part_as files) (cond (not b) (part ∷ filter is_filled parts) (filter is_filled parts))) [
+    ∙ elim (part.length == 0) as
+    (λ b. cond (not b) (first ∷ map (part_as files) (filter is_filled parts)) (map (part_as files) (filter is_filled parts)) ≡ map (part_as files)
+    (cond (not b) (part ∷ filter is_filled parts) (filter is_filled parts))) [
       | true ↦ refl
       | false ↦ refl
     ]
@@ -114,7 +116,8 @@ refusal_read output h files stub parts in_place sbat refused pieced len is =
 image_for : (output : Path) (plan : Plan) (sources : Sources) (view : Files) (h : Headers) (in_place : Option ℕ) → pe_of (contents view (stub_path sources)) ≡ Ok h
     → All (IsPieced (contents view)) (part_list sources) → option_map length (sbat_if_in_place in_place (new_sbat sources)) ≡ in_place
     → PlansImage plan h (length (contents view (stub_path sources))) (map any_size (part_list sources)) in_place
-    → image_of_parts output h (contents view (stub_path sources)) (map (part_as (contents view)) (part_list sources)) (sbat_if_in_place in_place (new_sbat sources)) ≡ built output (planned_image plan sources view)
+    → image_of_parts output h (contents view (stub_path sources)) (map (part_as (contents view)) (part_list sources))
+    (sbat_if_in_place in_place (new_sbat sources)) ≡ built output (planned_image plan sources view)
 image_for output plan sources view h in_place reads pieced len plans =
     let files = contents view in
     let stub = files (stub_path sources) in
@@ -150,7 +153,9 @@ images_plan view h n in_place image read plans =
 images_made : (view : Files) (h : Headers) (n : ℕ) (stub : Path) (parts : List Part) (in_place : Option ℕ) (sbat : List ℕ) (image : ImagePlan) → Read view h n stub parts in_place sbat
     → IsPlanOf image h n stub parts in_place sbat → Images view (parts_meant view h stub parts in_place sbat) (Ok image)
 images_made view h n stub parts in_place sbat image read is =
-    let F : Path → List Part → List ℕ → Type 0 = λ p l s. Read view h n p l in_place s → PlansImage image.plan h n (map any_size l) in_place → Images view (parts_meant view h p l in_place s) (Ok image) in
+    let F : Path → List Part → List ℕ → Type 0 =
+    λ p l s. Read view h n p l in_place s → PlansImage image.plan h n (map any_size l) in_place → Images view (parts_meant view h p l in_place s)
+    (Ok image) in
     let all : F stub parts sbat =
     subst (λ (p : Path). F p parts sbat) is.stub_is
     (subst (λ (l : List Part). F (stub_path image.sources) l sbat) is.parts_are
@@ -178,7 +183,8 @@ images_parts view h n stub parts in_place sbat (Ok image) read is = images_made 
 images_parts view h n stub parts in_place sbat (Err faults.Memory) read is = tt
 images_parts view h n stub parts in_place sbat (Err fault) read is = images_refused view h n stub parts in_place sbat fault read is
 
-pub images_as : (view : Files) (meant other : Path → Result BuiltImage Refusal) (result : Result ImagePlan PlanFault) → ((output : Path) → other output ≡ meant output) → Images view meant result → Images view other result
+pub images_as : (view : Files) (meant other : Path → Result BuiltImage Refusal) (result : Result ImagePlan PlanFault)
+    → ((output : Path) → other output ≡ meant output) → Images view meant result → Images view other result
 images_as view meant other (Ok image) same is = (is.0, λ output. same output ∙ is.1 output)
 images_as view meant other (Err faults.Memory) same is = tt
 images_as view meant other (Err fault) same is = λ output why told. same output ∙ is output why told
@@ -225,17 +231,22 @@ images_without view h n stub parts list linux sbat result are is none planned re
     images_as view (parts_meant view h stub list None sbat) (image_result view h stub parts linux sbat) result
     (λ output.
     meant_without view h stub parts linux sbat output none
-    ∙ ap (λ (l : List (SectionName × List ℕ)). image_of_parts output h (contents view stub) l None) (listed_read (contents view) parts linux are.name pieced ∙ ap (map (part_as (contents view))) (sym is)))
+    ∙ ap (λ (l : List (SectionName × List ℕ)). image_of_parts output h (contents view stub) l None)
+    (listed_read (contents view) parts linux are.name pieced ∙ ap (map (part_as (contents view))) (sym is)))
     (images_parts view h n stub list None sbat result (filled_are_read view h n stub parts (parts ++ linux ∷ []) list linux None sbat read pieced is refl) planned)
 
 meant_in_place : (view : Files) (h : Headers) (stub : Path) (parts : List Part) (linux : Part) (sbat : List ℕ) (output : Path) → 0 < length sbat → has_sbat h ≡ true
     → image_result view h stub parts linux sbat output
-    ≡ image_of_parts output h (contents view stub) (filter has_bytes (map (part_as (contents view)) parts ++ (padded_name (codes ".linux"), bytes_of (contents view) linux.pieces.items) ∷ [])) (Some sbat)
+    ≡ image_of_parts output h (contents view stub)
+    (filter has_bytes (map (part_as (contents view)) parts ++ (padded_name (codes ".linux"), bytes_of (contents view) linux.pieces.items) ∷ []))
+    (Some sbat)
 meant_in_place view h stub parts linux [] output some has = absurd (omega arith)
 meant_in_place view h stub parts linux (byte ∷ text) output some has = rw has refl
 
 -- with one in the place of the stub's
-pub images_in_place : (view : Files) (h : Headers) (n : ℕ) (stub : Path) (parts list : List Part) (linux : Part) (sbat : List ℕ) (count : ℕ) (result : Result ImagePlan PlanFault) → AreOrdered parts linux
+pub images_in_place : (view : Files) (h : Headers) (n : ℕ) (stub : Path) (parts list : List Part) (linux : Part) (sbat : List ℕ) (count : ℕ)
+    (result : Result ImagePlan PlanFault)
+    → AreOrdered parts linux
     → list ≡ filter is_filled (parts ++ linux ∷ []) → 0 < length sbat → has_sbat h ≡ true → length sbat ≡ count → PlansParts h n stub list (Some count) sbat result → AreRead view h n stub parts linux
     → Images view (image_result view h stub parts linux sbat) result
 images_in_place view h n stub parts list linux sbat count result are is some has len planned read =
@@ -243,12 +254,18 @@ images_in_place view h n stub parts list linux sbat count result are is some has
     images_as view (parts_meant view h stub list (Some count) sbat) (image_result view h stub parts linux sbat) result
     (λ output.
     meant_in_place view h stub parts linux sbat output some has
-    ∙ ap (λ (l : List (SectionName × List ℕ)). image_of_parts output h (contents view stub) l (Some sbat)) (listed_read (contents view) parts linux are.name pieced ∙ ap (map (part_as (contents view))) (sym is)))
-    (images_parts view h n stub list (Some count) sbat result (filled_are_read view h n stub parts (parts ++ linux ∷ []) list linux (Some count) sbat read pieced is (ap (λ (k : ℕ). let o : Option ℕ = Some k in o) len)) planned)
+    ∙ ap (λ (l : List (SectionName × List ℕ)). image_of_parts output h (contents view stub) l (Some sbat))
+    (listed_read (contents view) parts linux are.name pieced ∙ ap (map (part_as (contents view))) (sym is)))
+    (images_parts view h n stub list (Some count) sbat result
+    (filled_are_read view h n stub parts (parts ++ linux ∷ []) list linux (Some count) sbat read pieced is
+    (ap (λ (k : ℕ). let o : Option ℕ = Some k in o) len)) planned)
 
 text_pieced : (files : Reading) (part : Part) (text : List ℕ) → IsSbatPart part text → IsPieced files part
 text_pieced files part text is = record {
-  sizes = subst (HasSizes files) (sym is.pieces_are) (All-cons (λ piece. length (piece_bytes files piece) ≡ piece_length piece) (pieces.Bytes text) [] refl (All-nil (λ piece. length (piece_bytes files piece) ≡ piece_length piece)));
+  sizes =
+      subst (HasSizes files) (sym is.pieces_are)
+      (All-cons (λ piece. length (piece_bytes files piece) ≡ piece_length piece) (pieces.Bytes text) [] refl
+      (All-nil (λ piece. length (piece_bytes files piece) ≡ piece_length piece)));
   total = ap total_length is.pieces_are ∙ sum_by-cons piece_length (pieces.Bytes text) [] ∙ omega (arith, is.length_is);
 }
 
@@ -260,7 +277,11 @@ text_read files part text is =
 
 meant_as_part : (view : Files) (h : Headers) (stub : Path) (parts : List Part) (linux : Part) (sbat : List ℕ) (output : Path) → 0 < length sbat → has_sbat h ≡ false
     → image_result view h stub parts linux sbat output
-    ≡ image_of_parts output h (contents view stub) (filter has_bytes (map (part_as (contents view)) parts ++ (padded_name sbat_name, sbat) ∷ (padded_name (codes ".linux"), bytes_of (contents view) linux.pieces.items) ∷ [])) None
+    ≡ image_of_parts output h (contents view stub)
+    (filter has_bytes
+    (map (part_as (contents view)) parts ++ (padded_name sbat_name, sbat) ∷
+    (padded_name (codes ".linux"), bytes_of (contents view) linux.pieces.items) ∷ []))
+    None
 meant_as_part view h stub parts linux [] output some has = absurd (omega arith)
 meant_as_part view h stub parts linux (byte ∷ text) output some has = rw has refl
 
@@ -274,7 +295,9 @@ text_listed files parts linux part text is =
     ∙ ap (λ (l : List (SectionName × List ℕ)). l ++ kernel ∷ []) (sym (map-append (part_as files) parts (part ∷ [])))
 
 -- with one as a part
-pub images_as_part : (view : Files) (h : Headers) (n : ℕ) (stub : Path) (parts list : List Part) (linux part : Part) (sbat none : List ℕ) (result : Result ImagePlan PlanFault) → AreOrdered parts linux → IsSbatPart part sbat
+pub images_as_part : (view : Files) (h : Headers) (n : ℕ) (stub : Path) (parts list : List Part) (linux part : Part) (sbat none : List ℕ)
+    (result : Result ImagePlan PlanFault)
+    → AreOrdered parts linux → IsSbatPart part sbat
     → list ≡ filter is_filled ((parts ++ part ∷ []) ++ linux ∷ []) → 0 < length sbat → has_sbat h ≡ false → PlansParts h n stub list None none result → AreRead view h n stub parts linux
     → Images view (image_result view h stub parts linux sbat) result
 images_as_part view h n stub parts list linux part sbat none result are holds is some has planned read =
@@ -294,7 +317,8 @@ refused_by : (P : Plan → Type 0) (h : Headers) (n : ℕ) (stub : Path) (parts 
 refused_by P h n stub parts in_place sbat faults.Memory made = tt
 refused_by P h n stub parts in_place sbat fault made = made
 
-pub plan_refused : (P : Plan → Type 0) (h : Headers) (n : ℕ) (stub : Path) (parts : List Part) (sizes : List WideSize) (in_place : Option ℕ) (sbat : List ℕ) (fault : PlanFault) (result : Result ImagePlan PlanFault)
+pub plan_refused : (P : Plan → Type 0) (h : Headers) (n : ℕ) (stub : Path) (parts : List Part) (sizes : List WideSize) (in_place : Option ℕ)
+    (sbat : List ℕ) (fault : PlanFault) (result : Result ImagePlan PlanFault)
     → sizes ≡ map any_size parts → Makes P (Err fault) (first_refusal h n sizes in_place) → IsErr result → IsErrAnd result (λ e. e ≡ fault) → PlansParts h n stub parts in_place sbat result
 plan_refused P h n stub parts sizes in_place sbat fault (Ok image) is made failed same = cc
 plan_refused P h n stub parts sizes in_place sbat fault (Err e) is made failed same =

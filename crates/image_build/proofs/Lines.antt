@@ -25,7 +25,8 @@ split_ended : (p : ℕ → Bool) (text : List ℕ) → sum_by ended_length (slic
 split_ended p [] = refl
 split_ended p (x ∷ text) = omega (arith, split_by (p x) x (length text) (slice_split p text) (split_ended p text))
 
-filter_by : (b : Bool) (piece : List ℕ) (kept pieces : List (List ℕ)) → sum_by ended_length kept ≤ sum_by ended_length pieces → sum_by ended_length (cond b (piece ∷ kept) kept) ≤ sum_by ended_length (piece ∷ pieces)
+filter_by : (b : Bool) (piece : List ℕ) (kept pieces : List (List ℕ)) → sum_by ended_length kept ≤ sum_by ended_length pieces
+    → sum_by ended_length (cond b (piece ∷ kept) kept) ≤ sum_by ended_length (piece ∷ pieces)
 filter_by true piece kept pieces le = omega (arith, le, sum_by-cons ended_length piece kept, sum_by-cons ended_length piece pieces)
 filter_by false piece kept pieces le = omega (arith, le, sum_by-cons ended_length piece pieces)
 

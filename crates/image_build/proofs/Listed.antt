@@ -71,7 +71,9 @@ pub linux_added : (parts list more : List Part) (linux : Part) → AreOrdered pa
     → more ≡ filter is_filled (parts ++ linux ∷ [])
 linux_added parts list more linux are before is =
     let last : part_place linux ≡ append_place kinds.Linux = ap append_place are.kind in
-    let all = All-weaker (λ part. part_place part ≤ append_place kinds.Extra) (λ part. part_place part ≤ part_place linux) (λ part early. omega (arith, early, last, extra_first, sbat_first)) parts are.early in
+    let all =
+    All-weaker (λ part. part_place part ≤ append_place kinds.Extra) (λ part. part_place part ≤ part_place linux)
+    (λ part early. omega (arith, early, last, extra_first, sbat_first)) parts are.early in
     is ∙ ap (with_part linux) before ∙ with_part-last linux parts all
 
 -- and an SBAT text between them
@@ -80,8 +82,12 @@ pub text_added : (parts list more most : List Part) (linux part : Part) (text : 
 text_added parts list more most linux part text are holds before one two =
     let last : part_place linux ≡ append_place kinds.Linux = ap append_place are.kind in
     let next : part_place part ≡ append_place kinds.Sbat = ap append_place holds.kind in
-    let first = All-weaker (λ other. part_place other ≤ append_place kinds.Extra) (λ other. part_place other ≤ part_place part) (λ other early. omega (arith, early, next, extra_first)) parts are.early in
-    let all = All-weaker (λ other. part_place other ≤ append_place kinds.Extra) (λ other. part_place other ≤ part_place linux) (λ other early. omega (arith, early, last, extra_first, sbat_first)) parts are.early in
+    let first =
+    All-weaker (λ other. part_place other ≤ append_place kinds.Extra) (λ other. part_place other ≤ part_place part)
+    (λ other early. omega (arith, early, next, extra_first)) parts are.early in
+    let all =
+    All-weaker (λ other. part_place other ≤ append_place kinds.Extra) (λ other. part_place other ≤ part_place linux)
+    (λ other early. omega (arith, early, last, extra_first, sbat_first)) parts are.early in
     let both = All-push (λ other. part_place other ≤ part_place linux) parts part all (omega (arith, next, last, sbat_first)) in
     let seen : more ≡ filter is_filled (parts ++ part ∷ []) = one ∙ ap (with_part part) before ∙ with_part-last part parts first in
     two ∙ ap (with_part linux) seen ∙ with_part-last linux (parts ++ part ∷ []) both
@@ -108,7 +114,8 @@ one_more parts part =
     let both = ap length (filter-append is_filled parts (part ∷ [])) in
     omega (arith, whole, front, last, both, length-append (filter is_filled parts) (filter is_filled (part ∷ [])), count_by-le-length is_filled (part ∷ []))
 
-pub linux_counted : (parts list more : List Part) (linux : Part) (sbat : List ℕ) → AreOrdered parts linux → IsCountable parts sbat → list ≡ filter is_filled parts → more ≡ with_part linux list → FitsCounts more
+pub linux_counted : (parts list more : List Part) (linux : Part) (sbat : List ℕ) → AreOrdered parts linux → IsCountable parts sbat
+    → list ≡ filter is_filled parts → more ≡ with_part linux list → FitsCounts more
 linux_counted parts list more linux sbat are few before is =
     let small = are.small in
     let filled = few.few in

@@ -29,7 +29,8 @@ made_is view named c headers linux text found reads merged kernel =
     ∙ ap (λ (l : List ℕ). Ok (made_of c headers linux l)) (sym merged)
 
 -- the state stands while the headers and the SBAT text are read
-pub material_is : (s mid last : State) (named : NamedFiles) (found : BuildFiles) (headers : Headers) (linux text : List ℕ) → mid ≡ s → last ≡ mid → contents_of (seen s) named ≡ Ok (contents_as (contents (seen s)) found)
+pub material_is : (s mid last : State) (named : NamedFiles) (found : BuildFiles) (headers : Headers) (linux text : List ℕ) → mid ≡ s → last ≡ mid
+    → contents_of (seen s) named ≡ Ok (contents_as (contents (seen s)) found)
     → pe_of (contents (seen mid) found.stub) ≡ Ok headers → text_ok (sbat_of (contents_as (contents (seen last)) found)) ≡ text_ok text → linux ≡ contents (seen s) found.linux
     → material_of (seen s) named ≡ Ok (made_of (contents_as (contents (seen s)) found) headers linux text)
 material_is s mid last named found headers linux text first second is reads merged kernel =

@@ -131,7 +131,8 @@ zipped (source ∷ sources) [] all = absurd all
 zipped (source ∷ sources) (part ∷ parts) all =
     ap (λ (kind : PartKind). append_place kind ∷ map part_place parts) all.0.kind ∙ ap (λ (l : List ℕ). append_place source.kind ∷ l) (zipped sources parts all.1)
 
-pub parts_rise : (words : BuildWords) (found : BuildSources) (parts : List Part) → named_files words ≡ Ok (named_as found) → AllZip PartFrom found.parts.items parts → Rises 0 (map part_place parts) (append_place kinds.Extra)
+pub parts_rise : (words : BuildWords) (found : BuildSources) (parts : List Part) → named_files words ≡ Ok (named_as found)
+    → AllZip PartFrom found.parts.items parts → Rises 0 (map part_place parts) (append_place kinds.Extra)
 parts_rise words found parts is all =
     let named = parts_found words (named_as found) is in
     let same = zipped found.parts.items parts all ∙ kept sources_of wanted_place named_place kind_kept (wanted_parts words named.0) (map part_named found.parts.items) named.1 in

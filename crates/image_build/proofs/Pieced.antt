@@ -38,8 +38,10 @@ joined_sizes files (only ∷ []) pieces is sizes = subst (HasSizes files) (sym i
 joined_sizes files (first ∷ second ∷ more) pieces is sizes = subst (HasSizes files) (sym is) (padded_sizes files (first ∷ second ∷ more) sizes)
 
 -- the bytes of a part
-pub part_is : (view : Files) (files : Reading) (kind : PartKind) (name : SectionName) (sources : List Source) (initrds pieces : List Piece) → each (source_bytes view) sources ≡ Ok (map (piece_bytes files) initrds)
-    → pieces ≡ joined_initrds initrds → bytes_of files (joined_initrds initrds) ≡ joined_bytes (map (piece_bytes files) initrds) → part_bytes view (named_part kind name sources) ≡ Ok (name, bytes_of files pieces)
+pub part_is : (view : Files) (files : Reading) (kind : PartKind) (name : SectionName) (sources : List Source) (initrds pieces : List Piece)
+    → each (source_bytes view) sources ≡ Ok (map (piece_bytes files) initrds)
+    → pieces ≡ joined_initrds initrds → bytes_of files (joined_initrds initrds) ≡ joined_bytes (map (piece_bytes files) initrds)
+    → part_bytes view (named_part kind name sources) ≡ Ok (name, bytes_of files pieces)
 part_is view files kind name sources initrds pieces found is joined =
     ap (λ r. r >>= λ bytes. Ok (name, joined_bytes bytes)) found
     ∙ ap (λ (bytes : List ℕ). Ok (name, bytes)) (sym joined ∙ ap (bytes_of files) (sym is))

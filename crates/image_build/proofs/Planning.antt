@@ -68,7 +68,8 @@ pieced files (part ∷ parts) sized short =
     All-cons (IsPieced files) part parts (record { sizes = here.sizes; total = omega (arith, here.total, short, sum) })
     (pieced files parts (All-tail (IsSized files) part parts sized) (omega (arith, short, sum)))
 
-pub found_read : (view : Files) (h : Headers) (n : ℕ) (stub : Path) (parts : List Part) (linux : Part) (sbat : List ℕ) → IsCountable parts sbat → AreFound view h n stub parts linux → AreRead view h n stub parts linux
+pub found_read : (view : Files) (h : Headers) (n : ℕ) (stub : Path) (parts : List Part) (linux : Part) (sbat : List ℕ) → IsCountable parts sbat
+    → AreFound view h n stub parts linux → AreRead view h n stub parts linux
 found_read view h n stub parts linux sbat few found = record {
   length_is = found.length_is;
   reads = found.reads;
@@ -117,11 +118,16 @@ read_or : (read : Result Headers FailedCheck) (headers : Headers) → headers_or
 read_or (Ok found) headers is = cc
 read_or (Err check) headers is = cc
 
-pub head_read : (view : Files) (files : Reading) (named : NamedFiles) (built : BuildParts) → material_of view named ≡ Ok (material_as files built) → pe_of (files built.stub) ≡ Ok (headers_of built.head)
+pub head_read : (view : Files) (files : Reading) (named : NamedFiles) (built : BuildParts) → material_of view named ≡ Ok (material_as files built)
+    → pe_of (files built.stub) ≡ Ok (headers_of built.head)
 head_read view files named built is =
     let found = bind_ok (contents_of view named) material (material_as files built) is in
     let headers = bind_ok (headers_or (pe_of found.0.stub)) _ (material_as files built) found.2 in
-    let same : (let made : Material = record { headers = headers.0; stub = found.0.stub; linux = found.0.linux; parts = found.0.parts; sbat = sbat_of found.0 } in made) ≡ material_as files built = cc headers.2 in
+    let same :
+    (let made : Material = record
+    { headers = headers.0; stub = found.0.stub; linux = found.0.linux; parts = found.0.parts; sbat = sbat_of found.0 } in made)
+    ≡ material_as files built =
+    cc headers.2 in
     ap (λ (m : Material). pe_of m.stub) (sym same) ∙ read_or (pe_of found.0.stub) headers.0 headers.1 ∙ ap (λ (m : Material). Ok m.headers) same
 
 -- the image by a plan has as many bytes as the plan says
@@ -137,8 +143,20 @@ length-planned_image plan sources view is =
 
 -- a plan that writes it
 pub written_plan : (s : State) (plan : PlannedBuild) (target : Target) (measure : Bool) (text : List ℕ) (makeable : IsMakeable (changes.Write plan.image.plan plan.image.sources target))
-    → (idle : IsIdleIfRefused outcomes.Done (changes.Write plan.image.plan plan.image.sources target)) → (says : SaysCleaned (changes.Write plan.image.plan plan.image.sources target) text) → IsSourced plan.image.plan plan.image.sources (seen s) → target.path ≡ plan.output → text ≡ built_text measure (built_as (seen s) plan)
-    → Plans s (record { change = changes.Write plan.image.plan plan.image.sources target; outcome = outcomes.Done; text = text; makeable = makeable; idle = idle; says = says }) (built_answer (seen s) measure (Ok (built_as (seen s) plan)))
+    → (idle : IsIdleIfRefused outcomes.Done (changes.Write plan.image.plan plan.image.sources target))
+    → (says : SaysCleaned (changes.Write plan.image.plan plan.image.sources target) text) → IsSourced plan.image.plan plan.image.sources (seen s)
+    → target.path ≡ plan.output → text ≡ built_text measure (built_as (seen s) plan)
+    → Plans s
+    (record {
+      change = changes.Write plan.image.plan plan.image.sources target;
+      outcome = outcomes.Done;
+      text = text;
+      makeable = makeable;
+      idle =
+          idle;
+      says = says;
+    })
+    (built_answer (seen s) measure (Ok (built_as (seen s) plan)))
 written_plan s plan target measure text makeable idle says sourced path_is text_is =
     let image = planned_image plan.image.plan plan.image.sources (seen s) in
     record {
@@ -147,11 +165,13 @@ written_plan s plan target measure text makeable idle says sourced path_is text_
     }
 
 -- the image of a plan is meant, and its plan was made for its sources
-pub image_meant_by : (view : Files) (meant : Path → Result BuiltImage Refusal) (image : ImagePlan) (output : Path) → Images view meant (Ok image) → meant output ≡ Ok (record { output = output; image = planned_image image.plan image.sources view })
+pub image_meant_by : (view : Files) (meant : Path → Result BuiltImage Refusal) (image : ImagePlan) (output : Path) → Images view meant (Ok image)
+    → meant output ≡ Ok (record { output = output; image = planned_image image.plan image.sources view })
 image_meant_by view meant image output images = images.1 output
 
 -- a plan is its own, whatever it was made of
-pub own_plan : (image : ImagePlan) (h : Headers) (n : ℕ) (stub : Path) (parts : List Part) (in_place : Option ℕ) (sbat : List ℕ) → IsPlanOf image h n stub parts in_place sbat → option_map length (sbat_if_in_place in_place sbat) ≡ in_place → IsOwnPlan image h n stub
+pub own_plan : (image : ImagePlan) (h : Headers) (n : ℕ) (stub : Path) (parts : List Part) (in_place : Option ℕ) (sbat : List ℕ)
+    → IsPlanOf image h n stub parts in_place sbat → option_map length (sbat_if_in_place in_place sbat) ≡ in_place → IsOwnPlan image h n stub
 own_plan image h n stub parts in_place sbat is long = record {
   in_place = in_place;
   plans = subst (λ (l : List Part). PlansImage image.plan h n (map any_size l) in_place) (sym is.parts_are) is.plans;
@@ -160,7 +180,8 @@ own_plan image h n stub parts in_place sbat is long = record {
 }
 
 -- and of what it was made on a view
-pub planned_on : (view : Files) (built : BuildParts) (image : ImagePlan) → BuiltHasSizes (contents view) built → pe_of (contents view built.stub) ≡ Ok (headers_of built.head) → IsOwnPlan image (headers_of built.head) built.stub_length built.stub
+pub planned_on : (view : Files) (built : BuildParts) (image : ImagePlan) → BuiltHasSizes (contents view) built
+    → pe_of (contents view built.stub) ≡ Ok (headers_of built.head) → IsOwnPlan image (headers_of built.head) built.stub_length built.stub
     → IsSourced image.plan image.sources view → IsPlannedOn view (record { image = image; head = built.head; output = built.output })
 planned_on view built image sizes reads own sourced =
     let at = ap (contents view) own.stub_is in
@@ -193,12 +214,14 @@ unsaid_plan s words found (unsaid.Refused why) plan named meant plans =
     subst (λ (r : Result BuiltImage Refusal). Plans s plan (built_answer (seen s) words.measure r)) (sym (build_by_name (seen s) words found named ∙ meant)) (plans s)
 
 -- and so is that of the words
-pub declined_plan : (s : State) (words : BuildWords) (declined : Declined) (plan : CommandPlan) → DeclinedFor declined (named_files words) → PlansDeclined declined plan → Plans s plan (build_answer (seen s) words)
+pub declined_plan : (s : State) (words : BuildWords) (declined : Declined) (plan : CommandPlan) → DeclinedFor declined (named_files words)
+    → PlansDeclined declined plan → Plans s plan (build_answer (seen s) words)
 declined_plan s words declines.Memory plan meant plans = absurd plans
 declined_plan s words (declines.Refused why) plan meant plans =
     subst (λ (r : Result BuiltImage Refusal). Plans s plan (built_answer (seen s) words.measure r)) (sym (ap (λ (r : Result NamedFiles Refusal). r >>= build_named (seen s)) meant)) (plans s)
 
-pub declined_as : (words : BuildWords) (declined : Declined) (why : Refusal) (plan : CommandPlan) → named_files words ≡ Err why → DeclinedFor declined (named_files words) → PlansDeclined declined plan → PlansDeclined (declines.Refused why) plan
+pub declined_as : (words : BuildWords) (declined : Declined) (why : Refusal) (plan : CommandPlan) → named_files words ≡ Err why
+    → DeclinedFor declined (named_files words) → PlansDeclined declined plan → PlansDeclined (declines.Refused why) plan
 declined_as words declines.Memory why plan is meant plans = absurd plans
 declined_as words (declines.Refused first) why plan is meant plans = subst (λ (r : Refusal). PlansDeclined (declines.Refused r) plan) (cc (is, meant)) plans
 
@@ -207,14 +230,19 @@ pub not_declined : (words : BuildWords) (found : BuildSources) (why : Refusal) �
 not_declined words found why named is = absurd (cc (named, is))
 
 -- what is said of a plan
-pub line_said : (view : Files) (plan : PlannedBuild) (measure : Bool) (size : ℕ) (line : List ℕ) → IsSourced plan.image.plan plan.image.sources view → size ≡ planned_length plan.image.plan → line ≡ built_line plan.output size → measure ≡ false
+pub line_said : (view : Files) (plan : PlannedBuild) (measure : Bool) (size : ℕ) (line : List ℕ) → IsSourced plan.image.plan plan.image.sources view
+    → size ≡ planned_length plan.image.plan → line ≡ built_line plan.output size → measure ≡ false
     → ◌≡◌ {A = Result (List ℕ) Refusal} (Ok (built_text measure (built_as view plan))) (Ok line)
 line_said view plan measure size line sourced is_size is_line none =
     let long = is_line ∙ ap (built_line plan.output) (is_size ∙ sym (length-planned_image plan.image.plan plan.image.sources view sourced)) in
     ap Ok (ap (λ (m : Bool). built_text m (built_as view plan)) none ∙ append-nil (built_line plan.output (length (planned_image plan.image.plan plan.image.sources view))) ∙ sym long)
 
-pub values_behind : (view : Files) (plan : PlannedBuild) (measure : Bool) (size : ℕ) (line values text : List ℕ) → IsSourced plan.image.plan plan.image.sources view → size ≡ planned_length plan.image.plan → line ≡ built_line plan.output size
-    → measure ≡ true → ◌≡◌ {A = Result (List ℕ) Refusal} (Ok (value_lines (stub_pcr (planned_image plan.image.plan plan.image.sources view)) all_banks default_phase_paths)) (Ok values) → text ≡ line ++ values
+pub values_behind : (view : Files) (plan : PlannedBuild) (measure : Bool) (size : ℕ) (line values text : List ℕ)
+    → IsSourced plan.image.plan plan.image.sources view → size ≡ planned_length plan.image.plan → line ≡ built_line plan.output size
+    → measure ≡ true
+    → ◌≡◌ {A = Result (List ℕ) Refusal}
+    (Ok (value_lines (stub_pcr (planned_image plan.image.plan plan.image.sources view)) all_banks default_phase_paths)) (Ok values)
+    → text ≡ line ++ values
     → ◌≡◌ {A = Result (List ℕ) Refusal} (Ok (built_text measure (built_as view plan))) (Ok text)
 values_behind view plan measure size line values text sourced is_size is_line asked said is =
     let found : value_lines (stub_pcr (planned_image plan.image.plan plan.image.sources view)) all_banks default_phase_paths ≡ values = cc said in
@@ -223,9 +251,12 @@ values_behind view plan measure size line values text sourced is_size is_line as
     ∙ ap (λ (l : List ℕ). built_line plan.output (length (planned_image plan.image.plan plan.image.sources view)) ++ l) found ∙ ap (λ (l : List ℕ). l ++ values) (sym long) ∙ sym is)
 
 -- the plan is what the words mean
-pub meant_plan : (s now : State) (words : BuildWords) (build : PlannedBuild) (plan : CommandPlan) (text : List ℕ) → now ≡ s → build_of (seen s) words ≡ Ok (built_as (seen s) build) → IsPlannedOn (seen s) build
+pub meant_plan : (s now : State) (words : BuildWords) (build : PlannedBuild) (plan : CommandPlan) (text : List ℕ) → now ≡ s
+    → build_of (seen s) words ≡ Ok (built_as (seen s) build) → IsPlannedOn (seen s) build
     → (IsPlannedOn (seen now) build → ◌≡◌ {A = Result (List ℕ) Refusal} (Ok (built_text words.measure (built_as (seen now) build))) (Ok text))
-    → ((t : State) (measure : Bool) → IsSourced build.image.plan build.image.sources (seen t) → text ≡ built_text measure (built_as (seen t) build) → Plans t plan (built_answer (seen t) measure (Ok (built_as (seen t) build))))
+    →
+    ((t : State) (measure : Bool) → IsSourced build.image.plan build.image.sources (seen t) → text ≡ built_text measure (built_as (seen t) build)
+    → Plans t plan (built_answer (seen t) measure (Ok (built_as (seen t) build))))
     → Plans s plan (build_answer (seen s) words)
 meant_plan s now words build plan text same meant on said plans =
     let here : built_text words.measure (built_as (seen s) build) ≡ text =

@@ -20,6 +20,11 @@ there view path image = ap (λ (o : Option (List ℕ)). unwrap_or o []) (get-ins
 pub built_values : (view : Files) (words : BuildWords) (built : BuiltImage) → words.measure ≡ true → build_of view words ≡ Ok built
     → (build_answer view words).text ≡ built_line built.output (length built.image) ++ value_lines (stub_pcr (contents (build_answer view words).after built.output)) all_banks default_phase_paths
 built_values view words built asked is =
-    subst (λ (r : Result BuiltImage Refusal). (built_answer view words.measure r).text ≡ built_line built.output (length built.image) ++ value_lines (stub_pcr (contents (built_answer view words.measure r).after built.output)) all_banks default_phase_paths) (sym is)
-    (subst (λ (m : Bool). (built_answer view m (Ok built)).text ≡ built_line built.output (length built.image) ++ value_lines (stub_pcr (contents (built_answer view m (Ok built)).after built.output)) all_banks default_phase_paths) (sym asked)
+    subst
+    (λ (r : Result BuiltImage Refusal). (built_answer view words.measure r).text ≡ built_line built.output (length built.image) ++ value_lines
+    (stub_pcr (contents (built_answer view words.measure r).after built.output)) all_banks default_phase_paths)
+    (sym is)
+    (subst
+    (λ (m : Bool). (built_answer view m (Ok built)).text ≡ built_line built.output (length built.image) ++ value_lines
+    (stub_pcr (contents (built_answer view m (Ok built)).after built.output)) all_banks default_phase_paths) (sym asked)
     (ap (λ (image : List ℕ). built_line built.output (length built.image) ++ value_lines (stub_pcr image) all_banks default_phase_paths) (sym (there view built.output built.image))))

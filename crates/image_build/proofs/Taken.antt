@@ -72,7 +72,8 @@ same_lengths f g (name ∷ names) same =
     ∙ sym (sum_by-cons (λ n. length (f n)) name names)
 
 -- the reads before an image is planned, and those that measure it
-pub planning : (s now : State) (measure : Bool) (found : BuildSources) (build : PlannedBuild) (before between after : ℕ) → now ≡ s → build_named (seen s) (named_as found) ≡ Ok (built_as (seen s) build)
+pub planning : (s now : State) (measure : Bool) (found : BuildSources) (build : PlannedBuild) (before between after : ℕ) → now ≡ s
+    → build_named (seen s) (named_as found) ≡ Ok (built_as (seen s) build)
     → IsPlannedOn (seen s) build → TakesAtMost (reading_length (contents (seen s)) (named_as found)) before between
     → (IsPlannedOn (seen now) build → TakesAtMost (measuring_length measure (planned_image build.image.plan build.image.sources (seen now))) between after)
     → TakesAtMost (planning_length (seen s) measure (Ok (named_as found))) before after

@@ -49,10 +49,12 @@ use Rattle.image_build.proofs.Imaged.{lengths_read}
 use Rattle.image_build.proofs.Taken.{same_lengths}
 
 -- what the stub has of a name
-pub stub_none : (files : Reading) (stub : Path) (name : List ℕ) (h : Headers) → pe_of (files stub) ≡ Ok h → position (is_named name) h.sections ≡ None → IsContent files None (loaded_bytes (files stub) name)
+pub stub_none : (files : Reading) (stub : Path) (name : List ℕ) (h : Headers) → pe_of (files stub) ≡ Ok h → position (is_named name) h.sections ≡ None
+    → IsContent files None (loaded_bytes (files stub) name)
 stub_none files stub name h reads at = record { bytes_are = sym (loaded_bytes-none (files stub) name h reads at); whole = tt }
 
-pub stub_some : (files : Reading) (stub : Bor Path) (name : List ℕ) (h : Headers) (i : ℕ) (r : LoadedRange) → pe_of (files stub.now) ≡ Ok h → position (is_named name) h.sections ≡ Some i → i < length h.sections
+pub stub_some : (files : Reading) (stub : Bor Path) (name : List ℕ) (h : Headers) (i : ℕ) (r : LoadedRange) → pe_of (files stub.now) ≡ Ok h
+    → position (is_named name) h.sections ≡ Some i → i < length h.sections
     → r ≡ range_of (section_at_index h.sections i) → IsContent files (Some (content.Loaded stub r)) (loaded_bytes (files stub.now) name)
 stub_some files stub name h i r reads at inside is =
     let range = found_range (files stub.now) name h i r reads at inside is in
@@ -74,24 +76,29 @@ kept_beside : (in_place : Option ℕ) (sbat stub name : List ℕ) → bytes_eq s
 kept_beside None sbat stub name other = refl
 kept_beside (Some size) sbat stub name other = sym (ap (λ (b : Bool). cond b sbat (loaded_bytes stub name)) other)
 
-pub kept_not_placed : (view : Files) (plan : PlannedBuild) (on : IsPlannedOn view plan) (name : List ℕ) → is_some plan.image.plan.sbat ≡ false → loaded_bytes (stub_bytes view plan) name ≡ kept_bytes view plan on.own.in_place name
+pub kept_not_placed : (view : Files) (plan : PlannedBuild) (on : IsPlannedOn view plan) (name : List ℕ) → is_some plan.image.plan.sbat ≡ false
+    → loaded_bytes (stub_bytes view plan) name ≡ kept_bytes view plan on.own.in_place name
 kept_not_placed view plan on name none =
     kept_without on.own.in_place (new_sbat plan.image.sources) (stub_bytes view plan) name (no_place (headers_of plan.head) plan.image.plan.sbat on.own.in_place on.own.plans.sbat_is none)
 
-pub kept_not_named : (view : Files) (plan : PlannedBuild) (on : IsPlannedOn view plan) (name : List ℕ) → bytes_eq sbat_name name ≡ false → loaded_bytes (stub_bytes view plan) name ≡ kept_bytes view plan on.own.in_place name
+pub kept_not_named : (view : Files) (plan : PlannedBuild) (on : IsPlannedOn view plan) (name : List ℕ) → bytes_eq sbat_name name ≡ false
+    → loaded_bytes (stub_bytes view plan) name ≡ kept_bytes view plan on.own.in_place name
 kept_not_named view plan on name other = kept_beside on.own.in_place (new_sbat plan.image.sources) (stub_bytes view plan) name other
 
 -- the first part of a name
 abbrev has_name : List ℕ → Part → Bool
 has_name name part = bytes_eq (name_bytes part.name) name
 
-part_found : (files : Reading) (name : List ℕ) (parts : List Part) → find_content name (map any_size parts) (parts_bytes files parts) ≡ option_map (λ part. bytes_of files part.pieces.items) (find (has_name name) parts)
+part_found : (files : Reading) (name : List ℕ) (parts : List Part)
+    → find_content name (map any_size parts) (parts_bytes files parts) ≡ option_map (λ part. bytes_of files part.pieces.items)
+    (find (has_name name) parts)
 unfolding find_content
 part_found files name [] = refl
 part_found files name (part ∷ parts) = by_test (has_name name part) (part_found files name parts)
   where
     by_test : (is : Bool) → find_content name (map any_size parts) (parts_bytes files parts) ≡ option_map (λ part. bytes_of files part.pieces.items) (find (has_name name) parts)
-        → cond is (Some (bytes_of files part.pieces.items)) (find_content name (map any_size parts) (parts_bytes files parts)) ≡ option_map (λ part. bytes_of files part.pieces.items) (cond is (Some part) (find (has_name name) parts))
+        → cond is (Some (bytes_of files part.pieces.items)) (find_content name (map any_size parts) (parts_bytes files parts)) ≡ option_map
+        (λ part. bytes_of files part.pieces.items) (cond is (Some part) (find (has_name name) parts))
     by_test true rest = refl
     by_test false rest = rest
 
@@ -103,7 +110,8 @@ found_all P test (y ∷ ys) x all is = by_test (test y) (found_all P test ys x (
     by_test true rest same = (let one : y ≡ x = cc same in subst P one (All-head P y ys all))
     by_test false rest same = rest same
 
-pub section_found : (view : Files) (plan : PlannedBuild) (on : IsPlannedOn view plan) (name : List ℕ) (part : Part) (pieces : Bor (List Piece)) → find (has_name name) (part_list plan.image.sources) ≡ Some part → pieces.now ≡ part.pieces.items
+pub section_found : (view : Files) (plan : PlannedBuild) (on : IsPlannedOn view plan) (name : List ℕ) (part : Part) (pieces : Bor (List Piece))
+    → find (has_name name) (part_list plan.image.sources) ≡ Some part → pieces.now ≡ part.pieces.items
     → IsContent (contents view) (Some (content.Pieces pieces)) (section_bytes view plan on.own.in_place name)
 section_found view plan on name part pieces is are =
     let files = contents view in
@@ -116,10 +124,14 @@ section_found view plan on name part pieces is are =
       whole = subst (HasSizes files) (sym are) pieced.sizes;
     }
 
-pub section_kept : (view : Files) (plan : PlannedBuild) (on : IsPlannedOn view plan) (name : List ℕ) → find (has_name name) (part_list plan.image.sources) ≡ None → kept_bytes view plan on.own.in_place name ≡ section_bytes view plan on.own.in_place name
+pub section_kept : (view : Files) (plan : PlannedBuild) (on : IsPlannedOn view plan) (name : List ℕ)
+    → find (has_name name) (part_list plan.image.sources) ≡ None
+    → kept_bytes view plan on.own.in_place name ≡ section_bytes view plan on.own.in_place name
 section_kept view plan on name is =
     let files = contents view in
-    sym (ap (λ (o : Option (List ℕ)). or_kept o (kept_bytes view plan on.own.in_place name)) (part_found files name (part_list plan.image.sources) ∙ ap (option_map (λ (p : Part). bytes_of files p.pieces.items)) is))
+    sym
+    (ap (λ (o : Option (List ℕ)). or_kept o (kept_bytes view plan on.own.in_place name))
+    (part_found files name (part_list plan.image.sources) ∙ ap (option_map (λ (p : Part). bytes_of files p.pieces.items)) is))
 
 -- one section more is measured
 pub section_more : (files : Reading) (bytes : List ℕ → List ℕ) (i : ℕ) (parts more : List Measurable) (name : Bor (List ℕ)) (part : Option Content) → more ≡ parts ++ given_part name part
@@ -134,7 +146,8 @@ section_more files bytes i parts more name part is before holds at =
 
 -- and all of them are what a stub measures of the image
 has_finished : (view : Files) (plan : PlannedBuild) (on : IsPlannedOn view plan)
-    → HasFinished (headers_of plan.head) (map any_size (part_list plan.image.sources)) (parts_bytes (contents view) (part_list plan.image.sources)) (sbat_if_in_place on.own.in_place (new_sbat plan.image.sources)) (stub_bytes view plan)
+    → HasFinished (headers_of plan.head) (map any_size (part_list plan.image.sources)) (parts_bytes (contents view) (part_list plan.image.sources))
+    (sbat_if_in_place on.own.in_place (new_sbat plan.image.sources)) (stub_bytes view plan)
 has_finished view plan on = record {
   reads = on.reads;
   buildable = subst (IsBuildable (headers_of plan.head) (length (stub_bytes view plan)) (map any_size (part_list plan.image.sources))) (sym on.own.sbat_length) on.own.plans.buildable;
@@ -179,7 +192,9 @@ registers_are files parts seen_parts items banks starts are_parts are_items is =
 -- and the lines of all of them
 pub values_said : (image : List ℕ) (starts : List Pcr) (banks : List Bank) (paths : List (List (List ℕ))) (text : List ℕ) → AreSaid (map (fold_pcr (measured_list image)) banks) (map pcr_value starts)
     → banks ≡ all_banks → paths ≡ default_phase_paths
-    → ((items : Bank → List (List ℕ)) (bs : List Bank) → map pcr_value starts ≡ map (λ (bank : Bank). fold_pcr (items bank) bank) bs → text ≡ value_lines (λ bank path. fold_of bank (items bank ++ path)) bs paths)
+    →
+    ((items : Bank → List (List ℕ)) (bs : List Bank) → map pcr_value starts ≡ map (λ (bank : Bank). fold_pcr (items bank) bank) bs → text ≡
+    value_lines (λ bank path. fold_of bank (items bank ++ path)) bs paths)
     → ◌≡◌ {A = Result (List ℕ) Refusal} (Ok (value_lines (stub_pcr image) all_banks default_phase_paths)) (Ok text)
 values_said image starts banks paths text are_starts are_banks are_paths is =
     let found : map (fold_pcr (measured_list image)) banks ≡ map pcr_value starts = cc are_starts in

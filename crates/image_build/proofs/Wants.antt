@@ -1,20 +1,22 @@
 -- Parts that are wanted, put behind others.
-use Rattle.std.proofs.Common.{◌≡◌, ℕ, List, [], ◌∷◌, ◌++◌, Option, Some, None, Result, Ok, Err, refl, sym, ap, ◌∙◌, ◌<◌, ◌+◌, subst, arith, append_assoc, append-nil, drop, get_or, length, map, take}
+use Rattle.std.proofs.Common.{◌≡◌, ℕ, List, [], ◌∷◌, ◌++◌, Option, Some, None, is_some, unwrap_or, IsTrue, Result, Ok, Err, refl, sym, ap, ◌∙◌, ◌<◌, ◌+◌, subst, arith, append_assoc, append-nil, drop, get_or, length, map, take}
+use Rattle.std.specs.Option.{option_map}
 use Rattle.std.proofs.lemmas.List.{drop_more, map-append, take-append-drop, take_more}
 use Rattle.boot_base.specs.declared.refusal.Refusal.{Refusal}
 use Rattle.command_plans.specs.Declining.{◌>>=◌, DeclinedFor}
 use Rattle.command_plans.specs.declared.declined.Declined.{Declined}
 use Rattle.command_plans.specs.declared.declined.Declined.TheVariants.{Memory, Refused}
 use Rattle.tool_words.specs.declared.command.Given.{Given}
-use Rattle.tool_words.specs.declared.command.Given.TheVariants.{File}
 use Rattle.uki_parts.specs.Names.{padded_name}
 use Rattle.uki_parts.specs.declared.kind.PartKind.{PartKind}
 use Rattle.uki_parts.specs.declared.name.SectionName.{SectionName}
 use Rattle.image_build.specs.declared.source.PartSources.{PartSources}
 use Rattle.image_build.specs.declared.source.Source.{Source}
 use Rattle.image_build.specs.Building.{NamedPart, WantedPart, extra_part, given_list, named_part, part_named, source_of, sources_of, optional_part, with_parts}
+use Rattle.image_build.specs.Offers.{offered_part, offered_parts}
+use Rattle.image_build.specs.declared.build_words.Offer.{Offer}
 use Rattle.command_plans.specs.Files.{each}
-use Rattle.command_plans.proofs.Each.{each_append, each_map, each_one, each_one_declined}
+use Rattle.command_plans.proofs.Each.{each_append, each_length, each_none, each_one, each_one_declined}
 
 abbrev Found : Type 0
 Found = List NamedPart
@@ -34,39 +36,43 @@ unfolding each
 with_one_declined Memory part made why = tt
 with_one_declined (Refused refusal) part made why = ap (λ r. ((r >>= λ l. Ok (named_part part.kind part.name l)) >>= λ y. Ok (y ∷ [])) >>= λ l. Ok (made ++ l)) why
 
--- a part that is given once
-pub with_absent : (kind : PartKind) (name : List ℕ) (given : Option Given) (made : Found) → given ≡ None → with_parts made (optional_part kind name (given_list given)) ≡ Ok made
-with_absent kind name given made is = ap (λ (g : Option Given). with_parts made (optional_part kind name (given_list g))) is ∙ with_none made
+-- the sources of what is given once or not at all
+pub given_none : (given : Option Given) (sources : List Source) → given ≡ None → sources ≡ [] → each source_of (given_list given) ≡ Ok sources
+given_none given sources is none = ap (λ (g : Option Given). each source_of (given_list g)) is ∙ each_none source_of ∙ ap Ok (sym none)
 
-pub with_given : (kind : PartKind) (name : List ℕ) (given : Option Given) (one : Given) (source : Source) (made more : Found) → given ≡ Some one → source_of one ≡ Ok source → more ≡ made ++ named_part kind (padded_name name) (source ∷ []) ∷ []
-    → with_parts made (optional_part kind name (given_list given)) ≡ Ok more
-with_given kind name given one source made more is found all =
-    ap (λ (g : Option Given). with_parts made (optional_part kind name (given_list g))) is
-    ∙ with_one (record { kind = kind; name = padded_name name; sources = one ∷ [] }) (source ∷ []) made more (each_one source_of one source found) all
+pub given_some : (given : Option Given) (one : Given) (source : Source) (sources : List Source) → given ≡ Some one → source_of one ≡ Ok source → sources ≡ source ∷ []
+    → each source_of (given_list given) ≡ Ok sources
+given_some given one source sources is found all =
+    ap (λ (g : Option Given). each source_of (given_list g)) is ∙ each_one source_of one source found ∙ ap Ok (sym all)
 
-pub with_given_declined : (declined : Declined) (kind : PartKind) (name : List ℕ) (given : Option Given) (one : Given) (made : Found) → given ≡ Some one → DeclinedFor declined (source_of one)
-    → DeclinedFor declined (with_parts made (optional_part kind name (given_list given)))
-with_given_declined declined kind name given one made is why =
-    subst (λ (g : Option Given). DeclinedFor declined (with_parts made (optional_part kind name (given_list g)))) (sym is)
-    (with_one_declined declined (record { kind = kind; name = padded_name name; sources = one ∷ [] }) made (each_one_declined source_of one declined why))
+pub given_declined : (declined : Declined) (given : Option Given) (one : Given) → given ≡ Some one → DeclinedFor declined (source_of one) → DeclinedFor declined (each source_of (given_list given))
+given_declined declined given one is why =
+    subst (λ (g : Option Given). DeclinedFor declined (each source_of (given_list g))) (sym is) (each_one_declined source_of one declined why)
 
--- a part of files, which may be none
-pub with_no_files : (kind : PartKind) (name : List ℕ) (words : List (List ℕ)) (made : Found) → length words ≡ 0 → with_parts made (optional_part kind name (map File words)) ≡ Ok made
-with_no_files kind name [] made none = with_none made
-with_no_files kind name (word ∷ words) made none = absurd (omega (arith, none))
+-- a part of what is given, which may be nothing
+pub with_no_sources : (kind : PartKind) (name : List ℕ) (givens : List Given) (sources : List Source) (made : Found) → each source_of givens ≡ Ok sources → length sources ≡ 0
+    → with_parts made (optional_part kind name givens) ≡ Ok made
+with_no_sources kind name [] sources made found none = with_none made
+with_no_sources kind name (given ∷ more) sources made found none = absurd (omega (arith, none, each_length source_of (given ∷ more) sources found))
 
-pub with_files : (kind : PartKind) (name : List ℕ) (words : List (List ℕ)) (sources : List Source) (made more : Found) → 0 < length words → each (λ word. source_of (File word)) words ≡ Ok sources
-    → more ≡ made ++ named_part kind (padded_name name) sources ∷ [] → with_parts made (optional_part kind name (map File words)) ≡ Ok more
-with_files kind name [] sources made more some found all = absurd (omega (arith, some))
-with_files kind name (word ∷ words) sources made more some found all =
-    with_one (record { kind = kind; name = padded_name name; sources = map File (word ∷ words) }) sources made more (each_map source_of File (word ∷ words) ∙ found) all
+pub with_sources : (kind : PartKind) (name : List ℕ) (givens : List Given) (sources : List Source) (made more : Found) → each source_of givens ≡ Ok sources → 0 < length sources
+    → more ≡ made ++ named_part kind (padded_name name) sources ∷ [] → with_parts made (optional_part kind name givens) ≡ Ok more
+with_sources kind name [] sources made more found some all = absurd (omega (arith, some, each_length source_of [] sources found))
+with_sources kind name (given ∷ givens) sources made more found some all =
+    with_one (record { kind = kind; name = padded_name name; sources = given ∷ givens }) sources made more found all
 
-pub with_files_declined : (declined : Declined) (kind : PartKind) (name : List ℕ) (words : List (List ℕ)) (made : Found) → 0 < length words → DeclinedFor declined (each (λ word. source_of (File word)) words)
-    → DeclinedFor declined (with_parts made (optional_part kind name (map File words)))
-with_files_declined declined kind name [] made some why = absurd (omega (arith, some))
-with_files_declined declined kind name (word ∷ words) made some why =
-    with_one_declined declined (record { kind = kind; name = padded_name name; sources = map File (word ∷ words) }) made
-    (subst (DeclinedFor declined) (sym (each_map source_of File (word ∷ words))) why)
+pub with_sources_declined : (declined : Declined) (kind : PartKind) (name : List ℕ) (givens : List Given) (made : Found) → DeclinedFor declined (each source_of givens)
+    → DeclinedFor declined (with_parts made (optional_part kind name givens))
+unfolding each
+with_sources_declined Memory kind name givens made why = tt
+with_sources_declined (Refused refusal) kind name [] made why = cc
+with_sources_declined (Refused refusal) kind name (given ∷ givens) made why =
+    with_one_declined (Refused refusal) (record { kind = kind; name = padded_name name; sources = given ∷ givens }) made why
+
+-- the name of a kind that has one
+pub named_so : (name : Option (List ℕ)) → IsTrue (is_some (option_map padded_name name)) → option_map padded_name name ≡ Some (padded_name (unwrap_or name []))
+named_so None is = cc
+named_so (Some name) is = refl
 
 -- a part that is put behind the others
 pub part_put : (old new : List PartSources) (part : PartSources) (sources : List Source) → new ≡ old ++ part ∷ [] → part.sources.items ≡ sources → map part_named new ≡ map part_named old ++ named_part part.kind part.name sources ∷ []
@@ -97,24 +103,26 @@ with_more_declined (Refused refusal) made xs ys why =
 pub after_more_declined : (declined : Declined) (made more : Found) (xs ys : List WantedPart) → with_parts made xs ≡ Ok more → DeclinedFor declined (with_parts more ys) → DeclinedFor declined (with_parts made (xs ++ ys))
 after_more_declined declined made more xs ys is why = subst (DeclinedFor declined) (sym (with_more made more xs ys is)) why
 
-pub done_more : (made more all : Found) (xs ys : List WantedPart) → with_parts made xs ≡ Ok more → with_parts more ys ≡ Ok all → with_parts made (xs ++ ys) ≡ Ok all
-done_more made more all xs ys is then = with_more made more xs ys is ∙ then
-
 -- all of them, behind none
-pub all_found : (made more : Found) (parts : List WantedPart) → made ≡ [] → with_parts made parts ≡ Ok more → each sources_of parts ≡ Ok more
-all_found made more parts none is = alone (each sources_of parts) ∙ ap (λ (l : Found). with_parts l parts) (sym none) ∙ is
+pub all_begun : (made : Found) (parts : List WantedPart) → made ≡ [] → with_parts made parts ≡ each sources_of parts
+all_begun made parts none = ap (λ (l : Found). with_parts l parts) none ∙ alone (each sources_of parts)
   where
-    alone : (r : Result Found Refusal) → r ≡ (r >>= λ l. Ok ([] ++ l))
+    alone : (r : Result Found Refusal) → (r >>= λ l. Ok ([] ++ l)) ≡ r
     alone (Ok l) = refl
     alone (Err e) = refl
 
-pub all_declined : (declined : Declined) (made : Found) (parts : List WantedPart) → made ≡ [] → DeclinedFor declined (with_parts made parts) → DeclinedFor declined (each sources_of parts)
-all_declined Memory made parts none why = tt
-all_declined (Refused refusal) made parts none why = alone (each sources_of parts) (ap (λ (l : Found). with_parts l parts) (sym none) ∙ why)
-  where
-    alone : (r : Result Found Refusal) → (r >>= λ l. Ok ([] ++ l)) ≡ Err refusal → r ≡ Err refusal
-    alone (Ok l) is = cc
-    alone (Err e) is = is
+-- rows, one by one: what is made, and what the rows that are left make behind it
+module _ (made : Found) (rows : List (PartKind × Offer)) (i : ℕ) (inside : i < length rows) (row d : PartKind × Offer) (is_row : row ≡ get_or rows i d) (more : List WantedPart) where
+  split : offered_parts (drop i rows) more ≡ offered_part row ++ offered_parts (drop (i + 1) rows) more
+  split = ap (λ l. offered_parts l more) (drop_more rows i d inside) ∙ ap (λ (r : PartKind × Offer). offered_part r ++ offered_parts (drop (i + 1) rows) more) (sym is_row)
+
+  pub row_next : (now : Found) → with_parts made (offered_part row) ≡ Ok now
+      → with_parts made (offered_parts (drop i rows) more) ≡ with_parts now (offered_parts (drop (i + 1) rows) more)
+  row_next now done = ap (with_parts made) split ∙ with_more made now (offered_part row) (offered_parts (drop (i + 1) rows) more) done
+
+  pub row_declined : (declined : Declined) → DeclinedFor declined (with_parts made (offered_part row)) → DeclinedFor declined (with_parts made (offered_parts (drop i rows) more))
+  row_declined declined why =
+      subst (λ l. DeclinedFor declined (with_parts made l)) (sym split) (with_more_declined declined made (offered_part row) (offered_parts (drop (i + 1) rows) more) why)
 
 -- sections, one by one
 module _ (made now : Found) (sections : List (SectionName × Given)) (i : ℕ) (inside : i < length sections) (before : with_parts made (map extra_part (take i sections)) ≡ Ok now) (section d : SectionName × Given) (is_section : section ≡ get_or sections i d) where

@@ -3,7 +3,7 @@ ghost use Rattle.std.specs.Prelude.{◌≡◌, ◌≤◌, length, Bool, Err, IfE
 ghost use Rattle.boot_base.specs.Paths.{Path};
 ghost use Rattle.boot_base.specs.declared.refusal.Refusal.{Refusal};
 ghost use Rattle.boot_machine.specs.Prelude.{Counts, Files, Looks, State, TakesAtMost, contents, seen};
-ghost use Rattle.command_plans.specs.Prelude.{CountsStop, CountsUnsaid, Plans, Says, UnsaidFor, making_length, printed_path, PlansDeclined};
+ghost use Rattle.command_plans.specs.Prelude.{CountsStop, CountsUnsaid, Plans, Says, UnsaidFor, making_length, PlansDeclined};
 ghost use Rattle.image_writer.specs.Sourced.{IsSourced, planned_image};
 ghost use Rattle.boot_base.specs.Names.{shown_byte};
 ghost use Rattle.command_plans.specs.declared.declined.Declined.TheVariants as declines;
@@ -22,9 +22,7 @@ use crate::planned::PlannedBuild;
 use crate::source::BuildSources;
 use boot_base::{BootPath, Bytes, Refusal, Target, Text, shown_name};
 use boot_machine::Machine;
-use command_plans::{
-    Change, Outcome, Plan, Stop, Unsaid, plan_declined, plan_unsaid, printed_path,
-};
+use command_plans::{Change, Outcome, Plan, Stop, Unsaid, plan_declined, plan_unsaid, too_large};
 use pe_builder::PlanFault;
 use std::alloc::{AllocError, Global};
 use tool_words::BuildWords;
@@ -35,13 +33,6 @@ fn section_twice(alloc: Global, name: SectionName) -> Result<Refusal, AllocError
 {
     let name = Text::from(shown_name(alloc, name.bytes())?);
     Ok(Refusal::SectionTwice { name })
-}
-
-fn image_too_large(alloc: Global, output: &BootPath, size: u64) -> Result<Refusal, AllocError>
-    ensures { IfOk result (λ why. why ≡ Refusal.TooLarge (printed_path output.now) size) }
-{
-    let path = printed_path(alloc, output)?;
-    Ok(Refusal::TooLarge { path, size })
 }
 
 // The refusal of a builder that makes no image for that path.
@@ -59,7 +50,7 @@ fn builder_refusal(
         PlanFault::SbatDoesNotFit { length, room } => Ok(Refusal::SbatDoesNotFit { length, room }),
         PlanFault::NoHeaderSpace { need, have } => Ok(Refusal::NoHeaderSpace { need, have }),
         PlanFault::AddressSpace { end } => Ok(Refusal::AddressSpace { end }),
-        PlanFault::ImageTooLarge { size } => image_too_large(alloc, output, size),
+        PlanFault::ImageTooLarge { size } => too_large(alloc, output, size),
     }
 }
 

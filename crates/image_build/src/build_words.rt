@@ -1,10 +1,10 @@
 //! What the words of a build name: its files, its texts, and where the image is to stand.
-ghost use Rattle.std.specs.Prelude.{◌≡◌, ◌++◌, ◌∷◌, [], List, ℕ, Some, IfOk, IsTrue, OnOk, codes, is_some, map, option_map};
+ghost use Rattle.std.specs.Prelude.{◌≡◌, ◌++◌, ◌∷◌, [], List, ℕ, Some, IfOk, IsTrue, OnOk, is_some, map, option_map};
 ghost use Rattle.command_plans.specs.Prelude.{Means, each, if_given};
 ghost use Rattle.tool_words.specs.declared.command.Given.TheVariants.{File};
-ghost use Rattle.uki_parts.specs.declared.kind.PartKind.TheVariants as kinds;
 ghost use Rattle.uki_parts.specs.Names.{fixed_name, padded_name, read_name};
-ghost use Rattle.image_build.specs.Building.{clean, extra_part, given_list, named_as, named_files, named_part, part_named, section_name, section_of, source_of, sources_of, optional_part, wanted_parts, with_parts};
+ghost use Rattle.image_build.specs.Building.{clean, extra_part, given_list, named_as, named_files, named_part, part_named, section_name, section_of, source_of, sources_of, wanted_parts, with_parts};
+ghost use Rattle.image_build.specs.Offers.{offered, offered_part};
 
 use crate::source::{BuildSources, PartSources, Source};
 use boot_base::{Bytes, Refusal, Text};
@@ -12,6 +12,17 @@ use command_plans::{Declined, path_in, push};
 use std::alloc::{AllocError, Global};
 use tool_words::{BuildWords, Given, inline_or_file};
 use uki_parts::{PartKind, SectionName, clean_cmdline};
+
+/// What the words may give of a part.
+#[derive(Clone, Copy)]
+enum Offer<'a> {
+    /// A text or a file.
+    One(&'a Option<Given>),
+    /// A command line: whitespace of a text is cleaned.
+    Line(&'a Option<Given>),
+    /// Files, one behind the other.
+    Files(&'a [Text]),
+}
 
 fn bad_name(alloc: Global, text: &str) -> Result<Declined, AllocError>
     ensures { IfOk result (λ declined. declined ≡ Declined.Refused (Refusal.BadSectionName text.now)) }
@@ -97,6 +108,52 @@ fn one_source(alloc: Global, source: Source) -> Result<Vec<Source>, AllocError>
     Ok(sources)
 }
 
+fn given_sources(alloc: Global, given: &Option<Given>) -> Result<Vec<Source>, Declined>
+    ensures { Means (λ sources. sources.items) result (each source_of (given_list given.now)) }
+{
+    match given {
+        None => Ok(Vec::new(alloc)),
+        Some(given) => {
+            let source = source_of(alloc, given)?;
+            Ok(one_source(alloc, source)?)
+        }
+    }
+}
+
+fn line_sources(alloc: Global, given: &Option<Given>) -> Result<Vec<Source>, Declined>
+    ensures { Means (λ sources. sources.items) result (each source_of (given_list (option_map clean given.now))) }
+{
+    match given {
+        None => Ok(Vec::new(alloc)),
+        Some(given) => {
+            let source = cmdline_source(alloc, given)?;
+            Ok(one_source(alloc, source)?)
+        }
+    }
+}
+
+fn file_sources(alloc: Global, words: &[Text]) -> Result<Vec<Source>, Declined>
+    ensures { Means (λ sources. sources.items) result (each (λ word. source_of (File word)) words.now) }
+{
+    let mut sources = Vec::new(alloc);
+    for word in words {
+        let source = file_source(alloc, word.as_str())?;
+        push(&mut sources, source)?;
+    }
+    Ok(sources)
+}
+
+// The sources of what is given of a part, in their order.
+fn offered_sources(alloc: Global, offer: &Offer) -> Result<Vec<Source>, Declined>
+    ensures { Means (λ sources. sources.items) result (each source_of (offered offer.now)) }
+{
+    match offer {
+        Offer::One(given) => given_sources(alloc, given),
+        Offer::Line(given) => line_sources(alloc, given),
+        Offer::Files(words) => file_sources(alloc, words),
+    }
+}
+
 // Puts the part of that kind behind the others.
 fn push_fixed(
     kind: PartKind,
@@ -119,90 +176,21 @@ fn push_fixed(
     )
 }
 
-// Puts the part of that kind and with that one source behind the others.
-fn push_one(
+// Puts the part of a row behind the others, where something is given of it.
+fn append_offered(
     alloc: Global,
-    kind: PartKind,
-    source: Source,
-    parts: &mut Vec<PartSources>,
-) -> Result<(), AllocError>
-    requires { IsTrue (is_some (fixed_name kind)) }
-    ensures { OnOk result ((name : List ℕ) → fixed_name kind ≡ Some (padded_name name)
-        → map part_named parts.new.items ≡ map part_named parts.old.items
-        ++ named_part kind (padded_name name) (source ∷ []) ∷ []) }
-{
-    let sources = one_source(alloc, source)?;
-    push_fixed(kind, sources, parts)
-}
-
-// Puts the part of that kind behind the others, where its text or file is given.
-fn append_given(
-    alloc: Global,
-    kind: PartKind,
-    given: &Option<Given>,
+    row: &(PartKind, Offer),
     parts: &mut Vec<PartSources>,
 ) -> Result<(), Declined>
-    requires { IsTrue (is_some (fixed_name kind)) }
-    ensures { (name : List ℕ) → fixed_name kind ≡ Some (padded_name name)
-        → Means (λ _. map part_named parts.new.items) result
-        (with_parts (map part_named parts.old.items) (optional_part kind name (given_list given.now))) }
-{
-    match given {
-        None => Ok(()),
-        Some(given) => {
-            let source = source_of(alloc, given)?;
-            push_one(alloc, kind, source, parts)?;
-            Ok(())
-        }
-    }
-}
-
-// Puts the command line behind the others, where it is given.
-fn append_cmdline(
-    alloc: Global,
-    given: &Option<Given>,
-    parts: &mut Vec<PartSources>,
-) -> Result<(), Declined>
+    requires { IsTrue (is_some (fixed_name row.now.0)) }
     ensures { Means (λ _. map part_named parts.new.items) result
-        (with_parts (map part_named parts.old.items)
-        (optional_part kinds.Cmdline (codes ".cmdline") (given_list (option_map clean given.now)))) }
+        (with_parts (map part_named parts.old.items) (offered_part row.now)) }
 {
-    match given {
-        None => Ok(()),
-        Some(given) => {
-            let source = cmdline_source(alloc, given)?;
-            push_one(alloc, PartKind::Cmdline, source, parts)?;
-            Ok(())
-        }
-    }
-}
-
-fn file_sources(alloc: Global, words: &[Text]) -> Result<Vec<Source>, Declined>
-    ensures { Means (λ sources. sources.items) result (each (λ word. source_of (File word)) words.now) }
-{
-    let mut sources = Vec::new(alloc);
-    for word in words {
-        let source = file_source(alloc, word.as_str())?;
-        push(&mut sources, source)?;
-    }
-    Ok(sources)
-}
-
-// Puts the part of the initrds behind the others, unless there is none.
-fn append_initrds(
-    alloc: Global,
-    words: &[Text],
-    parts: &mut Vec<PartSources>,
-) -> Result<(), Declined>
-    ensures { Means (λ _. map part_named parts.new.items) result
-        (with_parts (map part_named parts.old.items)
-        (optional_part kinds.Initrd (codes ".initrd") (map File words.now))) }
-{
-    if words.is_empty() {
+    let sources = offered_sources(alloc, &row.1)?;
+    if sources.is_empty() {
         return Ok(());
     }
-    let sources = file_sources(alloc, words)?;
-    push_fixed(PartKind::Initrd, sources, parts)?;
+    push_fixed(row.0, sources, parts)?;
     Ok(())
 }
 
@@ -250,15 +238,21 @@ fn parts_of(
     ensures { Means (λ parts. map part_named parts.items) result
         (each sources_of (wanted_parts words.now sections.now)) }
 {
+    let given = &words.parts;
+    let rows = [
+        (PartKind::Osrel, Offer::One(&given.osrel)),
+        (PartKind::Cmdline, Offer::Line(&given.cmdline)),
+        (PartKind::Dtb, Offer::One(&given.dtb)),
+        (PartKind::Uname, Offer::One(&given.uname)),
+        (PartKind::Splash, Offer::One(&given.splash)),
+        (PartKind::Pcrpkey, Offer::One(&given.pcrpkey)),
+        (PartKind::Initrd, Offer::Files(words.initrds.as_slice())),
+        (PartKind::Ucode, Offer::One(&given.ucode)),
+    ];
     let mut parts = Vec::new(alloc);
-    append_given(alloc, PartKind::Osrel, &words.parts.osrel, &mut parts)?;
-    append_cmdline(alloc, &words.parts.cmdline, &mut parts)?;
-    append_given(alloc, PartKind::Dtb, &words.parts.dtb, &mut parts)?;
-    append_given(alloc, PartKind::Uname, &words.parts.uname, &mut parts)?;
-    append_given(alloc, PartKind::Splash, &words.parts.splash, &mut parts)?;
-    append_given(alloc, PartKind::Pcrpkey, &words.parts.pcrpkey, &mut parts)?;
-    append_initrds(alloc, words.initrds.as_slice(), &mut parts)?;
-    append_given(alloc, PartKind::Ucode, &words.parts.ucode, &mut parts)?;
+    for row in &rows {
+        append_offered(alloc, row, &mut parts)?;
+    }
     append_sections(alloc, sections, &mut parts)?;
     Ok(parts)
 }

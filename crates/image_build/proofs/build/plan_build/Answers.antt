@@ -28,7 +28,9 @@ returns-in_ok-plan_declined-in-Err-clause-declined g c why is =
 
 pub returns-in-Ok-clause-taken : goal.returns-in-Ok-clause-taken
 returns-in-Ok-clause-taken g c told =
-    subst (λ (r : Result NamedFiles Refusal). TakesAtMost (planning_length (seen (g.M.Machine.state c.args.machine.now)) c.args.words.now.measure r) (g.M.Machine.taken c.args.machine.now) (g.M.Machine.taken c.plan_sources.new.machine))
+    subst
+    (λ (r : Result NamedFiles Refusal). TakesAtMost (planning_length (seen (g.M.Machine.state c.args.machine.now)) c.args.words.now.measure r)
+    (g.M.Machine.taken c.args.machine.now) (g.M.Machine.taken c.plan_sources.new.machine))
     (sym c.in-Ok.ensures.means) (c.plan_sources.ensures.taken told)
 
 pub returns-in_ok-plan_declined-in-Err-clause-writes : goal.returns-in_ok-plan_declined-in-Err-clause-writes

@@ -10,5 +10,7 @@ loop-part-preserved c =
     let rest = c.next.new.self.rest.items in
     record {
       left = before.left ∙ one_over seen c.in-Some.part c.loop-part.part-iterator.rest.items rest c.in-Some.ensures.steps.0;
-      list = added seen c.in-Some.part rest c.args.parts.items c.loop-part.list c.add.new.self (before.left ∙ ap (λ l. seen ++ l) c.in-Some.ensures.steps.0) c.requires before.list c.in_ok-add.ensures.ok;
+      list =
+          added seen c.in-Some.part rest c.args.parts.items c.loop-part.list c.add.new.self
+          (before.left ∙ ap (λ l. seen ++ l) c.in-Some.ensures.steps.0) c.requires before.list c.in_ok-add.ensures.ok;
     }

@@ -12,19 +12,33 @@ returns-in_err-linux_length-clause-looks g c = looks_on c.readable_size.ensures.
 
 pub returns-in_err-parts-clause-looks : goal.returns-in_err-parts-clause-looks
 returns-in_err-parts-clause-looks g c = record {
-  reads = λ told. reads_on g.M.Machine.time g.M.Machine.state c.args.machine.now c.readable_size-2.new.machine c.parts_of_sources.new.machine (reads_on g.M.Machine.time g.M.Machine.state c.args.machine.now c.readable_size.new.machine c.readable_size-2.new.machine (c.readable_size.ensures.looks.reads told) (c.readable_size-2.ensures.looks.reads told)) (c.parts_of_sources.ensures.looks.reads told);
+  reads =
+      λ told. reads_on g.M.Machine.time g.M.Machine.state c.args.machine.now c.readable_size-2.new.machine c.parts_of_sources.new.machine
+      (reads_on g.M.Machine.time g.M.Machine.state c.args.machine.now c.readable_size.new.machine c.readable_size-2.new.machine
+      (c.readable_size.ensures.looks.reads told) (c.readable_size-2.ensures.looks.reads told))
+      (c.parts_of_sources.ensures.looks.reads told);
   counted = search rules;
 }
 
 pub returns-in_err-sbat-clause-looks : goal.returns-in_err-sbat-clause-looks
 returns-in_err-sbat-clause-looks g c = record {
-  reads = λ told. reads_on g.M.Machine.time g.M.Machine.state c.args.machine.now c.parts_of_sources.new.machine c.given_sbat.new.machine (reads_on g.M.Machine.time g.M.Machine.state c.args.machine.now c.readable_size-2.new.machine c.parts_of_sources.new.machine (reads_on g.M.Machine.time g.M.Machine.state c.args.machine.now c.readable_size.new.machine c.readable_size-2.new.machine (c.readable_size.ensures.looks.reads told) (c.readable_size-2.ensures.looks.reads told)) (c.parts_of_sources.ensures.looks.reads told)) (c.given_sbat.ensures.looks.reads told);
+  reads =
+      λ told. reads_on g.M.Machine.time g.M.Machine.state c.args.machine.now c.parts_of_sources.new.machine c.given_sbat.new.machine
+      (reads_on g.M.Machine.time g.M.Machine.state c.args.machine.now c.readable_size-2.new.machine c.parts_of_sources.new.machine
+      (reads_on g.M.Machine.time g.M.Machine.state c.args.machine.now c.readable_size.new.machine c.readable_size-2.new.machine
+      (c.readable_size.ensures.looks.reads told) (c.readable_size-2.ensures.looks.reads told)) (c.parts_of_sources.ensures.looks.reads told))
+      (c.given_sbat.ensures.looks.reads told);
   counted = search rules;
 }
 
 pub returns-clause-looks : goal.returns-clause-looks
 returns-clause-looks g c = record {
-  reads = λ told. reads_on g.M.Machine.time g.M.Machine.state c.args.machine.now c.parts_of_sources.new.machine c.given_sbat.new.machine (reads_on g.M.Machine.time g.M.Machine.state c.args.machine.now c.readable_size-2.new.machine c.parts_of_sources.new.machine (reads_on g.M.Machine.time g.M.Machine.state c.args.machine.now c.readable_size.new.machine c.readable_size-2.new.machine (c.readable_size.ensures.looks.reads told) (c.readable_size-2.ensures.looks.reads told)) (c.parts_of_sources.ensures.looks.reads told)) (c.given_sbat.ensures.looks.reads told);
+  reads =
+      λ told. reads_on g.M.Machine.time g.M.Machine.state c.args.machine.now c.parts_of_sources.new.machine c.given_sbat.new.machine
+      (reads_on g.M.Machine.time g.M.Machine.state c.args.machine.now c.readable_size-2.new.machine c.parts_of_sources.new.machine
+      (reads_on g.M.Machine.time g.M.Machine.state c.args.machine.now c.readable_size.new.machine c.readable_size-2.new.machine
+      (c.readable_size.ensures.looks.reads told) (c.readable_size-2.ensures.looks.reads told)) (c.parts_of_sources.ensures.looks.reads told))
+      (c.given_sbat.ensures.looks.reads told);
   counted = search rules;
 }
 

@@ -25,7 +25,8 @@ pub returns-in_err-part-clause-says : goal.returns-in_err-part-clause-says
 returns-in_err-part-clause-says g c told =
     let before = c.loop-source.invariant in
     let rest = c.next.new.self.rest.items in
-    one_refused _ (λ (s : State). part_bytes (seen s)) (g.M.Machine.state c.args.machine.now) (g.M.Machine.state c.loop-source.machine) (map part_named c.args.sources.items) (map part_named c.loop-source.yielded) (map part_named rest) _
+    one_refused _ (λ (s : State). part_bytes (seen s)) (g.M.Machine.state c.args.machine.now) (g.M.Machine.state c.loop-source.machine)
+    (map part_named c.args.sources.items) (map part_named c.loop-source.yielded) (map part_named rest) _
     (part_named c.in-Some.source) c.in_err-part.field-0.0 c.from_residual.result (before.reads told).same
     (mapped_cut part_named c.args.sources.items c.loop-source.yielded rest c.in-Some.source (before.left ∙ ap (λ l. c.loop-source.yielded ++ l) c.in-Some.ensures.steps.0))
     (before.found told) (c.in_err-part.ensures.says told) c.from_residual.ensures.0 c.from_residual.ensures.1
@@ -41,7 +42,9 @@ loop-source-preserved g c =
     let before = c.loop-source.invariant in
     record {
       left = before.left ∙ one_over c.loop-source.yielded c.in-Some.source c.loop-source.source-iterator.rest.items c.next.new.self.rest.items c.in-Some.ensures.steps.0;
-      from = zip_more PartFrom c.loop-source.yielded c.loop-source.parts.items c.push.new.self.items c.in-Some.source c.in_ok-part.part before.from c.in_ok-part.ensures.from c.in_ok-push.ensures.items;
+      from =
+          zip_more PartFrom c.loop-source.yielded c.loop-source.parts.items c.push.new.self.items c.in-Some.source c.in_ok-part.part before.from
+          c.in_ok-part.ensures.from c.in_ok-push.ensures.items;
       found = λ told.
           mapped_more part_named (λ (s : State). part_bytes (seen s)) (λ (s : State). part_as (contents (seen s))) (g.M.Machine.state c.args.machine.now) (g.M.Machine.state c.loop-source.machine)
           c.loop-source.yielded c.loop-source.parts.items c.push.new.self.items c.in-Some.source c.in_ok-part.part

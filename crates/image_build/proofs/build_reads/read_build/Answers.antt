@@ -17,19 +17,31 @@ returns-in_err-head-clause-looks g c = looks_on c.build_files.ensures.looks c.si
 
 pub returns-in_err-sbat-clause-looks : goal.returns-in_err-sbat-clause-looks
 returns-in_err-sbat-clause-looks g c = record {
-  reads = λ told. reads_on g.M.Machine.time g.M.Machine.state c.args.machine.now c.sized_head.new.machine c.image_sbat.new.machine (reads_on g.M.Machine.time g.M.Machine.state c.args.machine.now c.build_files.new.machine c.sized_head.new.machine (c.build_files.ensures.looks.reads told) (c.sized_head.ensures.looks.reads told)) (c.image_sbat.ensures.looks.reads told);
+  reads =
+      λ told. reads_on g.M.Machine.time g.M.Machine.state c.args.machine.now c.sized_head.new.machine c.image_sbat.new.machine
+      (reads_on g.M.Machine.time g.M.Machine.state c.args.machine.now c.build_files.new.machine c.sized_head.new.machine
+      (c.build_files.ensures.looks.reads told) (c.sized_head.ensures.looks.reads told))
+      (c.image_sbat.ensures.looks.reads told);
   counted = search rules;
 }
 
 pub returns-in_err-linux-clause-looks : goal.returns-in_err-linux-clause-looks
 returns-in_err-linux-clause-looks g c = record {
-  reads = λ told. reads_on g.M.Machine.time g.M.Machine.state c.args.machine.now c.sized_head.new.machine c.image_sbat.new.machine (reads_on g.M.Machine.time g.M.Machine.state c.args.machine.now c.build_files.new.machine c.sized_head.new.machine (c.build_files.ensures.looks.reads told) (c.sized_head.ensures.looks.reads told)) (c.image_sbat.ensures.looks.reads told);
+  reads =
+      λ told. reads_on g.M.Machine.time g.M.Machine.state c.args.machine.now c.sized_head.new.machine c.image_sbat.new.machine
+      (reads_on g.M.Machine.time g.M.Machine.state c.args.machine.now c.build_files.new.machine c.sized_head.new.machine
+      (c.build_files.ensures.looks.reads told) (c.sized_head.ensures.looks.reads told))
+      (c.image_sbat.ensures.looks.reads told);
   counted = search rules;
 }
 
 pub returns-clause-looks : goal.returns-clause-looks
 returns-clause-looks g c = record {
-  reads = λ told. reads_on g.M.Machine.time g.M.Machine.state c.args.machine.now c.sized_head.new.machine c.image_sbat.new.machine (reads_on g.M.Machine.time g.M.Machine.state c.args.machine.now c.build_files.new.machine c.sized_head.new.machine (c.build_files.ensures.looks.reads told) (c.sized_head.ensures.looks.reads told)) (c.image_sbat.ensures.looks.reads told);
+  reads =
+      λ told. reads_on g.M.Machine.time g.M.Machine.state c.args.machine.now c.sized_head.new.machine c.image_sbat.new.machine
+      (reads_on g.M.Machine.time g.M.Machine.state c.args.machine.now c.build_files.new.machine c.sized_head.new.machine
+      (c.build_files.ensures.looks.reads told) (c.sized_head.ensures.looks.reads told))
+      (c.image_sbat.ensures.looks.reads told);
   counted = search rules;
 }
 
@@ -42,20 +54,35 @@ returns-clause-says g c told =
 
 pub returns-in_err-sbat-clause-taken : goal.returns-in_err-sbat-clause-taken
 returns-in_err-sbat-clause-taken g c told =
-    reading (contents (seen (g.M.Machine.state c.args.machine.now))) c.args.sources c.in_ok-found.found _ _ _ _ c.in_ok-found.ensures.from (c.build_files.ensures.taken told) (c.sized_head.ensures.taken told)
-    (subst (λ (s : State). TakesAtMost (loaded_sbat_length (contents (seen s)) c.in_ok-found.found.stub + (69463 + loaded_sbat_length (contents (seen s)) c.in_ok-found.found.linux)) (g.M.Machine.taken c.sized_head.new.machine) (g.M.Machine.taken c.image_sbat.new.machine))
+    reading (contents (seen (g.M.Machine.state c.args.machine.now))) c.args.sources c.in_ok-found.found _ _ _ _ c.in_ok-found.ensures.from
+    (c.build_files.ensures.taken told) (c.sized_head.ensures.taken told)
+    (subst
+    (λ (s : State). TakesAtMost
+    (loaded_sbat_length (contents (seen s)) c.in_ok-found.found.stub +
+    (69463 + loaded_sbat_length (contents (seen s))
+    c.in_ok-found.found.linux)) (g.M.Machine.taken c.sized_head.new.machine) (g.M.Machine.taken c.image_sbat.new.machine))
     ((c.sized_head.ensures.looks.reads told).same ∙ (c.build_files.ensures.looks.reads told).same) (c.image_sbat.ensures.taken told))
 
 pub returns-in_err-linux-clause-taken : goal.returns-in_err-linux-clause-taken
 returns-in_err-linux-clause-taken g c told =
-    reading (contents (seen (g.M.Machine.state c.args.machine.now))) c.args.sources c.in_ok-found.found _ _ _ _ c.in_ok-found.ensures.from (c.build_files.ensures.taken told) (c.sized_head.ensures.taken told)
-    (subst (λ (s : State). TakesAtMost (loaded_sbat_length (contents (seen s)) c.in_ok-found.found.stub + (69463 + loaded_sbat_length (contents (seen s)) c.in_ok-found.found.linux)) (g.M.Machine.taken c.sized_head.new.machine) (g.M.Machine.taken c.image_sbat.new.machine))
+    reading (contents (seen (g.M.Machine.state c.args.machine.now))) c.args.sources c.in_ok-found.found _ _ _ _ c.in_ok-found.ensures.from
+    (c.build_files.ensures.taken told) (c.sized_head.ensures.taken told)
+    (subst
+    (λ (s : State). TakesAtMost
+    (loaded_sbat_length (contents (seen s)) c.in_ok-found.found.stub +
+    (69463 + loaded_sbat_length (contents (seen s))
+    c.in_ok-found.found.linux)) (g.M.Machine.taken c.sized_head.new.machine) (g.M.Machine.taken c.image_sbat.new.machine))
     ((c.sized_head.ensures.looks.reads told).same ∙ (c.build_files.ensures.looks.reads told).same) (c.image_sbat.ensures.taken told))
 
 pub returns-clause-taken : goal.returns-clause-taken
 returns-clause-taken g c told =
-    reading (contents (seen (g.M.Machine.state c.args.machine.now))) c.args.sources c.in_ok-found.found _ _ _ _ c.in_ok-found.ensures.from (c.build_files.ensures.taken told) (c.sized_head.ensures.taken told)
-    (subst (λ (s : State). TakesAtMost (loaded_sbat_length (contents (seen s)) c.in_ok-found.found.stub + (69463 + loaded_sbat_length (contents (seen s)) c.in_ok-found.found.linux)) (g.M.Machine.taken c.sized_head.new.machine) (g.M.Machine.taken c.image_sbat.new.machine))
+    reading (contents (seen (g.M.Machine.state c.args.machine.now))) c.args.sources c.in_ok-found.found _ _ _ _ c.in_ok-found.ensures.from
+    (c.build_files.ensures.taken told) (c.sized_head.ensures.taken told)
+    (subst
+    (λ (s : State). TakesAtMost
+    (loaded_sbat_length (contents (seen s)) c.in_ok-found.found.stub +
+    (69463 + loaded_sbat_length (contents (seen s))
+    c.in_ok-found.found.linux)) (g.M.Machine.taken c.sized_head.new.machine) (g.M.Machine.taken c.image_sbat.new.machine))
     ((c.sized_head.ensures.looks.reads told).same ∙ (c.build_files.ensures.looks.reads told).same) (c.image_sbat.ensures.taken told))
 
 pub returns-in_err-head-clause-taken : goal.returns-in_err-head-clause-taken

@@ -26,8 +26,11 @@ loop-source-init g c = record {
 pub returns-in_err-piece-clause-says : goal.returns-in_err-piece-clause-says
 returns-in_err-piece-clause-says g c told =
     let before = c.loop-source.invariant in
-    one_refused _ (λ (s : State). source_bytes (seen s)) (g.M.Machine.state c.args.machine.now) (g.M.Machine.state c.loop-source.machine) c.args.sources.items c.loop-source.yielded c.next.new.self.rest.items _ c.in-Some.source
-    c.in_err-piece.field-0.0 c.from_residual.result (before.reads told).same (before.left ∙ ap (λ l. c.loop-source.yielded ++ l) c.in-Some.ensures.steps.0) (before.found told) (c.in_err-piece.ensures.says told) c.from_residual.ensures.0 c.from_residual.ensures.1
+    one_refused _ (λ (s : State). source_bytes (seen s)) (g.M.Machine.state c.args.machine.now) (g.M.Machine.state c.loop-source.machine)
+    c.args.sources.items c.loop-source.yielded c.next.new.self.rest.items _ c.in-Some.source
+    c.in_err-piece.field-0.0 c.from_residual.result (before.reads told).same
+    (before.left ∙ ap (λ l. c.loop-source.yielded ++ l) c.in-Some.ensures.steps.0) (before.found told) (c.in_err-piece.ensures.says told)
+    c.from_residual.ensures.0 c.from_residual.ensures.1
 
 pub returns-in_err-piece-clause-looks : goal.returns-in_err-piece-clause-looks
 returns-in_err-piece-clause-looks g c = record {
@@ -41,7 +44,9 @@ loop-source-preserved g c =
     record {
       left = before.left ∙ one_over c.loop-source.yielded c.in-Some.source c.loop-source.source-iterator.rest.items c.next.new.self.rest.items c.in-Some.ensures.steps.0;
       count = count_more c.loop-source.yielded c.in-Some.source c.loop-source.pieces.items c.push.new.self.items c.in_ok-piece.piece before.count c.in_ok-push.ensures.items;
-      limit = sum_more piece_length source_limit c.loop-source.yielded c.loop-source.pieces.items c.push.new.self.items c.in-Some.source c.in_ok-piece.piece before.limit c.in_ok-piece.ensures.limit c.in_ok-push.ensures.items;
+      limit =
+          sum_more piece_length source_limit c.loop-source.yielded c.loop-source.pieces.items c.push.new.self.items c.in-Some.source
+          c.in_ok-piece.piece before.limit c.in_ok-piece.ensures.limit c.in_ok-push.ensures.items;
       found = λ told.
           made_more (λ (s : State). source_bytes (seen s)) (λ (s : State). piece_bytes (contents (seen s))) (g.M.Machine.state c.args.machine.now) (g.M.Machine.state c.loop-source.machine)
           c.loop-source.yielded c.loop-source.pieces.items c.push.new.self.items c.in-Some.source c.in_ok-piece.piece

@@ -13,7 +13,9 @@ invariant-loop-source g l = record {
   left : l.fn.sources.items ≡ l.yielded ++ l.source-iterator.rest.items;
   count : length l.pieces.items ≡ length l.yielded;
   limit : total_length l.pieces.items ≤ sum_by source_limit l.yielded;
-  found : IsTrue g.M.Machine.tells → each (source_bytes (seen (g.M.Machine.state l.initial.machine))) l.yielded ≡ Ok (map (piece_bytes (contents (seen (g.M.Machine.state l.initial.machine)))) l.pieces.items);
+  found : IsTrue g.M.Machine.tells
+      → each (source_bytes (seen (g.M.Machine.state l.initial.machine))) l.yielded ≡ Ok
+      (map (piece_bytes (contents (seen (g.M.Machine.state l.initial.machine)))) l.pieces.items);
   sizes : IsTrue g.M.Machine.tells → HasSizes (contents (seen (g.M.Machine.state l.initial.machine))) l.pieces.items;
   reads : IsTrue g.M.Machine.tells → OnlyReads g.M.Machine.time g.M.Machine.state l.initial.machine l.machine;
   taken : IsTrue g.M.Machine.tells → TakesAtMost 0 (g.M.Machine.taken l.initial.machine) (g.M.Machine.taken l.machine);

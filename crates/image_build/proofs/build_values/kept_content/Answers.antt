@@ -14,6 +14,10 @@ returns-clause-holds c view on =
     let plan = c.args.plan.now in
     let name = c.args.name.now in
     let kept : loaded_bytes (stub_bytes view plan) name ≡ kept_bytes view plan on.own.in_place name =
-    elim c.else-eq.branch [ else-eq-via-then-eq+else-is_some w ↦ kept_not_placed view plan on name (cc (w.sbat_place.ensures, w.is_some.ensures, w.if-is_some.false)) | else-eq-via-else-eq w ↦ kept_not_named view plan on name (cc (c.eq.ensures, c.as_slice.ensures, w.if-eq.false)) ] in
+    elim c.else-eq.branch [
+      | else-eq-via-then-eq+else-is_some w ↦ kept_not_placed view plan on name (cc (w.sbat_place.ensures, w.is_some.ensures, w.if-is_some.false))
+      | else-eq-via-else-eq w ↦ kept_not_named view plan on name (cc (c.eq.ensures, c.as_slice.ensures, w.if-eq.false))
+    ]
+    in
     let reads : pe_of (contents view c.stub.result.now) ≡ Ok (headers_of plan.head) = ap (λ (path : Path). pe_of (contents view path)) c.stub.ensures ∙ on.reads in
     subst (IsContent (contents view) c.stub_content.result) (ap (λ (path : Path). loaded_bytes (contents view path) name) c.stub.ensures ∙ kept) (c.stub_content.ensures.holds (contents view) reads)

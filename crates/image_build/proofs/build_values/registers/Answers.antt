@@ -17,7 +17,8 @@ returns-clause-says g c told on =
     let view = seen (g.M.Machine.state c.args.machine.now) in
     let plan = c.args.plan.now in
     let parts = c.in_ok-parts.parts.items in
-    registers_are (contents view) parts c.deref.result.now (measured_list (planned_image plan.image.plan plan.image.sources view)) c.args.banks.now (map pcr_value c.in_ok-predict.field-0.items) c.deref.ensures.value
+    registers_are (contents view) parts c.deref.result.now (measured_list (planned_image plan.image.plan plan.image.sources view)) c.args.banks.now
+    (map pcr_value c.in_ok-predict.field-0.items) c.deref.ensures.value
     (c.in_ok-parts.ensures.items view on) (c.in_ok-predict.ensures.value told (subst (HaveSizes (contents view)) (sym c.deref.ensures.value) (c.in_ok-parts.ensures.whole view on)))
 
 pub returns-clause-taken : goal.returns-clause-taken

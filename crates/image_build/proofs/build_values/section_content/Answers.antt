@@ -10,10 +10,13 @@ use Rattle.image_build.proofs.build_values.section_content.Goals as goal
 
 pub returns-in-Some-clause-holds : goal.returns-in-Some-clause-holds
 returns-in-Some-clause-holds c view on =
-    section_found view c.args.plan.now on c.args.name.now c.in-Some.part.now c.deref.result (ap (find (λ part. bytes_eq (name_bytes part.name) c.args.name.now)) (sym c.parts.ensures) ∙ sym c.part_named.ensures ∙ ap option_copied c.in-Some.is) c.deref.ensures.value
+    section_found view c.args.plan.now on c.args.name.now c.in-Some.part.now c.deref.result
+    (ap (find (λ part. bytes_eq (name_bytes part.name) c.args.name.now)) (sym c.parts.ensures) ∙ sym c.part_named.ensures ∙ ap option_copied c.in-Some.is)
+    c.deref.ensures.value
 
 pub returns-in-None-clause-holds : goal.returns-in-None-clause-holds
 returns-in-None-clause-holds c view on =
     subst (IsContent (contents view) c.kept_content.result)
-    (section_kept view c.args.plan.now on c.args.name.now (ap (find (λ part. bytes_eq (name_bytes part.name) c.args.name.now)) (sym c.parts.ensures) ∙ sym c.part_named.ensures ∙ ap option_copied c.in-None.is))
+    (section_kept view c.args.plan.now on c.args.name.now
+    (ap (find (λ part. bytes_eq (name_bytes part.name) c.args.name.now)) (sym c.parts.ensures) ∙ sym c.part_named.ensures ∙ ap option_copied c.in-None.is))
     (c.kept_content.ensures.holds view on)

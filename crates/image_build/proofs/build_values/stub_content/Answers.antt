@@ -13,4 +13,5 @@ returns-in_err-index-clause-holds c files reads =
 
 pub returns-clause-holds : goal.returns-clause-holds
 returns-clause-holds c files reads =
-    stub_some files c.args.stub c.args.name.now (headers_of c.args.head.now) c.in_ok-index.index c.loaded_range-range.result reads (sym c.find.ensures.at ∙ c.in_ok-index.was) c.in_ok-index.ensures.inside c.loaded_range-range.ensures.exact
+    stub_some files c.args.stub c.args.name.now (headers_of c.args.head.now) c.in_ok-index.index c.loaded_range-range.result reads
+    (sym c.find.ensures.at ∙ c.in_ok-index.was) c.in_ok-index.ensures.inside c.loaded_range-range.ensures.exact

@@ -8,8 +8,10 @@ loop-section-init c = with_none _
 pub returns-in_err-append_section : goal.returns-in_err-append_section
 returns-in_err-append_section c =
     means_declined _ c.in_err-append_section.field-0.0 _ _ c.from_residual.ensures.0 c.from_residual.ensures.1
-    (section_declined _ _ c.args.sections.now c.loop-section.section-index c.loop-section-test.true c.loop-section.invariant c.section-item.result c.section-item.result c.section-item.is c.in_err-append_section.field-0.0 c.in_err-append_section.ensures)
+    (section_declined _ _ c.args.sections.now c.loop-section.section-index c.loop-section-test.true c.loop-section.invariant c.section-item.result
+    c.section-item.result c.section-item.is c.in_err-append_section.field-0.0 c.in_err-append_section.ensures)
 
 pub loop-section-preserved : goal.loop-section-preserved
 loop-section-preserved c =
-    section_more _ _ c.args.sections.now c.loop-section.section-index c.loop-section-test.true c.loop-section.invariant c.section-item.result c.section-item.result c.section-item.is _ c.in_ok-append_section.ensures
+    section_more _ _ c.args.sections.now c.loop-section.section-index c.loop-section-test.true c.loop-section.invariant c.section-item.result
+    c.section-item.result c.section-item.is _ c.in_ok-append_section.ensures

@@ -11,10 +11,12 @@ loop-word-init c = each_none _ ∙ ap Ok (sym c.new-sources.ensures.items)
 pub returns-in_err-source : goal.returns-in_err-source
 returns-in_err-source c =
     means_declined _ c.in_err-source.field-0.0 _ _ c.from_residual.ensures.0 c.from_residual.ensures.1
-    (taken_declined (λ word. source_of (File word)) c.args.words.now c.loop-word.word-index c.loop-word.sources.items c.as_str.result.now c.word-item.result c.in_err-source.field-0.0 c.loop-word-test.true c.loop-word.invariant
+    (taken_declined (λ word. source_of (File word)) c.args.words.now c.loop-word.word-index c.loop-word.sources.items c.as_str.result.now
+    c.word-item.result c.in_err-source.field-0.0 c.loop-word-test.true c.loop-word.invariant
     (c.as_str.ensures ∙ c.word-item.is) c.in_err-source.ensures)
 
 pub loop-word-preserved : goal.loop-word-preserved
 loop-word-preserved c =
-    each_taken (λ word. source_of (File word)) c.args.words.now c.loop-word.word-index c.loop-word.sources.items c.push.new.items.items c.as_str.result.now c.word-item.result c.in_ok-source.source c.loop-word-test.true c.loop-word.invariant
+    each_taken (λ word. source_of (File word)) c.args.words.now c.loop-word.word-index c.loop-word.sources.items c.push.new.items.items
+    c.as_str.result.now c.word-item.result c.in_ok-source.source c.loop-word-test.true c.loop-word.invariant
     (c.as_str.ensures ∙ c.word-item.is) c.in_ok-source.ensures c.in_ok-push.ensures
