@@ -32,24 +32,43 @@ take-replies view [] (suc k) = refl
 take-replies view (line ∷ lines) (suc k) = ap (λ (l : List Sent). (line_deed view line).sent ∷ l) (take-replies (line_deed view line).after lines k)
 
 -- no reply is empty, so more of them are longer
-fewer : (view : Files) (lines : List Line) (k j : ℕ) → NoneEmpty view lines → k ≤ length (replies view lines) → length (end_to_end (take k (replies view lines))) ≤ length (end_to_end (take j (replies view lines))) → k ≤ j
+fewer : (view : Files) (lines : List Line) (k j : ℕ) → NoneEmpty view lines → k ≤ length (replies view lines)
+    → length (end_to_end (take k (replies view lines))) ≤ length (end_to_end (take j (replies view lines))) → k ≤ j
 fewer view lines zero j some within le = omega arith
 fewer view [] (suc k) j some within le = absurd (omega arith)
-fewer view (line ∷ lines) (suc k) zero some within le = absurd (omega (arith, le, length-append (line_deed view line).sent (end_to_end (take k (replies (line_deed view line).after lines))), some_length (line_deed view line).sent some.0))
+fewer view (line ∷ lines) (suc k) zero some within le =
+    absurd
+    (omega (
+      arith,
+      le,
+      length-append (line_deed view line).sent (end_to_end (take k (replies (line_deed view line).after lines))),
+      some_length
+          (line_deed view line).sent some.0,
+    ))
 fewer view (line ∷ lines) (suc k) (suc j) some within le =
     omega (
       arith,
       fewer (line_deed view line).after lines k j some.1 (omega (arith, within))
-          (omega (arith, le, length-append (line_deed view line).sent (end_to_end (take k (replies (line_deed view line).after lines))), length-append (line_deed view line).sent (end_to_end (take j (replies (line_deed view line).after lines))))),
+          (omega (
+            arith,
+            le,
+            length-append (line_deed view line).sent (end_to_end (take k (replies (line_deed view line).after lines))),
+            length-append
+                (line_deed view line).sent (end_to_end (take j (replies (line_deed view line).after lines))),
+          )),
     )
 
 -- of what is printed no more is acknowledged than is as long
-acked_most : (s : State) (lines : List Line) (j k : ℕ) (sent : Sent) → Acknowledges (replies (recovered_now s) lines) sent k → length sent ≤ length (end_to_end (take j (replies (recovered_now s) lines))) → k ≤ j
+acked_most : (s : State) (lines : List Line) (j k : ℕ) (sent : Sent) → Acknowledges (replies (recovered_now s) lines) sent k
+    → length sent ≤ length (end_to_end (take j (replies (recovered_now s) lines))) → k ≤ j
 acked_most s lines j k sent acked short = fewer (recovered_now s) lines k j (none_empty (recovered_now s) lines) acked.within (omega (arith, short, length-prefix _ _ acked.whole))
 
 -- what was said is so long
 said_length : (s : State) (lines : List Line) (i : ℕ) → length (printed_by (recovered_views s) (take i lines)) ≡ length (end_to_end (take i (replies (recovered_now s) lines)))
-said_length s lines i = ap length (printed_by-is (recovered_views s) (take i lines) ∙ ap (λ v. end_to_end (replies v (take i lines))) (latest_view-recovered_views s) ∙ ap end_to_end (take-replies (recovered_now s) lines i))
+said_length s lines i =
+    ap length
+    (printed_by-is (recovered_views s) (take i lines) ∙ ap (λ v. end_to_end (replies v (take i lines))) (latest_view-recovered_views s) ∙ ap
+    end_to_end (take-replies (recovered_now s) lines i))
 
 -- a command among fewer lines is among more
 has_more : (lines : List Line) (k : ℕ) → has_command (take k lines) ≡ true → has_command lines ≡ true
@@ -128,7 +147,8 @@ module _ {D : Type 0} (time : Timeline D) (state : D → State) where
       deed = line_deed (recovered_now (state mid)) line
 
       -- so much is printed in all, with that part of the reply
-      in_all : (sent part : Sent) → (state new).printed ≡ (state mid).printed ++ part → (state new).printed ≡ (state old).printed ++ sent → length sent ≡ length (printed_by (recovered_views (state old)) (take i lines)) + length part
+      in_all : (sent part : Sent) → (state new).printed ≡ (state mid).printed ++ part → (state new).printed ≡ (state old).printed ++ sent
+          → length sent ≡ length (printed_by (recovered_views (state old)) (take i lines)) + length part
       in_all sent part is adds = omega (
         arith,
         ap length is,
@@ -141,7 +161,8 @@ module _ {D : Type 0} (time : Timeline D) (state : D → State) where
 
       more : length (printed_by (recovered_views (state old)) (take (i + 1) lines)) ≡ length (printed_by (recovered_views (state old)) (take i lines)) + length deed.sent
       more = ap length (said_more (recovered_views (state old)) lines i line within line_is) ∙ length-append (printed_by (recovered_views (state old)) (take i lines)) _
-          ∙ ap (λ v. length (printed_by (recovered_views (state old)) (take i lines)) + length (line_deed v line).sent) (sym (ap latest_view so_far.all.state) ∙ latest_view-recovered_views (state mid))
+          ∙ ap (λ v. length (printed_by (recovered_views (state old)) (take i lines)) + length (line_deed v line).sent)
+          (sym (ap latest_view so_far.all.state) ∙ latest_view-recovered_views (state mid))
 
       -- a pipe failed with this printed of the reply
       at_pipe : (part : Sent) → (state new).printed ≡ (state mid).printed ++ part → length part ≤ length deed.sent → LeavesClean (take i lines) (state new)
@@ -162,7 +183,8 @@ module _ {D : Type 0} (time : Timeline D) (state : D → State) where
           (clean (λ is. cc))
 
 -- given up for the same stop
-pub clean_so : (old new : State) (lines : List Line) (result : Result Bool Stop) (stop : Stop) → IsErr result → IsErrAnd result (λ e. e ≡ stop) → CleanBehind old new lines (ended_by (Err stop)) → CleanBehind old new lines (ended_by result)
+pub clean_so : (old new : State) (lines : List Line) (result : Result Bool Stop) (stop : Stop) → IsErr result → IsErrAnd result (λ e. e ≡ stop)
+    → CleanBehind old new lines (ended_by (Err stop)) → CleanBehind old new lines (ended_by result)
 clean_so old new lines (Ok refused) stop failed is clean = cc
 clean_so old new lines (Err e) stop failed is clean = subst (λ (x : Stop). CleanBehind old new lines (ended_by (Err x))) (sym is) clean
 

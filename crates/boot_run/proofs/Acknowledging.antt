@@ -39,7 +39,9 @@ module _ {D : Type 0} (time : Timeline D) (state : D → State) (old : D) where
 
   -- there was no memory for the texts
   pub no_memory_yet : (deed : Deed) (result : Result Outcome Stop) → IsErr result → IsErrAnd result (λ stop. stop ≡ Memory) → IsFirm (state old)
-      → ((m : Files) (o : Sent) → time.since old (time.clock old) m o → IsIn (recovered_view m) (recovered_views (state old)) × (o ≡ (state old).printed)) → Performs time state end_of old old deed result
+      →
+      ((m : Files) (o : Sent) → time.since old (time.clock old) m o → IsIn (recovered_view m) (recovered_views (state old)) × (o ≡ (state old).printed))
+      → Performs time state end_of old old deed result
   no_memory_yet deed result failed is firm at_start = record {
     firm = firm;
     ok = if_ok result _ failed;
@@ -48,7 +50,8 @@ module _ {D : Type 0} (time : Timeline D) (state : D → State) (old : D) where
   }
 
   -- the reply to a line that is no command
-  pub refused_unread : (new : D) (number : ℕ) (text : (List ℕ)) (result : Result Outcome Stop) (k : ℕ) → ((m : Files) → IsImage (state old) m → IsIn (recovered_view m) (recovered_views (state old))) → IsFirm (state old)
+  pub refused_unread : (new : D) (number : ℕ) (text : (List ℕ)) (result : Result Outcome Stop) (k : ℕ)
+      → ((m : Files) → IsImage (state old) m → IsIn (recovered_view m) (recovered_views (state old))) → IsFirm (state old)
       → EachSince time old new (PrintsPart (state old) (on_channel ErrChannel text)) → state new ≡ with_printed ErrChannel (take k text) (state old)
       → IsErr result → IsErrAnd result (λ stop. stop ≡ Pipe) → Performs time state end_of old new (unread_deed number text (recovered_now (state old))) result
   refused_unread new number text result k sees firm moments shown failed is = record {
@@ -58,8 +61,13 @@ module _ {D : Type 0} (time : Timeline D) (state : D → State) (old : D) where
     moments = unread_moments new number text sees moments;
   }
     where
-      unread_moments : (new : D) (number : ℕ) (text : (List ℕ)) → ((m : Files) → IsImage (state old) m → IsIn (recovered_view m) (recovered_views (state old))) → EachSince time old new (PrintsPart (state old) (on_channel ErrChannel text)) → EachSince time old new (Within (unread_deed number text (recovered_now (state old))))
-      unread_moments new number text sees moments = weaken time state _ (Within (unread_deed number text (recovered_now (state old)))) old new (λ m o prints. (prints.part.0, prints.part.1, inr (prints.part.2, (recovered_view m, refl, sees m prints.stands)))) moments
+      unread_moments : (new : D) (number : ℕ) (text : (List ℕ))
+          → ((m : Files) → IsImage (state old) m → IsIn (recovered_view m) (recovered_views (state old)))
+          → EachSince time old new (PrintsPart (state old) (on_channel ErrChannel text))
+          → EachSince time old new (Within (unread_deed number text (recovered_now (state old))))
+      unread_moments new number text sees moments =
+          weaken time state _ (Within (unread_deed number text (recovered_now (state old)))) old new
+          (λ m o prints. (prints.part.0, prints.part.1, inr (prints.part.2, (recovered_view m, refl, sees m prints.stands)))) moments
 
   pub told_unread : (new : D) (number : ℕ) (text : (List ℕ)) → ((m : Files) → IsImage (state old) m → IsIn (recovered_view m) (recovered_views (state old))) → IsFirm (state old)
       → EachSince time old new (PrintsPart (state old) (on_channel ErrChannel text)) → state new ≡ with_printed ErrChannel text (state old)
@@ -68,7 +76,9 @@ module _ {D : Type 0} (time : Timeline D) (state : D → State) (old : D) where
     firm = subst IsFirm (sym shown) (record { unseen = firm.unseen; intent = firm.intent; unnamed = firm.unnamed });
     ok = (refl, ap recovered_views shown, ap (λ (s : State). s.printed) shown);
     err = tt;
-    moments = weaken time state _ (Within (unread_deed number text (recovered_now (state old)))) old new (λ m o prints. (prints.part.0, prints.part.1, inr (prints.part.2, (recovered_view m, refl, sees m prints.stands)))) moments;
+    moments =
+        weaken time state _ (Within (unread_deed number text (recovered_now (state old)))) old new
+        (λ m o prints. (prints.part.0, prints.part.1, inr (prints.part.2, (recovered_view m, refl, sees m prints.stands)))) moments;
   }
 
   module _ (deed : Deed) (ack : (List ℕ)) where
@@ -76,7 +86,8 @@ module _ {D : Type 0} (time : Timeline D) (state : D → State) (old : D) where
     earlier mid moments = weaken time state (Within deed) (Within (behind deed ack)) old mid (λ m o adds. (adds.0, adds.1, breaks_more deed ack _ _ adds.0 Stopped adds.2)) moments
 
     -- the deed itself was broken off
-    pub not_behind : (new : D) (stop : Stop) (result : Result Outcome Stop) → IsErr result → IsErrAnd result (λ e. e ≡ stop) → Performs time state end_of old new deed (Err stop) → Performs time state end_of old new (behind deed ack) result
+    pub not_behind : (new : D) (stop : Stop) (result : Result Outcome Stop) → IsErr result → IsErrAnd result (λ e. e ≡ stop)
+        → Performs time state end_of old new deed (Err stop) → Performs time state end_of old new (behind deed ack) result
     not_behind new stop result failed is performs = record {
       firm = performs.firm;
       ok = if_ok result _ failed;
@@ -84,25 +95,31 @@ module _ {D : Type 0} (time : Timeline D) (state : D → State) (old : D) where
       moments = earlier new performs.moments;
     }
 
-    both_moments : (mid new : D) (outcome : Outcome) → Performs time state end_of old mid deed (Ok outcome) → ((m : Files) → IsImage (state mid) m → IsIn (recovered_view m) (recovered_views (state mid)))
+    both_moments : (mid new : D) (outcome : Outcome) → Performs time state end_of old mid deed (Ok outcome)
+        → ((m : Files) → IsImage (state mid) m → IsIn (recovered_view m) (recovered_views (state mid)))
         → EachSince time mid new (PrintsPart (state mid) (on_channel Out ack)) → EachSince time old new (Within (behind deed ack))
     both_moments mid new outcome performs sees moments = joined time state (Within (behind deed ack)) old mid new (earlier mid performs.moments)
         (weaken time state _ (Within (behind deed ack)) mid new (λ m o prints. (
           deed.sent ++ prints.part.0,
           prints.part.1 ∙ ap (λ (l : Sent). l ++ prints.part.0) performs.ok.2 ∙ append_assoc (state old).printed deed.sent prints.part.0,
-          inr (prefix_behind deed.sent prints.part.0 (on_channel Out ack) prints.part.2, (recovered_view m, refl, subst (λ (l : List Files). IsIn (recovered_view m) l) performs.ok.1 (sees m prints.stands))),
+          inr (
+            prefix_behind deed.sent prints.part.0 (on_channel Out ack) prints.part.2,
+            (recovered_view m, refl, subst (λ (l : List Files). IsIn (recovered_view m) l) performs.ok.1 (sees m prints.stands)),
+          ),
         )) moments)
 
     -- the line behind it couldn't be printed
     pub behind_failed : (mid new : D) (outcome : Outcome) (result : Result Outcome Stop) → IsErr result → IsErrAnd result (λ stop. stop ≡ Pipe) → Performs time state end_of old mid deed (Ok outcome)
-        → ((m : Files) → IsImage (state mid) m → IsIn (recovered_view m) (recovered_views (state mid))) → EachSince time mid new (PrintsPart (state mid) (on_channel Out ack)) → (k : ℕ) × (state new ≡ with_printed Out (take k ack) (state mid))
+        → ((m : Files) → IsImage (state mid) m → IsIn (recovered_view m) (recovered_views (state mid)))
+        → EachSince time mid new (PrintsPart (state mid) (on_channel Out ack)) → (k : ℕ) × (state new ≡ with_printed Out (take k ack) (state mid))
         → Performs time state end_of old new (behind deed ack) result
     behind_failed mid new outcome result failed is performs sees moments shown = record {
       firm = subst IsFirm (sym shown.1) (record { unseen = performs.firm.unseen; intent = performs.firm.intent; unnamed = performs.firm.unnamed });
       ok = if_ok result _ failed;
       err = if_err result Pipe _ is (
         deed.sent ++ on_channel Out (take shown.0 ack),
-        ap (λ (s : State). s.printed) shown.1 ∙ ap (λ (l : Sent). l ++ on_channel Out (take shown.0 ack)) performs.ok.2 ∙ append_assoc (state old).printed deed.sent (on_channel Out (take shown.0 ack)),
+        ap (λ (s : State). s.printed) shown.1 ∙ ap (λ (l : Sent). l ++ on_channel Out (take shown.0 ack)) performs.ok.2
+            ∙ append_assoc (state old).printed deed.sent (on_channel Out (take shown.0 ack)),
         inr (prefix_behind deed.sent (on_channel Out (take shown.0 ack)) (on_channel Out ack) (tagged_part Out shown.0 ack), ap recovered_views shown.1 ∙ performs.ok.1),
       );
       moments = both_moments mid new outcome performs sees moments;
@@ -110,17 +127,24 @@ module _ {D : Type 0} (time : Timeline D) (state : D → State) (old : D) where
 
     -- reply and line are printed
     pub behind_done : (mid new : D) (outcome : Outcome) → Performs time state end_of old mid deed (Ok outcome)
-        → ((m : Files) → IsImage (state mid) m → IsIn (recovered_view m) (recovered_views (state mid))) → EachSince time mid new (PrintsPart (state mid) (on_channel Out ack)) → state new ≡ with_printed Out ack (state mid)
+        → ((m : Files) → IsImage (state mid) m → IsIn (recovered_view m) (recovered_views (state mid)))
+        → EachSince time mid new (PrintsPart (state mid) (on_channel Out ack)) → state new ≡ with_printed Out ack (state mid)
         → Performs time state end_of old new (behind deed ack) (Ok outcome)
     behind_done mid new outcome performs sees moments shown = record {
       firm = subst IsFirm (sym shown) (record { unseen = performs.firm.unseen; intent = performs.firm.intent; unnamed = performs.firm.unnamed });
-      ok = (performs.ok.0, ap recovered_views shown ∙ performs.ok.1, ap (λ (s : State). s.printed) shown ∙ ap (λ (l : Sent). l ++ on_channel Out ack) performs.ok.2 ∙ append_assoc (state old).printed deed.sent (on_channel Out ack));
+      ok = (
+        performs.ok.0,
+        ap recovered_views shown ∙ performs.ok.1,
+        ap (λ (s : State). s.printed) shown ∙ ap (λ (l : Sent). l ++ on_channel Out ack)
+            performs.ok.2 ∙ append_assoc (state old).printed deed.sent (on_channel Out ack),
+      );
       err = tt;
       moments = both_moments mid new outcome performs sees moments;
     }
 
   -- nothing is printed yet of a text
-  pub printed_not : (text : Sent) → ((m : Files) (o : Sent) → time.since old (time.clock old) m o → IsImage (state old) m × (o ≡ (state old).printed)) → EachSince time old old (PrintsPart (state old) text)
+  pub printed_not : (text : Sent) → ((m : Files) (o : Sent) → time.since old (time.clock old) m o → IsImage (state old) m × (o ≡ (state old).printed))
+      → EachSince time old old (PrintsPart (state old) text)
   printed_not text at_start = at_once time state (PrintsPart (state old) text) old
       (λ m o left. let now = at_start m o left in record { stands = now.0; part = ([], now.1 ∙ sym (append-nil (state old).printed), (text, refl)) })
 

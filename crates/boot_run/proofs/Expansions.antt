@@ -1,7 +1,7 @@
 -- The lines of a command of several actions.
 use Rattle.std.proofs.Common.{◌≡◌, ◌≢◌, ℕ, Bool, true, false, List, [], ◌∷◌, map, take, refl, sym, ap, ◌∙◌, Result, Ok, Err}
 use Rattle.std.specs.Prelude.{All, OnOk}
-use Rattle.std.proofs.lemmas.List.Elements.{All-cons, All-head, All-nil, All-tail, All-take}
+use Rattle.std.proofs.lemmas.List.Elements.{All-cons, All-nil, All-take}
 use Rattle.boot_machine.specs.Disk.{Files, IsRested, State}
 use Rattle.boot_machine.specs.Sent.{latest_view, recovered_now, recovered_views, seen}
 use Rattle.boot_machine.proofs.Recovering.{recovered_view-calm}

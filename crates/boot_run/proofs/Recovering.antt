@@ -73,7 +73,8 @@ module _ {D : Type 0} (time : Timeline D) (state : D → State) where
     inl (refl, (recovered_view m, refl, ⊎_elim (sees (state old) sound firm m) (λ same. subst (λ x. IsIn x (recovered_views (state old))) (sym same) (recovered_now_in (state old))) stays.0)),
   )
 
-  module _ (old mid new : D) (deed : Deed) (settles : deed.settles ≡ true) (sound : IsSound (state old)) (firm : IsFirm (state old)) (recovers : RecoversTo time state old mid) (one : HasOneCandidate (state mid))
+  module _ (old mid new : D) (deed : Deed) (settles : deed.settles ≡ true) (sound : IsSound (state old)) (firm : IsFirm (state old))
+      (recovers : RecoversTo time state old mid) (one : HasOneCandidate (state mid))
       (printed : (state mid).printed ≡ (state old).printed) where
     same_last : latest_view (recovered_views (state old)) ≡ recovered_now (state mid)
     same_last = latest_view-recovered_views (state old) ∙ sym recovers.files
@@ -85,7 +86,8 @@ module _ {D : Type 0} (time : Timeline D) (state : D → State) where
     stopped m o adds = (
       adds.0,
       adds.1 ∙ ap (λ (l : Sent). l ++ adds.0) printed,
-      stopped_after (recovered_now (state mid)) (recovered_views (state old)) same_last inside deed settles (recovered_view m ∷ []) adds.0 (subst (λ (s : List Files). Breaks deed s (recovered_view m ∷ []) adds.0 Stopped) (one_view (state mid) one) adds.2),
+      stopped_after (recovered_now (state mid)) (recovered_views (state old)) same_last inside deed settles (recovered_view m ∷ []) adds.0
+          (subst (λ (s : List Files). Breaks deed s (recovered_view m ∷ []) adds.0 Stopped) (one_view (state mid) one) adds.2),
     )
 
     moments_after : EachSince time mid new (StopIn mid deed) → EachSince time old new (StopIn old deed)
@@ -137,7 +139,8 @@ module _ {D : Type 0} (time : Timeline D) (state : D → State) where
     synced_after (Err stop) from moments = record { ok = tt; err = inr (late_after from moments) }
 
   -- a recovery that is given up
-  pub performed_not : (old new : D) (deed : Deed) (stop : Stop) → IsSound (state old) → IsFirm (state old) → RecoversTo time state old new → (state new).printed ≡ (state old).printed → PerformsBehind time state old new deed (Err stop)
+  pub performed_not : (old new : D) (deed : Deed) (stop : Stop) → IsSound (state old) → IsFirm (state old) → RecoversTo time state old new
+      → (state new).printed ≡ (state old).printed → PerformsBehind time state old new deed (Err stop)
   performed_not old new deed stop sound firm recovers printed = record {
     firm = recovers.firm;
     ok = tt;
@@ -153,7 +156,8 @@ module _ {D : Type 0} (time : Timeline D) (state : D → State) where
       none : Sent
       none = []
 
-      given_up : (stop : Stop) → OnlyReads time state old new ⊎ (IsSettled (state new) × SameFrom time state old new) → BreaksBehind deed (recovered_views (state old)) (recovered_views (state new)) none (end_of stop)
+      given_up : (stop : Stop) → OnlyReads time state old new ⊎ (IsSettled (state new) × SameFrom time state old new)
+          → BreaksBehind deed (recovered_views (state old)) (recovered_views (state new)) none (end_of stop)
       given_up Disk (inl reads) = inl (inl (refl, ap recovered_views reads.same))
       given_up Pipe (inl reads) = inl (inl (refl, ap recovered_views reads.same))
       given_up Memory (inl reads) = inl (inl (refl, ap recovered_views reads.same))
@@ -162,7 +166,8 @@ module _ {D : Type 0} (time : Timeline D) (state : D → State) where
       given_up Memory (inr synced) = inr (refl, all_same synced.0)
 
   -- where a call was given up
-  pub performed_failed : (old new : D) (deed : Deed) (result : Result Outcome Stop) → IsErr result → IsSound (state old) → IsFirm (state old) → RecoversTo time state old new → (state new).printed ≡ (state old).printed → PerformsBehind time state old new deed result
+  pub performed_failed : (old new : D) (deed : Deed) (result : Result Outcome Stop) → IsErr result → IsSound (state old) → IsFirm (state old)
+      → RecoversTo time state old new → (state new).printed ≡ (state old).printed → PerformsBehind time state old new deed result
   performed_failed old new deed (Ok outcome) failed sound firm recovers printed = cc
   performed_failed old new deed (Err stop) failed sound firm recovers printed = performed_not old new deed stop sound firm recovers printed
 
@@ -189,4 +194,6 @@ module _ {D : Type 0} (time : Timeline D) (state : D → State) where
   -- on a machine that is rested every command reads what boot sees once a recovery has run
   pub performed_rested : (old new : D) (line : Line) (result : Result Outcome Stop) → IsRested (state old) → Performs time state end_of old new (line_deed (seen (state old)) line) result
       → Performs time state end_of old new (line_deed (recovered_now (state old)) line) result
-  performed_rested old new line result rested performs = subst (λ (v : Files). Performs time state end_of old new (line_deed v line) result) (sym (recovered_view-calm (state old).files rested)) performs
+  performed_rested old new line result rested performs =
+      subst (λ (v : Files). Performs time state end_of old new (line_deed v line) result) (sym (recovered_view-calm (state old).files rested))
+      performs

@@ -101,14 +101,21 @@ module _ {D : Type 0} (time : Timeline D) (state : D → State) where
     pub all : AllDone (state old) (state now) (take i lines) refused
     pub moments : EachSince time old now (RunAt old lines)
 
-  pub started : (old : D) (lines : List Line) → IsFirm (state old) → ((m : Files) (o : Sent) → time.since old (time.clock old) m o → IsIn (recovered_view m) (recovered_views (state old)) × (o ≡ (state old).printed)) → SoFar old old lines 0 false
+  pub started : (old : D) (lines : List Line) → IsFirm (state old)
+      →
+      ((m : Files) (o : Sent) → time.since old (time.clock old) m o → IsIn (recovered_view m) (recovered_views (state old)) × (o ≡ (state old).printed))
+      → SoFar old old lines 0 false
   started old lines firm at_start = record {
     firm = firm;
     all = record { state = refl; printed = sym (append-nil (state old).printed); answer = refl };
-    moments = at_once time state (RunAt old lines) old (λ m o left. let now = at_start m o left in ([], now.1 ∙ sym (append-nil (state old).printed), runs_none (recovered_views (state old)) lines (recovered_view m) now.0));
+    moments =
+        at_once time state (RunAt old lines) old
+        (λ m o left. let now = at_start m o left in
+        ([], now.1 ∙ sym (append-nil (state old).printed), runs_none (recovered_views (state old)) lines (recovered_view m) now.0));
   }
 
-  module _ (old mid new : D) (lines : List Line) (i : ℕ) (refused : Bool) (line : Line) (within : i < length lines) (line_is : get_or lines i line ≡ line) (so_far : SoFar old mid lines i refused) where
+  module _ (old mid new : D) (lines : List Line) (i : ℕ) (refused : Bool) (line : Line) (within : i < length lines)
+      (line_is : get_or lines i line ≡ line) (so_far : SoFar old mid lines i refused) where
     abbrev first : List Files
     first = recovered_views (state old)
 
@@ -119,12 +126,15 @@ module _ {D : Type 0} (time : Timeline D) (state : D → State) where
     deed_is = ap (λ v. line_deed v line) (sym (latest_view-recovered_views (state mid)) ∙ ap latest_view so_far.all.state)
 
     -- what breaks off in the line
-    breaks : (left : List Files) (sent part : Sent) (end : End) → sent ≡ (state mid).printed ++ part → Breaks deed_here (recovered_views (state mid)) left part end → Adds (state old).printed sent (λ sent. Runs first lines left sent end)
+    breaks : (left : List Files) (sent part : Sent) (end : End) → sent ≡ (state mid).printed ++ part
+        → Breaks deed_here (recovered_views (state mid)) left part end → Adds (state old).printed sent (λ sent. Runs first lines left sent end)
     breaks left sent part end is broke = (
       printed_by first (take i lines) ++ part,
       is ∙ ap (λ (l : Sent). l ++ part) so_far.all.printed ∙ append_assoc (state old).printed (printed_by first (take i lines)) part,
       runs_break first lines i line within line_is left part end
-          (subst (λ (s : List Files). Breaks (line_deed (latest_view s) line) s left part end) so_far.all.state (subst (λ d. Breaks d (recovered_views (state mid)) left part end) (ap (λ v. line_deed v line) (sym (latest_view-recovered_views (state mid)))) broke)),
+          (subst (λ (s : List Files). Breaks (line_deed (latest_view s) line) s left part end) so_far.all.state
+          (subst (λ d. Breaks d (recovered_views (state mid)) left part end)
+          (ap (λ v. line_deed v line) (sym (latest_view-recovered_views (state mid)))) broke)),
     )
 
     -- what ends before the line or in it
@@ -146,9 +156,13 @@ module _ {D : Type 0} (time : Timeline D) (state : D → State) where
     goes_on outcome performs = record {
       firm = performs.firm;
       all = record {
-        state = performs.ok.1 ∙ ap (λ d. left_by d (recovered_views (state mid))) deed_is ∙ ap (left_by (line_deed (latest_view (states first (take i lines))) line)) so_far.all.state ∙ sym (states_more first lines i line within line_is);
+        state =
+            performs.ok.1 ∙ ap (λ d. left_by d (recovered_views (state mid))) deed_is
+            ∙ ap (left_by (line_deed (latest_view (states first (take i lines))) line)) so_far.all.state
+            ∙ sym (states_more first lines i line within line_is);
         printed = performs.ok.2 ∙ ap (λ (l : Sent). l ++ deed_here.sent) so_far.all.printed ∙ append_assoc (state old).printed (printed_by first (take i lines)) deed_here.sent
-            ∙ ap (λ (d : Deed). (state old).printed ++ (printed_by first (take i lines) ++ d.sent)) deed_is ∙ ap (λ (l : Sent). (state old).printed ++ l) (sym (said_more first lines i line within line_is));
+            ∙ ap (λ (d : Deed). (state old).printed ++ (printed_by first (take i lines) ++ d.sent)) deed_is
+            ∙ ap (λ (l : Sent). (state old).printed ++ l) (sym (said_more first lines i line within line_is));
         answer = ap (λ b. b || is_refusal outcome) so_far.all.answer ∙ ap (λ o. any_refused first (take i lines) || is_refusal o) performs.ok.0
             ∙ ap (λ (d : Deed). any_refused first (take i lines) || is_refusal d.outcome) deed_is ∙ sym (refused_more first lines i line within line_is);
       };
@@ -156,7 +170,8 @@ module _ {D : Type 0} (time : Timeline D) (state : D → State) where
     }
 
     -- the run ends in the line
-    pub gives_up : (stop : Stop) (result : Result Bool Stop) → IsErr result → IsErrAnd result (λ e. e ≡ stop) → PerformsBehind time state mid new deed_here (Err stop) → RunsTo time state old new lines result
+    pub gives_up : (stop : Stop) (result : Result Bool Stop) → IsErr result → IsErrAnd result (λ e. e ≡ stop)
+        → PerformsBehind time state mid new deed_here (Err stop) → RunsTo time state old new lines result
     gives_up stop result failed is performs = record {
       firm = performs.firm;
       ok = if_ok result _ failed;

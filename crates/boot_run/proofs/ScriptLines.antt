@@ -1,5 +1,5 @@
 -- The lines of a script, one after the other.
-use Rattle.std.proofs.Common.{◌≡◌, inl, inr, ℕ, suc, ◌+◌, Bool, true, false, cond, List, [], ◌∷◌, ◌++◌, length, take, refl, sym, ap, ◌∙◌, arith, append_assoc, append-nil, Result, Ok, Err, Option, Some, None}
+use Rattle.std.proofs.Common.{◌≡◌, inl, inr, ℕ, suc, ◌+◌, Bool, true, false, cond, List, [], ◌∷◌, ◌++◌, length, refl, sym, ap, ◌∙◌, arith, append_assoc, append-nil, Result, Ok, Err, Option, Some, None}
 use Rattle.std.proofs.lemmas.Bool.{cases_Bool}
 use Rattle.std.proofs.lemmas.Str.{IsUtf8-from_is_utf8}
 use Rattle.std.specs.Str.{chars, is_utf8, IsUtf8}
@@ -50,7 +50,8 @@ pub command_of_words : (piece : List ℕ) → is_utf8 piece ≡ true → is_open
 command_of_words piece utf8 closed = rw (utf8, closed) refl
 
 -- the lines so far, with one piece more
-pub with_piece : (pieces : List (List ℕ)) (piece : List ℕ) (number : ℕ) (lines : List Line) (line : Line) → number ≡ length pieces + 1 → is_passed_over piece ≡ false → line ≡ line_at number (command_in piece)
+pub with_piece : (pieces : List (List ℕ)) (piece : List ℕ) (number : ℕ) (lines : List Line) (line : Line) → number ≡ length pieces + 1
+    → is_passed_over piece ≡ false → line ≡ line_at number (command_in piece)
     → lines ≡ lines_from 1 pieces → lines ++ line ∷ [] ≡ lines_from 1 (pieces ++ piece ∷ [])
 with_piece pieces piece number lines line number_is counts line_is lines_are =
     let place : number ≡ 1 + length pieces = omega (arith, number_is) in

@@ -59,7 +59,8 @@ leaves_rested (Err stops.Pipe) now rested = rested
 leaves_rested (Err stops.Memory) now rested = rested
 
 -- given up for the same stop
-pub rested_so : {T U : Type 0} (given : Result T Stop) (result : Result U Stop) (stop : Stop) (now : State) → given ≡ Err stop → IsErr result → IsErrAnd result (λ e. e ≡ stop) → LeavesRested given now → LeavesRested result now
+pub rested_so : {T U : Type 0} (given : Result T Stop) (result : Result U Stop) (stop : Stop) (now : State) → given ≡ Err stop → IsErr result
+    → IsErrAnd result (λ e. e ≡ stop) → LeavesRested given now → LeavesRested result now
 rested_so given (Ok value) stop now is failed same leaves = cc
 rested_so given (Err e) stop now is failed same leaves = subst (λ (x : Stop). stop_rests x now) (sym same) (subst (λ r. LeavesRested r now) is leaves)
 
@@ -78,7 +79,8 @@ where_none (Err stops.Pipe) old new P failed same = λ differs. absurd (differs 
 where_none (Err stops.Memory) old new P failed same = tt
 
 -- given up for the same stop
-pub where_given : {T U : Type 0} (given : Result T Stop) (result : Result U Stop) (stop : Stop) (old new : State) (P : Type 0) → given ≡ Err stop → IsErr result → IsErrAnd result (λ e. e ≡ stop) → WherePrinted given old new P → WherePrinted result old new P
+pub where_given : {T U : Type 0} (given : Result T Stop) (result : Result U Stop) (stop : Stop) (old new : State) (P : Type 0) → given ≡ Err stop
+    → IsErr result → IsErrAnd result (λ e. e ≡ stop) → WherePrinted given old new P → WherePrinted result old new P
 where_given given (Ok value) stop old new P is failed same so = cc
 where_given given (Err e) stop old new P is failed same so = subst (λ (x : Stop). at_part x old new P) (sym same) (subst (λ r. WherePrinted r old new P) is so)
 
@@ -118,7 +120,8 @@ leaves_none (Err stops.Pipe) s now none = none
 leaves_none (Err stops.Memory) s now none = none
 
 -- given up for the same stop
-pub leaves_so : {T U : Type 0} (given : Result T Stop) (result : Result U Stop) (stop : Stop) (s now : State) → given ≡ Err stop → IsErr result → IsErrAnd result (λ e. e ≡ stop) → LeavesNoTemp given s now → LeavesNoTemp result s now
+pub leaves_so : {T U : Type 0} (given : Result T Stop) (result : Result U Stop) (stop : Stop) (s now : State) → given ≡ Err stop → IsErr result
+    → IsErrAnd result (λ e. e ≡ stop) → LeavesNoTemp given s now → LeavesNoTemp result s now
 leaves_so given (Ok value) stop s now is failed same leaves = cc
 leaves_so given (Err e) stop s now is failed same leaves = subst (λ (x : Stop). stop_temps x s now) (sym same) (subst (λ r. LeavesNoTemp r s now) is leaves)
 

@@ -20,7 +20,9 @@ latest_left old (Unread number) = refl
 latest_left old TooLong = refl
 
 -- a line settles, or is unread and leaves the state
-settles_or : (old : List Files) (line : Line) → (left_by (line_deed (latest_view old) line) old ≡ (line_deed (latest_view old) line).after ∷ []) ⊎ ((is_unread line ≡ true) × (left_by (line_deed (latest_view old) line) old ≡ old))
+settles_or : (old : List Files) (line : Line)
+    → (left_by (line_deed (latest_view old) line) old ≡ (line_deed (latest_view old) line).after ∷ []) ⊎
+    ((is_unread line ≡ true) × (left_by (line_deed (latest_view old) line) old ≡ old))
 settles_or old (Plain command) = inl refl
 settles_or old (Part action) = inl refl
 settles_or old (Numbered number command) = inl refl
@@ -112,7 +114,8 @@ stays_step old line lines new end some stays = record {
 }
 
 -- before the first line of some, what a stop had left was finished
-recovers_step : (old : List Files) (line : Line) (lines : List Line) (new : List Files) (end : End) → (line_deed (latest_view old) line).sent ≢ [] → Recovers old new end → Step old (line ∷ lines) new [] end
+recovers_step : (old : List Files) (line : Line) (lines : List Line) (new : List Files) (end : End) → (line_deed (latest_view old) line).sent ≢ []
+    → Recovers old new end → Step old (line ∷ lines) new [] end
 recovers_step old line lines new end some recovers = record {
   acked = 0;
   is_acked = none_acked (replies (line_deed (latest_view old) line).after lines) (line_deed (latest_view old) line).sent [] (omega (arith, some_length _ some));
@@ -144,12 +147,19 @@ only_of after new DiskFails kept v is = ⊎_elim (λ here. here) (λ none. absur
 only_of after new PipeFails kept v is = ⊎_elim (λ here. here) (λ none. absurd none) (subst (IsIn v) kept is)
 
 -- one line was begun, and all views are that which it leaves
-left_step : (old : List Files) (line : Line) (lines : List Line) (new : List Files) (sent : Sent) (end : End) → (line_deed (latest_view old) line).sent ≢ [] → NoneEmpty (line_deed (latest_view old) line).after lines
-    → end ≢ Finished → end ≢ NoMemory → end ≢ DiskFails → IsPrefix sent (line_deed (latest_view old) line).sent → KeepsViews (left_by (line_deed (latest_view old) line) old) new end → Step old (line ∷ lines) new sent end
+left_step : (old : List Files) (line : Line) (lines : List Line) (new : List Files) (sent : Sent) (end : End)
+    → (line_deed (latest_view old) line).sent ≢ [] → NoneEmpty (line_deed (latest_view old) line).after lines
+    → end ≢ Finished → end ≢ NoMemory → end ≢ DiskFails → IsPrefix sent (line_deed (latest_view old) line).sent
+    → KeepsViews (left_by (line_deed (latest_view old) line) old) new end → Step old (line ∷ lines) new sent end
 left_step old line lines new sent end some others not_done not_memory not_disk part kept = record {
   acked = how.0;
   is_acked = how.2;
-  front = (part.0 ++ join_replies (replies (line_deed (latest_view old) line).after lines), sym (append_assoc sent part.0 (join_replies (replies (line_deed (latest_view old) line).after lines))) ∙ ap (λ (l : Sent). l ++ join_replies (replies (line_deed (latest_view old) line).after lines)) part.1);
+  front = (
+    part.0 ++ join_replies (replies (line_deed (latest_view old) line).after lines),
+    sym
+        (append_assoc sent part.0 (join_replies (replies (line_deed (latest_view old) line).after lines))) ∙ ap (λ (l : Sent). l ++ join_replies
+        (replies (line_deed (latest_view old) line).after lines)) part.1,
+  );
   finished = λ is. absurd (not_done is);
   no_memory = λ is. absurd (not_memory is);
   disk = λ is. absurd (not_disk is);
@@ -159,18 +169,26 @@ left_step old line lines new sent end some others not_done not_memory not_disk p
   where
     how : (k : ℕ) × (k ≤ 1) × Acknowledges (replies (latest_view old) (line ∷ lines)) sent k
     how = ⊎_elim
-        (λ whole. (1, omega arith, subst (λ (l : Sent). Acknowledges (replies (latest_view old) (line ∷ lines)) l 1) (sym whole) (one_acked (line_deed (latest_view old) line).after lines (line_deed (latest_view old) line).sent others)))
+        (λ whole. (
+          1,
+          omega arith,
+          subst (λ (l : Sent). Acknowledges (replies (latest_view old) (line ∷ lines)) l 1) (sym whole)
+              (one_acked (line_deed (latest_view old) line).after lines (line_deed (latest_view old) line).sent others),
+        ))
         (λ short. (0, omega arith, none_acked (replies (line_deed (latest_view old) line).after lines) (line_deed (latest_view old) line).sent sent short))
         (whole_or_part sent (line_deed (latest_view old) line).sent part)
 
-    one_or_none : (k : ℕ) → k ≤ 1 → (v : Files) → v ≡ (line_deed (latest_view old) line).after → (v ≡ view_after (latest_view old) (take k (line ∷ lines))) ⊎ ((k < length (line ∷ lines)) × (v ≡ view_after (latest_view old) (take (k + 1) (line ∷ lines))))
+    one_or_none : (k : ℕ) → k ≤ 1 → (v : Files) → v ≡ (line_deed (latest_view old) line).after
+        → (v ≡ view_after (latest_view old) (take k (line ∷ lines))) ⊎
+        ((k < length (line ∷ lines)) × (v ≡ view_after (latest_view old) (take (k + 1) (line ∷ lines))))
     one_or_none zero le v is = inr (omega arith, is)
     one_or_none (suc zero) le v is = inl is
     one_or_none (suc (suc k)) le v is = absurd (omega arith)
 
     late : left_by (line_deed (latest_view old) line) old ≡ (line_deed (latest_view old) line).after ∷ [] → IsEarly old (line ∷ lines) new sent end how.0 ⊎ IsLate old (line ∷ lines) new end how.0
     late left =
-        let each : (v : Files) → IsIn v new → v ≡ (line_deed (latest_view old) line).after = only_of (line_deed (latest_view old) line).after new end (subst (λ (s : List Files). KeepsViews s new end) left kept) in
+        let each : (v : Files) → IsIn v new → v ≡ (line_deed (latest_view old) line).after =
+        only_of (line_deed (latest_view old) line).after new end (subst (λ (s : List Files). KeepsViews s new end) left kept) in
         inr (record {
           views = λ v is. one_or_none how.0 how.1 v (each v is);
           equal = λ not_disk v w is_v is_w. each v is_v ∙ sym (each w is_w);
@@ -187,7 +205,8 @@ left_step old line lines new sent end some others not_done not_memory not_disk p
     })
 
 -- a run that breaks off in the first line
-breaks_step : (old : List Files) (line : Line) (lines : List Line) (new : List Files) (sent : Sent) (end : End) → (line_deed (latest_view old) line).sent ≢ [] → NoneEmpty (line_deed (latest_view old) line).after lines
+breaks_step : (old : List Files) (line : Line) (lines : List Line) (new : List Files) (sent : Sent) (end : End)
+    → (line_deed (latest_view old) line).sent ≢ [] → NoneEmpty (line_deed (latest_view old) line).after lines
     → Breaks (line_deed (latest_view old) line) old new sent end → Step old (line ∷ lines) new sent end
 breaks_step old line lines new sent end some others (inl stays) = subst (λ (l : Sent). Step old (line ∷ lines) new l end) (sym stays.0) (stays_step old line lines new end some stays.1)
 breaks_step old line lines new sent Stopped some others (inr acts) = left_step old line lines new sent Stopped some others (λ is. cc) (λ is. cc) (λ is. cc) acts.0 acts.1
@@ -214,7 +233,9 @@ more_step : (old : List Files) (line : Line) (lines : List Line) (new : List Fil
     → Step (left_by (line_deed (latest_view old) line) old) lines new rest end → Step old (line ∷ lines) new ((line_deed (latest_view old) line).sent ++ rest) end
 more_step old line lines new rest end step = record {
   acked = suc step.acked;
-  is_acked = more_acked (replies (line_deed (latest_view old) line).after lines) (line_deed (latest_view old) line).sent rest step.acked (subst (λ v. Acknowledges (replies v lines) rest step.acked) last step.is_acked);
+  is_acked =
+      more_acked (replies (line_deed (latest_view old) line).after lines) (line_deed (latest_view old) line).sent rest step.acked
+      (subst (λ v. Acknowledges (replies v lines) rest step.acked) last step.is_acked);
   front = prefix_behind (line_deed (latest_view old) line).sent rest _ (subst (λ v. IsPrefix rest (join_replies (replies v lines))) last step.front);
   finished = λ is. ap (λ (l : Sent). (line_deed (latest_view old) line).sent ++ l) (subst (λ v. rest ≡ join_replies (replies v lines)) last (step.finished is));
   no_memory = λ is. ap (λ (l : Sent). (line_deed (latest_view old) line).sent ++ l) (subst (λ v. rest ≡ join_replies (take step.acked (replies v lines))) last (step.no_memory is));
@@ -229,9 +250,14 @@ more_step old line lines new rest end step = record {
     more_views : (k : ℕ) (v : Files) → (v ≡ view_after (latest_view (left_by (line_deed (latest_view old) line) old)) (take k lines)) → v ≡ view_after (latest_view old) (take (suc k) (line ∷ lines))
     more_views k v is = is ∙ ap (λ w. view_after w (take k lines)) last
 
-    late : IsLate (left_by (line_deed (latest_view old) line) old) lines new end step.acked → IsEarly old (line ∷ lines) new ((line_deed (latest_view old) line).sent ++ rest) end (suc step.acked) ⊎ IsLate old (line ∷ lines) new end (suc step.acked)
+    late : IsLate (left_by (line_deed (latest_view old) line) old) lines new end step.acked
+        → IsEarly old (line ∷ lines) new ((line_deed (latest_view old) line).sent ++ rest) end (suc step.acked) ⊎ IsLate old (line ∷ lines) new end
+        (suc step.acked)
     late rest_late = inr (record {
-      views = λ v is. ⊎_elim (λ at. inl (more_views step.acked v at)) (λ next. inr (omega (arith, next.0), next.1 ∙ ap (λ w. view_after w (take (step.acked + 1) lines)) last ∙ one_further)) (rest_late.views v is);
+      views =
+          λ v is. ⊎_elim (λ at. inl (more_views step.acked v at))
+          (λ next. inr (omega (arith, next.0), next.1 ∙ ap (λ w. view_after w (take (step.acked + 1) lines)) last ∙ one_further))
+          (rest_late.views v is);
       equal = rest_late.equal;
       no_memory = λ is v v_in. more_views step.acked v (rest_late.no_memory is v v_in);
     })
@@ -239,10 +265,13 @@ more_step old line lines new rest end step = record {
         one_further : view_after (line_deed (latest_view old) line).after (take (step.acked + 1) lines) ≡ view_after (latest_view old) (take (suc step.acked + 1) (line ∷ lines))
         one_further = let more : suc step.acked + 1 ≡ suc (step.acked + 1) = omega arith in ap (λ n. view_after (latest_view old) (take n (line ∷ lines))) (sym more)
 
-    early : IsEarly (left_by (line_deed (latest_view old) line) old) lines new rest end step.acked → IsEarly old (line ∷ lines) new ((line_deed (latest_view old) line).sent ++ rest) end (suc step.acked) ⊎ IsLate old (line ∷ lines) new end (suc step.acked)
+    early : IsEarly (left_by (line_deed (latest_view old) line) old) lines new rest end step.acked
+        → IsEarly old (line ∷ lines) new ((line_deed (latest_view old) line).sent ++ rest) end (suc step.acked) ⊎ IsLate old (line ∷ lines) new end
+        (suc step.acked)
     early rest_early = ⊎_elim
         (λ left.
-        let each : (v : Files) → IsIn v new → v ≡ (line_deed (latest_view old) line).after = only_of (line_deed (latest_view old) line).after new end (subst (λ (s : List Files). KeepsViews s new end) left rest_early.kept) in
+        let each : (v : Files) → IsIn v new → v ≡ (line_deed (latest_view old) line).after =
+        only_of (line_deed (latest_view old) line).after new end (subst (λ (s : List Files). KeepsViews s new end) left rest_early.kept) in
         let same = unread_after (line_deed (latest_view old) line).after lines step.acked rest_early.leading rest_early.enough rest_early.unread in
         inr (record {
           views = λ v is. inl (each v is ∙ sym same);
@@ -286,7 +315,8 @@ step_of_run old [] new end some (suc whole) le part ends = absurd (omega arith)
 step_of_run old (line ∷ lines) new end some zero le part ends = ⊎_elim (breaks_step old line lines new part end some.0 some.1)
     (λ done. subst (λ (l : Sent). Step old (line ∷ lines) new l end) (sym done.0) (recovers_step old line lines new end some.0 done.1)) ends
 step_of_run old (line ∷ lines) new end some (suc whole) le part ends =
-    subst (λ (l : Sent). Step old (line ∷ lines) new l end) (sym (append_assoc (line_deed (latest_view old) line).sent (printed_by (left_by (line_deed (latest_view old) line) old) (take whole lines)) part))
+    subst (λ (l : Sent). Step old (line ∷ lines) new l end)
+    (sym (append_assoc (line_deed (latest_view old) line).sent (printed_by (left_by (line_deed (latest_view old) line) old) (take whole lines)) part))
     (more_step old line lines new (printed_by (left_by (line_deed (latest_view old) line) old) (take whole lines) ++ part) end
     (step_of_run (left_by (line_deed (latest_view old) line) old) lines new end (subst (λ v. NoneEmpty v lines) (sym (latest_left old line)) some.1) whole (omega arith) part ends))
 
@@ -317,7 +347,8 @@ no_length [] le = refl
 no_length (x ∷ sent) le = absurd (omega arith)
 
 -- a byte of the first reply is printed, and none of the next: the run broke off in the first line
-begun_first : (old : List Files) (line : Line) (lines : List Line) (v : Files) (sent : Sent) → IsOneView old → Breaks (line_deed (latest_view old) line) old (v ∷ []) sent Stopped → SeesBegun (latest_view old) (line ∷ lines) v sent
+begun_first : (old : List Files) (line : Line) (lines : List Line) (v : Files) (sent : Sent) → IsOneView old
+    → Breaks (line_deed (latest_view old) line) old (v ∷ []) sent Stopped → SeesBegun (latest_view old) (line ∷ lines) v sent
 begun_first old line lines v sent settled (inl none) i within begun = absurd (omega (arith, begun.some, ap length none.0))
 begun_first old line lines v sent settled (inr acts) zero within begun = inl (ap latest_view acts.1.1 ∙ one_view_left old line settled acts.1.0 acts.1.2 ∙ latest_left old line)
 begun_first old line lines v sent settled (inr acts) (suc i) within begun =
@@ -325,22 +356,35 @@ begun_first old line lines v sent settled (inr acts) (suc i) within begun =
 
 -- the first line is done
 begun_more : (old : List Files) (line : Line) (lines : List Line) (v : Files) (rest : Sent) → NoneEmpty (line_deed (latest_view old) line).after lines → IsOneView old
-    → Step (left_by (line_deed (latest_view old) line) old) lines (v ∷ []) rest Stopped → SeesBegun (line_deed (latest_view old) line).after lines v rest → SeesBegun (latest_view old) (line ∷ lines) v ((line_deed (latest_view old) line).sent ++ rest)
+    → Step (left_by (line_deed (latest_view old) line) old) lines (v ∷ []) rest Stopped
+    → SeesBegun (line_deed (latest_view old) line).after lines v rest
+    → SeesBegun (latest_view old) (line ∷ lines) v ((line_deed (latest_view old) line).sent ++ rest)
 begun_more old line lines v rest some settled step inner zero within begun =
     let reply = (line_deed (latest_view old) line).sent in
     let none : rest ≡ [] = no_length rest (omega (arith, begun.no_more, length-append reply rest, length-append reply [])) in
     let acked = subst (λ w. Acknowledges (replies w lines) rest step.acked) (latest_left old line) step.is_acked in
-    let nothing : step.acked ≡ 0 = no_reply_in_none _ lines step.acked some acked.within (subst (λ (l : Sent). IsPrefix (join_replies (take step.acked (replies (line_deed (latest_view old) line).after lines))) l) none acked.whole) in
+    let nothing : step.acked ≡ 0 =
+    no_reply_in_none _ lines step.acked some acked.within
+    (subst (λ (l : Sent). IsPrefix (join_replies (take step.acked (replies (line_deed (latest_view old) line).after lines))) l) none acked.whole)
+    in
     let whole : reply ++ rest ≡ reply ++ [] = ap (λ (l : Sent). reply ++ l) none in
-    first_or_second whole (subst (λ k. (v ≡ view_after (line_deed (latest_view old) line).after (take k lines)) ⊎ ((k < length lines) × (v ≡ view_after (line_deed (latest_view old) line).after (take (k + 1) lines)))) nothing (recovered_now step))
+    first_or_second whole
+    (subst
+    (λ k. (v ≡ view_after (line_deed (latest_view old) line).after (take k lines)) ⊎
+    ((k < length lines) × (v ≡ view_after (line_deed (latest_view old) line).after (take (k + 1) lines)))) nothing (recovered_now step))
   where
     recovered_now : (step : Step (left_by (line_deed (latest_view old) line) old) lines (v ∷ []) rest Stopped)
-        → (v ≡ view_after (line_deed (latest_view old) line).after (take step.acked lines)) ⊎ ((step.acked < length lines) × (v ≡ view_after (line_deed (latest_view old) line).after (take (step.acked + 1) lines)))
+        → (v ≡ view_after (line_deed (latest_view old) line).after (take step.acked lines)) ⊎
+        ((step.acked < length lines) × (v ≡ view_after (line_deed (latest_view old) line).after (take (step.acked + 1) lines)))
     recovered_now step = subst (λ w. (v ≡ view_after w (take step.acked lines)) ⊎ ((step.acked < length lines) × (v ≡ view_after w (take (step.acked + 1) lines)))) (latest_left old line)
         (stop_views (left_by (line_deed (latest_view old) line) old) lines v rest (one_view_left old line settled) step)
 
-    first_or_second : (line_deed (latest_view old) line).sent ++ rest ≡ (line_deed (latest_view old) line).sent ++ [] → (v ≡ (line_deed (latest_view old) line).after) ⊎ ((0 < length lines) × (v ≡ view_after (line_deed (latest_view old) line).after (take (0 + 1) lines)))
-        → (v ≡ view_after (latest_view old) (take (0 + 1) (line ∷ lines))) ⊎ (((line_deed (latest_view old) line).sent ++ rest ≡ join_replies (take (0 + 1) (replies (latest_view old) (line ∷ lines)))) × (0 + 1 < length (line ∷ lines)) × (v ≡ view_after (latest_view old) (take (0 + 2) (line ∷ lines))))
+    first_or_second : (line_deed (latest_view old) line).sent ++ rest ≡ (line_deed (latest_view old) line).sent ++ []
+        → (v ≡ (line_deed (latest_view old) line).after) ⊎
+        ((0 < length lines) × (v ≡ view_after (line_deed (latest_view old) line).after (take (0 + 1) lines)))
+        → (v ≡ view_after (latest_view old) (take (0 + 1) (line ∷ lines))) ⊎
+        (((line_deed (latest_view old) line).sent ++ rest ≡ join_replies (take (0 + 1) (replies (latest_view old) (line ∷ lines)))) ×
+        (0 + 1 < length (line ∷ lines)) × (v ≡ view_after (latest_view old) (take (0 + 2) (line ∷ lines))))
     first_or_second whole (inl now) = inl now
     first_or_second whole (inr next) = inr (whole, omega (arith, next.0), next.1)
 begun_more old line lines v rest some settled step inner (suc i) within begun =
@@ -371,10 +415,12 @@ begun_of_run old (line ∷ lines) v some settled (suc whole) le part ends =
     subst (SeesBegun (latest_view old) (line ∷ lines) v) (sym (append_assoc (line_deed (latest_view old) line).sent (printed_by left (take whole lines)) part))
     (begun_more old line lines v (printed_by left (take whole lines) ++ part) some.1 settled
     (step_of_run left lines (v ∷ []) Stopped others whole (omega arith) part ends)
-    (subst (λ w. SeesBegun w lines v (printed_by left (take whole lines) ++ part)) (latest_left old line) (begun_of_run left lines v others (one_view_left old line settled) whole (omega arith) part ends)))
+    (subst (λ w. SeesBegun w lines v (printed_by left (take whole lines) ++ part)) (latest_left old line)
+    (begun_of_run left lines v others (one_view_left old line settled) whole (omega arith) part ends)))
 
 -- where all views at the start are one, a stop leaves what the headline says
-pub leaves_of_run : (old : List Files) (lines : List Line) (v : Files) (sent : Sent) → NoneEmpty (latest_view old) lines → IsOneView old → Runs old lines (v ∷ []) sent Stopped → Leaves (latest_view old) lines v sent
+pub leaves_of_run : (old : List Files) (lines : List Line) (v : Files) (sent : Sent) → NoneEmpty (latest_view old) lines → IsOneView old
+    → Runs old lines (v ∷ []) sent Stopped → Leaves (latest_view old) lines v sent
 leaves_of_run old lines v sent some settled runs =
     let step = step_of old lines (v ∷ []) sent Stopped some runs in
     record {
@@ -386,7 +432,8 @@ leaves_of_run old lines v sent some settled runs =
     }
 
 -- a step from one view leaves one view, but where the disk failed
-pub one_view_after : (old : List Files) (lines : List Line) (new : List Files) (sent : Sent) (end : End) → IsOneView old → end ≢ DiskFails → end ≢ Stopped → Step old lines new sent end → (v w : Files) → IsIn v new → IsIn w new → v ≡ w
+pub one_view_after : (old : List Files) (lines : List Line) (new : List Files) (sent : Sent) (end : End) → IsOneView old → end ≢ DiskFails
+    → end ≢ Stopped → Step old lines new sent end → (v w : Files) → IsIn v new → IsIn w new → v ≡ w
 one_view_after old lines new sent end settled not_disk not_stopped step v w is_v is_w = ⊎_elim
     (λ early.
     let same = kept_same old new end not_stopped early.kept in

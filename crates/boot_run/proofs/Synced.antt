@@ -104,7 +104,8 @@ module _ {D : Type 0} (time : Timeline D) (state : D → State) where
   abbrev pub IsSynced : D → D → List Line → ℕ → Type 0
   IsSynced old now lines i = UnreadRun old now lines i ⊎ LateRun old now lines i
 
-  module _ (old mid new : D) (lines : List Line) (i : ℕ) (refused : Bool) (line : Line) (within : i < length lines) (line_is : get_or lines i line ≡ line) (so_far : SoFar time state old mid lines i refused) where
+  module _ (old mid new : D) (lines : List Line) (i : ℕ) (refused : Bool) (line : Line) (within : i < length lines)
+      (line_is : get_or lines i line ≡ line) (so_far : SoFar time state old mid lines i refused) where
     abbrev start : List Files
     start = latest_view (recovered_views (state old)) ∷ []
 
@@ -133,7 +134,8 @@ module _ {D : Type 0} (time : Timeline D) (state : D → State) where
     }
 
     -- and so may a part of the reply to one more
-    unsynced_more : UnreadRun old mid lines i → is_unread line ≡ true → (m : Files) (o : Sent) → PrintsPart (state mid) (line_deed (recovered_now (state mid)) line).sent m o → IsUnsynced (state old) lines m o
+    unsynced_more : UnreadRun old mid lines i → is_unread line ≡ true → (m : Files) (o : Sent)
+        → PrintsPart (state mid) (line_deed (recovered_now (state mid)) line).sent m o → IsUnsynced (state old) lines m o
     unsynced_more run is m o prints = record {
       stands = image_stays (state old) (state mid) run.same m prints.stands;
       part = (
@@ -142,19 +144,23 @@ module _ {D : Type 0} (time : Timeline D) (state : D → State) where
         record {
           leading = i + 1;
           unread = subst AllUnread (sym one_more_line) (unread_push (take i lines) line run.unread is);
-          front = subst (IsPrefix (printed_by (recovered_views (state old)) (take i lines) ++ prints.part.0)) whole_said (prefix_behind (printed_by (recovered_views (state old)) (take i lines)) prints.part.0 _ prints.part.2);
+          front =
+              subst (IsPrefix (printed_by (recovered_views (state old)) (take i lines) ++ prints.part.0)) whole_said
+              (prefix_behind (printed_by (recovered_views (state old)) (take i lines)) prints.part.0 _ prints.part.2);
         },
       );
     }
       where
-        whole_said : printed_by (recovered_views (state old)) (take i lines) ++ (line_deed (recovered_now (state mid)) line).sent ≡ end_to_end (replies (recovered_now (state old)) (take (i + 1) lines))
+        whole_said : printed_by (recovered_views (state old)) (take i lines) ++ (line_deed (recovered_now (state mid)) line).sent ≡ end_to_end
+            (replies (recovered_now (state old)) (take (i + 1) lines))
         whole_said =
             ap (λ v. printed_by (recovered_views (state old)) (take i lines) ++ (line_deed v line).sent) (sym mid_latest ∙ ap latest_view so_far.all.state)
             ∙ sym (said_more (recovered_views (state old)) lines i line within line_is)
             ∙ printed_by-is (recovered_views (state old)) (take (i + 1) lines) ∙ ap (λ v. end_to_end (replies v (take (i + 1) lines))) (latest_view-recovered_views (state old))
 
     -- one more line that is no command
-    pub unread_moments : UnreadRun old mid lines i → is_unread line ≡ true → OnlyPrints time state mid new (line_deed (recovered_now (state mid)) line).sent → EachSince time old new (IsUnsynced (state old) lines)
+    pub unread_moments : UnreadRun old mid lines i → is_unread line ≡ true
+        → OnlyPrints time state mid new (line_deed (recovered_now (state mid)) line).sent → EachSince time old new (IsUnsynced (state old) lines)
     unread_moments run is prints = joined time state (IsUnsynced (state old) lines) old mid new run.moments
         (weaken time state _ (IsUnsynced (state old) lines) mid new (unsynced_more run is) prints.moments)
 
@@ -166,16 +172,21 @@ module _ {D : Type 0} (time : Timeline D) (state : D → State) where
     }
 
     -- what breaks off in the line, of the run from one view
-    late_breaks : (here : List Files) → states start (take i lines) ≡ here → (m : Files) (printed part : Sent) → printed ≡ (state mid).printed ++ part → Breaks (line_deed (latest_view here) line) here (recovered_view m ∷ []) part Stopped
+    late_breaks : (here : List Files) → states start (take i lines) ≡ here → (m : Files) (printed part : Sent) → printed ≡ (state mid).printed ++ part
+        → Breaks (line_deed (latest_view here) line) here (recovered_view m ∷ []) part Stopped
         → RunsAfresh (state old) lines m printed
     late_breaks here here_is m printed part is broke = (
       printed_by start (take i lines) ++ part,
       is ∙ ap (λ (l : Sent). l ++ part) (so_far.all.printed ∙ ap (λ (l : Sent). (state old).printed ++ l) (sym said_alike)) ∙ append_assoc (state old).printed (printed_by start (take i lines)) part,
-      runs_break start lines i line within line_is (recovered_view m ∷ []) part Stopped (subst (λ (s : List Files). Breaks (line_deed (latest_view s) line) s (recovered_view m ∷ []) part Stopped) (sym here_is) broke),
+      runs_break start lines i line within line_is (recovered_view m ∷ []) part Stopped
+          (subst (λ (s : List Files). Breaks (line_deed (latest_view s) line) s (recovered_view m ∷ []) part Stopped) (sym here_is) broke),
     )
 
     -- a line where the run is late already
-    pub late_moments : LateRun old mid lines i → EachSince time mid new (λ image sent. Adds (state mid).printed sent (λ part. Breaks (line_deed (recovered_now (state mid)) line) (recovered_views (state mid)) (recovered_view image ∷ []) part Stopped))
+    pub late_moments : LateRun old mid lines i
+        → EachSince time mid new
+        (λ image sent. Adds (state mid).printed sent
+        (λ part. Breaks (line_deed (recovered_now (state mid)) line) (recovered_views (state mid)) (recovered_view image ∷ []) part Stopped))
         → FromSync time state old new (IsUnsynced (state old) lines) (RunsAfresh (state old) lines)
     late_moments late moments = after_sync (IsUnsynced (state old) lines) (RunsAfresh (state old) lines) old mid new late.from
         (weaken time state _ (RunsAfresh (state old) lines) mid new
@@ -183,15 +194,22 @@ module _ {D : Type 0} (time : Timeline D) (state : D → State) where
         (subst (λ v. Breaks (line_deed v line) (recovered_views (state mid)) (recovered_view m ∷ []) adds.0 Stopped) (sym mid_latest) adds.2))
         moments)
 
-    pub late_more : LateRun old mid lines i → EachSince time mid new (λ image sent. Adds (state mid).printed sent (λ part. Breaks (line_deed (recovered_now (state mid)) line) (recovered_views (state mid)) (recovered_view image ∷ []) part Stopped))
+    pub late_more : LateRun old mid lines i
+        → EachSince time mid new
+        (λ image sent. Adds (state mid).printed sent
+        (λ part. Breaks (line_deed (recovered_now (state mid)) line) (recovered_views (state mid)) (recovered_view image ∷ []) part Stopped))
         → LateRun old new lines (i + 1)
     late_more late moments = record {
-      same = ap (states start) one_more_line ∙ states-append start (take i lines) (line ∷ []) ∙ ap (λ s. states s (line ∷ [])) late.same ∙ sym (states-append (recovered_views (state old)) (take i lines) (line ∷ [])) ∙ ap (states (recovered_views (state old))) (sym one_more_line);
+      same =
+          ap (states start) one_more_line ∙ states-append start (take i lines) (line ∷ []) ∙ ap (λ s. states s (line ∷ [])) late.same
+          ∙ sym (states-append (recovered_views (state old)) (take i lines) (line ∷ []))
+          ∙ ap (states (recovered_views (state old))) (sym one_more_line);
       from = late_moments late moments;
     }
 
     -- the first command, before which the names are synced
-    pub first_moments : UnreadRun old mid lines i → SyncsBefore time state mid new (line_deed (recovered_now (state mid)) line) → FromSync time state old new (IsUnsynced (state old) lines) (RunsAfresh (state old) lines)
+    pub first_moments : UnreadRun old mid lines i → SyncsBefore time state mid new (line_deed (recovered_now (state mid)) line)
+        → FromSync time state old new (IsUnsynced (state old) lines) (RunsAfresh (state old) lines)
     first_moments run syncs = record {
       synced = syncs.synced;
       one = syncs.one;

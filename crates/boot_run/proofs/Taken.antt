@@ -1,5 +1,5 @@
 -- How much of the input a run takes, and what its ends say.
-use Rattle.std.proofs.Common.{◌≡◌, ◌≢◌, ◌≤◌, ℕ, Bool, true, false, List, [], drop, refl, sym, ap, ◌∙◌, subst, arith, Result, Ok, Err}
+use Rattle.std.proofs.Common.{◌≡◌, ◌≢◌, ◌≤◌, ℕ, Bool, true, false, List, [], drop, refl, sym, ap, ◌∙◌, arith, Result, Ok, Err}
 use Rattle.std.specs.Prelude.{OnOk}
 use Rattle.boot_machine.specs.Disk.{Files}
 use Rattle.tool_words.specs.declared.command.Command.{Command}
@@ -87,7 +87,8 @@ lines_or : Result (List Line) UsageReason → List Line
 lines_or (Ok lines) = lines
 lines_or (Err reason) = []
 
-pub lines_are : (input : List ℕ) (view : Files) (meant : Result Command UsageReason) (c : Command) (lines : List Line) → meant ≡ Ok c → lines_to_run input view meant ≡ Ok lines → lines_for input view c ≡ lines
+pub lines_are : (input : List ℕ) (view : Files) (meant : Result Command UsageReason) (c : Command) (lines : List Line) → meant ≡ Ok c
+    → lines_to_run input view meant ≡ Ok lines → lines_for input view c ≡ lines
 unfolding lines_or
 lines_are input view meant c lines is asks = ap lines_or (sym (ap (lines_to_run input view) is) ∙ asks)
 

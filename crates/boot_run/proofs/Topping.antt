@@ -68,7 +68,9 @@ all_runs old lines new is = record {
   within = omega arith;
   part = [];
   printed = ap (printed_by old) (sym (take_all (length lines) lines (omega arith))) ∙ sym (append-nil _);
-  ends = subst (λ (rest : List Line). EndsBefore rest (states old (take (length lines) lines)) new [] Finished) (sym (drop_all (length lines) lines (omega arith))) (refl, is ∙ ap (states old) (sym (take_all (length lines) lines (omega arith))));
+  ends =
+      subst (λ (rest : List Line). EndsBefore rest (states old (take (length lines) lines)) new [] Finished)
+      (sym (drop_all (length lines) lines (omega arith))) (refl, is ∙ ap (states old) (sym (take_all (length lines) lines (omega arith))));
 }
 
 -- what a run over lines comes to, in the words of the reference
@@ -106,7 +108,8 @@ module _ {D : Type 0} (time : Timeline D) (state : D → State) where
   at_end old new lines (Err PipeStop) runs = (runs.err.0, runs.err.1, step _ lines _ _ PipeFails runs.err.2)
   at_end old new lines (Err MemoryStop) runs = (runs.err.0, runs.err.1, step _ lines _ _ NoMemory runs.err.2)
 
-  refusals : (old new : D) (lines : List Line) (result : Result Bool Stop) → RunsTo time state old new lines result → AnswersRefusals (any_refused (recovered_views (state old)) lines) (ended_by result)
+  refusals : (old new : D) (lines : List Line) (result : Result Bool Stop) → RunsTo time state old new lines result
+      → AnswersRefusals (any_refused (recovered_views (state old)) lines) (ended_by result)
   refusals old new lines (Ok false) runs = sym runs.ok.answer
   refusals old new lines (Ok true) runs = sym runs.ok.answer
   refusals old new lines (Err DiskStop) runs = tt
@@ -137,11 +140,19 @@ module _ {D : Type 0} (time : Timeline D) (state : D → State) where
       ))
       late)
 
-  pub runs_lines : (old new : D) (lines : List Line) (result : Result Bool Stop) → IsSound (state new) → IsSyncedBy time state old new lines → RunsTo time state old new lines result → RunsLines time state old new lines (ended_by result)
+  pub runs_lines : (old new : D) (lines : List Line) (result : Result Bool Stop) → IsSound (state new) → IsSyncedBy time state old new lines
+      → RunsTo time state old new lines result → RunsLines time state old new lines (ended_by result)
   runs_lines old new lines result sound synced runs = record {
     firm = runs.firm;
-    settled = unless_disk (ended_by result) _ (λ not_disk settled. settled_after (state new) sound runs.firm (one_view_after _ lines _ _ (end_at (ended_by result)) (one_view_of_settled (state old) settled) (not_disk_at (ended_by result) not_disk) (not_stopped_at (ended_by result)) (at_end old new lines result runs).2));
-    refusals = subst (λ any. AnswersRefusals any (ended_by result)) (refused-is (recovered_views (state old)) lines ∙ ap (λ v. some_refused v lines) (latest_view-recovered_views (state old))) (refusals old new lines result runs);
+    settled =
+        unless_disk (ended_by result) _
+        (λ not_disk settled. settled_after (state new) sound runs.firm
+        (one_view_after _ lines _ _ (end_at (ended_by result)) (one_view_of_settled (state old) settled)
+        (not_disk_at (ended_by result) not_disk) (not_stopped_at (ended_by result)) (at_end old new lines result runs).2));
+    refusals =
+        subst (λ any. AnswersRefusals any (ended_by result))
+        (refused-is (recovered_views (state old)) lines ∙ ap (λ v. some_refused v lines) (latest_view-recovered_views (state old)))
+        (refusals old new lines result runs);
     finished = finished old new lines result runs;
     at_end = at_end old new lines result runs;
     at_each_moment = weaken time state _ _ old new (λ m o adds. (adds.0, adds.1, stops _ lines _ adds.0 adds.2)) runs.moments;
@@ -149,7 +160,9 @@ module _ {D : Type 0} (time : Timeline D) (state : D → State) where
   }
 
   -- no memory for the usage line
-  pub usage_unsaid : (old : D) (line : Sent) → ((m : Files) (o : Sent) → time.since old (time.clock old) m o → IsImage (state old) m × (o ≡ (state old).printed)) → RunsUsage time state old old line Memory
+  pub usage_unsaid : (old : D) (line : Sent)
+      → ((m : Files) (o : Sent) → time.since old (time.clock old) m o → IsImage (state old) m × (o ≡ (state old).printed))
+      → RunsUsage time state old old line Memory
   usage_unsaid old line at_start = record {
     unchanged = refl;
     at_end = ([], sym (append-nil _), refl);
@@ -165,15 +178,26 @@ module _ {D : Type 0} (time : Timeline D) (state : D → State) where
     refusals = tt;
     finished = tt;
     at_end = ([], sym (append-nil _), step _ _ _ [] NoMemory (stays_runs _ _ _ NoMemory (λ is. cc) (λ is. cc) refl));
-    at_each_moment = at_once time state _ old (λ m o left. let now = at_start m o left in ([], now.1 ∙ sym (append-nil _), stops _ _ _ [] (stays_runs _ _ _ Stopped (λ is. cc) (λ is. cc) (recovered_view m, refl, sees_each firm m now.0))));
+    at_each_moment =
+        at_once time state _ old
+        (λ m o left. let now = at_start m o left in (
+          [],
+          now.1 ∙ sym (append-nil _),
+          stops _ _ _ []
+              (stays_runs _ _ _ Stopped (λ is. cc) (λ is. cc) (recovered_view m, refl, sees_each firm m now.0)),
+        ));
     from_sync = inl (at_once time state _ old (λ m o left. let now = at_start m o left in unsynced_yet (state old) lines m o now));
   }
   runs_nothing (Err reason) old at_start sees_each = usage_unsaid old (on_channel ErrChannel (usage_line reason)) at_start
 
   -- the input is read, and then nothing more, or a run over lines
-  read_moments : (old mid : D) (lines : List Line) → ((m : Files) → IsImage (state old) m → IsIn (recovered_view m) (recovered_views (state old))) → EachSince time old mid (λ m o. IsImage (state old) m × (o ≡ (state old).printed))
+  read_moments : (old mid : D) (lines : List Line) → ((m : Files) → IsImage (state old) m → IsIn (recovered_view m) (recovered_views (state old)))
+      → EachSince time old mid (λ m o. IsImage (state old) m × (o ≡ (state old).printed))
       → EachSince time old mid (λ image printed. Adds (state old).printed printed (λ sent. Runs (recovered_views (state old)) lines (recovered_view image ∷ []) sent Stopped))
-  read_moments old mid lines sees moments = weaken time state _ _ old mid (λ m o now. ([], now.1 ∙ sym (append-nil _), stays_runs _ lines _ Stopped (λ is. cc) (λ is. cc) (recovered_view m, refl, sees m now.0))) moments
+  read_moments old mid lines sees moments =
+      weaken time state _ _ old mid
+      (λ m o now. ([], now.1 ∙ sym (append-nil _), stays_runs _ lines _ Stopped (λ is. cc) (λ is. cc) (recovered_view m, refl, sees m now.0)))
+      moments
 
   pub same_firm : (s now : State) → SameButInput s now → IsFirm s → IsFirm now
   same_firm s now same firm = subst IsFirm (sym same) (record { unseen = firm.unseen; intent = firm.intent; unnamed = firm.unnamed })
@@ -194,18 +218,26 @@ module _ {D : Type 0} (time : Timeline D) (state : D → State) where
   not_disk_of MemoryStop not is = cc
 
   -- no script was read
-  pub no_script : (old mid : D) (lines : List Line) (stop : Stop) (result : Result Bool Stop) → stop ≢ DiskStop → IsErr result → IsErrAnd result (λ e. e ≡ stop) → ((m : Files) → IsImage (state old) m → IsIn (recovered_view m) (recovered_views (state old)))
+  pub no_script : (old mid : D) (lines : List Line) (stop : Stop) (result : Result Bool Stop) → stop ≢ DiskStop → IsErr result
+      → IsErrAnd result (λ e. e ≡ stop) → ((m : Files) → IsImage (state old) m → IsIn (recovered_view m) (recovered_views (state old)))
       → IsFirm (state old) → SameButInput (state old) (state mid) → EachSince time old mid (λ m o. IsImage (state old) m × (o ≡ (state old).printed)) → RunsTo time state old mid lines result
   no_script old mid lines stop result not_disk failed is sees firm same moments = record {
     firm = same_firm _ _ same firm;
     ok = if_ok result _ failed;
-    err = if_err result stop _ is ([], ap (λ (s : State). s.printed) same ∙ sym (append-nil _), stays_runs _ lines _ (end_of stop) (not_finished_at stop) (not_disk_of stop not_disk) (stays_at stop _ _ (ap recovered_views same)));
+    err =
+        if_err result stop _ is (
+          [],
+          ap (λ (s : State). s.printed) same ∙ sym (append-nil _),
+          stays_runs _ lines _ (end_of stop) (not_finished_at stop)
+              (not_disk_of stop not_disk) (stays_at stop _ _ (ap recovered_views same)),
+        );
     moments = read_moments old mid lines sees moments;
   }
 
   -- a run over the lines of a script
   pub script_runs : (old mid new : D) (lines : List Line) (result : Result Bool Stop) → ((m : Files) → IsImage (state old) m → IsIn (recovered_view m) (recovered_views (state old)))
-      → SameButInput (state old) (state mid) → EachSince time old mid (λ m o. IsImage (state old) m × (o ≡ (state old).printed)) → RunsTo time state mid new lines result → RunsTo time state old new lines result
+      → SameButInput (state old) (state mid) → EachSince time old mid (λ m o. IsImage (state old) m × (o ≡ (state old).printed))
+      → RunsTo time state mid new lines result → RunsTo time state old new lines result
   script_runs old mid new lines result sees same moments runs = record {
     firm = runs.firm;
     ok = if_ok_by result (AllDone (record (state old) { input = (state mid).input }) (state new) lines) (AllDone (state old) (state new) lines)
@@ -213,7 +245,10 @@ module _ {D : Type 0} (time : Timeline D) (state : D → State) where
         (subst (λ (s : State). IfOk result (AllDone s (state new) lines)) same_ok runs.ok);
     err = subst (λ (s : State). IfErr result (λ stop. Adds s.printed (state new).printed (λ sent. Runs (recovered_views s) lines (recovered_views (state new)) sent (end_of stop)))) same_ok runs.err;
     moments = joined time state _ old mid new (read_moments old mid lines sees moments)
-        (subst (λ (s : State). EachSince time mid new (λ image printed. Adds s.printed printed (λ sent. Runs (recovered_views s) lines (recovered_view image ∷ []) sent Stopped))) same_ok runs.moments);
+        (subst
+        (λ (s : State). EachSince time mid new
+        (λ image printed. Adds s.printed printed
+        (λ sent. Runs (recovered_views s) lines (recovered_view image ∷ []) sent Stopped))) same_ok runs.moments);
   }
     where
       same_ok : state mid ≡ record (state old) { input = (state mid).input }
@@ -252,14 +287,16 @@ module _ {D : Type 0} (time : Timeline D) (state : D → State) where
   script_unsynced old mid lines moments = inl (weaken time state _ (IsUnsynced (state old) lines) old mid (unsynced_yet (state old) lines) moments)
 
   -- the line of usage
-  pub usage_done : (old new : D) (text : List ℕ) → state new ≡ with_printed ErrChannel text (state old) → EachSince time old new (PrintsPart (state old) (on_channel ErrChannel text)) → RunsUsage time state old new (on_channel ErrChannel text) Usage
+  pub usage_done : (old new : D) (text : List ℕ) → state new ≡ with_printed ErrChannel text (state old)
+      → EachSince time old new (PrintsPart (state old) (on_channel ErrChannel text)) → RunsUsage time state old new (on_channel ErrChannel text) Usage
   usage_done old new text shown moments = record {
     unchanged = shown ∙ ap (λ (s : State). record (state old) { printed = s.printed }) (sym shown);
     at_end = (on_channel ErrChannel text, ap (λ (s : State). s.printed) shown, refl);
     at_each_moment = weaken time state _ _ old new (λ m o prints. (prints.stands, prints.part)) moments;
   }
 
-  pub usage_failed : (old new : D) (text : List ℕ) → (k : ℕ) × (state new ≡ with_printed ErrChannel (take k text) (state old)) → EachSince time old new (PrintsPart (state old) (on_channel ErrChannel text)) → RunsUsage time state old new (on_channel ErrChannel text) Pipe
+  pub usage_failed : (old new : D) (text : List ℕ) → (k : ℕ) × (state new ≡ with_printed ErrChannel (take k text) (state old))
+      → EachSince time old new (PrintsPart (state old) (on_channel ErrChannel text)) → RunsUsage time state old new (on_channel ErrChannel text) Pipe
   usage_failed old new text shown moments = record {
     unchanged = shown.1 ∙ ap (λ (s : State). record (state old) { printed = s.printed }) (sym shown.1);
     at_end = (on_channel ErrChannel (take shown.0 text), ap (λ (s : State). s.printed) shown.1, tagged_part ErrChannel shown.0 text);
@@ -281,7 +318,8 @@ module _ {D : Type 0} (time : Timeline D) (state : D → State) where
   after_change old new lines moments = weaken time state _ _ old new (λ m o adds. (adds.0, adds.1, adds.2.begun)) moments
 
   -- a run by what its words ask for
-  pub lines_run : (asks : Result (List Line) UsageReason) (lines : List Line) (old new : D) (ended : Ended) → asks ≡ Ok lines → RunsBy time state asks old new ended → IsFirm (state old) → RunsLines time state old new lines ended
+  pub lines_run : (asks : Result (List Line) UsageReason) (lines : List Line) (old new : D) (ended : Ended) → asks ≡ Ok lines
+      → RunsBy time state asks old new ended → IsFirm (state old) → RunsLines time state old new lines ended
   lines_run asks lines old new ended is runs = subst (λ r. RunsBy time state r old new ended) is runs
 
   pub firm_by : (asks : Result (List Line) UsageReason) (old new : D) (ended : Ended) → RunsBy time state asks old new ended → IsFirm (state old) → IsFirm (state new)
@@ -289,7 +327,13 @@ module _ {D : Type 0} (time : Timeline D) (state : D → State) where
   firm_by (Err reason) old new ended runs firm = subst IsFirm (sym runs.unchanged) (record { unseen = firm.unseen; intent = firm.intent; unnamed = firm.unnamed })
 
   still_settled : (s now : State) → now ≡ record s { printed = now.printed } → IsSettled s → IsSettled now
-  still_settled s now same settled = subst IsSettled (sym same) (record { firm = record { unseen = settled.firm.unseen; intent = settled.firm.intent; unnamed = settled.firm.unnamed }; images = λ m image. settled.images m (record { of = image.of; candidate = image.candidate; image = image.image }) })
+  still_settled s now same settled =
+      subst IsSettled (sym same)
+      (record {
+        firm = record { unseen = settled.firm.unseen; intent = settled.firm.intent; unnamed = settled.firm.unnamed };
+        images = λ m image.
+            settled.images m (record { of = image.of; candidate = image.candidate; image = image.image });
+      })
 
   pub settled_by : (asks : Result (List Line) UsageReason) (old new : D) (ended : Ended) → RunsBy time state asks old new ended → UnlessDisk ended (IsSettled (state old) → IsSettled (state new))
   settled_by (Ok lines) old new ended runs = unless_disk ended _ (λ other settled. but_disk ended _ other (runs (firm_of_settled (state old) settled)).settled settled)

@@ -96,14 +96,16 @@ each_append f [] ys = ok_again (each f ys)
 each_append f (x ∷ xs) ys = ap (λ r. f x >>= λ y. r >>= λ more. Ok (y ∷ more)) (each_append f xs ys) ∙ joined (f x) (each f xs) (each f ys)
 
 -- one by one, as far as a loop has come
-pub each_taken : {A B : Type 0} (f : A → Result B Refusal) (xs : List A) (i : ℕ) (ys more : List B) (x d : A) (y : B) → i < length xs → each f (take i xs) ≡ Ok ys → x ≡ get_or xs i d → f x ≡ Ok y → more ≡ ys ++ y ∷ []
+pub each_taken : {A B : Type 0} (f : A → Result B Refusal) (xs : List A) (i : ℕ) (ys more : List B) (x d : A) (y : B) → i < length xs
+    → each f (take i xs) ≡ Ok ys → x ≡ get_or xs i d → f x ≡ Ok y → more ≡ ys ++ y ∷ []
     → each f (take (i + 1) xs) ≡ Ok more
 each_taken f xs i ys more x d y inside before is_item made is =
     ap (each f) (take_more xs i d inside)
     ∙ each_more f (take i xs) ys (get_or xs i d) y before (ap f (sym is_item) ∙ made)
     ∙ ap Ok (sym is)
 
-pub taken_declined : {A B : Type 0} (f : A → Result B Refusal) (xs : List A) (i : ℕ) (ys : List B) (x d : A) (declined : Declined) → i < length xs → each f (take i xs) ≡ Ok ys → x ≡ get_or xs i d → DeclinedFor declined (f x)
+pub taken_declined : {A B : Type 0} (f : A → Result B Refusal) (xs : List A) (i : ℕ) (ys : List B) (x d : A) (declined : Declined) → i < length xs
+    → each f (take i xs) ≡ Ok ys → x ≡ get_or xs i d → DeclinedFor declined (f x)
     → DeclinedFor declined (each f xs)
 taken_declined f xs i ys x d Memory inside before is_item why = tt
 taken_declined f xs i ys x d (Refused refusal) inside before is_item why =

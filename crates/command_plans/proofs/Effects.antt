@@ -20,7 +20,8 @@ use Rattle.command_plans.specs.declared.plan.RefusalLine.{RefusalLine}
 clash : {x : _} → x ≡ true → x ≡ false → ⊥
 clash e f = cc
 
-pub written_rested : (s : State) (image : ImagePlan) (sources : Sources) (path : Path) → IsRested s → insert (recovered_view s.files) path (planned_image image sources (seen s)) ≡ view_with_image image sources path (seen s)
+pub written_rested : (s : State) (image : ImagePlan) (sources : Sources) (path : Path) → IsRested s
+    → insert (recovered_view s.files) path (planned_image image sources (seen s)) ≡ view_with_image image sources path (seen s)
 written_rested s image sources path rested = ap (λ (v : Files). insert v path (planned_image image sources (seen s))) (recovered_view-calm s.files rested)
 
 pub put_rested : (s : State) (path : Path) (bytes : List ℕ) → IsRested s → insert (recovered_view s.files) path bytes ≡ insert (seen s) path bytes

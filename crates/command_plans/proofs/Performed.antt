@@ -47,12 +47,14 @@ module _ {D : Type 0} (time : Timeline D) (state : D → State) (old : D) (outco
         sees.0,
   )) moments
 
-  reply_moments : (mid new : D) → (state mid).printed ≡ (state old).printed → IsInstalled (state mid) after → EachSince time mid new (PrintsPart (state mid) (on_channel to bytes)) → EachSince time mid new At
+  reply_moments : (mid new : D) → (state mid).printed ≡ (state old).printed → IsInstalled (state mid) after
+      → EachSince time mid new (PrintsPart (state mid) (on_channel to bytes)) → EachSince time mid new At
   reply_moments mid new printed installed moments = weaken time state _ At mid new (λ m o prints.
       (prints.part.0, prints.part.1 ∙ ap (λ (l : Sent). l ++ prints.part.0) printed, inr (prints.part.2, (recovered_view m, refl, inl (installed.images m prints.stands))))) moments
 
   -- the names couldn't be synced
-  pub settle_failed : (new : D) (result : Result Outcome MachineFault) → IsErr result → IsErrAnd result (λ stop. stop ≡ Disk) → ((m : Files) → IsImage (state old) m → IsIn (recovered_view m) (recovered_views (state old)))
+  pub settle_failed : (new : D) (result : Result Outcome MachineFault) → IsErr result → IsErrAnd result (λ stop. stop ≡ Disk)
+      → ((m : Files) → IsImage (state old) m → IsIn (recovered_view m) (recovered_views (state old)))
       → state new ≡ state old → IsFirm (state new) → EachSince time old new (λ m o. IsImage (state old) m × (o ≡ (state old).printed))
       → Performs time state end_by old new deed result
   settle_failed new result failed is sees same firm moments = record {
@@ -63,7 +65,8 @@ module _ {D : Type 0} (time : Timeline D) (state : D → State) (old : D) (outco
   }
 
   -- the change failed
-  pub change_failed : (mid new : D) (result : Result Outcome MachineFault) → IsErr result → IsErrAnd result (λ stop. stop ≡ Disk) → ((m : Files) → IsImage (state old) m → IsIn (recovered_view m) (recovered_views (state old)))
+  pub change_failed : (mid new : D) (result : Result Outcome MachineFault) → IsErr result → IsErrAnd result (λ stop. stop ≡ Disk)
+      → ((m : Files) → IsImage (state old) m → IsIn (recovered_view m) (recovered_views (state old)))
       → ((m : Files) → IsImage (state new) m → time.since new (time.clock mid) m (state new).printed)
       → Keeps (state old) (state mid) → (state mid).files ≡ (state old).files → EachSince time old mid (λ m o. IsImage (state old) m × (o ≡ (state old).printed))
       → Keeps (state mid) (state new) → IsFirm (state new) → EachSince time mid new (Sees (state mid) after)
@@ -126,8 +129,11 @@ module _ {D : Type 0} (time : Timeline D) (state : D → State) (old : D) (deed 
   abbrev Within : State → Files → Sent → Type 0
   Within s image sent = Adds s.printed sent (λ part. Breaks deed (recovered_views s) (recovered_view image ∷ []) part Stopped)
 
-  read_moments : (mid : D) → ((m : Files) → IsImage (state old) m → IsIn (recovered_view m) (recovered_views (state old))) → EachSince time old mid (λ m o. IsImage (state old) m × (o ≡ (state old).printed)) → EachSince time old mid (Within (state old))
-  read_moments mid sees moments = weaken time state _ (Within (state old)) old mid (λ m o here. ([], here.1 ∙ sym (append-nil (state old).printed), inl (refl, (recovered_view m, refl, sees m here.0)))) moments
+  read_moments : (mid : D) → ((m : Files) → IsImage (state old) m → IsIn (recovered_view m) (recovered_views (state old)))
+      → EachSince time old mid (λ m o. IsImage (state old) m × (o ≡ (state old).printed)) → EachSince time old mid (Within (state old))
+  read_moments mid sees moments =
+      weaken time state _ (Within (state old)) old mid
+      (λ m o here. ([], here.1 ∙ sym (append-nil (state old).printed), inl (refl, (recovered_view m, refl, sees m here.0)))) moments
 
   stays : (stop : Stop) (new : List Files) → new ≡ recovered_views (state old) → Stays (recovered_views (state old)) new (end_of stop)
   stays stops.Memory new same = same
@@ -135,7 +141,8 @@ module _ {D : Type 0} (time : Timeline D) (state : D → State) (old : D) (deed 
   stays stops.Pipe new same = same
 
   -- no plan was made
-  pub plan_failed : (new : D) (stop : Stop) (result : Result Outcome Stop) → IsErr result → IsErrAnd result (λ e. e ≡ stop) → ((m : Files) → IsImage (state old) m → IsIn (recovered_view m) (recovered_views (state old)))
+  pub plan_failed : (new : D) (stop : Stop) (result : Result Outcome Stop) → IsErr result → IsErrAnd result (λ e. e ≡ stop)
+      → ((m : Files) → IsImage (state old) m → IsIn (recovered_view m) (recovered_views (state old)))
       → IsFirm (state old) → OnlyReads time state old new → Performs time state end_of old new deed result
   plan_failed new stop result failed is sees firm reads = record {
     firm = subst IsFirm (sym reads.same) firm;
@@ -150,7 +157,11 @@ module _ {D : Type 0} (time : Timeline D) (state : D → State) (old : D) (deed 
   after_reads mid new result sees reads performs = record {
     firm = performs.firm;
     ok = subst (λ (s : State). IfOk result (DoesDeed deed s (state new))) reads.same performs.ok;
-    err = subst (λ (s : State). IfErr result (λ stop. Adds s.printed (state new).printed (λ part. Breaks deed (recovered_views s) (recovered_views (state new)) part (end_of stop)))) reads.same performs.err;
+    err =
+        subst
+        (λ (s : State). IfErr result
+        (λ stop. Adds s.printed (state new).printed (λ part. Breaks deed (recovered_views s) (recovered_views (state new)) part (end_of stop))))
+        reads.same performs.err;
     moments = joined time state (Within (state old)) old mid new (read_moments mid sees reads.moments) (subst (λ (s : State). EachSince time mid new (Within s)) reads.same performs.moments);
   }
 

@@ -41,7 +41,8 @@ module _ (outcome : Outcome) (to : Channel) (bytes : (List ℕ)) (done new : Sta
   replied_temps (Err Disk) is old none = tt
   replied_temps (Err Pipe) is old none = subst (NoNewTemp old) (sym is.1.1) none
 
-  pub replied_drops : (result : Result Outcome MachineFault) → Replied outcome to bytes done new result → (old : State) (change : Change) → Drops change old.files done.files → DropsBy result change old.files new.files
+  pub replied_drops : (result : Result Outcome MachineFault) → Replied outcome to bytes done new result → (old : State) (change : Change)
+      → Drops change old.files done.files → DropsBy result change old.files new.files
   replied_drops (Ok told) is old change drops = subst (λ (s : State). Drops change old.files s.files) (sym is.1) drops
   replied_drops (Err Disk) is old change drops = tt
   replied_drops (Err Pipe) is old change drops = subst (λ (s : State). Drops change old.files s.files) (sym is.1.1) drops

@@ -17,7 +17,8 @@ pub some_of : (o : Option (List ℕ)) (n : ℕ) → option_map length o ≡ Some
 some_of None n is = cc
 some_of (Some bytes) n is = (bytes, refl, cc)
 
-pub size_answer : {E T : Type 0} (s now : State) (path : Path) (result : Result (Option ℕ) E) → is_temp path ≡ false → (T → SizeRow s now path result) → IfOk result (λ size. T → option_map length (get (seen s) path) ≡ size)
+pub size_answer : {E T : Type 0} (s now : State) (path : Path) (result : Result (Option ℕ) E) → is_temp path ≡ false → (T → SizeRow s now path result)
+    → IfOk result (λ size. T → option_map length (get (seen s) path) ≡ size)
 size_answer s now path (Ok size) shown row = λ told. ap (option_map length) (get-view_shown s.files path shown) ∙ sym (row told).answer
 size_answer s now path (Err fault) shown row = tt
 

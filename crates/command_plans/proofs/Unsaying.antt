@@ -12,7 +12,8 @@ unrefused unsaid.Memory x meant why = tt
 unrefused unsaid.Disk x meant why = tt
 unrefused (unsaid.Refused refusal) x meant why = cc
 
-pub says_unsaid : {X Y : Type 0} (result : Result X Unsaid) (fault : Unsaid) (view : X → Y) (meant : Result Y Refusal) → IsErr result → IsErrAnd result (λ e. e ≡ fault) → UnsaidFor fault meant → Says view result meant
+pub says_unsaid : {X Y : Type 0} (result : Result X Unsaid) (fault : Unsaid) (view : X → Y) (meant : Result Y Refusal) → IsErr result
+    → IsErrAnd result (λ e. e ≡ fault) → UnsaidFor fault meant → Says view result meant
 says_unsaid (Ok x) fault view meant failed is why = cc
 says_unsaid (Err e) fault view meant failed is why = subst (λ d. UnsaidFor d meant) (sym is) why
 

@@ -63,7 +63,10 @@ once_more {X} {same} e (z ∷ zs) x =
 pub kept_new : {X : Type 0} {same : X → X → Bool} → IsEquivalence same → (xs : List X) (x : X) (kept more : List X) (found : Bool)
     → kept ≡ without_repeats same xs → found ≡ list_any (λ y. same y x) kept → found ≡ false → more ≡ kept ++ x ∷ [] → more ≡ without_repeats same (xs ++ x ∷ [])
 kept_new {X} {same} e xs x kept more found is answer none pushed =
-    pushed ∙ ap (λ (l : List X). l ++ x ∷ []) is ∙ sym (once_more e xs x ∙ ap (λ (b : Bool). cond b (without_repeats same xs) (without_repeats same xs ++ x ∷ [])) (sym (ap (λ (l : List X). list_any (λ y. same y x) l) is) ∙ sym answer ∙ none))
+    pushed ∙ ap (λ (l : List X). l ++ x ∷ []) is
+    ∙ sym
+    (once_more e xs x ∙ ap (λ (b : Bool). cond b (without_repeats same xs) (without_repeats same xs ++ x ∷ []))
+    (sym (ap (λ (l : List X). list_any (λ y. same y x) l) is) ∙ sym answer ∙ none))
 
 pub kept_seen : {X : Type 0} {same : X → X → Bool} → IsEquivalence same → (xs : List X) (x : X) (kept : List X) (found : Bool)
     → kept ≡ without_repeats same xs → found ≡ list_any (λ y. same y x) kept → found ≡ true → kept ≡ without_repeats same (xs ++ x ∷ [])

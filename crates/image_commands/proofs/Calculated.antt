@@ -28,7 +28,8 @@ abbrev pub File : Type 0
 File = Bor (List ℕ) × Piece
 
 -- what is found of files that have their sizes
-moved : (P : State → List File → List Bank → Type 0) (s now : State) (files seen_files : List File) (banks seen_banks : List Bank) → now ≡ s → seen_files ≡ files → seen_banks ≡ banks → P now seen_files seen_banks → P s files banks
+moved : (P : State → List File → List Bank → Type 0) (s now : State) (files seen_files : List File) (banks seen_banks : List Bank) → now ≡ s
+    → seen_files ≡ files → seen_banks ≡ banks → P now seen_files seen_banks → P s files banks
 moved P s now files seen_files banks seen_banks same is_files is_banks found =
     subst (λ (t : State). P t files banks) same (subst (λ (fs : List File). P now fs banks) is_files (subst (λ (bs : List Bank). P now seen_files bs) is_banks found))
 
@@ -46,7 +47,9 @@ pub taken_of : (s now : State) (words : CalculateWords) (paths : List (List ℕ 
     → (All (HasItsSize (contents (seen now))) seen_files → after ≤ middle + sum_by (λ part. length part.1) (map (named_file (contents (seen now))) seen_files))
     → after ≤ start + named_length (seen s) words
 taken_of s now words paths files seen_files start middle after same is_files paths_are parts_are sizes first second =
-    let P = λ (t : State) (fs : List File) (bs : List Bank). All (HasItsSize (contents (seen t))) fs → after ≤ middle + sum_by (λ (part : List ℕ × List ℕ). length part.1) (map (named_file (contents (seen t))) fs) in
+    let P =
+    λ (t : State) (fs : List File) (bs : List Bank). All (HasItsSize (contents (seen t))) fs → after ≤ middle + sum_by
+    (λ (part : List ℕ × List ℕ). length part.1) (map (named_file (contents (seen t))) fs) in
     let found = moved P s now files seen_files [] [] same is_files refl second sizes in
     omega (arith, first, found, lengths_made (seen s) (present_parts (part_words words)) paths (map (named_file (contents (seen s))) files) paths_are parts_are)
 

@@ -80,13 +80,15 @@ declined_word words i d word paths (Refused refusal) inside is why before =
     (ap (λ (r : Result Path Refusal). r >>= λ made. Ok (name.now, made)) why)
 
 -- one that is declined
-pub word_declined : {X : Type 0} (view : X → List (List ℕ × Path)) (words : List Word) (i : ℕ) (d : Word) (word : Bor (List ℕ)) (paths : List (List ℕ × Path)) (declined : Declined) (result : Result X Declined)
+pub word_declined : {X : Type 0} (view : X → List (List ℕ × Path)) (words : List Word) (i : ℕ) (d : Word) (word : Bor (List ℕ))
+    (paths : List (List ℕ × Path)) (declined : Declined) (result : Result X Declined)
     → i < length words → (get_or words i d).1 ≡ Some word → DeclinedFor declined (path_in word.now) → each (under_name path_in) (given_of (take i words)) ≡ Ok paths
     → IsErr result → IsErrAnd result (λ e. e ≡ declined) → Means view result (each (under_name path_in) (given_of words))
 word_declined view words i d word paths declined result inside is why before failed fails =
     means_declined result declined view (each (under_name path_in) (given_of words)) failed fails (declined_word words i d word paths declined inside is why before)
 
-pub words_all : (words : List Word) (i : ℕ) (paths : List (List ℕ × Path)) → length words ≤ i → each (under_name path_in) (given_of (take i words)) ≡ Ok paths → each (under_name path_in) (given_of words) ≡ Ok paths
+pub words_all : (words : List Word) (i : ℕ) (paths : List (List ℕ × Path)) → length words ≤ i
+    → each (under_name path_in) (given_of (take i words)) ≡ Ok paths → each (under_name path_in) (given_of words) ≡ Ok paths
 words_all words i paths end before = ap (λ (l : List Word). each (under_name path_in) (given_of l)) (sym (take_all i words end)) ∙ before
 
 -- a part's file more
@@ -103,14 +105,17 @@ file_more s now paths files more name path file same before found is =
     (done_next (bytes_at (seen s) path) (piece_bytes reading file) (λ made. Ok (name.now, made)) here)
     ∙ ap Ok (sym (ap (map (named_file reading)) is ∙ map-append (named_file reading) files ((name, file) ∷ [])))
 
-pub size_more : (s now : State) (files more : List (Bor (List ℕ) × Piece)) (name : Bor (List ℕ)) (file : Piece) → now ≡ s → All (HasItsSize (contents (seen s))) files → HasItsSize (contents (seen now)) (name, file)
+pub size_more : (s now : State) (files more : List (Bor (List ℕ) × Piece)) (name : Bor (List ℕ)) (file : Piece) → now ≡ s
+    → All (HasItsSize (contents (seen s))) files → HasItsSize (contents (seen now)) (name, file)
     → more ≡ files ++ (name, file) ∷ [] → All (HasItsSize (contents (seen s))) more
 size_more s now files more name file same before found is =
     let P = HasItsSize (contents (seen s)) in
     let here = subst (λ (t : State). HasItsSize (contents (seen t)) (name, file)) same found in
     subst (All P) (sym is) (All-append P files ((name, file) ∷ []) before (All-cons P (name, file) [] here (All-nil P)))
 
-unsaid_each : (s now : State) (all paths rest : List (Bor (List ℕ) × Path)) (files : List (Bor (List ℕ) × Piece)) (name : Bor (List ℕ)) (path : Path) (fault : Unsaid) → now ≡ s → all ≡ paths ++ (name, path) ∷ rest
+unsaid_each : (s now : State) (all paths rest : List (Bor (List ℕ) × Path)) (files : List (Bor (List ℕ) × Piece)) (name : Bor (List ℕ)) (path : Path)
+    (fault : Unsaid)
+    → now ≡ s → all ≡ paths ++ (name, path) ∷ rest
     → each (under_name (bytes_at (seen s))) (map named_path paths) ≡ Ok (map (named_file (contents (seen s))) files) → UnsaidFor fault (bytes_at (seen now) path)
     → UnsaidFor fault (each (under_name (bytes_at (seen s))) (map named_path all))
 unsaid_each s now all paths rest files name path WithoutMemory same is before why = tt
@@ -121,7 +126,8 @@ unsaid_each s now all paths rest files name path (UnsaidRefused refusal) same is
     ∙ each_refused (under_name (bytes_at (seen s))) (map named_path paths) _ (name.now, path) (map named_path rest) refusal before
     (ap (λ (r : Result (List ℕ) Refusal). r >>= λ made. Ok (name.now, made)) here)
 
-pub file_refused : {X : Type 0} (view : X → List (List ℕ × List ℕ)) (s now : State) (all paths rest : List (Bor (List ℕ) × Path)) (files : List (Bor (List ℕ) × Piece)) (name : Bor (List ℕ)) (path : Path) (fault : Unsaid) (result : Result X Unsaid)
+pub file_refused : {X : Type 0} (view : X → List (List ℕ × List ℕ)) (s now : State) (all paths rest : List (Bor (List ℕ) × Path))
+    (files : List (Bor (List ℕ) × Piece)) (name : Bor (List ℕ)) (path : Path) (fault : Unsaid) (result : Result X Unsaid)
     → now ≡ s → all ≡ paths ++ (name, path) ∷ rest
     → each (under_name (bytes_at (seen s))) (map named_path paths) ≡ Ok (map (named_file (contents (seen s))) files) → UnsaidFor fault (bytes_at (seen now) path)
     → IsErr result → IsErrAnd result (λ e. e ≡ fault) → Says view result (each (under_name (bytes_at (seen s))) (map named_path all))
@@ -135,8 +141,11 @@ part_in name pieces = record { name = name; content = sources.Pieces pieces }
 part_bytes : (reading : Reading) (name : Bor (List ℕ)) (file : Piece) (pieces : Bor (List Piece)) → pieces.now ≡ file ∷ [] → named_bytes reading (part_in name pieces) ≡ named_file reading (name, file)
 part_bytes reading name file pieces are = ap (λ (list : List Piece). (name.now, bytes_of reading list)) are ∙ ap (λ (bytes : List ℕ). (name.now, bytes)) (append-nil (piece_bytes reading file))
 
-pub part_more : (reading : Reading) (files : List (Bor (List ℕ) × Piece)) (i : ℕ) (d item : Bor (List ℕ) × Piece) (pieces : Bor (List Piece)) (parts more : List Measurable) → i < length files → item ≡ get_or files i d → pieces.now ≡ item.1 ∷ []
-    → more ≡ parts ++ part_in item.0 pieces ∷ [] → map (named_bytes reading) parts ≡ map (named_file reading) (take i files) → map (named_bytes reading) more ≡ map (named_file reading) (take (i + 1) files)
+pub part_more : (reading : Reading) (files : List (Bor (List ℕ) × Piece)) (i : ℕ) (d item : Bor (List ℕ) × Piece) (pieces : Bor (List Piece))
+    (parts more : List Measurable)
+    → i < length files → item ≡ get_or files i d → pieces.now ≡ item.1 ∷ []
+    → more ≡ parts ++ part_in item.0 pieces ∷ [] → map (named_bytes reading) parts ≡ map (named_file reading) (take i files)
+    → map (named_bytes reading) more ≡ map (named_file reading) (take (i + 1) files)
 part_more reading files i d item pieces parts more inside is_item are is before =
     let files_of = named_file reading in
     ap (map (named_bytes reading)) is ∙ map-append (named_bytes reading) parts (part_in item.0 pieces ∷ [])
@@ -144,7 +153,9 @@ part_more reading files i d item pieces parts more inside is_item are is before 
     ∙ ap (λ (p : List ℕ × List ℕ). map files_of (take i files) ++ p ∷ []) (part_bytes reading item.0 item.1 pieces are ∙ ap files_of is_item)
     ∙ sym (ap (map files_of) (take_more files i d inside) ∙ map-append files_of (take i files) (get_or files i d ∷ []))
 
-pub part_sized : (reading : Reading) (files : List (Bor (List ℕ) × Piece)) (i : ℕ) (d item : Bor (List ℕ) × Piece) (pieces : Bor (List Piece)) (parts more : List Measurable) → i < length files → item ≡ get_or files i d → pieces.now ≡ item.1 ∷ []
+pub part_sized : (reading : Reading) (files : List (Bor (List ℕ) × Piece)) (i : ℕ) (d item : Bor (List ℕ) × Piece) (pieces : Bor (List Piece))
+    (parts more : List Measurable)
+    → i < length files → item ≡ get_or files i d → pieces.now ≡ item.1 ∷ []
     → more ≡ parts ++ part_in item.0 pieces ∷ [] → All (HasItsSize reading) files → HaveSizes reading parts → HaveSizes reading more
 part_sized reading files i d item pieces parts more inside is_item are is sized before =
     let P = λ (m : Measurable). IsWhole reading m.content in
@@ -153,7 +164,8 @@ part_sized reading files i d item pieces parts more inside is_item are is sized 
     let whole : HasSizes reading pieces.now = subst (HasSizes reading) (sym are) (All-cons has_size item.1 [] here (All-nil has_size)) in
     subst (HaveSizes reading) (sym is) (All-append P parts (part_in item.0 pieces ∷ []) before (All-cons P (part_in item.0 pieces) [] whole (All-nil P)))
 
-pub part_placed : (name : Bor (List ℕ)) (pieces : Bor (List Piece)) (parts more : List Measurable) → more ≡ parts ++ part_in name pieces ∷ [] → All (λ part. IsPlaced part.content) parts → All (λ part. IsPlaced part.content) more
+pub part_placed : (name : Bor (List ℕ)) (pieces : Bor (List Piece)) (parts more : List Measurable) → more ≡ parts ++ part_in name pieces ∷ []
+    → All (λ part. IsPlaced part.content) parts → All (λ part. IsPlaced part.content) more
 part_placed name pieces parts more is before =
     let P = λ (m : Measurable). IsPlaced m.content in
     subst (All P) (sym is) (All-append P parts (part_in name pieces ∷ []) before (All-cons P (part_in name pieces) [] tt (All-nil P)))

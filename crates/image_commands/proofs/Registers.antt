@@ -33,7 +33,9 @@ abbrev pub AreSaid : List (List ℕ) → List Bank → List Pcr → Type 0
 AreSaid items banks pcrs = ◌≡◌ {A = Result (List (Bank × List ℕ)) Refusal} (Ok (map (fold_pcr items) banks)) (Ok (map pcr_value pcrs))
 
 -- lines of the registers that the same items have extended in all banks
-lines_are : (json : Bool) (items : List (List ℕ)) (banks chosen : List Bank) (paths said : List (List (List ℕ))) (pcrs starts : List Pcr) (text : List ℕ) → AreLines json text starts paths → starts ≡ pcrs → AreSaid items banks pcrs
+lines_are : (json : Bool) (items : List (List ℕ)) (banks chosen : List Bank) (paths said : List (List (List ℕ))) (pcrs starts : List Pcr)
+    (text : List ℕ)
+    → AreLines json text starts paths → starts ≡ pcrs → AreSaid items banks pcrs
     → banks ≡ chosen → paths ≡ said → text ≡ told_values json (λ bank path. fold_of bank (items ++ path)) chosen said
 lines_are json items banks chosen paths said pcrs starts text lines same are is_banks is_paths =
     let found : map (fold_pcr items) banks ≡ map pcr_value pcrs = cc are in
@@ -42,7 +44,8 @@ lines_are json items banks chosen paths said pcrs starts text lines same are is_
     ∙ ap (told_values json (λ bank path. fold_of bank (items ++ path)) chosen) is_paths
 
 -- the whole text of an image
-pub values_are : (json : Bool) (view : Files) (path : Path) (names texts : List (List ℕ)) (file now : List ℕ) (headers : Headers) (banks : List Bank) (paths : List (List (List ℕ))) (pcrs starts : List Pcr) (text : List ℕ)
+pub values_are : (json : Bool) (view : Files) (path : Path) (names texts : List (List ℕ)) (file now : List ℕ) (headers : Headers) (banks : List Bank)
+    (paths : List (List (List ℕ))) (pcrs starts : List Pcr) (text : List ℕ)
     → image_at view path ≡ Ok (file, headers) → now ≡ file → AreSaid (measured_list now) banks pcrs → starts ≡ pcrs → banks ≡ banks_of names → paths ≡ paths_of texts → AreLines json text starts paths
     → values_at view names texts json path ≡ Ok text
 values_are json view path names texts file now headers banks paths pcrs starts text image_is same are same_starts are_banks are_paths lines =
@@ -51,7 +54,8 @@ values_are json view path names texts file now headers banks paths pcrs starts t
     (subst (λ (l : List ℕ). AreSaid (measured_list l) banks pcrs) same are) are_banks are_paths))
 
 -- the whole text of a calculation
-pub calculation_is : (view : Files) (words : CalculateWords) (paths : List (List ℕ × Path)) (parts : List (List ℕ × List ℕ)) (banks : List Bank) (phases : List (List (List ℕ))) (pcrs starts : List Pcr) (text : List ℕ)
+pub calculation_is : (view : Files) (words : CalculateWords) (paths : List (List ℕ × Path)) (parts : List (List ℕ × List ℕ)) (banks : List Bank)
+    (phases : List (List (List ℕ))) (pcrs starts : List Pcr) (text : List ℕ)
     → each (under_name path_in) (present_parts (part_words words)) ≡ Ok paths → each (under_name (bytes_at view)) paths ≡ Ok parts
     → AreSaid (items_of parts) banks pcrs → starts ≡ pcrs → banks ≡ banks_of words.banks → phases ≡ paths_of words.phases → AreLines words.json text starts phases
     → calculate_result view words ≡ Ok text

@@ -36,7 +36,14 @@ sections_small bytes headers is =
 loaded_small : (bytes : List ℕ) (s : Section) → IsSmall s → length (loaded_by bytes s) < 2 ^ 64
 loaded_small bytes s small =
     let count = min s.virtual_size s.raw_size in
-    omega (arith, small, length-append (part bytes s.raw_place count) (replicate (s.virtual_size - count) 0), length-take count (drop s.raw_place bytes), length-replicate {A = ℕ} (s.virtual_size - count) 0)
+    omega (
+      arith,
+      small,
+      length-append (part bytes s.raw_place count) (replicate (s.virtual_size - count) 0),
+      length-take count
+          (drop s.raw_place bytes),
+      length-replicate {A = ℕ} (s.virtual_size - count) 0,
+    )
 
 pub facts_fit : (bytes : List ℕ) (headers : Headers) → pe_of bytes ≡ Ok headers → All (λ section. section.size < 2 ^ 64) (map (section_facts bytes) headers.sections)
 facts_fit bytes headers is =

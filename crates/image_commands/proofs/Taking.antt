@@ -44,14 +44,16 @@ pub image_read : (view : Files) (path : Path) (file : List ℕ) (h : Headers) �
 image_read view path file h is = found_image pe_of (bytes_at view path) file h is
 
 -- of an image whose measured sections are read
-pub image_taken : (view : Files) (path : Path) (file now : List ℕ) (h : Headers) (start middle after : ℕ) → image_at view path ≡ Ok (file, h) → now ≡ file → middle ≤ start + 69463 → after ≤ middle + measured_raw_length now
+pub image_taken : (view : Files) (path : Path) (file now : List ℕ) (h : Headers) (start middle after : ℕ) → image_at view path ≡ Ok (file, h)
+    → now ≡ file → middle ≤ start + 69463 → after ≤ middle + measured_raw_length now
     → after ≤ start + (69463 + measured_raw_length (found_bytes (bytes_at view path)))
 image_taken view path file now h start middle after is same first second =
     let read = image_read view path file h is in
     omega (arith, first, second, ap measured_raw_length same, ap (λ (r : Result (List ℕ) Refusal). measured_raw_length (found_bytes r)) read.0)
 
 -- or whose sections are all read
-pub inspected_taken : (view : Files) (path : Path) (file : List ℕ) (h : Headers) (start middle after : ℕ) → image_at view path ≡ Ok (file, h) → middle ≤ start + 69463 → after ≤ middle + sum_by raw_length h.sections
+pub inspected_taken : (view : Files) (path : Path) (file : List ℕ) (h : Headers) (start middle after : ℕ) → image_at view path ≡ Ok (file, h)
+    → middle ≤ start + 69463 → after ≤ middle + sum_by raw_length h.sections
     → after ≤ start + (69463 + all_raw_length (pe_of (found_bytes (bytes_at view path))))
 inspected_taken view path file h start middle after is first second =
     let read = image_read view path file h is in
@@ -62,7 +64,8 @@ pub named_at : (view : Files) (word : List ℕ) (path : Path) → path_in word �
 named_at view word path is = ap (λ (r : Result Path Refusal). found_bytes (r >>= bytes_at view)) (sym is)
 
 -- one section more
-pub sections_taken : (sections : List Section) (i : ℕ) (d : Section) (start before after : ℕ) → i < length sections → before ≤ start + sum_by raw_length (take i sections) → after ≤ before + raw_length (get_or sections i d)
+pub sections_taken : (sections : List Section) (i : ℕ) (d : Section) (start before after : ℕ) → i < length sections
+    → before ≤ start + sum_by raw_length (take i sections) → after ≤ before + raw_length (get_or sections i d)
     → after ≤ start + sum_by raw_length (take (i + 1) sections)
 sections_taken sections i d start before after inside first second =
     omega (arith, first, second, sum_by_more raw_length sections i d inside)

@@ -36,7 +36,11 @@ pub goes-appends : {D : Type 0} (time : Timeline D) (state : D → State) (P : F
 goes-appends time state P old mid new so_far p temp appends = record {
   moments = joined time state (SeesSilently (state old) P) old mid new so_far.moments
       (weaken time state (IsIdleMoment (with_soft_path p (state mid))) (SeesSilently (state old) P) mid new
-      (λ m o stays. (image_sees (state old) P (with_soft_path p (state mid)) (stands-with_soft_path (state old) P (state mid) so_far.stands p temp) m stays.0, stays.1 ∙ so_far.stands.printed)) appends.moments);
+      (λ m o stays. (
+        image_sees (state old) P (with_soft_path p (state mid)) (stands-with_soft_path (state old) P (state mid) so_far.stands p temp) m stays.0,
+        stays.1 ∙ so_far.stands.printed,
+      ))
+      appends.moments);
   stands = stands-more (state old) P (state mid) (state new) so_far.stands p temp appends.left;
 }
 
@@ -67,14 +71,16 @@ copied_file m temp from mid new size is_temporary shown e left grown long =
     written_file m temp mid new e left ∙ ap (λ (l : List ℕ). with_file temp l m) bytes
 
 -- boot sees it in its place
-pub sees_written : (m : Files) (p to : Path) (mid new : State) (image : List ℕ) → IsCalm m → is_same_path intent to ≡ false → is_temp p ≡ true → is_temp to ≡ false → mid.files ≡ map.insert m p [] → HasAppended p mid new
+pub sees_written : (m : Files) (p to : Path) (mid new : State) (image : List ℕ) → IsCalm m → is_same_path intent to ≡ false → is_temp p ≡ true
+    → is_temp to ≡ false → mid.files ≡ map.insert m p [] → HasAppended p mid new
     → contents new.files p ≡ image → recovered_view (move_in p to new.files) ≡ map.insert (recovered_view m) to image
 sees_written m p to mid new image calm free temp shown e left is =
     ap (λ (n : Files). recovered_view (move_in p to n)) (written_file m p mid new e left) ∙ recovered_view-written m p to (contents new.files p) calm temp shown free
     ∙ ap (λ (l : List ℕ). map.insert (recovered_view m) to l) is
 
 -- and no intent
-pub calm_left : (m : Files) (p to : Path) (mid new : State) → IsCalm m → is_same_path intent to ≡ false → is_temp p ≡ true → mid.files ≡ map.insert m p [] → HasAppended p mid new → IsCalm (move_in p to new.files)
+pub calm_left : (m : Files) (p to : Path) (mid new : State) → IsCalm m → is_same_path intent to ≡ false → is_temp p ≡ true
+    → mid.files ≡ map.insert m p [] → HasAppended p mid new → IsCalm (move_in p to new.files)
 calm_left m p to mid new calm free temp e left =
     subst (λ (n : Files). IsCalm (move_in p to n)) (sym (written_file m p mid new e left)) (calm-written m p to (contents new.files p) calm temp free)
 

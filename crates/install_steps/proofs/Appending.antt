@@ -22,7 +22,8 @@ module _ {D : Type 0} {tells : Bool} {time : Timeline D} {state : D → State} {
 
   -- one call, whatever its answer
   pub appends_once : {E : Type 0} {old new : D} (bytes : List ℕ) (r : Result Unit E) → ((m : Files) (o : Sent) → IsTrue tells → time.since old (time.clock old) m o → IsIdleMoment (state old) m o)
-      → (IsTrue tells → Elapses time state old new) → (IsTrue tells → AppendRow (state old) (state new) path bytes r) → causes (counts old) (counts new) → Appends tells time state counts causes path old new
+      → (IsTrue tells → Elapses time state old new) → (IsTrue tells → AppendRow (state old) (state new) path bytes r)
+      → causes (counts old) (counts new) → Appends tells time state counts causes path old new
   appends_once {E} {old} {new} bytes r only_now elapsed row counted = record {
     only = λ told. only_once time state path old new bytes r (λ m o left. only_now m o told left) (elapsed told) (row told);
     counted = counted;

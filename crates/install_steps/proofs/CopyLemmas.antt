@@ -44,9 +44,12 @@ pub contents-recovered_view : (m : Files) (q : Path) → IsCalm m → is_temp q 
 contents-recovered_view m q calm shown = ap (λ (o : Option (List ℕ)). unwrap_or o []) (get-recovered_view_there m q calm shown)
 
 -- boot sees the copy in its place
-pub sees_copy : (m now : Files) (temp from to : Path) → IsCalm m → is_same_path intent to ≡ false → is_temp temp ≡ true → is_temp from ≡ false → is_temp to ≡ false → has m from ≡ true → now ≡ with_file temp (contents m from) m → recovered_view (move_in temp to now) ≡ after_copy from to (recovered_view m)
+pub sees_copy : (m now : Files) (temp from to : Path) → IsCalm m → is_same_path intent to ≡ false → is_temp temp ≡ true → is_temp from ≡ false
+    → is_temp to ≡ false → has m from ≡ true → now ≡ with_file temp (contents m from) m
+    → recovered_view (move_in temp to now) ≡ after_copy from to (recovered_view m)
 sees_copy m now temp from to calm free is_temporary from_shown to_shown there is =
-    ap (λ (n : Files). recovered_view (move_in temp to n)) is ∙ recovered_view-written m temp to (contents m from) calm is_temporary to_shown free ∙ ap (λ (l : List ℕ). map.insert (recovered_view m) to l) (sym (contents-recovered_view m from calm from_shown))
+    ap (λ (n : Files). recovered_view (move_in temp to n)) is ∙ recovered_view-written m temp to (contents m from) calm is_temporary to_shown free
+    ∙ ap (λ (l : List ℕ). map.insert (recovered_view m) to l) (sym (contents-recovered_view m from calm from_shown))
     ∙ sym (copied_there from to (recovered_view m) (has-recovered_view m from calm from_shown ∙ there))
 
 size_at : (o : Option (List ℕ)) (size : ℕ) → option_map length o ≡ Some size → (size ≡ length (unwrap_or o [])) × (is_some o ≡ true)
@@ -58,7 +61,9 @@ pub size_there : (m : Files) (q : Path) (found : Option ℕ) (size : ℕ) → fo
 size_there m q found size row is = size_at (map.get m q) size (sym row ∙ is)
 
 -- its size is within the limit
-pub size_within : (m : Files) (q : Path) (found : Option ℕ) (size limited : ℕ) → IsCalm m → is_temp q ≡ false → length (contents (recovered_view m) q) ≤ 268435456 → found ≡ option_map length (map.get m q) → found ≡ Some size → (size ≤ 268435456 → limited ≡ size) → limited ≡ length (contents m q)
+pub size_within : (m : Files) (q : Path) (found : Option ℕ) (size limited : ℕ) → IsCalm m → is_temp q ≡ false
+    → length (contents (recovered_view m) q) ≤ 268435456 → found ≡ option_map length (map.get m q) → found ≡ Some size
+    → (size ≤ 268435456 → limited ≡ size) → limited ≡ length (contents m q)
 size_within m q found size limited calm shown small row is within =
     let long = (size_there m q found size row is).0 in
     within (omega (arith, long, small, ap length (contents-recovered_view m q calm shown))) ∙ long

@@ -3,6 +3,7 @@ pub mod Appending
 pub mod CopyLemmas
 pub mod KeepLemmas
 pub mod LeftoverLemmas
+pub mod MachineLemmas
 pub mod MoveLemmas
 pub mod QuietLemmas
 pub mod RecoverLemmas

@@ -46,7 +46,8 @@ module _ {D : Type 0} (time : Timeline D) (state : D → State) (old mid new : D
   either v w m sees is = ⊎_elim (λ one. one) (λ two. two ∙ is) sees
 
   -- the names were synced, and the rest is a step that boot doesn't see
-  module _ (stays : EachSince time old mid (λ m o. IsImage (state old) m × (o ≡ (state old).printed))) (files : (state mid).files ≡ (state old).files) (printed : (state mid).printed ≡ (state old).printed)
+  module _ (stays : EachSince time old mid (λ m o. IsImage (state old) m × (o ≡ (state old).printed))) (files : (state mid).files ≡ (state old).files)
+      (printed : (state mid).printed ≡ (state old).printed)
       (step : StepsTo time state (recovered_view (state mid).files) mid new) where
     seen : recovered_view (state mid).files ≡ recovered_view (state old).files
     seen = ap recovered_view files

@@ -38,7 +38,8 @@ intends_put m temp a b bytes is_temporary is a_normal b_normal stand = record {
       ap (option_and_then read_intent) here ∙ ap read_intent is ∙ read-intent_bytes a b a_normal b_normal stand;
   alike = λ q lasts off.
       let apart = temp_apart q temp is_temporary lasts in
-      get-insert_apart (map.remove (with_file temp bytes m) temp) intent (contents (with_file temp bytes m) temp) q off ∙ get-remove_apart (with_file temp bytes m) temp q apart ∙ with_file_apart m temp bytes q apart;
+      get-insert_apart (map.remove (with_file temp bytes m) temp) intent (contents (with_file temp bytes m) temp) q off
+      ∙ get-remove_apart (with_file temp bytes m) temp q apart ∙ with_file_apart m temp bytes q apart;
 }
 
 module _ (m : Files) (temp path : Path) (mid last : State) (is_temporary : is_temp temp ≡ true) (at_intent : path ≡ intent) (created : mid.files ≡ map.insert m temp [])

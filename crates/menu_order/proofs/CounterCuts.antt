@@ -61,7 +61,8 @@ differ m n h e = omega arith
 -- no text ends with both suffixes
 one_suffix : (stem stem' : List ℕ) → stem ++ suffix_text Conf ≡ stem' ++ suffix_text Efi → ⊥
 one_suffix stem stem' e =
-    let last : stem ++ (46 ∷ 99 ∷ 111 ∷ 110 ∷ []) ++ (102 ∷ []) ≡ stem' ++ (46 ∷ 101 ∷ 102 ∷ []) ++ (105 ∷ []) = append_assoc stem (46 ∷ 99 ∷ 111 ∷ 110 ∷ []) (102 ∷ []) ∙ e ∙ sym (append_assoc stem' (46 ∷ 101 ∷ 102 ∷ []) (105 ∷ [])) in
+    let last : stem ++ (46 ∷ 99 ∷ 111 ∷ 110 ∷ []) ++ (102 ∷ []) ≡ stem' ++ (46 ∷ 101 ∷ 102 ∷ []) ++ (105 ∷ []) =
+    append_assoc stem (46 ∷ 99 ∷ 111 ∷ 110 ∷ []) (102 ∷ []) ∙ e ∙ sym (append_assoc stem' (46 ∷ 101 ∷ 102 ∷ []) (105 ∷ [])) in
     differ 102 105 (lit< tt) (same_from_push (stem ++ (46 ∷ 99 ∷ 111 ∷ 110 ∷ [])) (stem' ++ (46 ∷ 101 ∷ 102 ∷ [])) 102 105 last).1
 
 -- a name has one stem and one suffix

@@ -42,7 +42,9 @@ done_same text m n (inr d) (inr d') =
 -- a counter says one LEFT and one DONE
 pub counter_same : (text : List ℕ) (left left' done done' : ℕ) → IsCounter text left done → IsCounter text left' done' → (left ≡ left') × (done ≡ done')
 counter_same text left left' done done' r r' =
-    let parts = texts_same r.left_text r'.left_text r.done_text r'.done_text done done' (number_lacks 45 r.left_text left (lit< tt) r.left_is) (number_lacks 45 r'.left_text left' (lit< tt) r'.left_is) r.done_is r'.done_is (sym r.parts ∙ r'.parts) in (
+    let parts =
+    texts_same r.left_text r'.left_text r.done_text r'.done_text done done' (number_lacks 45 r.left_text left (lit< tt) r.left_is)
+    (number_lacks 45 r'.left_text left' (lit< tt) r'.left_is) r.done_is r'.done_is (sym r.parts ∙ r'.parts) in (
       number_same r'.left_text left left' (subst (λ t. IsNumber t left) parts.0 r.left_is) r'.left_is,
       done_same r'.done_text done done' (subst (λ t. IsDoneText t done) parts.1 r.done_is) r'.done_is,
     )
@@ -66,7 +68,9 @@ pub record SameParts (base base' counter counter' : List ℕ) (suffix suffix' : 
   pub counter_text : counter ≡ counter'
   pub suffix_same : suffix ≡ suffix'
 
-pub parts_same : (name base base' : List ℕ) (left left' done done' : ℕ) (suffix suffix' : Suffix) (r : IsCounted name base left done suffix) (r' : IsCounted name base' left' done' suffix') → SameParts base base' r.counter r'.counter suffix suffix'
+pub parts_same : (name base base' : List ℕ) (left left' done done' : ℕ) (suffix suffix' : Suffix) (r : IsCounted name base left done suffix)
+    (r' : IsCounted name base' left' done' suffix')
+    → SameParts base base' r.counter r'.counter suffix suffix'
 parts_same name base base' left left' done done' suffix suffix' r r' =
     let stems = stem_same (base ++ (43 ∷ r.counter)) (base' ++ (43 ∷ r'.counter)) suffix suffix' (sym (counted_stem name base left done suffix r) ∙ counted_stem name base' left' done' suffix' r') in
     let cut = last_cut 43 base base' r.counter r'.counter (counter_lacks r.counter left done r.counter_is) (counter_lacks r'.counter left' done' r'.counter_is) stems.0 in

@@ -122,7 +122,8 @@ no_plus name stem suffix is lacks base left done suffix' r =
     let stems = stem_same stem (base ++ (43 ∷ r.counter)) suffix suffix' (sym is ∙ counted_stem name base left done suffix' r) in
     Lacks-at 43 base r.counter (subst (Lacks 43) stems.0 lacks)
 
-cut_same : (name stem front back : List ℕ) (suffix : Suffix) → name ≡ stem ++ suffix_text suffix → stem ≡ front ++ 43 ∷ back → Lacks 43 back → (base : List ℕ) (left done : ℕ) (suffix' : Suffix) (r : IsCounted name base left done suffix') → (front ≡ base) × (back ≡ r.counter)
+cut_same : (name stem front back : List ℕ) (suffix : Suffix) → name ≡ stem ++ suffix_text suffix → stem ≡ front ++ 43 ∷ back → Lacks 43 back
+    → (base : List ℕ) (left done : ℕ) (suffix' : Suffix) (r : IsCounted name base left done suffix') → (front ≡ base) × (back ≡ r.counter)
 cut_same name stem front back suffix is cut lacks base left done suffix' r =
     let stems = stem_same stem (base ++ (43 ∷ r.counter)) suffix suffix' (sym is ∙ counted_stem name base left done suffix' r) in
     last_cut 43 front base back r.counter lacks (counter_lacks r.counter left done r.counter_is) (sym cut ∙ stems.0)
@@ -132,12 +133,14 @@ no_base name stem front back suffix is cut lacks none base left done suffix' r =
     let same = cut_same name stem front back suffix is cut lacks base left done suffix' r in
     absurd (omega (arith, ap length same.0, r.some_base))
 
-pub no_counter : (name stem front back : List ℕ) (suffix : Suffix) → name ≡ stem ++ suffix_text suffix → stem ≡ front ++ 43 ∷ back → Lacks 43 back → ((left done : ℕ) → IsCounter back left done → ⊥) → IsUncounted name
+pub no_counter : (name stem front back : List ℕ) (suffix : Suffix) → name ≡ stem ++ suffix_text suffix → stem ≡ front ++ 43 ∷ back → Lacks 43 back
+    → ((left done : ℕ) → IsCounter back left done → ⊥) → IsUncounted name
 no_counter name stem front back suffix is cut lacks refused base left done suffix' r =
     let same = cut_same name stem front back suffix is cut lacks base left done suffix' r in
     refused left done (subst (λ t. IsCounter t left done) (sym same.1) r.counter_is)
 
-pub counted_from_parts : (name stem front back : List ℕ) (suffix : Suffix) (left done : ℕ) → name ≡ stem ++ suffix_text suffix → stem ≡ front ++ 43 ∷ back → length front ≢ 0 → IsCounter back left done → IsCounted name front left done suffix
+pub counted_from_parts : (name stem front back : List ℕ) (suffix : Suffix) (left done : ℕ) → name ≡ stem ++ suffix_text suffix
+    → stem ≡ front ++ 43 ∷ back → length front ≢ 0 → IsCounter back left done → IsCounted name front left done suffix
 counted_from_parts name stem front back suffix left done is cut some counter_is = record {
   counter = back;
   parts = is ∙ ap (λ x. x ++ suffix_text suffix) cut ∙ append_assoc front (43 ∷ back) (suffix_text suffix);

@@ -87,8 +87,13 @@ shortest_from name base left done suffix r e =
     let d = done_bound counter.done_text done counter.done_is in
     let cut : 43 ∷ (decimal left ++ (done_text_of done ++ suffix_text suffix)) ≡ 43 ∷ (r.counter ++ suffix_text suffix) = append_cancel_left base _ _ (e ∙ r.parts) in
     let rest : decimal left ++ (done_text_of done ++ suffix_text suffix) ≡ r.counter ++ suffix_text suffix = cc in
-    let same : decimal left ++ done_text_of done ≡ r.counter = append_cancel_right (decimal left ++ done_text_of done) r.counter (suffix_text suffix) (append_assoc (decimal left) (done_text_of done) (suffix_text suffix) ∙ rest) in
-    let texts = texts_same (decimal left) counter.left_text (done_text_of done) counter.done_text done done (number_lacks 45 (decimal left) left (lit< tt) (decimal_number left l)) (number_lacks 45 counter.left_text left (lit< tt) counter.left_is) (done_text_is done d) counter.done_is (same ∙ counter.parts) in
+    let same : decimal left ++ done_text_of done ≡ r.counter =
+    append_cancel_right (decimal left ++ done_text_of done) r.counter (suffix_text suffix)
+    (append_assoc (decimal left) (done_text_of done) (suffix_text suffix) ∙ rest) in
+    let texts =
+    texts_same (decimal left) counter.left_text (done_text_of done) counter.done_text done done
+    (number_lacks 45 (decimal left) left (lit< tt) (decimal_number left l)) (number_lacks 45 counter.left_text left (lit< tt) counter.left_is)
+    (done_text_is done d) counter.done_is (same ∙ counter.parts) in
     record {
       plain_left = subst IsPlain texts.0 (written_plain left l);
       plain_done = λ number is. done_plain done number d (texts.1 ∙ is);

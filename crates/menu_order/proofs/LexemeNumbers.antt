@@ -42,7 +42,8 @@ rest_decides : (d e power v w : ℕ) → d ≡ e → v < w → d * power + v < e
 rest_decides d e power v w h k = let same : d * power ≡ e * power = ap (λ n. n * power) h in omega arith
 
 -- two numbers with as many digits go by their first digits, and then by the rest
-first_then_rest : (d e power v w : ℕ) (o s : Ordering) → MatchOrdering o (d < e) (d ≡ e) (e < d) → MatchOrdering s (v < w) (v ≡ w) (w < v) → v < power → w < power → MatchOrdering (ordering_then o s) (d * power + v < e * power + w) (d * power + v ≡ e * power + w) (e * power + w < d * power + v)
+first_then_rest : (d e power v w : ℕ) (o s : Ordering) → MatchOrdering o (d < e) (d ≡ e) (e < d) → MatchOrdering s (v < w) (v ≡ w) (w < v) → v < power
+    → w < power → MatchOrdering (ordering_then o s) (d * power + v < e * power + w) (d * power + v ≡ e * power + w) (e * power + w < d * power + v)
 first_then_rest d e power v w Less s m t low high = first_decides d e power v w m low
 first_then_rest d e power v w Greater s m t low high = first_decides e d power w v m high
 first_then_rest d e power v w Equal Less m t low high = rest_decides d e power v w m t
@@ -50,13 +51,15 @@ first_then_rest d e power v w Equal Greater m t low high = rest_decides e d powe
 first_then_rest d e power v w Equal Equal m t low high = ap (λ n. n * power + v) m ∙ ap (λ n. e * power + n) t
 
 -- digits go as their values
-digits_ranked : (c d : ℕ) (o : Ordering) → digit_value c < 10 → digit_value d < 10 → MatchOrdering o (c < d) (c ≡ d) (d < c) → MatchOrdering o (digit_value c < digit_value d) (digit_value c ≡ digit_value d) (digit_value d < digit_value c)
+digits_ranked : (c d : ℕ) (o : Ordering) → digit_value c < 10 → digit_value d < 10 → MatchOrdering o (c < d) (c ≡ d) (d < c)
+    → MatchOrdering o (digit_value c < digit_value d) (digit_value c ≡ digit_value d) (digit_value d < digit_value c)
 digits_ranked c d Less h k m = omega (arith, digit_value_digit c (digit_from_value c h), digit_value_digit d (digit_from_value d k))
 digits_ranked c d Equal h k m = ap digit_value m
 digits_ranked c d Greater h k m = omega (arith, digit_value_digit c (digit_from_value c h), digit_value_digit d (digit_from_value d k))
 
 -- two runs of as many digits go as their numbers
-pub same_length_ranked : (ds es : List ℕ) → AllDigits 10 ds → AllDigits 10 es → length ds ≡ length es → MatchOrdering (slice_cmp nat_cmp ds es) (value ds < value es) (value ds ≡ value es) (value es < value ds)
+pub same_length_ranked : (ds es : List ℕ) → AllDigits 10 ds → AllDigits 10 es → length ds ≡ length es
+    → MatchOrdering (slice_cmp nat_cmp ds es) (value ds < value es) (value ds ≡ value es) (value es < value ds)
 same_length_ranked [] [] h k e = refl
 same_length_ranked [] (y ∷ ys) h k e = absurd (omega arith)
 same_length_ranked (x ∷ xs) [] h k e = absurd (omega arith)
@@ -84,12 +87,15 @@ shorter_below ds (y ∷ ys) h k first e =
     rw (value-cons y ys) (omega arith)
 
 -- runs of digits without leading zeros go by their lengths, and then by their bytes
-by_length : (ds es : List ℕ) (o : Ordering) → AllDigits 10 ds → AllDigits 10 es → get_or ds 0 0 ≢ 48 → get_or es 0 0 ≢ 48 → MatchOrdering o (length ds < length es) (length ds ≡ length es) (length es < length ds) → MatchOrdering (ordering_then o (slice_cmp nat_cmp ds es)) (value ds < value es) (value ds ≡ value es) (value es < value ds)
+by_length : (ds es : List ℕ) (o : Ordering) → AllDigits 10 ds → AllDigits 10 es → get_or ds 0 0 ≢ 48 → get_or es 0 0 ≢ 48
+    → MatchOrdering o (length ds < length es) (length ds ≡ length es) (length es < length ds)
+    → MatchOrdering (ordering_then o (slice_cmp nat_cmp ds es)) (value ds < value es) (value ds ≡ value es) (value es < value ds)
 by_length ds es Less h k a b m = shorter_below ds es h k b m
 by_length ds es Greater h k a b m = shorter_below es ds k h a m
 by_length ds es Equal h k a b m = same_length_ranked ds es h k m
 
-pub significant_order : (ds es : List ℕ) → AllDigits 10 ds → AllDigits 10 es → get_or ds 0 0 ≢ 48 → get_or es 0 0 ≢ 48 → ordering_then (nat_cmp (length ds) (length es)) (slice_cmp nat_cmp ds es) ≡ nat_cmp (value ds) (value es)
+pub significant_order : (ds es : List ℕ) → AllDigits 10 ds → AllDigits 10 es → get_or ds 0 0 ≢ 48 → get_or es 0 0 ≢ 48
+    → ordering_then (nat_cmp (length ds) (length es)) (slice_cmp nat_cmp ds es) ≡ nat_cmp (value ds) (value es)
 significant_order ds es h k a b = nat_cmp_is (value ds) (value es) _ (by_length ds es (nat_cmp (length ds) (length es)) h k a b (ranked (length ds) (length es) (nat_cmp (length ds) (length es)) refl))
 
 -- what is left without the leading zeros
@@ -109,7 +115,9 @@ significant_is (d ∷ ds) h = ⊎_elim
     (cases_Bool (is_zero d))
 
 -- runs of digits go as their numbers, by their lengths and then their bytes without leading zeros
-pub numbers_order : (ds es : List ℕ) → AllDigits 10 ds → AllDigits 10 es → ordering_then (nat_cmp (length (significant_digits ds)) (length (significant_digits es))) (slice_cmp nat_cmp (significant_digits ds) (significant_digits es)) ≡ nat_cmp (value ds) (value es)
+pub numbers_order : (ds es : List ℕ) → AllDigits 10 ds → AllDigits 10 es
+    → ordering_then (nat_cmp (length (significant_digits ds)) (length (significant_digits es)))
+    (slice_cmp nat_cmp (significant_digits ds) (significant_digits es)) ≡ nat_cmp (value ds) (value es)
 numbers_order ds es h k =
     let left = significant_is ds h in
     let right = significant_is es k in

@@ -40,8 +40,11 @@ pub runs_of-front : (p : ℕ → Bool) → IsRunTest p → (b : ℕ) (bs : List 
 runs_of-front p t b [] e = rw (take_while-yes p b [] e, skip-yes p b [] e) refl
 runs_of-front p t b (c ∷ cs) e = ⊎_elim
     (λ (more : p c ≡ true).
-    let rest : runs_of (c ∷ cs) ≡ (c ∷ take_while p cs) ∷ runs_of (skip p cs) = runs_of-front p t c cs more ∙ ap (λ r. r ∷ runs_of (skip p (c ∷ cs))) (take_while-yes p c cs more) ∙ ap (λ r. (c ∷ take_while p cs) ∷ runs_of r) (skip-yes p c cs more) in
-    rw (take_while-yes p b (c ∷ cs) e, take_while-yes p c cs more, skip-yes p b (c ∷ cs) e, skip-yes p c cs more) (runs_of-joined b c cs (take_while p cs) (runs_of (skip p cs)) (t.agrees b c e ∙ more) rest))
+    let rest : runs_of (c ∷ cs) ≡ (c ∷ take_while p cs) ∷ runs_of (skip p cs) =
+    runs_of-front p t c cs more ∙ ap (λ r. r ∷ runs_of (skip p (c ∷ cs))) (take_while-yes p c cs more)
+    ∙ ap (λ r. (c ∷ take_while p cs) ∷ runs_of r) (skip-yes p c cs more) in
+    rw (take_while-yes p b (c ∷ cs) e, take_while-yes p c cs more, skip-yes p b (c ∷ cs) e, skip-yes p c cs more)
+    (runs_of-joined b c cs (take_while p cs) (runs_of (skip p cs)) (t.agrees b c e ∙ more) rest))
     (λ (last : p c ≡ false).
     rw (take_while-yes p b (c ∷ cs) e, take_while-no p c cs last, skip-yes p b (c ∷ cs) e, skip-no p c cs last) (runs_of-apart b c cs (t.agrees b c e ∙ last)))
     (cases_Bool (p c))
@@ -80,10 +83,14 @@ separator-no_token : (b : ℕ) → is_of_token b ≡ false → run_token (b ∷ 
 separator-no_token b e = none_from_is_some (run_token (b ∷ [])) e
 
 separator-not_letter : (b : ℕ) → is_of_token b ≡ false → is_ascii_alphabetic b ≡ false
-separator-not_letter b e = ⊎_elim (λ (l : is_ascii_alphabetic b ≡ true). let some : is_of_token b ≡ true = rw l refl in cc) (λ (l : is_ascii_alphabetic b ≡ false). l) (cases_Bool (is_ascii_alphabetic b))
+separator-not_letter b e =
+    ⊎_elim (λ (l : is_ascii_alphabetic b ≡ true). let some : is_of_token b ≡ true = rw l refl in cc) (λ (l : is_ascii_alphabetic b ≡ false). l)
+    (cases_Bool (is_ascii_alphabetic b))
 
 separator-not_digit : (b : ℕ) → is_of_token b ≡ false → is_ascii_digit b ≡ false
-separator-not_digit b e = ⊎_elim (λ (d : is_ascii_digit b ≡ true). let some : is_of_token b ≡ true = rw (digit-not_letter b d, d) refl in cc) (λ (d : is_ascii_digit b ≡ false). d) (cases_Bool (is_ascii_digit b))
+separator-not_digit b e =
+    ⊎_elim (λ (d : is_ascii_digit b ≡ true). let some : is_of_token b ≡ true = rw (digit-not_letter b d, d) refl in cc)
+    (λ (d : is_ascii_digit b ≡ false). d) (cases_Bool (is_ascii_digit b))
 
 -- a byte of no token has no effect in front of a text
 pub tokens_of-separator : (b : ℕ) (bs : List ℕ) → is_of_token b ≡ false → tokens_of (b ∷ bs) ≡ tokens_of bs
@@ -107,7 +114,8 @@ digits_token run b bs is e = rw (is, digit-not_letter b e, e) refl
 pub tokens_of-letters : (b : ℕ) (bs : List ℕ) → is_ascii_alphabetic b ≡ true → tokens_of (b ∷ bs) ≡ Letters (take_while is_ascii_alphabetic (b ∷ bs)) ∷ tokens_of (skip is_ascii_alphabetic (b ∷ bs))
 tokens_of-letters b bs e =
     ap (filter_map run_token) (runs_of-front is_ascii_alphabetic letters_run b bs e)
-    ∙ ap (λ o. cons_option o (tokens_of (skip is_ascii_alphabetic (b ∷ bs)))) (letters_token (take_while is_ascii_alphabetic (b ∷ bs)) b (take_while is_ascii_alphabetic bs) (take_while-yes is_ascii_alphabetic b bs e) e)
+    ∙ ap (λ o. cons_option o (tokens_of (skip is_ascii_alphabetic (b ∷ bs))))
+    (letters_token (take_while is_ascii_alphabetic (b ∷ bs)) b (take_while is_ascii_alphabetic bs) (take_while-yes is_ascii_alphabetic b bs e) e)
 
 -- a text that begins with a digit begins with the token of all its digits up to another byte
 pub tokens_of-digits : (b : ℕ) (bs : List ℕ) → is_ascii_digit b ≡ true → tokens_of (b ∷ bs) ≡ Number (digits_value 10 (take_while is_ascii_digit (b ∷ bs))) ∷ tokens_of (skip is_ascii_digit (b ∷ bs))
@@ -137,12 +145,14 @@ AllDigits-front (b ∷ bs) = ⊎_elim
     (cases_Bool (is_ascii_digit b))
 
 -- the front run of a text that begins with a digit, and what is behind it
-pub digits_front : (text run rest bs : List ℕ) (b n : ℕ) → text ≡ b ∷ bs → is_ascii_digit b ≡ true → n ≡ prefix_len is_ascii_digit text → run ≡ take n text → rest ≡ drop n text → (tokens_of text ≡ Number (digits_value 10 run) ∷ tokens_of rest) × (length rest < length text)
+pub digits_front : (text run rest bs : List ℕ) (b n : ℕ) → text ≡ b ∷ bs → is_ascii_digit b ≡ true → n ≡ prefix_len is_ascii_digit text
+    → run ≡ take n text → rest ≡ drop n text → (tokens_of text ≡ Number (digits_value 10 run) ∷ tokens_of rest) × (length rest < length text)
 digits_front text run rest bs b n is e count front back =
     rw (back, front, count, is) (tokens_of-digits b bs e, rw (skip-yes is_ascii_digit b bs e) (skip_shorter is_ascii_digit bs))
 
 -- the front run of a text that begins with a letter, and what is behind it
-pub letters_front : (text run rest bs : List ℕ) (b n : ℕ) → text ≡ b ∷ bs → is_ascii_alphabetic b ≡ true → n ≡ prefix_len is_ascii_alphabetic text → run ≡ take n text → rest ≡ drop n text → (tokens_of text ≡ Letters run ∷ tokens_of rest) × (length rest < length text)
+pub letters_front : (text run rest bs : List ℕ) (b n : ℕ) → text ≡ b ∷ bs → is_ascii_alphabetic b ≡ true → n ≡ prefix_len is_ascii_alphabetic text
+    → run ≡ take n text → rest ≡ drop n text → (tokens_of text ≡ Letters run ∷ tokens_of rest) × (length rest < length text)
 letters_front text run rest bs b n is e count front back =
     rw (back, front, count, is) (tokens_of-letters b bs e, rw (skip-yes is_ascii_alphabetic b bs e) (skip_shorter is_ascii_alphabetic bs))
 

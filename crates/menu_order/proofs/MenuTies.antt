@@ -159,4 +159,6 @@ pub by_menu_rules : (p q : MenuParts) (a b c d e f g h i j : Ordering)
     → ordering_then (ordering_then (ordering_then (ordering_then (ordering_then (ordering_then (ordering_then (ordering_then (ordering_then a b) c) d) e) f) g) h) i) j ≡ parts_cmp p q
 unfolding parts_cmp
 by_menu_rules p q a b c d e f g h i j is_a is_b is_c is_d is_e is_f is_g is_h is_i is_j =
-    rw (is_a, is_b, is_c, is_d, is_e, is_f, is_g, is_h, is_i, is_j) (then_all (bad_last p q) (sort_key_first p q) (sort_key_up p q) (machine_id_up p q) (version_down p q) (base_down p q) (uncounted_first p q) (left_down p q) (done_up p q) (path_up p q))
+    rw (is_a, is_b, is_c, is_d, is_e, is_f, is_g, is_h, is_i, is_j)
+    (then_all (bad_last p q) (sort_key_first p q) (sort_key_up p q) (machine_id_up p q) (version_down p q) (base_down p q) (uncounted_first p q)
+    (left_down p q) (done_up p q) (path_up p q))

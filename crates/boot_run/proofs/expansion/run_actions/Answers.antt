@@ -5,12 +5,20 @@ use Rattle.boot_run.specs.Lines.{is_unread}
 use Rattle.boot_run.specs.declared.line.Line.{Line}
 use Rattle.boot_run.proofs.Staying.{leaves_more, leaves_so, no_more_temps, rested_so}
 use Rattle.boot_run.proofs.UpToRefused.{all_done, ends_at, goes_behind, none_yet, stops_in}
+use Rattle.boot_run.proofs.expansion.run_actions.Given as given
+use Rattle.boot_run.proofs.expansion.run_actions.Goals.{After-run_line}
 use Rattle.boot_run.proofs.expansion.run_actions.Goals as goal
+
+-- the line is a command
+is_command : (g : given.Over) (c : After-run_line g) → is_unread c.line-item.result ≡ false
+is_command g c = subst (λ (l : Line). is_unread l ≡ false) (sym c.line-item.is)
+    (All-get_or (λ l. is_unread l ≡ false) c.args.lines.now c.loop-line.line-index c.line-item.result c.loop-line-test.true c.requires.commands)
 
 pub loop-line-init : goal.loop-line-init
 loop-line-init g c = record {
   told = λ told firm. none_yet g.M.Machine.time g.M.Machine.state c.args.machine.now c.args.lines.now firm
-      (λ m o left. let now = g.met.M.Machine.only_now c.args.machine.now m o told left in (sees (g.M.Machine.state c.args.machine.now) (g.met.M.Machine.sound c.args.machine.now told) firm m now.0, now.1));
+      (λ m o left. let now = g.met.M.Machine.only_now c.args.machine.now m o told left in
+      (sees (g.M.Machine.state c.args.machine.now) (g.met.M.Machine.sound c.args.machine.now told) firm m now.0, now.1));
   rests = c.requires.rested;
   input = λ told. refl;
   temps = λ told q temp there. there;
@@ -22,8 +30,8 @@ returns-in_err-outcome-clause-runs g c told firm =
     let lines = c.args.lines.now in
     let line = c.line-item.result in
     let before = c.loop-line.invariant.told told firm in
-    let command = subst (λ (l : Line). is_unread l ≡ false) (sym c.line-item.is) (All-get_or (λ l. is_unread l ≡ false) lines c.loop-line.line-index line c.loop-line-test.true c.requires.commands) in
-    stops_in g.M.Machine.time g.M.Machine.state c.args.machine.now c.loop-line.machine c.run_line.new.machine lines c.loop-line.line-index line c.loop-line-test.true (sym c.line-item.is) command before
+    let command = is_command g (goal.at.returns-in_err-outcome-clause-runs g c).After-run_line in
+    stops_in _ _ _ _ _ _ _ _ c.loop-line-test.true (sym c.line-item.is) command before
     c.in_err-outcome.field-0.0 c.from_residual.result c.from_residual.ensures.0 c.from_residual.ensures.1 (c.in_err-outcome.ensures.performs told before.so_far.firm)
 
 pub returns-in_err-outcome-clause-rests : goal.returns-in_err-outcome-clause-rests
@@ -34,7 +42,9 @@ returns-in_err-outcome-clause-rests g c told =
 pub returns-in_err-outcome-clause-behaves : goal.returns-in_err-outcome-clause-behaves
 returns-in_err-outcome-clause-behaves g c = record {
   input = λ told. c.run_line.ensures.behaves.input told ∙ c.loop-line.invariant.input told;
-  temps = λ told. leaves_more c.from_residual.result (g.M.Machine.state c.args.machine.now) (g.M.Machine.state c.loop-line.machine) (g.M.Machine.state c.run_line.new.machine) (c.loop-line.invariant.temps told)
+  temps =
+      λ told. leaves_more c.from_residual.result (g.M.Machine.state c.args.machine.now) (g.M.Machine.state c.loop-line.machine)
+      (g.M.Machine.state c.run_line.new.machine) (c.loop-line.invariant.temps told)
       (leaves_so c.run_line.result c.from_residual.result c.in_err-outcome.field-0.0 (g.M.Machine.state c.loop-line.machine) (g.M.Machine.state c.run_line.new.machine)
       c.in_err-outcome.was c.from_residual.ensures.0 c.from_residual.ensures.1 (c.run_line.ensures.behaves.temps told));
   counted = search rules;
@@ -45,8 +55,8 @@ returns-then-is_refused-clause-runs g c told firm =
     let lines = c.args.lines.now in
     let line = c.line-item.result in
     let before = c.loop-line.invariant.told told firm in
-    let command = subst (λ (l : Line). is_unread l ≡ false) (sym c.line-item.is) (All-get_or (λ l. is_unread l ≡ false) lines c.loop-line.line-index line c.loop-line-test.true c.requires.commands) in
-    ends_at g.M.Machine.time g.M.Machine.state c.args.machine.now c.loop-line.machine c.run_line.new.machine lines c.loop-line.line-index line c.loop-line-test.true (sym c.line-item.is) command before
+    let command = is_command g (goal.at.returns-then-is_refused-clause-runs g c).After-run_line in
+    ends_at _ _ _ _ _ _ _ _ c.loop-line-test.true (sym c.line-item.is) command before
     c.in_ok-outcome.outcome (c.in_ok-outcome.ensures.performs told before.so_far.firm) (sym c.is_refused.ensures ∙ c.if-is_refused.true)
 
 pub returns-then-is_refused-clause-rests : goal.returns-then-is_refused-clause-rests
@@ -55,7 +65,9 @@ returns-then-is_refused-clause-rests g c told = c.in_ok-outcome.ensures.rests to
 pub returns-then-is_refused-clause-behaves : goal.returns-then-is_refused-clause-behaves
 returns-then-is_refused-clause-behaves g c = record {
   input = λ told. c.run_line.ensures.behaves.input told ∙ c.loop-line.invariant.input told;
-  temps = λ told. no_more_temps (g.M.Machine.state c.args.machine.now) (g.M.Machine.state c.loop-line.machine) (g.M.Machine.state c.run_line.new.machine) (c.loop-line.invariant.temps told) (c.in_ok-outcome.ensures.behaves.temps told);
+  temps =
+      λ told. no_more_temps (g.M.Machine.state c.args.machine.now) (g.M.Machine.state c.loop-line.machine) (g.M.Machine.state c.run_line.new.machine)
+      (c.loop-line.invariant.temps told) (c.in_ok-outcome.ensures.behaves.temps told);
   counted = c.in_ok-outcome.ensures.behaves.counted ∙ c.loop-line.invariant.counts;
 }
 
@@ -65,12 +77,14 @@ loop-line-preserved g c = record {
       let lines = c.args.lines.now in
       let line = c.line-item.result in
       let before = c.loop-line.invariant.told told firm in
-      let command = subst (λ (l : Line). is_unread l ≡ false) (sym c.line-item.is) (All-get_or (λ l. is_unread l ≡ false) lines c.loop-line.line-index line c.loop-line-test.true c.requires.commands) in
-      goes_behind g.M.Machine.time g.M.Machine.state c.args.machine.now c.loop-line.machine c.run_line.new.machine lines c.loop-line.line-index line c.loop-line-test.true (sym c.line-item.is) command before
+      let command = is_command g (goal.at.loop-line-preserved g c).After-run_line in
+      goes_behind _ _ _ _ _ _ _ _ c.loop-line-test.true (sym c.line-item.is) command before
       c.in_ok-outcome.outcome (c.in_ok-outcome.ensures.performs told before.so_far.firm) (sym c.is_refused.ensures ∙ c.if-is_refused.false);
   rests = λ told. c.in_ok-outcome.ensures.rests told (c.loop-line.invariant.rests told);
   input = λ told. c.run_line.ensures.behaves.input told ∙ c.loop-line.invariant.input told;
-  temps = λ told. no_more_temps (g.M.Machine.state c.args.machine.now) (g.M.Machine.state c.loop-line.machine) (g.M.Machine.state c.run_line.new.machine) (c.loop-line.invariant.temps told) (c.in_ok-outcome.ensures.behaves.temps told);
+  temps =
+      λ told. no_more_temps (g.M.Machine.state c.args.machine.now) (g.M.Machine.state c.loop-line.machine) (g.M.Machine.state c.run_line.new.machine)
+      (c.loop-line.invariant.temps told) (c.in_ok-outcome.ensures.behaves.temps told);
   counts = c.in_ok-outcome.ensures.behaves.counted ∙ c.loop-line.invariant.counts;
 }
 

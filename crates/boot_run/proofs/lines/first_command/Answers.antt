@@ -10,12 +10,14 @@ use Rattle.boot_run.proofs.lines.first_command.Goals as goal
 
 pub returns-in_err-recover_rename-clause-performs : goal.returns-in_err-recover_rename-clause-performs
 returns-in_err-recover_rename-clause-performs g c told firm =
-    performed_failed g.M.Machine.time g.M.Machine.state c.args.machine.now c.recover_rename.new.machine (line_deed (recovered_now (g.M.Machine.state c.args.machine.now)) c.args.line.now) c.from_residual.result c.from_residual.ensures.0
+    performed_failed g.M.Machine.time g.M.Machine.state c.args.machine.now c.recover_rename.new.machine
+    (line_deed (recovered_now (g.M.Machine.state c.args.machine.now)) c.args.line.now) c.from_residual.result c.from_residual.ensures.0
     (g.met.M.Machine.sound c.args.machine.now told) firm (c.recover_rename.ensures.recovers told firm) (c.recover_rename.ensures.keeps told).printed
 
 pub returns-in_err-recover_rename-clause-syncs : goal.returns-in_err-recover_rename-clause-syncs
 returns-in_err-recover_rename-clause-syncs g c told firm =
-    synced_failed g.M.Machine.time g.M.Machine.state c.args.machine.now c.recover_rename.new.machine (line_deed (recovered_now (g.M.Machine.state c.args.machine.now)) c.args.line.now) c.from_residual.result c.from_residual.ensures.0
+    synced_failed g.M.Machine.time g.M.Machine.state c.args.machine.now c.recover_rename.new.machine
+    (line_deed (recovered_now (g.M.Machine.state c.args.machine.now)) c.args.line.now) c.from_residual.result c.from_residual.ensures.0
     (c.recover_rename.ensures.recovers told firm)
 
 pub returns-in_err-recover_rename-clause-behaves : goal.returns-in_err-recover_rename-clause-behaves
@@ -29,7 +31,11 @@ pub returns-clause-performs : goal.returns-clause-performs
 returns-clause-performs g c told firm =
     let old = c.args.machine.now in
     let recovers = c.recover_rename.ensures.recovers told firm in
-    let performs = subst (λ (v : Files). Performs g.M.Machine.time g.M.Machine.state end_of c.recover_rename.new.machine c.run_line.new.machine (line_deed v c.args.line.now) c.run_line.result) recovers.files (c.run_line.ensures.performs told recovers.firm) in
+    let performs =
+    subst
+    (λ (v : Files). Performs g.M.Machine.time g.M.Machine.state end_of c.recover_rename.new.machine c.run_line.new.machine
+    (line_deed v c.args.line.now) c.run_line.result)
+    recovers.files (c.run_line.ensures.performs told recovers.firm) in
     performed_after g.M.Machine.time g.M.Machine.state old c.recover_rename.new.machine c.run_line.new.machine (line_deed (recovered_now (g.M.Machine.state old)) c.args.line.now)
     (command_settles (recovered_now (g.M.Machine.state old)) c.args.line.now c.requires.command)
     (g.met.M.Machine.sound old told) firm recovers (c.in_ok-recover_rename.ensures.one told) (c.recover_rename.ensures.keeps told).printed c.run_line.result performs
@@ -38,7 +44,11 @@ pub returns-clause-syncs : goal.returns-clause-syncs
 returns-clause-syncs g c told firm =
     let old = c.args.machine.now in
     let recovers = c.recover_rename.ensures.recovers told firm in
-    let performs = subst (λ (v : Files). Performs g.M.Machine.time g.M.Machine.state end_of c.recover_rename.new.machine c.run_line.new.machine (line_deed v c.args.line.now) c.run_line.result) recovers.files (c.run_line.ensures.performs told recovers.firm) in
+    let performs =
+    subst
+    (λ (v : Files). Performs g.M.Machine.time g.M.Machine.state end_of c.recover_rename.new.machine c.run_line.new.machine
+    (line_deed v c.args.line.now) c.run_line.result)
+    recovers.files (c.run_line.ensures.performs told recovers.firm) in
     synced_after g.M.Machine.time g.M.Machine.state old c.recover_rename.new.machine c.run_line.new.machine (line_deed (recovered_now (g.M.Machine.state old)) c.args.line.now)
     (command_settles (recovered_now (g.M.Machine.state old)) c.args.line.now c.requires.command)
     (g.met.M.Machine.sound old told) firm recovers (c.in_ok-recover_rename.ensures.one told) (c.recover_rename.ensures.keeps told).printed c.run_line.result
@@ -47,19 +57,26 @@ returns-clause-syncs g c told firm =
 pub returns-clause-behaves : goal.returns-clause-behaves
 returns-clause-behaves g c = record {
   input = λ told. c.run_line.ensures.behaves.input told ∙ (c.recover_rename.ensures.keeps told).input;
-  temps = λ told. leaves_more c.run_line.result (g.M.Machine.state c.args.machine.now) (g.M.Machine.state c.recover_rename.new.machine) (g.M.Machine.state c.run_line.new.machine) (c.recover_rename.ensures.temps told) (c.run_line.ensures.behaves.temps told);
+  temps =
+      λ told. leaves_more c.run_line.result (g.M.Machine.state c.args.machine.now) (g.M.Machine.state c.recover_rename.new.machine)
+      (g.M.Machine.state c.run_line.new.machine) (c.recover_rename.ensures.temps told) (c.run_line.ensures.behaves.temps told);
   counted = search rules;
 }
 
 pub returns-in_err-recover_rename-clause-tidies : goal.returns-in_err-recover_rename-clause-tidies
-returns-in_err-recover_rename-clause-tidies g c told = where_none c.from_residual.result (g.M.Machine.state c.args.machine.now) (g.M.Machine.state c.recover_rename.new.machine) _ c.from_residual.ensures.0 (c.recover_rename.ensures.keeps told).printed
+returns-in_err-recover_rename-clause-tidies g c told =
+    where_none c.from_residual.result (g.M.Machine.state c.args.machine.now) (g.M.Machine.state c.recover_rename.new.machine) _
+    c.from_residual.ensures.0 (c.recover_rename.ensures.keeps told).printed
 
 pub returns-in_err-recover_rename-clause-rests : goal.returns-in_err-recover_rename-clause-rests
-returns-in_err-recover_rename-clause-rests g c told = where_none c.from_residual.result (g.M.Machine.state c.args.machine.now) (g.M.Machine.state c.recover_rename.new.machine) _ c.from_residual.ensures.0 (c.recover_rename.ensures.keeps told).printed
+returns-in_err-recover_rename-clause-rests g c told =
+    where_none c.from_residual.result (g.M.Machine.state c.args.machine.now) (g.M.Machine.state c.recover_rename.new.machine) _
+    c.from_residual.ensures.0 (c.recover_rename.ensures.keeps told).printed
 
 pub returns-clause-tidies : goal.returns-clause-tidies
 returns-clause-tidies g c told =
-    where_more c.run_line.result (g.M.Machine.state c.args.machine.now) (g.M.Machine.state c.recover_rename.new.machine) (g.M.Machine.state c.run_line.new.machine) _ _ (c.recover_rename.ensures.keeps told).printed (λ p. p) (c.run_line.ensures.tidies told)
+    where_more c.run_line.result (g.M.Machine.state c.args.machine.now) (g.M.Machine.state c.recover_rename.new.machine)
+    (g.M.Machine.state c.run_line.new.machine) _ _ (c.recover_rename.ensures.keeps told).printed (λ p. p) (c.run_line.ensures.tidies told)
 
 pub returns-clause-rests : goal.returns-clause-rests
 returns-clause-rests g c told =

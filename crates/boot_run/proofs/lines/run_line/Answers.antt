@@ -10,17 +10,24 @@ use Rattle.boot_run.proofs.lines.run_line.Goals as goal
 pub returns-in-Plain-clause-performs : goal.returns-in-Plain-clause-performs
 returns-in-Plain-clause-performs g c told firm =
     performed_rested g.M.Machine.time g.M.Machine.state c.args.machine.now c.run_one.new.machine c.args.line.now c.run_one.result (c.requires.rested told (ap is_unread c.in-Plain.is))
-    (subst (λ line. Performs g.M.Machine.time g.M.Machine.state end_of c.args.machine.now c.run_one.new.machine (line_deed (seen (g.M.Machine.state c.args.machine.now)) line) c.run_one.result) (sym c.in-Plain.is) (c.run_one.ensures.performs told firm))
+    (subst
+    (λ line. Performs g.M.Machine.time g.M.Machine.state end_of c.args.machine.now c.run_one.new.machine
+    (line_deed (seen (g.M.Machine.state c.args.machine.now)) line) c.run_one.result) (sym c.in-Plain.is) (c.run_one.ensures.performs told firm))
 
 pub returns-in-Part-clause-performs : goal.returns-in-Part-clause-performs
 returns-in-Part-clause-performs g c told firm =
     performed_rested g.M.Machine.time g.M.Machine.state c.args.machine.now c.run_action.new.machine c.args.line.now c.run_action.result (c.requires.rested told (ap is_unread c.in-Part.is))
-    (subst (λ line. Performs g.M.Machine.time g.M.Machine.state end_of c.args.machine.now c.run_action.new.machine (line_deed (seen (g.M.Machine.state c.args.machine.now)) line) c.run_action.result) (sym c.in-Part.is) (c.run_action.ensures.performs told firm))
+    (subst
+    (λ line. Performs g.M.Machine.time g.M.Machine.state end_of c.args.machine.now c.run_action.new.machine
+    (line_deed (seen (g.M.Machine.state c.args.machine.now)) line) c.run_action.result) (sym c.in-Part.is) (c.run_action.ensures.performs told firm))
 
 pub returns-in-Numbered-clause-performs : goal.returns-in-Numbered-clause-performs
 returns-in-Numbered-clause-performs g c told firm =
     performed_rested g.M.Machine.time g.M.Machine.state c.args.machine.now c.run_numbered.new.machine c.args.line.now c.run_numbered.result (c.requires.rested told (ap is_unread c.in-Numbered.is))
-    (subst (λ line. Performs g.M.Machine.time g.M.Machine.state end_of c.args.machine.now c.run_numbered.new.machine (line_deed (seen (g.M.Machine.state c.args.machine.now)) line) c.run_numbered.result) (sym c.in-Numbered.is) (c.run_numbered.ensures.performs told firm))
+    (subst
+    (λ line. Performs g.M.Machine.time g.M.Machine.state end_of c.args.machine.now c.run_numbered.new.machine
+    (line_deed (seen (g.M.Machine.state c.args.machine.now))
+    line) c.run_numbered.result) (sym c.in-Numbered.is) (c.run_numbered.ensures.performs told firm))
 
 pub returns-in-Plain-clause-only_prints : goal.returns-in-Plain-clause-only_prints
 returns-in-Plain-clause-only_prints g c told firm is = cc (sym (ap is_unread c.in-Plain.is) ∙ is)
@@ -33,33 +40,48 @@ returns-in-Numbered-clause-only_prints g c told firm is = cc (sym (ap is_unread 
 
 pub returns-in-Unread-clause-only_prints : goal.returns-in-Unread-clause-only_prints
 returns-in-Unread-clause-only_prints g c told firm is =
-    subst (λ line. OnlyPrints g.M.Machine.time g.M.Machine.state c.args.machine.now c.unread_line.new.machine (line_deed (recovered_now (g.M.Machine.state c.args.machine.now)) line).sent) (sym c.in-Unread.is)
+    subst
+    (λ line. OnlyPrints g.M.Machine.time g.M.Machine.state c.args.machine.now c.unread_line.new.machine
+    (line_deed (recovered_now (g.M.Machine.state c.args.machine.now)) line).sent)
+    (sym c.in-Unread.is)
     (record { same = c.unread_line.ensures.stays told; moments = c.unread_line.ensures.moments told firm })
 
 pub returns-in-TooLong-clause-only_prints : goal.returns-in-TooLong-clause-only_prints
 returns-in-TooLong-clause-only_prints g c told firm is =
-    subst (λ line. OnlyPrints g.M.Machine.time g.M.Machine.state c.args.machine.now c.too_long.new.machine (line_deed (recovered_now (g.M.Machine.state c.args.machine.now)) line).sent) (sym c.in-TooLong.is)
+    subst
+    (λ line. OnlyPrints g.M.Machine.time g.M.Machine.state c.args.machine.now c.too_long.new.machine
+    (line_deed (recovered_now (g.M.Machine.state c.args.machine.now)) line).sent)
+    (sym c.in-TooLong.is)
     (record { same = c.too_long.ensures.stays told; moments = c.too_long.ensures.moments told })
 
 pub returns-in-Unread-clause-behaves : goal.returns-in-Unread-clause-behaves
 returns-in-Unread-clause-behaves g c = record {
   input = λ told. input_stays _ _ (c.unread_line.ensures.stays told);
-  temps = λ told. leaves_none c.unread_line.result (g.M.Machine.state c.args.machine.now) (g.M.Machine.state c.unread_line.new.machine) (temps_stay (g.M.Machine.state c.args.machine.now) (g.M.Machine.state c.unread_line.new.machine) (files_stay _ _ (c.unread_line.ensures.stays told)));
+  temps =
+      λ told. leaves_none c.unread_line.result (g.M.Machine.state c.args.machine.now) (g.M.Machine.state c.unread_line.new.machine)
+      (temps_stay (g.M.Machine.state c.args.machine.now) (g.M.Machine.state c.unread_line.new.machine) (files_stay _ _ (c.unread_line.ensures.stays told)));
   counted = search rules;
 }
 
 pub returns-in-Unread-clause-rests : goal.returns-in-Unread-clause-rests
-returns-in-Unread-clause-rests g c told rested = leaves_rested c.unread_line.result (g.M.Machine.state c.unread_line.new.machine) (rested_stays (g.M.Machine.state c.args.machine.now) (g.M.Machine.state c.unread_line.new.machine) (files_stay _ _ (c.unread_line.ensures.stays told)) rested)
+returns-in-Unread-clause-rests g c told rested =
+    leaves_rested c.unread_line.result (g.M.Machine.state c.unread_line.new.machine)
+    (rested_stays (g.M.Machine.state c.args.machine.now) (g.M.Machine.state c.unread_line.new.machine)
+    (files_stay _ _ (c.unread_line.ensures.stays told)) rested)
 
 pub returns-in-TooLong-clause-behaves : goal.returns-in-TooLong-clause-behaves
 returns-in-TooLong-clause-behaves g c = record {
   input = λ told. input_stays _ _ (c.too_long.ensures.stays told);
-  temps = λ told. leaves_none c.too_long.result (g.M.Machine.state c.args.machine.now) (g.M.Machine.state c.too_long.new.machine) (temps_stay (g.M.Machine.state c.args.machine.now) (g.M.Machine.state c.too_long.new.machine) (files_stay _ _ (c.too_long.ensures.stays told)));
+  temps =
+      λ told. leaves_none c.too_long.result (g.M.Machine.state c.args.machine.now) (g.M.Machine.state c.too_long.new.machine)
+      (temps_stay (g.M.Machine.state c.args.machine.now) (g.M.Machine.state c.too_long.new.machine) (files_stay _ _ (c.too_long.ensures.stays told)));
   counted = search rules;
 }
 
 pub returns-in-TooLong-clause-rests : goal.returns-in-TooLong-clause-rests
-returns-in-TooLong-clause-rests g c told rested = leaves_rested c.too_long.result (g.M.Machine.state c.too_long.new.machine) (rested_stays (g.M.Machine.state c.args.machine.now) (g.M.Machine.state c.too_long.new.machine) (files_stay _ _ (c.too_long.ensures.stays told)) rested)
+returns-in-TooLong-clause-rests g c told rested =
+    leaves_rested c.too_long.result (g.M.Machine.state c.too_long.new.machine)
+    (rested_stays (g.M.Machine.state c.args.machine.now) (g.M.Machine.state c.too_long.new.machine) (files_stay _ _ (c.too_long.ensures.stays told)) rested)
 
 pub returns-in-Plain-clause-tidies : goal.returns-in-Plain-clause-tidies
 returns-in-Plain-clause-tidies g c told =

@@ -19,11 +19,14 @@ use Rattle.boot_run.proofs.lines.run_lines.Goals as goal
 pub loop-line-init : goal.loop-line-init
 loop-line-init g c = record {
   told = λ told firm. started g.M.Machine.time g.M.Machine.state c.args.machine.now c.args.lines.now firm
-      (λ m o left. let now = g.met.M.Machine.only_now c.args.machine.now m o told left in (sees (g.M.Machine.state c.args.machine.now) (g.met.M.Machine.sound c.args.machine.now told) firm m now.0, now.1));
+      (λ m o left. let now = g.met.M.Machine.only_now c.args.machine.now m o told left in
+      (sees (g.M.Machine.state c.args.machine.now) (g.met.M.Machine.sound c.args.machine.now told) firm m now.0, now.1));
   synced = λ told firm. inl (record {
     unread = tt;
     same = prints_none (g.M.Machine.state c.args.machine.now);
-    moments = at_once g.M.Machine.time g.M.Machine.state _ c.args.machine.now (λ m o left. unsynced_yet (g.M.Machine.state c.args.machine.now) c.args.lines.now m o (g.met.M.Machine.only_now c.args.machine.now m o told left));
+    moments =
+        at_once g.M.Machine.time g.M.Machine.state _ c.args.machine.now
+        (λ m o left. unsynced_yet (g.M.Machine.state c.args.machine.now) c.args.lines.now m o (g.met.M.Machine.only_now c.args.machine.now m o told left));
   });
   begun = refl;
   rests = λ told is. cc;
@@ -36,7 +39,7 @@ loop-line-init g c = record {
 pub returns-in_err-outcome-clause-runs : goal.returns-in_err-outcome-clause-runs
 returns-in_err-outcome-clause-runs g c told firm =
     let so_far = c.loop-line.invariant.told told firm in
-    gives_up g.M.Machine.time g.M.Machine.state c.args.machine.now c.loop-line.machine c.next_line.new.machine c.args.lines.now c.loop-line.line-index c.loop-line.refused c.line-item.result c.loop-line-test.true (sym c.line-item.is) so_far
+    gives_up _ _ _ _ _ _ _ _ _ c.loop-line-test.true (sym c.line-item.is) so_far
     c.in_err-outcome.field-0.0 c.from_residual.result c.from_residual.ensures.0 c.from_residual.ensures.1 (c.in_err-outcome.ensures.performs told so_far.firm)
 
 pub loop-line-preserved : goal.loop-line-preserved
@@ -44,18 +47,18 @@ loop-line-preserved g c = record {
   told = λ told firm.
       let so_far = c.loop-line.invariant.told told firm in
       subst (SoFar g.M.Machine.time g.M.Machine.state c.args.machine.now c.next_line.new.machine c.args.lines.now (c.loop-line.line-index + 1)) (sym c.some_refused-refused.ensures)
-      (goes_on g.M.Machine.time g.M.Machine.state c.args.machine.now c.loop-line.machine c.next_line.new.machine c.args.lines.now c.loop-line.line-index c.loop-line.refused c.line-item.result c.loop-line-test.true (sym c.line-item.is) so_far
+      (goes_on _ _ _ _ _ _ _ _ _ c.loop-line-test.true (sym c.line-item.is) so_far
       c.in_ok-outcome.outcome (c.in_ok-outcome.ensures.performs told so_far.firm));
   synced = λ told firm.
       let so_far = c.loop-line.invariant.told told firm in
       let performs = c.in_ok-outcome.ensures.performs told so_far.firm in
       ⊎_elim
       (λ run. elim (cases_Bool (is_unread c.line-item.result)) [
-        | inl is ↦ inl (unread_more g.M.Machine.time g.M.Machine.state c.args.machine.now c.loop-line.machine c.next_line.new.machine c.args.lines.now c.loop-line.line-index c.loop-line.refused c.line-item.result c.loop-line-test.true (sym c.line-item.is) so_far run is (c.next_line.ensures.only_prints told so_far.firm is))
-        | inr is ↦ inr (first_more g.M.Machine.time g.M.Machine.state c.args.machine.now c.loop-line.machine c.next_line.new.machine c.args.lines.now c.loop-line.line-index c.loop-line.refused c.line-item.result c.loop-line-test.true (sym c.line-item.is) so_far run is
+        | inl is ↦ inl (unread_more _ _ _ _ _ _ _ _ _ c.loop-line-test.true (sym c.line-item.is) so_far run is (c.next_line.ensures.only_prints told so_far.firm is))
+        | inr is ↦ inr (first_more _ _ _ _ _ _ _ _ _ c.loop-line-test.true (sym c.line-item.is) so_far run is
             (c.in_ok-outcome.ensures.syncs told so_far.firm (c.loop-line.invariant.begun ∙ none_begun (take c.loop-line.line-index c.args.lines.now) run.unread) is).ok)
       ])
-      (λ late. inr (late_more g.M.Machine.time g.M.Machine.state c.args.machine.now c.loop-line.machine c.next_line.new.machine c.args.lines.now c.loop-line.line-index c.loop-line.refused c.line-item.result c.loop-line-test.true (sym c.line-item.is) so_far late performs.moments))
+      (λ late. inr (late_more _ _ _ _ _ _ _ _ _ c.loop-line-test.true (sym c.line-item.is) so_far late performs.moments))
       (c.loop-line.invariant.synced told firm);
   begun = c.is_begun-rested.ensures ∙ ap (λ b. b || not (is_unread c.line-item.result)) c.loop-line.invariant.begun
       ∙ sym (begun_more c.args.lines.now c.loop-line.line-index c.line-item.result c.loop-line-test.true (sym c.line-item.is));
@@ -68,7 +71,9 @@ loop-line-preserved g c = record {
       (lines_later before now (take c.loop-line.line-index c.args.lines.now) (c.in_ok-outcome.ensures.behaves.temps told) (c.loop-line.invariant.tidied told))
       (subst (TidiedBy now.files) c.line-item.is (c.in_ok-outcome.ensures.tidies told)));
   input = λ told. c.next_line.ensures.behaves.input told ∙ c.loop-line.invariant.input told;
-  temps = λ told. no_more_temps (g.M.Machine.state c.args.machine.now) (g.M.Machine.state c.loop-line.machine) (g.M.Machine.state c.next_line.new.machine) (c.loop-line.invariant.temps told) (c.in_ok-outcome.ensures.behaves.temps told);
+  temps =
+      λ told. no_more_temps (g.M.Machine.state c.args.machine.now) (g.M.Machine.state c.loop-line.machine) (g.M.Machine.state c.next_line.new.machine)
+      (c.loop-line.invariant.temps told) (c.in_ok-outcome.ensures.behaves.temps told);
   counts = c.in_ok-outcome.ensures.behaves.counted ∙ c.loop-line.invariant.counts;
 }
 
@@ -78,17 +83,19 @@ returns-in_err-outcome-clause-synced g c told firm =
     let performs = c.in_err-outcome.ensures.performs told so_far.firm in
     ⊎_elim
     (λ run. elim (cases_Bool (is_unread c.line-item.result)) [
-      | inl is ↦ inl (unread_moments g.M.Machine.time g.M.Machine.state c.args.machine.now c.loop-line.machine c.next_line.new.machine c.args.lines.now c.loop-line.line-index c.loop-line.refused c.line-item.result c.loop-line-test.true (sym c.line-item.is) so_far run is (c.next_line.ensures.only_prints told so_far.firm is))
+      | inl is ↦ inl (unread_moments _ _ _ _ _ _ _ _ _ c.loop-line-test.true (sym c.line-item.is) so_far run is (c.next_line.ensures.only_prints told so_far.firm is))
       | inr is ↦ ⊎_elim
-          (λ reads. inl (first_not g.M.Machine.time g.M.Machine.state c.args.machine.now c.loop-line.machine c.next_line.new.machine c.args.lines.now c.loop-line.line-index c.loop-line.refused c.line-item.result c.loop-line-test.true (sym c.line-item.is) so_far run reads))
-          (λ syncs. inr (first_moments g.M.Machine.time g.M.Machine.state c.args.machine.now c.loop-line.machine c.next_line.new.machine c.args.lines.now c.loop-line.line-index c.loop-line.refused c.line-item.result c.loop-line-test.true (sym c.line-item.is) so_far run syncs))
+          (λ reads. inl (first_not _ _ _ _ _ _ _ _ _ c.loop-line-test.true (sym c.line-item.is) so_far run reads))
+          (λ syncs. inr (first_moments _ _ _ _ _ _ _ _ _ c.loop-line-test.true (sym c.line-item.is) so_far run syncs))
           (c.in_err-outcome.ensures.syncs told so_far.firm (c.loop-line.invariant.begun ∙ none_begun (take c.loop-line.line-index c.args.lines.now) run.unread) is).err
     ])
-    (λ late. inr (late_moments g.M.Machine.time g.M.Machine.state c.args.machine.now c.loop-line.machine c.next_line.new.machine c.args.lines.now c.loop-line.line-index c.loop-line.refused c.line-item.result c.loop-line-test.true (sym c.line-item.is) so_far late performs.moments))
+    (λ late. inr (late_moments _ _ _ _ _ _ _ _ _ c.loop-line-test.true (sym c.line-item.is) so_far late performs.moments))
     (c.loop-line.invariant.synced told firm)
 
 pub returns-clause-synced : goal.returns-clause-synced
-returns-clause-synced g c told firm = synced_done g.M.Machine.time g.M.Machine.state c.args.machine.now c.loop-line.machine c.args.lines.now c.loop-line.line-index (c.loop-line.invariant.synced told firm)
+returns-clause-synced g c told firm =
+    synced_done g.M.Machine.time g.M.Machine.state c.args.machine.now c.loop-line.machine c.args.lines.now c.loop-line.line-index
+    (c.loop-line.invariant.synced told firm)
 
 pub returns-clause-rests : goal.returns-clause-rests
 returns-clause-rests g c told is =
@@ -97,7 +104,9 @@ returns-clause-rests g c told is =
 pub returns-in_err-outcome-clause-behaves : goal.returns-in_err-outcome-clause-behaves
 returns-in_err-outcome-clause-behaves g c = record {
   input = λ told. c.next_line.ensures.behaves.input told ∙ c.loop-line.invariant.input told;
-  temps = λ told. leaves_more c.from_residual.result (g.M.Machine.state c.args.machine.now) (g.M.Machine.state c.loop-line.machine) (g.M.Machine.state c.next_line.new.machine) (c.loop-line.invariant.temps told)
+  temps =
+      λ told. leaves_more c.from_residual.result (g.M.Machine.state c.args.machine.now) (g.M.Machine.state c.loop-line.machine)
+      (g.M.Machine.state c.next_line.new.machine) (c.loop-line.invariant.temps told)
       (leaves_so c.next_line.result c.from_residual.result c.in_err-outcome.field-0.0 (g.M.Machine.state c.loop-line.machine) (g.M.Machine.state c.next_line.new.machine)
       c.in_err-outcome.was c.from_residual.ensures.0 c.from_residual.ensures.1 (c.next_line.ensures.behaves.temps told));
   counted = search rules;
@@ -114,15 +123,19 @@ returns-in_err-outcome-clause-behind g c told firm =
     let now = g.M.Machine.state c.next_line.new.machine in
     let stop = c.in_err-outcome.field-0.0 in
     let done = take c.loop-line.line-index c.args.lines.now in
-    let tidied : stop ≢ Disk → AllTidied done now = λ other. lines_later before now done (temps_but_disk stop before now other (c.in_err-outcome.ensures.behaves.temps told)) (c.loop-line.invariant.tidied told) in
+    let tidied : stop ≢ Disk → AllTidied done now =
+    λ other. lines_later before now done (temps_but_disk stop before now other (c.in_err-outcome.ensures.behaves.temps told))
+    (c.loop-line.invariant.tidied told) in
     clean_so (g.M.Machine.state c.args.machine.now) now c.args.lines.now c.from_residual.result stop c.from_residual.ensures.0 c.from_residual.ensures.1
-    (clean_broken g.M.Machine.time g.M.Machine.state c.args.machine.now c.loop-line.machine c.next_line.new.machine c.args.lines.now c.loop-line.line-index c.loop-line.refused c.line-item.result c.loop-line-test.true (sym c.line-item.is) so_far
+    (clean_broken _ _ _ _ _ _ _ _ _ c.loop-line-test.true (sym c.line-item.is) so_far
     stop (c.in_err-outcome.ensures.performs told so_far.firm)
     (λ other. record {
       tidied = tidied other;
       rested = λ is. rests_but_disk stop now other (c.in_err-outcome.ensures.still told (c.loop-line.invariant.begun ∙ is));
     })
-    (at_part_with stop before now (TidiedBy now.files c.line-item.result) ((c.loop-line.rested || not (is_unread c.line-item.result)) ≡ true → IsRested now) (AllTidied done now) (LeavesClean (take (c.loop-line.line-index + 1) c.args.lines.now) now) tidied
+    (at_part_with stop before now (TidiedBy now.files c.line-item.result)
+    ((c.loop-line.rested || not (is_unread c.line-item.result)) ≡ true → IsRested now) (AllTidied done now) (LeavesClean
+    (take (c.loop-line.line-index + 1) c.args.lines.now) now) tidied
     (λ all this rests. record {
       tidied = subst (λ (lines : List Line). AllTidied lines now) (sym (take_more c.args.lines.now c.loop-line.line-index c.line-item.result c.loop-line-test.true))
           (All-push (TidiedBy now.files) done _ all (subst (TidiedBy now.files) c.line-item.is this));

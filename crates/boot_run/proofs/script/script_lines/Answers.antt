@@ -20,7 +20,8 @@ loop-piece-preserved-in_ok-push c bound =
     let counts : is_passed_over c.in-Some.piece.now ≡ false = search rules in (
       omega (arith, number, longer),
       c.in_ok-push.ensures.items
-          ∙ with_piece pieces c.in-Some.piece.now c.saturating_add-number.result c.loop-piece.lines.items c.in_ok-line_at.field-0 (omega (arith, number, length-map yielded (λ (piece : Bor (List ℕ)). piece.now))) counts c.in_ok-line_at.ensures before.1
+          ∙ with_piece pieces c.in-Some.piece.now c.saturating_add-number.result c.loop-piece.lines.items c.in_ok-line_at.field-0
+          (omega (arith, number, length-map yielded (λ (piece : Bor (List ℕ)). piece.now))) counts c.in_ok-line_at.ensures before.1
           ∙ ap (lines_from 1) (sym (map-append (λ (piece : Bor (List ℕ)). piece.now) yielded (c.in-Some.piece ∷ []))),
     )
 
@@ -42,5 +43,15 @@ returns c =
     (YieldsList-end
     (YieldsList-from_slice_split _ is_script_newline c.args.bytes.now (search rules) (search rules) (search rules) (λ x b q k. search (rules, tests)))
     yielded _ c.loop-piece.yielded_by _ c.next.new.self c.in-None.is c.next.ensures.steps).0 in
-    let few : length yielded < 2 ^ 64 = omega (arith, sym (length-map yielded (λ (piece : Bor (List ℕ)). piece.now)), ap length pieces, length-slice_split is_script_newline c.args.bytes.now, count_by-le-length is_script_newline c.args.bytes.now, c.requires) in
+    let few : length yielded < 2 ^ 64 =
+    omega (
+      arith,
+      sym (length-map yielded (λ (piece : Bor (List ℕ)). piece.now)),
+      ap length pieces,
+      length-slice_split is_script_newline
+          c.args.bytes.now,
+      count_by-le-length is_script_newline c.args.bytes.now,
+      c.requires,
+    )
+    in
     (c.loop-piece.invariant few).1 ∙ ap (lines_from 1) pieces

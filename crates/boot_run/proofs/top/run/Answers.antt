@@ -33,7 +33,10 @@ returns-clause-leads g c told firm =
     let now = c.run_to_end.new.machine in
     let asks = asked_lines_of (map string_bytes c.args.words.now.items) (g.M.Machine.state old) in
     let same = ap ended_of c.status.ensures ∙ ended_again c.run_to_end.result in
-    subst (λ ended. Adds (g.M.Machine.state old).printed (g.M.Machine.state now).printed (λ sent. Leads (recovered_views (g.M.Machine.state old)) asks (recovered_views (g.M.Machine.state now)) sent (end_at ended))) (sym same)
+    subst
+    (λ ended. Adds (g.M.Machine.state old).printed (g.M.Machine.state now).printed
+    (λ sent. Leads (recovered_views (g.M.Machine.state old)) asks (recovered_views (g.M.Machine.state now)) sent (end_at ended)))
+    (sym same)
     (leads_by g.M.Machine.time g.M.Machine.state asks old now c.run_to_end.result (c.run_to_end.ensures.runs told) firm)
 
 pub returns-clause-stops : goal.returns-clause-stops

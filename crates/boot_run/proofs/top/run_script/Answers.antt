@@ -1,4 +1,4 @@
-use Rattle.std.proofs.Common.{◌≡◌, true, List, Err, sym, ap, ◌∙◌, subst, rules}
+use Rattle.std.proofs.Common.{◌≡◌, true, List, Err, ap, ◌∙◌, subst, rules}
 use Rattle.boot_machine.specs.Disk.{IsRested, State}
 use Rattle.boot_machine.proofs.Seeing.{sees}
 use Rattle.tool_words.specs.declared.command.Command.TheVariants as command
@@ -76,6 +76,7 @@ returns g c = record {
   temps = λ told.
       let old = g.M.Machine.state c.args.machine.now in
       let mid = g.M.Machine.state c.read_script.new.machine in
-      leaves_more c.run_lines.result old mid (g.M.Machine.state c.run_lines.new.machine) (temps_stay old mid (ap (λ (s : State). s.files) (c.read_script.ensures.same told))) (c.run_lines.ensures.behaves.temps told);
+      leaves_more c.run_lines.result old mid (g.M.Machine.state c.run_lines.new.machine)
+      (temps_stay old mid (ap (λ (s : State). s.files) (c.read_script.ensures.same told))) (c.run_lines.ensures.behaves.temps told);
   counted = search rules;
 }

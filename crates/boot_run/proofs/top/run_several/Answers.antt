@@ -1,4 +1,4 @@
-use Rattle.std.proofs.Common.{◌≡◌, false, List, [], refl, sym, ap, ◌∙◌, subst, rules, Ok}
+use Rattle.std.proofs.Common.{◌≡◌, false, List, refl, sym, ap, ◌∙◌, subst, rules, Ok}
 use Rattle.std.specs.Prelude.{All}
 use Rattle.boot_machine.specs.Sent.{recovered_now}
 use Rattle.tool_words.specs.declared.command.Command.TheVariants as command
@@ -6,11 +6,9 @@ use Rattle.command_plans.specs.declared.outcome.Stop.TheVariants.{Memory as Memo
 use Rattle.boot_run.specs.AskedLines.{lines_at}
 use Rattle.boot_run.specs.Endings.{ended_by}
 use Rattle.boot_run.specs.Lines.{is_unread}
-use Rattle.boot_run.specs.RunBy.{CleanBehind}
 use Rattle.boot_run.specs.RunsTo.{IsSyncedBy, RunsTo}
 use Rattle.boot_run.specs.UpToRefused.{up_to_refused}
 use Rattle.boot_run.specs.declared.line.Line.{Line}
-use Rattle.boot_run.specs.declared.line.Line.TheVariants.{Part}
 use Rattle.boot_run.proofs.Acked.{clean_none}
 use Rattle.boot_run.proofs.Expanding.{runs_behind, runs_not, synced_behind, synced_not}
 use Rattle.boot_run.proofs.Expansions.{are_commands, begins_at, clean_rested, lines_found, ok_rested, tidied_at}
@@ -62,7 +60,9 @@ returns-in_err-lines g c = record {
       clean_none (g.M.Machine.state c.args.machine.now) (g.M.Machine.state c.find_actions-actions.new.machine)
       (lines_at (g.M.Machine.state c.args.machine.now) (command.Several c.args.command)) (ended_by c.from_residual-in_err-lines.result) (c.find_actions-actions.ensures.keeps told).printed;
   input = λ told. takes_nothing (Ok (command.Several c.args.command)) _ _ _ refl (c.find_actions-actions.ensures.keeps told).input;
-  temps = λ told. leaves_none c.from_residual-in_err-lines.result (g.M.Machine.state c.args.machine.now) (g.M.Machine.state c.find_actions-actions.new.machine) (c.find_actions-actions.ensures.temps told);
+  temps =
+      λ told. leaves_none c.from_residual-in_err-lines.result (g.M.Machine.state c.args.machine.now)
+      (g.M.Machine.state c.find_actions-actions.new.machine) (c.find_actions-actions.ensures.temps told);
   counted = search rules;
 }
 

@@ -18,9 +18,14 @@ use Rattle.boot_run.proofs.top.run_to_end.Goals as goal
 pub returns-in-Ok-clause-runs : goal.returns-in-Ok-clause-runs
 returns-in-Ok-clause-runs g c told =
     let old = c.args.machine.now in
-    subst (λ meant. RunsBy g.M.Machine.time g.M.Machine.state (lines_to_run (g.M.Machine.state old).input (latest_view (recovered_views (g.M.Machine.state old))) meant) old c.run_command.new.machine c.of_lines.result) (sym c.in-Ok.ensures)
+    subst
+    (λ meant. RunsBy g.M.Machine.time g.M.Machine.state
+    (lines_to_run (g.M.Machine.state old).input (latest_view (recovered_views (g.M.Machine.state old)))
+    meant) old c.run_command.new.machine c.of_lines.result)
+    (sym c.in-Ok.ensures)
     (λ firm. subst (RunsLines g.M.Machine.time g.M.Machine.state old c.run_command.new.machine (lines_at (g.M.Machine.state old) c.in-Ok.command)) (sym c.of_lines.ensures)
-    (runs_lines g.M.Machine.time g.M.Machine.state old c.run_command.new.machine _ c.run_command.result (g.met.M.Machine.sound c.run_command.new.machine told) (c.run_command.ensures.synced told firm) (c.run_command.ensures.runs told firm)))
+    (runs_lines g.M.Machine.time g.M.Machine.state old c.run_command.new.machine _ c.run_command.result
+    (g.met.M.Machine.sound c.run_command.new.machine told) (c.run_command.ensures.synced told firm) (c.run_command.ensures.runs told firm)))
 
 pub returns-in-Err-Memory-clause-runs : goal.returns-in-Err-Memory-clause-runs
 returns-in-Err-Memory-clause-runs g c told =

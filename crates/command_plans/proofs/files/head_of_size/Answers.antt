@@ -10,4 +10,5 @@ read_head_of_size-requires-clause-size g c told =
 
 pub returns-clause-exact : goal.returns-clause-exact
 returns-clause-exact g c told =
-    subst (λ (bytes : List ℕ). GivesFrom headers_of c.read_head_of_size.result (pe_of bytes)) (sym (shown_contents (g.M.Machine.state c.args.machine.now) c.args.path.now c.know.ensures.lasting)) (c.read_head_of_size.ensures.exact told)
+    subst (λ (bytes : List ℕ). GivesFrom headers_of c.read_head_of_size.result (pe_of bytes))
+    (sym (shown_contents (g.M.Machine.state c.args.machine.now) c.args.path.now c.know.ensures.lasting)) (c.read_head_of_size.ensures.exact told)

@@ -5,15 +5,18 @@ use Rattle.command_plans.proofs.files.readable_size.Goals as goal
 
 pub returns-in-Some-2-clause-file : goal.returns-in-Some-2-clause-file
 returns-in-Some-2-clause-file g c told =
-    (known (g.M.Machine.state c.args.machine.now) c.args.path.now c.in-Some.size c.know.ensures.lasting (c.in_ok-seen_size.ensures.size told ∙ c.in-Some.is) (omega (arith, c.if-size-gt-FILE_LIMIT.false))).bytes
+    (known (g.M.Machine.state c.args.machine.now) c.args.path.now c.in-Some.size c.know.ensures.lasting
+    (c.in_ok-seen_size.ensures.size told ∙ c.in-Some.is) (omega (arith, c.if-size-gt-FILE_LIMIT.false))).bytes
 
 pub returns-in-Some-2-clause-there : goal.returns-in-Some-2-clause-there
 returns-in-Some-2-clause-there g c told =
-    (known (g.M.Machine.state c.args.machine.now) c.args.path.now c.in-Some.size c.know.ensures.lasting (c.in_ok-seen_size.ensures.size told ∙ c.in-Some.is) (omega (arith, c.if-size-gt-FILE_LIMIT.false))).there
+    (known (g.M.Machine.state c.args.machine.now) c.args.path.now c.in-Some.size c.know.ensures.lasting
+    (c.in_ok-seen_size.ensures.size told ∙ c.in-Some.is) (omega (arith, c.if-size-gt-FILE_LIMIT.false))).there
 
 pub returns-in-Some-2-clause-small : goal.returns-in-Some-2-clause-small
 returns-in-Some-2-clause-small g c told =
-    (known (g.M.Machine.state c.args.machine.now) c.args.path.now c.in-Some.size c.know.ensures.lasting (c.in_ok-seen_size.ensures.size told ∙ c.in-Some.is) (omega (arith, c.if-size-gt-FILE_LIMIT.false))).small
+    (known (g.M.Machine.state c.args.machine.now) c.args.path.now c.in-Some.size c.know.ensures.lasting
+    (c.in_ok-seen_size.ensures.size told ∙ c.in-Some.is) (omega (arith, c.if-size-gt-FILE_LIMIT.false))).small
 
 pub returns-in-Some-2-clause-size : goal.returns-in-Some-2-clause-size
 returns-in-Some-2-clause-size g c told =

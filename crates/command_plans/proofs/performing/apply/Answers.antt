@@ -34,23 +34,31 @@ returns-in-Nothing-clause-step g c told firm =
     }
 
 pub returns-in-Nothing-clause-alone : goal.returns-in-Nothing-clause-alone
-returns-in-Nothing-clause-alone g c = alone_by (λ told. quiet_start g.M.Machine.time g.M.Machine.state (own_temps c.args.change.now) c.args.machine.now (λ m o. g.met.M.Machine.only_now c.args.machine.now m o told)) (search rules)
+returns-in-Nothing-clause-alone g c =
+    alone_by
+    (λ told. quiet_start g.M.Machine.time g.M.Machine.state (own_temps c.args.change.now) c.args.machine.now
+    (λ m o. g.met.M.Machine.only_now c.args.machine.now m o told))
+    (search rules)
 
 pub returns-in-Ok-clause-done : goal.returns-in-Ok-clause-done
 returns-in-Ok-clause-done g c told firm =
     let s = g.M.Machine.state c.args.machine.now in
-    subst (IsDone (g.M.Machine.state c.drop_name.new.machine)) (removed_rested s c.args.change.now (c.requires.ready told).rested c.in-Remove.path c.in-Remove.gone c.in-Remove.is) (c.in-Ok.ensures.done told firm)
+    subst (IsDone (g.M.Machine.state c.drop_name.new.machine))
+    (removed_rested s c.args.change.now (c.requires.ready told).rested c.in-Remove.path c.in-Remove.gone c.in-Remove.is)
+    (c.in-Ok.ensures.done told firm)
 
 pub returns-in-Ok-clause-step : goal.returns-in-Ok-clause-step
 returns-in-Ok-clause-step g c told firm =
     let s = g.M.Machine.state c.args.machine.now in
-    subst (λ next. StepsTo g.M.Machine.time g.M.Machine.state next c.args.machine.now c.drop_name.new.machine) (removed_rested s c.args.change.now (c.requires.ready told).rested c.in-Remove.path c.in-Remove.gone c.in-Remove.is)
+    subst (λ next. StepsTo g.M.Machine.time g.M.Machine.state next c.args.machine.now c.drop_name.new.machine)
+    (removed_rested s c.args.change.now (c.requires.ready told).rested c.in-Remove.path c.in-Remove.gone c.in-Remove.is)
     (c.drop_name.ensures.step told firm)
 
 pub returns-in-Err-Disk-clause-step : goal.returns-in-Err-Disk-clause-step
 returns-in-Err-Disk-clause-step g c told firm =
     let s = g.M.Machine.state c.args.machine.now in
-    subst (λ next. StepsTo g.M.Machine.time g.M.Machine.state next c.args.machine.now c.drop_name.new.machine) (removed_rested s c.args.change.now (c.requires.ready told).rested c.in-Remove.path c.in-Remove.gone c.in-Remove.is)
+    subst (λ next. StepsTo g.M.Machine.time g.M.Machine.state next c.args.machine.now c.drop_name.new.machine)
+    (removed_rested s c.args.change.now (c.requires.ready told).rested c.in-Remove.path c.in-Remove.gone c.in-Remove.is)
     (c.drop_name.ensures.step told firm)
 
 pub returns-in-Err-NotFound-clause-done : goal.returns-in-Err-NotFound-clause-done
@@ -68,31 +76,37 @@ returns-in-Err-NotFound-clause-made g c told =
 pub returns-in-Err-NotFound-clause-step : goal.returns-in-Err-NotFound-clause-step
 returns-in-Err-NotFound-clause-step g c told firm =
     let s = g.M.Machine.state c.args.machine.now in
-    subst (λ next. StepsTo g.M.Machine.time g.M.Machine.state next c.args.machine.now c.drop_name.new.machine) (removed_rested s c.args.change.now (c.requires.ready told).rested c.in-Remove.path c.in-Remove.gone c.in-Remove.is)
+    subst (λ next. StepsTo g.M.Machine.time g.M.Machine.state next c.args.machine.now c.drop_name.new.machine)
+    (removed_rested s c.args.change.now (c.requires.ready told).rested c.in-Remove.path c.in-Remove.gone c.in-Remove.is)
     (c.drop_name.ensures.step told firm)
 
 pub returns-in_err-drop_leftovers-in-Leftovers-clause-step : goal.returns-in_err-drop_leftovers-in-Leftovers-clause-step
 returns-in_err-drop_leftovers-in-Leftovers-clause-step g c told firm =
     let s = g.M.Machine.state c.args.machine.now in
-    subst (λ next. StepsTo g.M.Machine.time g.M.Machine.state next c.args.machine.now c.drop_leftovers.new.machine) (left_rested s c.args.change.now (c.requires.ready told).rested c.in-Leftovers.temps c.in-Leftovers.is)
+    subst (λ next. StepsTo g.M.Machine.time g.M.Machine.state next c.args.machine.now c.drop_leftovers.new.machine)
+    (left_rested s c.args.change.now (c.requires.ready told).rested c.in-Leftovers.temps c.in-Leftovers.is)
     (c.drop_leftovers.ensures.step told firm)
 
 pub returns-in_ok-drop_leftovers-in-Leftovers-clause-done : goal.returns-in_ok-drop_leftovers-in-Leftovers-clause-done
 returns-in_ok-drop_leftovers-in-Leftovers-clause-done g c told firm =
     let s = g.M.Machine.state c.args.machine.now in
-    subst (IsDone (g.M.Machine.state c.drop_leftovers.new.machine)) (left_rested s c.args.change.now (c.requires.ready told).rested c.in-Leftovers.temps c.in-Leftovers.is) (c.in_ok-drop_leftovers-in-Leftovers.ensures.done told firm)
+    subst (IsDone (g.M.Machine.state c.drop_leftovers.new.machine))
+    (left_rested s c.args.change.now (c.requires.ready told).rested c.in-Leftovers.temps c.in-Leftovers.is)
+    (c.in_ok-drop_leftovers-in-Leftovers.ensures.done told firm)
 
 pub returns-in_ok-drop_leftovers-in-Leftovers-clause-step : goal.returns-in_ok-drop_leftovers-in-Leftovers-clause-step
 returns-in_ok-drop_leftovers-in-Leftovers-clause-step g c told firm =
     let s = g.M.Machine.state c.args.machine.now in
-    subst (λ next. StepsTo g.M.Machine.time g.M.Machine.state next c.args.machine.now c.drop_leftovers.new.machine) (left_rested s c.args.change.now (c.requires.ready told).rested c.in-Leftovers.temps c.in-Leftovers.is)
+    subst (λ next. StepsTo g.M.Machine.time g.M.Machine.state next c.args.machine.now c.drop_leftovers.new.machine)
+    (left_rested s c.args.change.now (c.requires.ready told).rested c.in-Leftovers.temps c.in-Leftovers.is)
     (c.drop_leftovers.ensures.step told firm)
 
 pub returns-in-Ok-move_name-clause-done : goal.returns-in-Ok-move_name-clause-done
 returns-in-Ok-move_name-clause-done g c told firm =
     let s = g.M.Machine.state c.args.machine.now in
     let move = c.in-Move in
-    subst (IsDone (g.M.Machine.state c.move_name.new.machine)) (moved_rested s c.args.change.now (c.requires.ready told).rested move.from move.to move.intent move.gone move.exists move.is (c.requires.there told))
+    subst (IsDone (g.M.Machine.state c.move_name.new.machine))
+    (moved_rested s c.args.change.now (c.requires.ready told).rested move.from move.to move.intent move.gone move.exists move.is (c.requires.there told))
     (c.in-Ok-move_name.ensures.done told firm)
 
 pub returns-in-Ok-move_name-clause-step : goal.returns-in-Ok-move_name-clause-step

@@ -20,7 +20,8 @@ returns-clause-done g c =
 pub returns-clause-step : goal.returns-clause-step
 returns-clause-step g c told firm =
     let s = g.M.Machine.state c.args.machine.now in
-    subst (λ next. StepsTo g.M.Machine.time g.M.Machine.state next c.args.machine.now c.write_whole.new.machine) (copied_rested s c.args.from.now c.args.target.now.path (c.requires.ready told).rested (c.requires.there told))
+    subst (λ next. StepsTo g.M.Machine.time g.M.Machine.state next c.args.machine.now c.write_whole.new.machine)
+    (copied_rested s c.args.from.now c.args.target.now.path (c.requires.ready told).rested (c.requires.there told))
     (c.write_whole.ensures.step told firm)
 
 pub returns-clause-found : goal.returns-clause-found

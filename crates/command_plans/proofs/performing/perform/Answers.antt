@@ -31,7 +31,10 @@ returns-in_err-apply-clause-performs g c told firm =
     (λ m image. g.met.M.Machine.counts_now c.apply.new.machine _ m told (c.apply.ensures.step told (c.settle.ensures.firm told firm)).moments.later image)
     (c.settle.ensures.alone.keeps told) (c.settle.ensures.files told) (c.settle.ensures.moments told)
     (c.apply.ensures.alone.keeps told) (c.apply.ensures.step told (c.settle.ensures.firm told firm)).firm
-    (subst (λ v. EachSince g.M.Machine.time c.settle.new.machine c.apply.new.machine (Sees (g.M.Machine.state c.settle.new.machine) (effect v c.args.plan.now.change))) same_view (c.apply.ensures.step told (c.settle.ensures.firm told firm)).moments)
+    (subst
+    (λ v. EachSince g.M.Machine.time c.settle.new.machine c.apply.new.machine
+    (Sees (g.M.Machine.state c.settle.new.machine)
+    (effect v c.args.plan.now.change))) same_view (c.apply.ensures.step told (c.settle.ensures.firm told firm)).moments)
 
 pub returns-in_err-apply-clause-taken : goal.returns-in_err-apply-clause-taken
 returns-in_err-apply-clause-taken g c told =
@@ -53,7 +56,9 @@ returns-in-Done-clause-performs g c told firm =
     (c.settle.ensures.alone.keeps told) (c.settle.ensures.files told) (c.settle.ensures.moments told)
     (c.apply.ensures.alone.keeps told)
     (subst (λ v. IsDone done (effect v plan.change)) same_view (c.in_ok-apply.ensures.done told firm_then))
-    (subst (λ v. EachSince g.M.Machine.time c.settle.new.machine c.apply.new.machine (Sees (g.M.Machine.state c.settle.new.machine) (effect v plan.change))) same_view (c.apply.ensures.step told firm_then).moments)
+    (subst
+    (λ v. EachSince g.M.Machine.time c.settle.new.machine c.apply.new.machine
+    (Sees (g.M.Machine.state c.settle.new.machine) (effect v plan.change))) same_view (c.apply.ensures.step told firm_then).moments)
     (subst (λ bytes. EachSince g.M.Machine.time c.apply.new.machine c.reply.new.machine (PrintsPart done (on_channel to bytes))) c.as_slice.ensures (c.reply.ensures.moments told))
     (subst (λ bytes. Replied plan.outcome to bytes done (g.M.Machine.state c.reply.new.machine) c.reply.result) c.as_slice.ensures (c.reply.ensures.printed told))
 

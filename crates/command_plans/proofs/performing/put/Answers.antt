@@ -8,7 +8,8 @@ pub returns-clause-done : goal.returns-clause-done
 returns-clause-done g c =
     ok_then c.write_bytes.result c.write_bytes.ensures.done
     (λ done told firm.
-    subst (IsDone (g.M.Machine.state c.write_bytes.new.machine)) (put_rested (g.M.Machine.state c.args.machine.now) c.args.target.now.path c.args.bytes.now (c.requires.ready told).rested) (done told firm))
+    subst (IsDone (g.M.Machine.state c.write_bytes.new.machine))
+    (put_rested (g.M.Machine.state c.args.machine.now) c.args.target.now.path c.args.bytes.now (c.requires.ready told).rested) (done told firm))
 
 pub returns-clause-step : goal.returns-clause-step
 returns-clause-step g c told firm =

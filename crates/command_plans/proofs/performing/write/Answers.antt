@@ -18,5 +18,6 @@ returns-clause-done g c =
 pub returns-clause-step : goal.returns-clause-step
 returns-clause-step g c told firm =
     let s = g.M.Machine.state c.args.machine.now in
-    subst (λ next. StepsTo g.M.Machine.time g.M.Machine.state next c.args.machine.now c.write_planned.new.machine) (written_rested s c.args.image.now c.args.sources.now c.args.target.now.path (c.requires.ready told).rested)
+    subst (λ next. StepsTo g.M.Machine.time g.M.Machine.state next c.args.machine.now c.write_planned.new.machine)
+    (written_rested s c.args.image.now c.args.sources.now c.args.target.now.path (c.requires.ready told).rested)
     (c.write_planned.ensures.step told firm (planned_image c.args.image.now c.args.sources.now (seen s)) (planned_image-is c.args.image.now c.args.sources.now (seen s)))

@@ -29,7 +29,8 @@ returns-clause-says g c told =
     calculation_is (seen s) c.args.words.now (map named_path c.in_ok-paths.paths.items) (map (named_file (contents (seen s))) c.in_ok-files.files.items)
     c.in_ok-banks.banks.items c.deref-4.result.now c.in_ok-registers.registers.items c.deref-3.result.now c.in_ok-told_values.field-0.items
     c.in_ok-paths.ensures (c.in_ok-files.ensures.says told)
-    (registers_of s (g.M.Machine.state c.part_files.new.machine) c.in_ok-files.files.items c.deref.result.now c.in_ok-banks.banks.items c.deref-2.result.now c.in_ok-registers.registers.items (c.part_files.ensures.looks.reads told).same
+    (registers_of s (g.M.Machine.state c.part_files.new.machine) c.in_ok-files.files.items c.deref.result.now c.in_ok-banks.banks.items
+    c.deref-2.result.now c.in_ok-registers.registers.items (c.part_files.ensures.looks.reads told).same
     c.deref.ensures.value c.deref-2.ensures.value (c.in_ok-registers.ensures.says told) (c.in_ok-files.ensures.sizes told))
     c.deref-3.ensures.value (search rules) (search rules) c.in_ok-told_values.ensures
 
@@ -39,17 +40,20 @@ returns-clause-looks g c = looks_on c.part_files.ensures.looks c.registers.ensur
 pub returns-in_err-registers-clause-taken : goal.returns-in_err-registers-clause-taken
 returns-in_err-registers-clause-taken g c told =
     let s = g.M.Machine.state c.args.machine.now in
-    taken_of s (g.M.Machine.state c.part_files.new.machine) c.args.words.now (map named_path c.in_ok-paths.paths.items) c.in_ok-files.files.items c.deref.result.now _ _ _ (c.part_files.ensures.looks.reads told).same c.deref.ensures.value
+    taken_of s (g.M.Machine.state c.part_files.new.machine) c.args.words.now (map named_path c.in_ok-paths.paths.items) c.in_ok-files.files.items
+    c.deref.result.now _ _ _ (c.part_files.ensures.looks.reads told).same c.deref.ensures.value
     c.in_ok-paths.ensures (c.in_ok-files.ensures.says told) (c.in_ok-files.ensures.sizes told) (c.part_files.ensures.taken told) (c.registers.ensures.taken told)
 
 pub returns-in_err-told_values-clause-taken : goal.returns-in_err-told_values-clause-taken
 returns-in_err-told_values-clause-taken g c told =
     let s = g.M.Machine.state c.args.machine.now in
-    taken_of s (g.M.Machine.state c.part_files.new.machine) c.args.words.now (map named_path c.in_ok-paths.paths.items) c.in_ok-files.files.items c.deref.result.now _ _ _ (c.part_files.ensures.looks.reads told).same c.deref.ensures.value
+    taken_of s (g.M.Machine.state c.part_files.new.machine) c.args.words.now (map named_path c.in_ok-paths.paths.items) c.in_ok-files.files.items
+    c.deref.result.now _ _ _ (c.part_files.ensures.looks.reads told).same c.deref.ensures.value
     c.in_ok-paths.ensures (c.in_ok-files.ensures.says told) (c.in_ok-files.ensures.sizes told) (c.part_files.ensures.taken told) (c.registers.ensures.taken told)
 
 pub returns-clause-taken : goal.returns-clause-taken
 returns-clause-taken g c told =
     let s = g.M.Machine.state c.args.machine.now in
-    taken_of s (g.M.Machine.state c.part_files.new.machine) c.args.words.now (map named_path c.in_ok-paths.paths.items) c.in_ok-files.files.items c.deref.result.now _ _ _ (c.part_files.ensures.looks.reads told).same c.deref.ensures.value
+    taken_of s (g.M.Machine.state c.part_files.new.machine) c.args.words.now (map named_path c.in_ok-paths.paths.items) c.in_ok-files.files.items
+    c.deref.result.now _ _ _ (c.part_files.ensures.looks.reads told).same c.deref.ensures.value
     c.in_ok-paths.ensures (c.in_ok-files.ensures.says told) (c.in_ok-files.ensures.sizes told) (c.part_files.ensures.taken told) (c.registers.ensures.taken told)

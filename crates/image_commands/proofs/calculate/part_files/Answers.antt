@@ -18,7 +18,9 @@ pub returns-in_err-file-clause-says : goal.returns-in_err-file-clause-says
 returns-in_err-file-clause-says g c told =
     let before = c.loop-name.invariant in
     file_refused _ (g.M.Machine.state c.args.machine.now) (g.M.Machine.state c.loop-name.machine) c.args.paths.items c.loop-name.yielded c.next.new.self.rest.items c.loop-name.files.items _ _
-    c.in_err-file.field-0.0 c.from_residual.result (before.reads told).same (before.left ∙ ap (λ l. c.loop-name.yielded ++ l) c.in-Some.ensures.steps.0) (before.found told) (c.in_err-file.ensures.says told) c.from_residual.ensures.0 c.from_residual.ensures.1
+    c.in_err-file.field-0.0 c.from_residual.result (before.reads told).same
+    (before.left ∙ ap (λ l. c.loop-name.yielded ++ l) c.in-Some.ensures.steps.0) (before.found told) (c.in_err-file.ensures.says told)
+    c.from_residual.ensures.0 c.from_residual.ensures.1
 
 pub returns-in_err-file-clause-looks : goal.returns-in_err-file-clause-looks
 returns-in_err-file-clause-looks g c = record {

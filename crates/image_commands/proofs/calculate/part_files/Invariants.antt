@@ -11,7 +11,9 @@ use Rattle.image_commands.proofs.calculate.part_files.Given as goal
 abbrev pub invariant-loop-name : goal.invariant-loop-name
 invariant-loop-name g l = record {
   left : l.fn.paths.items ≡ l.yielded ++ l.name-iterator.rest.items;
-  found : IsTrue g.M.Machine.tells → each (under_name (bytes_at (seen (g.M.Machine.state l.initial.machine)))) (map named_path l.yielded) ≡ Ok (map (named_file (contents (seen (g.M.Machine.state l.initial.machine)))) l.files.items);
+  found : IsTrue g.M.Machine.tells
+      → each (under_name (bytes_at (seen (g.M.Machine.state l.initial.machine)))) (map named_path l.yielded) ≡ Ok
+      (map (named_file (contents (seen (g.M.Machine.state l.initial.machine)))) l.files.items);
   sizes : IsTrue g.M.Machine.tells → All (HasItsSize (contents (seen (g.M.Machine.state l.initial.machine)))) l.files.items;
   reads : IsTrue g.M.Machine.tells → OnlyReads g.M.Machine.time g.M.Machine.state l.initial.machine l.machine;
   counts : g.M.Machine.counts l.machine ≡ g.M.Machine.counts l.initial.machine;

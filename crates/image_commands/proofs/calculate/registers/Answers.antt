@@ -17,9 +17,11 @@ returns-clause-says g c told sizes =
 pub returns-in_err-predict-clause-taken : goal.returns-in_err-predict-clause-taken
 returns-in_err-predict-clause-taken g c told sizes =
     let reading = contents (seen (g.M.Machine.state c.args.machine.now)) in
-    taken_predicted reading c.args.files.now c.in_ok-parts.parts.items c.deref.result.now _ _ c.deref.ensures.value (c.in_ok-parts.ensures.bytes reading) (c.in_ok-parts.ensures.sizes reading sizes) (c.predict.ensures.taken told)
+    taken_predicted reading c.args.files.now c.in_ok-parts.parts.items c.deref.result.now _ _ c.deref.ensures.value
+    (c.in_ok-parts.ensures.bytes reading) (c.in_ok-parts.ensures.sizes reading sizes) (c.predict.ensures.taken told)
 
 pub returns-clause-taken : goal.returns-clause-taken
 returns-clause-taken g c told sizes =
     let reading = contents (seen (g.M.Machine.state c.args.machine.now)) in
-    taken_predicted reading c.args.files.now c.in_ok-parts.parts.items c.deref.result.now _ _ c.deref.ensures.value (c.in_ok-parts.ensures.bytes reading) (c.in_ok-parts.ensures.sizes reading sizes) (c.predict.ensures.taken told)
+    taken_predicted reading c.args.files.now c.in_ok-parts.parts.items c.deref.result.now _ _ c.deref.ensures.value
+    (c.in_ok-parts.ensures.bytes reading) (c.in_ok-parts.ensures.sizes reading sizes) (c.predict.ensures.taken told)

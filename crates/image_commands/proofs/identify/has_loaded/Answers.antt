@@ -8,4 +8,5 @@ returns-in-None c bytes reads = none_loaded bytes c.args.name.now (headers_of c.
 
 pub returns-in-Some : goal.returns-in-Some
 returns-in-Some c bytes reads =
-    some_loaded bytes c.args.name.now (headers_of c.args.head.now) c.in-Some.index c.loaded_range-range.result reads (sym c.find.ensures.at ∙ c.in-Some.is) c.in-Some.ensures.inside c.loaded_range-range.ensures.exact
+    some_loaded bytes c.args.name.now (headers_of c.args.head.now) c.in-Some.index c.loaded_range-range.result reads
+    (sym c.find.ensures.at ∙ c.in-Some.is) c.in-Some.ensures.inside c.loaded_range-range.ensures.exact

@@ -3,4 +3,6 @@ use Rattle.command_plans.specs.Declining.{path_in}
 use Rattle.image_commands.proofs.identify.plan_identify.Goals as goal
 
 pub returns-clause-words : goal.returns-clause-words
-returns-clause-words g c = said_words (path_in c.args.file.now) (λ text. text.items) c.identify_result-text.result c.text_or_refusal.result c.text_or_refusal.ensures.plans c.identify_result-text.ensures.words
+returns-clause-words g c =
+    said_words (path_in c.args.file.now) (λ text. text.items) c.identify_result-text.result c.text_or_refusal.result c.text_or_refusal.ensures.plans
+    c.identify_result-text.ensures.words

@@ -32,22 +32,27 @@ returns-clause-looks g c = looks_on c.image_head.ensures.looks c.registers.ensur
 
 pub returns-clause-says : goal.returns-clause-says
 returns-clause-says g c told =
-    values_are c.args.json (seen (g.M.Machine.state c.args.machine.now)) c.args.path.now c.args.banks.now c.args.phases.now (contents (g.M.Machine.state c.args.machine.now).files c.args.path.now) _ (headers_of c.in_ok-head.head)
+    values_are c.args.json (seen (g.M.Machine.state c.args.machine.now)) c.args.path.now c.args.banks.now c.args.phases.now
+    (contents (g.M.Machine.state c.args.machine.now).files c.args.path.now) _ (headers_of c.in_ok-head.head)
     c.as_slice.result.now c.as_slice-3.result.now c.in_ok-registers.registers.items c.as_slice-2.result.now c.in_ok-told_values.field-0.items
-    (c.in_ok-head.ensures.image told) (ap (λ (s : State). contents s.files c.args.path.now) (c.image_head.ensures.looks.reads told).same) (c.in_ok-registers.ensures.says told) c.as_slice-2.ensures.value
+    (c.in_ok-head.ensures.image told) (ap (λ (s : State). contents s.files c.args.path.now) (c.image_head.ensures.looks.reads told).same)
+    (c.in_ok-registers.ensures.says told) c.as_slice-2.ensures.value
     (c.as_slice.ensures.value ∙ c.in_ok-banks.ensures.value) (c.as_slice-3.ensures.value ∙ c.in_ok-paths.ensures.value) c.in_ok-told_values.ensures
 
 pub returns-in_err-registers-clause-taken : goal.returns-in_err-registers-clause-taken
 returns-in_err-registers-clause-taken g c told =
     image_taken (seen (g.M.Machine.state c.args.machine.now)) c.args.path.now (contents (g.M.Machine.state c.args.machine.now).files c.args.path.now) _ (headers_of c.in_ok-head.head) _ _ _
-    (c.in_ok-head.ensures.image told) (ap (λ (s : State). contents s.files c.args.path.now) (c.image_head.ensures.looks.reads told).same) (c.image_head.ensures.taken told) (c.registers.ensures.taken told)
+    (c.in_ok-head.ensures.image told) (ap (λ (s : State). contents s.files c.args.path.now) (c.image_head.ensures.looks.reads told).same)
+    (c.image_head.ensures.taken told) (c.registers.ensures.taken told)
 
 pub returns-in_err-told_values-clause-taken : goal.returns-in_err-told_values-clause-taken
 returns-in_err-told_values-clause-taken g c told =
     image_taken (seen (g.M.Machine.state c.args.machine.now)) c.args.path.now (contents (g.M.Machine.state c.args.machine.now).files c.args.path.now) _ (headers_of c.in_ok-head.head) _ _ _
-    (c.in_ok-head.ensures.image told) (ap (λ (s : State). contents s.files c.args.path.now) (c.image_head.ensures.looks.reads told).same) (c.image_head.ensures.taken told) (c.registers.ensures.taken told)
+    (c.in_ok-head.ensures.image told) (ap (λ (s : State). contents s.files c.args.path.now) (c.image_head.ensures.looks.reads told).same)
+    (c.image_head.ensures.taken told) (c.registers.ensures.taken told)
 
 pub returns-clause-taken : goal.returns-clause-taken
 returns-clause-taken g c told =
     image_taken (seen (g.M.Machine.state c.args.machine.now)) c.args.path.now (contents (g.M.Machine.state c.args.machine.now).files c.args.path.now) _ (headers_of c.in_ok-head.head) _ _ _
-    (c.in_ok-head.ensures.image told) (ap (λ (s : State). contents s.files c.args.path.now) (c.image_head.ensures.looks.reads told).same) (c.image_head.ensures.taken told) (c.registers.ensures.taken told)
+    (c.in_ok-head.ensures.image told) (ap (λ (s : State). contents s.files c.args.path.now) (c.image_head.ensures.looks.reads told).same)
+    (c.image_head.ensures.taken told) (c.registers.ensures.taken told)

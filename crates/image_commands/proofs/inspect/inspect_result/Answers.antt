@@ -11,4 +11,9 @@ returns-in_err-path-clause-looks g c = looks_none (g.met.M.Machine.only_now c.ar
 
 pub returns-clause-taken : goal.returns-clause-taken
 returns-clause-taken g c told =
-    omega (arith, c.inspection.ensures.taken told, ap (λ (bytes : List ℕ). all_raw_length (pe_of bytes)) (named_at (seen (g.M.Machine.state c.args.machine.now)) c.args.file.now c.in_ok-path.path c.in_ok-path.ensures))
+    omega (
+      arith,
+      c.inspection.ensures.taken told,
+      ap (λ (bytes : List ℕ). all_raw_length (pe_of bytes))
+          (named_at (seen (g.M.Machine.state c.args.machine.now)) c.args.file.now c.in_ok-path.path c.in_ok-path.ensures),
+    )

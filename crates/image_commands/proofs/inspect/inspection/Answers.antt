@@ -28,7 +28,8 @@ pub returns-clause-says : goal.returns-clause-says
 returns-clause-says g c told =
     inspection_said (seen (g.M.Machine.state c.args.machine.now)) c.args.json c.args.path.now (contents (g.M.Machine.state c.args.machine.now).files c.args.path.now) _ (headers_of c.in_ok-head.head)
     c.in_ok-found.found.items c.deref.result.now c.in_ok-told_sections.field-0.items
-    (c.in_ok-head.ensures.image told) (ap (λ (s : State). contents s.files c.args.path.now) (c.image_head.ensures.looks.reads told).same) (c.in_ok-found.ensures.says told) c.deref.ensures.value c.in_ok-told_sections.ensures
+    (c.in_ok-head.ensures.image told) (ap (λ (s : State). contents s.files c.args.path.now) (c.image_head.ensures.looks.reads told).same)
+    (c.in_ok-found.ensures.says told) c.deref.ensures.value c.in_ok-told_sections.ensures
 
 pub returns-clause-looks : goal.returns-clause-looks
 returns-clause-looks g c = looks_on c.image_head.ensures.looks c.inspected_sections.ensures.looks (search rules)

@@ -1,46 +1,65 @@
-use Rattle.std.proofs.Common.{◌≡◌, ⊎_elim, inl, sym, ap, ◌∙◌, None, rules, []}
+use Rattle.std.proofs.Common.{◌≡◌, IsTrue, sym, ap, ◌∙◌, None, rules, []}
 use Rattle.std.specs.Option.{option_map}
-use Rattle.boot_machine.specs.Disk.{State, intent_names, recovered_view}
-use Rattle.boot_machine.proofs.Recovering.{whole-unread}
-use Rattle.boot_machine.proofs.Going.{goes-read}
 use Rattle.boot_base.specs.Intents.{names_of}
-use Rattle.install_steps.proofs.RecoverLemmas.{size_there}
-use Rattle.install_steps.proofs.KeepLemmas.{takes_first, takes_later, takes_nothing, temps_on, temps_same}
-use Rattle.install_steps.proofs.StepLemmas.{begins_same, goes-reads, steps_same, steps_then}
-use Rattle.install_steps.proofs.QuietLemmas.{alone_by, quiet-read, quiet_of, quiet_reads, quiet_start, quiet_then}
+use Rattle.boot_machine.specs.Disk.{intent_names, recovered_view}
+use Rattle.boot_machine.specs.Images.{IsFirm}
+use Rattle.boot_machine.proofs.Going.{During, goes-read}
+use Rattle.boot_machine.proofs.Recovering.{whole-unread}
+use Rattle.install_steps.specs.Steps.{StepsTo}
+use Rattle.install_steps.proofs.MachineLemmas.{only_here, quiet_here, starts_same}
+use Rattle.install_steps.proofs.QuietLemmas.{Quiet, alone_by, quiet-read, quiet_of, quiet_reads, quiet_then}
+use Rattle.install_steps.proofs.StepLemmas.{Same, goes-reads, steps_kept, steps_same}
+use Rattle.install_steps.proofs.recovery.finish_left.Given as given
+use Rattle.install_steps.proofs.recovery.finish_left.Goals.{After-drop_intent, After-drop_intent-2, After-drop_left, After-left_names, After-size}
 use Rattle.install_steps.proofs.recovery.finish_left.Goals as goal
+
+module _ (g : given.Over) where
+  open g.M.Machine use {tells, time, state}
+
+  -- boot sees the same, while two reads are made
+  looked : (c : After-size g) → IsTrue tells → IsFirm (state c.args.machine.now)
+      → During time state (Same (state c.args.machine.now)) c.args.machine.now c.size.new.self
+  looked c told firm =
+      let start = starts_same g.met.M.Machine told c.args.machine.now firm (c.requires.one told) in
+      goes-read _ _ _ _ _ _ start (c.size.ensures.moments told) (c.size.ensures.row told).same
+
+  named : (c : After-left_names g) → IsTrue tells → IsFirm (state c.args.machine.now)
+      → During time state (Same (state c.args.machine.now)) c.args.machine.now c.left_names.new.machine
+  named c told firm =
+      let start = starts_same g.met.M.Machine told c.args.machine.now firm (c.requires.one told) in
+      let looked = goes-read _ _ _ _ _ _ start (c.size.ensures.moments told) (c.size.ensures.row told).same in
+      goes-reads _ _ _ _ _ _ looked (c.left_names.ensures.looks.reads told)
+
+  -- and of a part behind them that it sees nothing of
+  part : (c : After-left_names g) → IsTrue tells → IsFirm (state c.args.machine.now) → (new : g.row.M.Denot)
+      → (IsFirm (state c.left_names.new.machine)
+      → StepsTo time state (recovered_view (state c.left_names.new.machine).files) c.left_names.new.machine new)
+      → StepsTo time state (recovered_view (state c.args.machine.now).files) c.args.machine.now new
+  part c told firm new stepped =
+      let named = named c told firm in
+      let first = steps_same time state (recovered_view (state c.args.machine.now).files) _ _ named in
+      steps_kept _ _ _ _ _ first named.stands.printed (stepped first.firm)
+
+  quiet_looked : (c : After-size g) → IsTrue tells → Quiet time state [] c.args.machine.now c.size.new.self
+  quiet_looked c told =
+      quiet-read _ _ _ _ _ (quiet_here g.met.M.Machine told _ []) (only_here g.met.M.Machine told _) (c.size.ensures.moments told) (c.size.ensures.row told).same
+
+  quiet_named : (c : After-left_names g) → IsTrue tells → Quiet time state [] c.args.machine.now c.left_names.new.machine
+  quiet_named c told =
+      let looked = quiet-read _ _ _ _ _ (quiet_here g.met.M.Machine told _ []) (only_here g.met.M.Machine told _) (c.size.ensures.moments told) (c.size.ensures.row told).same in
+      quiet_reads _ _ _ _ _ looked (c.left_names.ensures.looks.reads told)
 
 pub returns-in_err-size-clause-step : goal.returns-in_err-size-clause-step
 returns-in_err-size-clause-step g c told firm =
-    let s = g.M.Machine.state c.args.machine.now in
-    let start = begins_same g.M.Machine.time g.M.Machine.state c.args.machine.now (λ m o left. g.met.M.Machine.only_now c.args.machine.now m o told left) (g.met.M.Machine.sound c.args.machine.now told) firm (c.requires.one told) in
-    let looked = goes-read _ _ _ _ _ _ start (c.size.ensures.moments told) (c.size.ensures.row told).same in
-    steps_same _ _ _ _ _ looked
+    steps_same _ _ _ _ _ (looked g (goal.at.returns-in_err-size-clause-step g c).After-size told firm)
 
 pub returns-in_default-clause-step : goal.returns-in_default-clause-step
 returns-in_default-clause-step g c told firm =
-    let s = g.M.Machine.state c.args.machine.now in
-    let start = begins_same g.M.Machine.time g.M.Machine.state c.args.machine.now (λ m o left. g.met.M.Machine.only_now c.args.machine.now m o told left) (g.met.M.Machine.sound c.args.machine.now told) firm (c.requires.one told) in
-    let looked = goes-read _ _ _ _ _ _ start (c.size.ensures.moments told) (c.size.ensures.row told).same in
-    steps_same _ _ _ _ _ looked
-
-pub left_names-requires-clause-there : goal.left_names-requires-clause-there
-left_names-requires-clause-there g c told =
-    let there = size_there (g.M.Machine.state c.args.machine.now).files c.args.intent.now c.in_ok-size.field-0 c.in-Some.size (c.in_ok-size.ensures.row told).answer c.in-Some.is in
-    rw ((c.size.ensures.row told).same, sym c.requires.at_intent) there.0
-
-pub left_names-requires-clause-size : goal.left_names-requires-clause-size
-left_names-requires-clause-size g c told =
-    let there = size_there (g.M.Machine.state c.args.machine.now).files c.args.intent.now c.in_ok-size.field-0 c.in-Some.size (c.in_ok-size.ensures.row told).answer c.in-Some.is in
-    rw ((c.size.ensures.row told).same, sym c.requires.at_intent) there.1
+    steps_same _ _ _ _ _ (looked g (goal.at.returns-in_default-clause-step g c).After-size told firm)
 
 pub returns-in_err-names-clause-step : goal.returns-in_err-names-clause-step
 returns-in_err-names-clause-step g c told firm =
-    let s = g.M.Machine.state c.args.machine.now in
-    let start = begins_same g.M.Machine.time g.M.Machine.state c.args.machine.now (λ m o left. g.met.M.Machine.only_now c.args.machine.now m o told left) (g.met.M.Machine.sound c.args.machine.now told) firm (c.requires.one told) in
-    let looked = goes-read _ _ _ _ _ _ start (c.size.ensures.moments told) (c.size.ensures.row told).same in
-    let read = goes-reads _ _ _ _ _ _ looked (c.left_names.ensures.looks.reads told) in
-    steps_same _ _ _ _ _ read
+    steps_same _ _ _ _ _ (named g (goal.at.returns-in_err-names-clause-step g c).After-left_names told firm)
 
 pub drop_intent-requires-clause-whole : goal.drop_intent-requires-clause-whole
 drop_intent-requires-clause-whole g c told =
@@ -49,176 +68,65 @@ drop_intent-requires-clause-whole g c told =
 
 pub returns-in_err-drop_intent-clause-step : goal.returns-in_err-drop_intent-clause-step
 returns-in_err-drop_intent-clause-step g c told firm =
-    let s = g.M.Machine.state c.args.machine.now in
-    let start = begins_same g.M.Machine.time g.M.Machine.state c.args.machine.now (λ m o left. g.met.M.Machine.only_now c.args.machine.now m o told left) (g.met.M.Machine.sound c.args.machine.now told) firm (c.requires.one told) in
-    let looked = goes-read _ _ _ _ _ _ start (c.size.ensures.moments told) (c.size.ensures.row told).same in
-    let read = goes-reads _ _ _ _ _ _ looked (c.left_names.ensures.looks.reads told) in
-    let same = (c.left_names.ensures.looks.reads told).same ∙ (c.size.ensures.row told).same in
-    let first = steps_same _ _ (recovered_view s.files) _ _ read in
-    let second = steps_then g.M.Machine.time g.M.Machine.state (recovered_view s.files) _ c.args.machine.now c.left_names.new.machine c.drop_intent.new.machine first (ap (λ (t : State). t.printed) same) (inl (ap (λ (t : State). recovered_view t.files) same)) (inl (ap (λ (t : State). recovered_view t.files) same)) (c.drop_intent.ensures.step told first.firm) in
-    second
+    part g (goal.at.returns-in_err-drop_intent-clause-step g c).After-left_names told firm _ (c.drop_intent.ensures.step told)
 
 pub returns-in_default-2-clause-step : goal.returns-in_default-2-clause-step
 returns-in_default-2-clause-step g c told firm =
-    let s = g.M.Machine.state c.args.machine.now in
-    let start = begins_same g.M.Machine.time g.M.Machine.state c.args.machine.now (λ m o left. g.met.M.Machine.only_now c.args.machine.now m o told left) (g.met.M.Machine.sound c.args.machine.now told) firm (c.requires.one told) in
-    let looked = goes-read _ _ _ _ _ _ start (c.size.ensures.moments told) (c.size.ensures.row told).same in
-    let read = goes-reads _ _ _ _ _ _ looked (c.left_names.ensures.looks.reads told) in
-    let same = (c.left_names.ensures.looks.reads told).same ∙ (c.size.ensures.row told).same in
-    let first = steps_same _ _ (recovered_view s.files) _ _ read in
-    let second = steps_then g.M.Machine.time g.M.Machine.state (recovered_view s.files) _ c.args.machine.now c.left_names.new.machine c.drop_intent.new.machine first (ap (λ (t : State). t.printed) same) (inl (ap (λ (t : State). recovered_view t.files) same)) (inl (ap (λ (t : State). recovered_view t.files) same)) (c.drop_intent.ensures.step told first.firm) in
-    second
+    part g (goal.at.returns-in_default-2-clause-step g c).After-left_names told firm _ (c.drop_intent.ensures.step told)
 
 pub returns-in_err-drop_left-clause-step : goal.returns-in_err-drop_left-clause-step
 returns-in_err-drop_left-clause-step g c told firm =
-    let s = g.M.Machine.state c.args.machine.now in
-    let start = begins_same g.M.Machine.time g.M.Machine.state c.args.machine.now (λ m o left. g.met.M.Machine.only_now c.args.machine.now m o told left) (g.met.M.Machine.sound c.args.machine.now told) firm (c.requires.one told) in
-    let looked = goes-read _ _ _ _ _ _ start (c.size.ensures.moments told) (c.size.ensures.row told).same in
-    let read = goes-reads _ _ _ _ _ _ looked (c.left_names.ensures.looks.reads told) in
-    let same = (c.left_names.ensures.looks.reads told).same ∙ (c.size.ensures.row told).same in
-    let first = steps_same _ _ (recovered_view s.files) _ _ read in
-    let second = steps_then g.M.Machine.time g.M.Machine.state (recovered_view s.files) _ c.args.machine.now c.left_names.new.machine c.drop_left.new.machine first (ap (λ (t : State). t.printed) same) (inl (ap (λ (t : State). recovered_view t.files) same)) (inl (ap (λ (t : State). recovered_view t.files) same)) (c.drop_left.ensures.step told first.firm) in
-    second
+    part g (goal.at.returns-in_err-drop_left-clause-step g c).After-left_names told firm _ (c.drop_left.ensures.step told)
 
 pub returns-in_err-drop_intent-2-clause-step : goal.returns-in_err-drop_intent-2-clause-step
 returns-in_err-drop_intent-2-clause-step g c told firm =
-    let s = g.M.Machine.state c.args.machine.now in
-    let start = begins_same g.M.Machine.time g.M.Machine.state c.args.machine.now (λ m o left. g.met.M.Machine.only_now c.args.machine.now m o told left) (g.met.M.Machine.sound c.args.machine.now told) firm (c.requires.one told) in
-    let looked = goes-read _ _ _ _ _ _ start (c.size.ensures.moments told) (c.size.ensures.row told).same in
-    let read = goes-reads _ _ _ _ _ _ looked (c.left_names.ensures.looks.reads told) in
-    let same = (c.left_names.ensures.looks.reads told).same ∙ (c.size.ensures.row told).same in
-    let first = steps_same _ _ (recovered_view s.files) _ _ read in
-    let second = steps_then g.M.Machine.time g.M.Machine.state (recovered_view s.files) _ c.args.machine.now c.left_names.new.machine c.drop_left.new.machine first (ap (λ (t : State). t.printed) same) (inl (ap (λ (t : State). recovered_view t.files) same)) (inl (ap (λ (t : State). recovered_view t.files) same)) (c.drop_left.ensures.step told first.firm) in
-    let stood : recovered_view (g.M.Machine.state c.drop_left.new.machine).files ≡ recovered_view s.files = ⊎_elim (λ is. is) (λ is. is) second.files in
-    let third = steps_then g.M.Machine.time g.M.Machine.state (recovered_view s.files) _ c.args.machine.now c.drop_left.new.machine c.drop_intent-2.new.machine second ((c.drop_left.ensures.alone.keeps told).printed ∙ ap (λ (t : State). t.printed) same) (inl stood) (inl stood) (c.drop_intent-2.ensures.step told second.firm) in
-    third
+    let names = (goal.at.returns-in_err-drop_intent-2-clause-step g c).After-left_names in
+    let left = part g names told firm _ (c.drop_left.ensures.step told) in
+    let printed = (c.drop_left.ensures.alone.keeps told).printed ∙ (quiet_named g names told).keeps.printed in
+    steps_kept _ _ _ _ _ left printed (c.drop_intent-2.ensures.step told left.firm)
 
 pub returns-clause-step : goal.returns-clause-step
 returns-clause-step g c told firm =
-    let s = g.M.Machine.state c.args.machine.now in
-    let start = begins_same g.M.Machine.time g.M.Machine.state c.args.machine.now (λ m o left. g.met.M.Machine.only_now c.args.machine.now m o told left) (g.met.M.Machine.sound c.args.machine.now told) firm (c.requires.one told) in
-    let looked = goes-read _ _ _ _ _ _ start (c.size.ensures.moments told) (c.size.ensures.row told).same in
-    let read = goes-reads _ _ _ _ _ _ looked (c.left_names.ensures.looks.reads told) in
-    let same = (c.left_names.ensures.looks.reads told).same ∙ (c.size.ensures.row told).same in
-    let first = steps_same _ _ (recovered_view s.files) _ _ read in
-    let second = steps_then g.M.Machine.time g.M.Machine.state (recovered_view s.files) _ c.args.machine.now c.left_names.new.machine c.drop_left.new.machine first (ap (λ (t : State). t.printed) same) (inl (ap (λ (t : State). recovered_view t.files) same)) (inl (ap (λ (t : State). recovered_view t.files) same)) (c.drop_left.ensures.step told first.firm) in
-    let stood : recovered_view (g.M.Machine.state c.drop_left.new.machine).files ≡ recovered_view s.files = ⊎_elim (λ is. is) (λ is. is) second.files in
-    let third = steps_then g.M.Machine.time g.M.Machine.state (recovered_view s.files) _ c.args.machine.now c.drop_left.new.machine c.drop_intent-2.new.machine second ((c.drop_left.ensures.alone.keeps told).printed ∙ ap (λ (t : State). t.printed) same) (inl stood) (inl stood) (c.drop_intent-2.ensures.step told second.firm) in
-    third
+    let names = (goal.at.returns-clause-step g c).After-left_names in
+    let left = part g names told firm _ (c.drop_left.ensures.step told) in
+    let printed = (c.drop_left.ensures.alone.keeps told).printed ∙ (quiet_named g names told).keeps.printed in
+    steps_kept _ _ _ _ _ left printed (c.drop_intent-2.ensures.step told left.firm)
 
 pub returns-in_err-size-clause-alone : goal.returns-in_err-size-clause-alone
-returns-in_err-size-clause-alone g c = alone_by (λ told.
-    let start = quiet_start g.M.Machine.time g.M.Machine.state [] c.args.machine.now (λ m o left. g.met.M.Machine.only_now c.args.machine.now m o told left) in
-    quiet-read _ _ _ _ _ start (λ m o left. g.met.M.Machine.only_now c.args.machine.now m o told left) (c.size.ensures.moments told) (c.size.ensures.row told).same) (search rules)
+returns-in_err-size-clause-alone g c =
+    alone_by (quiet_looked g (goal.at.returns-in_err-size-clause-alone g c).After-size) (search rules)
 
 pub returns-in_default-clause-alone : goal.returns-in_default-clause-alone
-returns-in_default-clause-alone g c = alone_by (λ told.
-    let start = quiet_start g.M.Machine.time g.M.Machine.state [] c.args.machine.now (λ m o left. g.met.M.Machine.only_now c.args.machine.now m o told left) in
-    quiet-read _ _ _ _ _ start (λ m o left. g.met.M.Machine.only_now c.args.machine.now m o told left) (c.size.ensures.moments told) (c.size.ensures.row told).same) (search rules)
+returns-in_default-clause-alone g c =
+    alone_by (quiet_looked g (goal.at.returns-in_default-clause-alone g c).After-size) (search rules)
 
 pub returns-in_err-names-clause-alone : goal.returns-in_err-names-clause-alone
-returns-in_err-names-clause-alone g c = alone_by (λ told.
-    let start = quiet_start g.M.Machine.time g.M.Machine.state [] c.args.machine.now (λ m o left. g.met.M.Machine.only_now c.args.machine.now m o told left) in
-    let looked = quiet-read _ _ _ _ _ start (λ m o left. g.met.M.Machine.only_now c.args.machine.now m o told left) (c.size.ensures.moments told) (c.size.ensures.row told).same in
-    quiet_reads _ _ _ _ _ looked (c.left_names.ensures.looks.reads told)) (search rules)
+returns-in_err-names-clause-alone g c =
+    alone_by (quiet_named g (goal.at.returns-in_err-names-clause-alone g c).After-left_names) (search rules)
 
 pub returns-in_err-drop_left-clause-alone : goal.returns-in_err-drop_left-clause-alone
 returns-in_err-drop_left-clause-alone g c = alone_by (λ told.
-    let start = quiet_start g.M.Machine.time g.M.Machine.state [] c.args.machine.now (λ m o left. g.met.M.Machine.only_now c.args.machine.now m o told left) in
-    let looked = quiet-read _ _ _ _ _ start (λ m o left. g.met.M.Machine.only_now c.args.machine.now m o told left) (c.size.ensures.moments told) (c.size.ensures.row told).same in
-    let named = quiet_reads _ _ _ _ _ looked (c.left_names.ensures.looks.reads told) in
+    let named = quiet_named g (goal.at.returns-in_err-drop_left-clause-alone g c).After-left_names told in
     quiet_then _ _ _ _ _ named (quiet_of c.drop_left.ensures.alone told)) (search rules)
 
 pub returns-in_err-drop_intent-2-clause-alone : goal.returns-in_err-drop_intent-2-clause-alone
 returns-in_err-drop_intent-2-clause-alone g c = alone_by (λ told.
-    let start = quiet_start g.M.Machine.time g.M.Machine.state [] c.args.machine.now (λ m o left. g.met.M.Machine.only_now c.args.machine.now m o told left) in
-    let looked = quiet-read _ _ _ _ _ start (λ m o left. g.met.M.Machine.only_now c.args.machine.now m o told left) (c.size.ensures.moments told) (c.size.ensures.row told).same in
-    let named = quiet_reads _ _ _ _ _ looked (c.left_names.ensures.looks.reads told) in
+    let named = quiet_named g (goal.at.returns-in_err-drop_intent-2-clause-alone g c).After-left_names told in
     let dropped = quiet_then _ _ _ _ _ named (quiet_of c.drop_left.ensures.alone told) in
     quiet_then _ _ _ _ _ dropped (quiet_of c.drop_intent-2.ensures.alone told)) (search rules)
 
 pub returns-clause-alone : goal.returns-clause-alone
 returns-clause-alone g c = alone_by (λ told.
-    let start = quiet_start g.M.Machine.time g.M.Machine.state [] c.args.machine.now (λ m o left. g.met.M.Machine.only_now c.args.machine.now m o told left) in
-    let looked = quiet-read _ _ _ _ _ start (λ m o left. g.met.M.Machine.only_now c.args.machine.now m o told left) (c.size.ensures.moments told) (c.size.ensures.row told).same in
-    let named = quiet_reads _ _ _ _ _ looked (c.left_names.ensures.looks.reads told) in
+    let named = quiet_named g (goal.at.returns-clause-alone g c).After-left_names told in
     let dropped = quiet_then _ _ _ _ _ named (quiet_of c.drop_left.ensures.alone told) in
     quiet_then _ _ _ _ _ dropped (quiet_of c.drop_intent-2.ensures.alone told)) (search rules)
 
 pub returns-in_err-drop_intent-clause-alone : goal.returns-in_err-drop_intent-clause-alone
 returns-in_err-drop_intent-clause-alone g c = alone_by (λ told.
-    let start = quiet_start g.M.Machine.time g.M.Machine.state [] c.args.machine.now (λ m o left. g.met.M.Machine.only_now c.args.machine.now m o told left) in
-    let looked = quiet-read _ _ _ _ _ start (λ m o left. g.met.M.Machine.only_now c.args.machine.now m o told left) (c.size.ensures.moments told) (c.size.ensures.row told).same in
-    let named = quiet_reads _ _ _ _ _ looked (c.left_names.ensures.looks.reads told) in
+    let named = quiet_named g (goal.at.returns-in_err-drop_intent-clause-alone g c).After-left_names told in
     quiet_then _ _ _ _ _ named (quiet_of c.drop_intent.ensures.alone told)) (search rules)
 
 pub returns-in_default-2-clause-alone : goal.returns-in_default-2-clause-alone
 returns-in_default-2-clause-alone g c = alone_by (λ told.
-    let start = quiet_start g.M.Machine.time g.M.Machine.state [] c.args.machine.now (λ m o left. g.met.M.Machine.only_now c.args.machine.now m o told left) in
-    let looked = quiet-read _ _ _ _ _ start (λ m o left. g.met.M.Machine.only_now c.args.machine.now m o told left) (c.size.ensures.moments told) (c.size.ensures.row told).same in
-    let named = quiet_reads _ _ _ _ _ looked (c.left_names.ensures.looks.reads told) in
+    let named = quiet_named g (goal.at.returns-in_default-2-clause-alone g c).After-left_names told in
     quiet_then _ _ _ _ _ named (quiet_of c.drop_intent.ensures.alone told)) (search rules)
-
-pub returns-in_err-size-clause-temps : goal.returns-in_err-size-clause-temps
-returns-in_err-size-clause-temps g c told =
-    temps_same (g.M.Machine.state c.args.machine.now) (g.M.Machine.state c.size.new.self) (c.size.ensures.row told).same
-
-pub returns-in_err-size-clause-taken : goal.returns-in_err-size-clause-taken
-returns-in_err-size-clause-taken g c told =
-    takes_nothing 2050 (g.M.Machine.taken c.args.machine.now) (g.M.Machine.taken c.size.new.self) (c.size.ensures.taken told)
-
-pub returns-in_default-clause-temps : goal.returns-in_default-clause-temps
-returns-in_default-clause-temps g c told =
-    temps_same (g.M.Machine.state c.args.machine.now) (g.M.Machine.state c.size.new.self) (c.size.ensures.row told).same
-
-pub returns-in_default-clause-taken : goal.returns-in_default-clause-taken
-returns-in_default-clause-taken g c told =
-    takes_nothing 2050 (g.M.Machine.taken c.args.machine.now) (g.M.Machine.taken c.size.new.self) (c.size.ensures.taken told)
-
-pub returns-in_err-names-clause-temps : goal.returns-in_err-names-clause-temps
-returns-in_err-names-clause-temps g c told =
-    temps_same (g.M.Machine.state c.args.machine.now) (g.M.Machine.state c.left_names.new.machine) ((c.left_names.ensures.looks.reads told).same ∙ (c.size.ensures.row told).same)
-
-pub returns-in_err-names-clause-taken : goal.returns-in_err-names-clause-taken
-returns-in_err-names-clause-taken g c told =
-    takes_later 2050 (g.M.Machine.taken c.args.machine.now) (g.M.Machine.taken c.size.new.self) (g.M.Machine.taken c.left_names.new.machine) (c.size.ensures.taken told) (c.left_names.ensures.taken told)
-
-pub returns-in_err-drop_intent-clause-temps : goal.returns-in_err-drop_intent-clause-temps
-returns-in_err-drop_intent-clause-temps g c told =
-    temps_on (g.M.Machine.state c.args.machine.now) (g.M.Machine.state c.left_names.new.machine) (g.M.Machine.state c.drop_intent.new.machine) (temps_same (g.M.Machine.state c.args.machine.now) (g.M.Machine.state c.left_names.new.machine) ((c.left_names.ensures.looks.reads told).same ∙ (c.size.ensures.row told).same)) (c.drop_intent.ensures.temps told)
-
-pub returns-in_err-drop_intent-clause-taken : goal.returns-in_err-drop_intent-clause-taken
-returns-in_err-drop_intent-clause-taken g c told =
-    takes_first 2050 (g.M.Machine.taken c.args.machine.now) (g.M.Machine.taken c.left_names.new.machine) (g.M.Machine.taken c.drop_intent.new.machine) (takes_later 2050 (g.M.Machine.taken c.args.machine.now) (g.M.Machine.taken c.size.new.self) (g.M.Machine.taken c.left_names.new.machine) (c.size.ensures.taken told) (c.left_names.ensures.taken told)) (c.drop_intent.ensures.taken told)
-
-pub returns-in_default-2-clause-temps : goal.returns-in_default-2-clause-temps
-returns-in_default-2-clause-temps g c told =
-    temps_on (g.M.Machine.state c.args.machine.now) (g.M.Machine.state c.left_names.new.machine) (g.M.Machine.state c.drop_intent.new.machine) (temps_same (g.M.Machine.state c.args.machine.now) (g.M.Machine.state c.left_names.new.machine) ((c.left_names.ensures.looks.reads told).same ∙ (c.size.ensures.row told).same)) (c.drop_intent.ensures.temps told)
-
-pub returns-in_default-2-clause-taken : goal.returns-in_default-2-clause-taken
-returns-in_default-2-clause-taken g c told =
-    takes_first 2050 (g.M.Machine.taken c.args.machine.now) (g.M.Machine.taken c.left_names.new.machine) (g.M.Machine.taken c.drop_intent.new.machine) (takes_later 2050 (g.M.Machine.taken c.args.machine.now) (g.M.Machine.taken c.size.new.self) (g.M.Machine.taken c.left_names.new.machine) (c.size.ensures.taken told) (c.left_names.ensures.taken told)) (c.drop_intent.ensures.taken told)
-
-pub returns-in_err-drop_left-clause-temps : goal.returns-in_err-drop_left-clause-temps
-returns-in_err-drop_left-clause-temps g c told =
-    temps_on (g.M.Machine.state c.args.machine.now) (g.M.Machine.state c.left_names.new.machine) (g.M.Machine.state c.drop_left.new.machine) (temps_same (g.M.Machine.state c.args.machine.now) (g.M.Machine.state c.left_names.new.machine) ((c.left_names.ensures.looks.reads told).same ∙ (c.size.ensures.row told).same)) (c.drop_left.ensures.temps told)
-
-pub returns-in_err-drop_left-clause-taken : goal.returns-in_err-drop_left-clause-taken
-returns-in_err-drop_left-clause-taken g c told =
-    takes_first 2050 (g.M.Machine.taken c.args.machine.now) (g.M.Machine.taken c.left_names.new.machine) (g.M.Machine.taken c.drop_left.new.machine) (takes_later 2050 (g.M.Machine.taken c.args.machine.now) (g.M.Machine.taken c.size.new.self) (g.M.Machine.taken c.left_names.new.machine) (c.size.ensures.taken told) (c.left_names.ensures.taken told)) (c.drop_left.ensures.taken told)
-
-pub returns-in_err-drop_intent-2-clause-temps : goal.returns-in_err-drop_intent-2-clause-temps
-returns-in_err-drop_intent-2-clause-temps g c told =
-    temps_on (g.M.Machine.state c.args.machine.now) (g.M.Machine.state c.drop_left.new.machine) (g.M.Machine.state c.drop_intent-2.new.machine) (temps_on (g.M.Machine.state c.args.machine.now) (g.M.Machine.state c.left_names.new.machine) (g.M.Machine.state c.drop_left.new.machine) (temps_same (g.M.Machine.state c.args.machine.now) (g.M.Machine.state c.left_names.new.machine) ((c.left_names.ensures.looks.reads told).same ∙ (c.size.ensures.row told).same)) (c.drop_left.ensures.temps told)) (c.drop_intent-2.ensures.temps told)
-
-pub returns-in_err-drop_intent-2-clause-taken : goal.returns-in_err-drop_intent-2-clause-taken
-returns-in_err-drop_intent-2-clause-taken g c told =
-    takes_first 2050 (g.M.Machine.taken c.args.machine.now) (g.M.Machine.taken c.drop_left.new.machine) (g.M.Machine.taken c.drop_intent-2.new.machine) (takes_first 2050 (g.M.Machine.taken c.args.machine.now) (g.M.Machine.taken c.left_names.new.machine) (g.M.Machine.taken c.drop_left.new.machine) (takes_later 2050 (g.M.Machine.taken c.args.machine.now) (g.M.Machine.taken c.size.new.self) (g.M.Machine.taken c.left_names.new.machine) (c.size.ensures.taken told) (c.left_names.ensures.taken told)) (c.drop_left.ensures.taken told)) (c.drop_intent-2.ensures.taken told)
-
-pub returns-clause-temps : goal.returns-clause-temps
-returns-clause-temps g c told =
-    temps_on (g.M.Machine.state c.args.machine.now) (g.M.Machine.state c.drop_left.new.machine) (g.M.Machine.state c.drop_intent-2.new.machine) (temps_on (g.M.Machine.state c.args.machine.now) (g.M.Machine.state c.left_names.new.machine) (g.M.Machine.state c.drop_left.new.machine) (temps_same (g.M.Machine.state c.args.machine.now) (g.M.Machine.state c.left_names.new.machine) ((c.left_names.ensures.looks.reads told).same ∙ (c.size.ensures.row told).same)) (c.drop_left.ensures.temps told)) (c.drop_intent-2.ensures.temps told)
-
-pub returns-clause-taken : goal.returns-clause-taken
-returns-clause-taken g c told =
-    takes_first 2050 (g.M.Machine.taken c.args.machine.now) (g.M.Machine.taken c.drop_left.new.machine) (g.M.Machine.taken c.drop_intent-2.new.machine) (takes_first 2050 (g.M.Machine.taken c.args.machine.now) (g.M.Machine.taken c.left_names.new.machine) (g.M.Machine.taken c.drop_left.new.machine) (takes_later 2050 (g.M.Machine.taken c.args.machine.now) (g.M.Machine.taken c.size.new.self) (g.M.Machine.taken c.left_names.new.machine) (c.size.ensures.taken told) (c.left_names.ensures.taken told)) (c.drop_left.ensures.taken told)) (c.drop_intent-2.ensures.taken told)

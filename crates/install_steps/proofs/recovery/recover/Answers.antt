@@ -15,7 +15,9 @@ returns-in_err-settle-clause-same g c told settled =
 pub returns-clause-recovers : goal.returns-clause-recovers
 returns-clause-recovers g c told firm =
     recovers_on g.M.Machine.time g.M.Machine.state c.args.machine.now c.settle.new.machine c.finish_left.new.machine
-    (c.settle.ensures.moments told) (c.settle.ensures.files told) (c.settle.ensures.alone.keeps told).printed (c.finish_left.ensures.step told (c.settle.ensures.firm told firm)) (c.in_ok-settle.ensures.one told) (λ t m le image. g.met.M.Machine.counts_now c.finish_left.new.machine t m told le image)
+    (c.settle.ensures.moments told) (c.settle.ensures.files told) (c.settle.ensures.alone.keeps told).printed
+    (c.finish_left.ensures.step told (c.settle.ensures.firm told firm)) (c.in_ok-settle.ensures.one told)
+    (λ t m le image. g.met.M.Machine.counts_now c.finish_left.new.machine t m told le image)
 
 pub returns-clause-same : goal.returns-clause-same
 returns-clause-same g c told settled =
@@ -24,12 +26,15 @@ returns-clause-same g c told settled =
 pub returns-clause-settled : goal.returns-clause-settled
 returns-clause-settled g c = ok_any c.finish_left.result (λ told firm.
     settled_now g.M.Machine.time g.M.Machine.state c.args.machine.now c.settle.new.machine c.finish_left.new.machine
-    (c.settle.ensures.moments told) (c.settle.ensures.files told) (c.settle.ensures.alone.keeps told).printed (c.finish_left.ensures.step told (c.settle.ensures.firm told firm)) (λ t m le image. g.met.M.Machine.counts_now c.finish_left.new.machine t m told le image))
+    (c.settle.ensures.moments told) (c.settle.ensures.files told) (c.settle.ensures.alone.keeps told).printed
+    (c.finish_left.ensures.step told (c.settle.ensures.firm told firm))
+    (λ t m le image. g.met.M.Machine.counts_now c.finish_left.new.machine t m told le image))
 
 pub returns-clause-synced : goal.returns-clause-synced
 returns-clause-synced g c = ok_any c.finish_left.result (λ told firm.
     same_from g.M.Machine.time g.M.Machine.state c.args.machine.now c.settle.new.machine c.finish_left.new.machine
-    (c.settle.ensures.moments told) (c.settle.ensures.files told) (c.settle.ensures.alone.keeps told).printed (c.finish_left.ensures.step told (c.settle.ensures.firm told firm)) (c.in_ok-settle.ensures.one told))
+    (c.settle.ensures.moments told) (c.settle.ensures.files told) (c.settle.ensures.alone.keeps told).printed
+    (c.finish_left.ensures.step told (c.settle.ensures.firm told firm)) (c.in_ok-settle.ensures.one told))
 
 pub returns-in_err-settle-clause-alone : goal.returns-in_err-settle-clause-alone
 returns-in_err-settle-clause-alone g c = alone_by (λ told.

@@ -8,7 +8,9 @@ pub returns-in_default-first-clause-begins : goal.returns-in_default-first-claus
 returns-in_default-first-clause-begins c =
     let is : c.after_separators-text.result.now ≡ c.in-Some.first.now ∷ c.in-Some.rest.now = search rules in
     let digit : is_ascii_digit c.in-Some.first.now ≡ true = sym c.is_ascii_digit.ensures.value ∙ c.if-is_ascii_digit.true in
-    let front = digits_front c.after_separators-text.result.now _ _ c.in-Some.rest.now c.in-Some.first.now c.digits_len.result is digit c.digits_len.ensures.value c.split_at.ensures.front c.split_at.ensures.back in
+    let front =
+    digits_front c.after_separators-text.result.now _ _ c.in-Some.rest.now c.in-Some.first.now c.digits_len.result is digit
+    c.digits_len.ensures.value c.split_at.ensures.front c.split_at.ensures.back in
     (sym c.after_separators-text.ensures.same ∙ front.0, omega (arith, front.1, c.after_separators-text.ensures.within))
 
 pub returns-in_default-first-clause-lexeme : goal.returns-in_default-first-clause-lexeme
@@ -24,5 +26,7 @@ returns-in_default-2-clause-begins c =
     let dot : c.in-Some.first.now ≢ 46 = search rules in
     let of_token = is_of_token-first c.after_separators-text.result.now c.in-Some.rest.now c.in-Some.first.now is c.after_separators-text.ensures.first in
     let letter = letter_of_token c.in-Some.first.now of_token tilde hyphen caret dot digit in
-    let front = letters_front c.after_separators-text.result.now _ _ c.in-Some.rest.now c.in-Some.first.now c.letters_len.result is letter c.letters_len.ensures.value c.split_at-in_default-2.ensures.front c.split_at-in_default-2.ensures.back in
+    let front =
+    letters_front c.after_separators-text.result.now _ _ c.in-Some.rest.now c.in-Some.first.now c.letters_len.result is letter
+    c.letters_len.ensures.value c.split_at-in_default-2.ensures.front c.split_at-in_default-2.ensures.back in
     (sym c.after_separators-text.ensures.same ∙ front.0, omega (arith, front.1, c.after_separators-text.ensures.within))

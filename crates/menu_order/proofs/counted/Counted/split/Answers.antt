@@ -10,11 +10,15 @@ returns-in_err-reading-clause-only c base left done suffix r = absurd (c.in_err-
 
 pub returns-clause-only : goal.returns-clause-only
 returns-clause-only c base left done suffix r =
-    let same = one_reading c.args.name.now c.in_ok-reading.reading.base.now base c.in_ok-reading.reading.left left c.in_ok-reading.reading.done done c.in_ok-reading.reading.suffix suffix c.in_ok-reading.ensures r in
+    let same =
+    one_reading c.args.name.now c.in_ok-reading.reading.base.now base c.in_ok-reading.reading.left left c.in_ok-reading.reading.done done
+    c.in_ok-reading.reading.suffix suffix c.in_ok-reading.ensures r in
     rw (same.0, same.1, same.2, same.3) refl
 
 pub returns-clause-limits : goal.returns-clause-limits
-returns-clause-limits c = reading_bounds c.args.name.now c.in_ok-reading.reading.base.now c.in_ok-reading.reading.left c.in_ok-reading.reading.done c.in_ok-reading.reading.suffix c.in_ok-reading.ensures
+returns-clause-limits c =
+    reading_bounds c.args.name.now c.in_ok-reading.reading.base.now c.in_ok-reading.reading.left c.in_ok-reading.reading.done
+    c.in_ok-reading.reading.suffix c.in_ok-reading.ensures
 
 pub returns-in_err-reading-clause-value : goal.returns-in_err-reading-clause-value
 returns-in_err-reading-clause-value c = c.from_residual.ensures ∙ sym (split_none c.args.name.now c.in_err-reading.ensures)
