@@ -11,7 +11,7 @@ mod passed;
 
 use boot_run::{Ended, run};
 use build::report_build;
-use host_machine::{HostMachine, reports_are_wanted};
+use host_machine::{host_machine, reports_are_wanted};
 use passed::report_passed_over;
 use std::io::ErrorKind;
 use std::process::ExitCode;
@@ -26,7 +26,7 @@ fn main(rt: HostRuntime) -> ExitCode {
     let Ok(words) = given_words(&rt) else {
         return ExitCode::from(Ended::Memory.status());
     };
-    let mut machine = HostMachine::new(rt, rt.stderr()).with_reports(are_wanted);
+    let mut machine = host_machine(rt, rt.stderr()).with_reports(are_wanted);
     let status = run(rt.alloc(), &words, &mut machine);
     drop(machine);
     if are_wanted && status <= 1 {

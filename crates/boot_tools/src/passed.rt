@@ -8,7 +8,7 @@ use boot_machine::Machine;
 use boot_texts::{EntryFault, Type1};
 use command_plans::{Outcome, Plan, Unsaid, file_bytes, folders_in};
 use entry_commands::plan_install;
-use host_machine::HostMachine;
+use host_machine::host_machine;
 use menu_order::Suffix;
 use std::alloc::Global;
 use std::fmt::Display;
@@ -22,7 +22,7 @@ pub(crate) fn report_passed_over(rt: HostRuntime, words: &Vec<String>) {
     if let Some(esp) = listed_partition(alloc, words)
         && let Ok(folders) = folders_in(alloc, esp.as_str())
     {
-        let mut machine = HostMachine::new(rt, rt.stderr());
+        let mut machine = host_machine(rt, rt.stderr());
         let _ = report_folder(rt, &mut machine, &folders.entries, Suffix::Conf);
         let _ = report_folder(rt, &mut machine, &folders.images, Suffix::Efi);
     }

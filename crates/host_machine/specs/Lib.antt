@@ -1,2 +1,1 @@
-pub mod proofs
-pub mod Hosts
+pub mod Quiet

@@ -1,24 +1,14 @@
-//! The machine on a real folder and the standard streams: the program's trusted edge.
-//!
-//! It tells nothing of what it holds, since no contract can say what a file system does. It is proved safe,
-//! and to count each failure once; what its calls do is shown by tests.
+//! The machine on the folder that the program starts in, by the calls of the system: one a function, and no decision. It tells nothing of
+//! what it holds, since no contract can say what a file system does.
 #![tactic(auto)]
 
 mod answers;
-mod calls;
-mod clusters;
-mod faults;
-mod half;
+mod found;
 mod host;
-mod intent;
-mod kept;
-mod listing;
-mod locks;
-mod looks;
-mod reports;
+mod real;
 mod streams;
-mod syncs;
-mod system;
+mod wishes;
 
-pub use host::HostMachine;
-pub use reports::reports_are_wanted;
+pub use host::{HostMachine, host_machine};
+pub use real::RealFolder;
+pub use wishes::reports_are_wanted;

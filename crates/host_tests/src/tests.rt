@@ -1,7 +1,7 @@
 //! The calls on a real folder, whose answers no clause tells. A test is a table of steps.
 use boot_base::{BootPath, FilePath, INTENT, TempPath};
 use boot_machine::Machine;
-use host_machine::HostMachine;
+use host_machine::{HostMachine, host_machine};
 use std::alloc::{AllocError, Global};
 use std::fs::{File, OpenOptions};
 use std::io::Stderr;
@@ -279,7 +279,7 @@ fn status_of<M: Machine>(alloc: Global, words: &Vec<String>, machine: &mut M) ->
 // Whether the program ends on the words of this line with that status.
 fn ends_with(rt: &HostRuntime, line: &str, status: u8) -> Result<bool, Fail> {
     let words = words_of(rt.alloc(), line)?;
-    let mut machine = HostMachine::new(*rt, rt.stderr());
+    let mut machine = host_machine(*rt, rt.stderr());
     Ok(status_of(rt.alloc(), &words, &mut machine) == status)
 }
 
@@ -349,7 +349,7 @@ fn go_through_over<R: Runtime<File = File> + AllocGlobal>(
     system: R,
     steps: &[Step],
 ) -> Result<(), Fail> {
-    let mut machine = HostMachine::new(system, rt.stderr());
+    let mut machine = host_machine(system, rt.stderr());
     go_through(rt, &mut machine, steps)
 }
 

@@ -3,7 +3,7 @@ use Rattle.std.proofs.Common.{◌≡◌, ◌≢◌, ℕ, ◌<◌, Bool, true, fa
 use Rattle.std.specs.Prelude.{◌==◌, ◌&&◌, MatchOption, if◌then◌else◌}
 use Rattle.std.specs.List.{list_any}
 use Rattle.std.specs.Borrow.{Bor}
-use Rattle.std.specs.Str.Pattern.{RFindsChar, SplitsAroundMatch}
+use Rattle.std.specs.Str.Pattern.{HasCharAt, RFindsChar, SplitsAroundMatch}
 use Rattle.std.specs.Str.{NoCharPasses}
 use Rattle.std.proofs.lemmas.Bool.{or_parts}
 use Rattle.std.proofs.lemmas.List.{take-append-drop}
@@ -22,6 +22,13 @@ none_from_places (byte ∷ s) at =
 
 pub no_slash : (s : List ℕ) → NoCharPasses (λ d. d == 47) s → list_any is_slash s ≡ false
 no_slash s none = none_from_places s (λ k below. NoCharPasses-char 47 s k none (omega arith) below)
+
+-- what a search for the last slash finds
+pub cut_found : (s : List ℕ) (i j : ℕ) → NoCharPasses (λ d. d == 47) (drop j s) → HasCharAt 47 s i j → IsCut s (take i s) (drop j s)
+cut_found s i j none at = record {
+  whole = sym (take-append-drop i s) ∙ ap (λ (rest : List ℕ). take i s ++ rest) (drop_at_char 47 s i j at (omega arith));
+  last = no_slash (drop j s) none;
+}
 
 -- what a search for the last slash says
 pub cut_from : (s : List ℕ) (found : Option (Bor (List ℕ) × Bor (List ℕ)))

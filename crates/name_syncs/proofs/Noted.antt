@@ -7,8 +7,8 @@ use Rattle.std.proofs.lemmas.List.Folds.{list_any-append}
 use Rattle.std.proofs.lemmas.Slice.Eq.{bytes_eq-Decides}
 use Rattle.boot_base.specs.Paths.{is_slash}
 use Rattle.name_syncs.specs.Paths.{has_path, with_path}
-use Rattle.name_syncs.specs.Folders.{FoldersAreAbove, IsAbove, NotedAreListed, folders_above, listed, parts_before_slashes, with_folder}
-use Rattle.name_syncs.specs.Named.{Covers, IsSynced, NothingWaits, RenamesAreCovered}
+use Rattle.name_syncs.specs.Folders.{FoldersAreAbove, IsAbove, NotedAreListed, folders_above, has_folder, listed, nearest, parent_folder, parts_before_slashes, unsettled, unsettled_above, with_folder, with_folders}
+use Rattle.name_syncs.specs.Named.{Covers, IsSynced, NameWaits, NamesAreCovered, NothingWaits, RenameWaits, RenamesAreCovered, owned, renamed_with}
 use Rattle.name_syncs.specs.Waiting.{NeedsNoSync, KeepsSynced, Waiting}
 use Rattle.name_syncs.specs.declared.folders.Folders.{Folders}
 use Rattle.name_syncs.specs.declared.named.Named.{Named}
@@ -148,23 +148,107 @@ noted_are_listed folders (first ∷ more) folder (inr there) = elim (split (firs
   | inr later ↦ noted_are_listed (with_folder folders first) more folder (inr later)
 ]
 
--- ---- a rename is covered
+-- ---- what changes is covered
+
+-- a file that waits at its new name is noted
+renamed_there : (named : Named) (old new : Waiting) (to : List ℕ) → Covers named old
+    → ((path : List ℕ) → new.files path ≡ true → (old.files path ≡ true) ⊎ (path ≡ to))
+    → (path : List ℕ) → new.files path ≡ true → has_path (with_path named.renamed to) path ≡ true
+renamed_there named old new to covers waits path waiting = elim (waits path waiting) [
+  | inl before ↦ with_path-kept (has_path named.renamed to) named.renamed to path (covers.files path before)
+  | inr here ↦ subst (λ (p : List ℕ). has_path (with_path named.renamed to) p ≡ true) (sym here)
+      (with_path-there (has_path named.renamed to) named.renamed to refl)
+]
+
+-- a folder that is among some is so beside another one
+own_kept : (folders : Folders) (folder other : List ℕ) → has_folder folders other ≡ true
+    → has_folder (with_folder folders folder) other ≡ true
+own_kept folders [] [] there = refl
+own_kept folders [] (byte ∷ other) there = there
+own_kept folders (byte ∷ folder) [] there = there
+own_kept folders (byte ∷ folder) (first ∷ other) there =
+    with_path-kept (has_path folders.below (byte ∷ folder)) folders.below (byte ∷ folder) (first ∷ other) there
+
+own_there : (folders : Folders) (folder : List ℕ) → has_folder (with_folder folders folder) folder ≡ true
+own_there folders [] = refl
+own_there folders (byte ∷ folder) =
+    with_path-there (has_path folders.below (byte ∷ folder)) folders.below (byte ∷ folder) refl
+
+-- the folder that a path is in is the first of those above it
+parent_first : (path : List ℕ) → (rest : List (List ℕ)) × (folders_above path ≡ parent_folder path ∷ rest)
+parent_first path = by_parts (parts_before_slashes path)
+  where
+    by_parts : (parts : List (List ℕ)) → (rest : List (List ℕ)) × (parts ++ [] ∷ [] ≡ nearest parts ∷ rest)
+    by_parts [] = ([], refl)
+    by_parts (folder ∷ higher) = (higher ++ [] ∷ [], refl)
+
+-- so it is among them, and among the unsettled ones
+parent_above : (path : List ℕ) → has_path (folders_above path) (parent_folder path) ≡ true
+parent_above path =
+    let first = parent_first path in
+    rw first.1 (in_front (parent_folder path ∷ []) first.0 (parent_folder path) (itself (parent_folder path)))
+
+parent_unsettled : (settled : Folders) (path : List ℕ)
+    → has_path (unsettled settled (folders_above path)) (parent_folder path) ≡ true
+parent_unsettled settled path =
+    let first = parent_first path in
+    rw first.1 (in_front (parent_folder path ∷ []) (unsettled_above settled (parent_folder path) first.0)
+    (parent_folder path) (itself (parent_folder path)))
+
+-- these folders are noted beside those before, and the one of the path is among them
+name_covered : (named : Named) (old new : Waiting) (path : List ℕ) (more : List (List ℕ))
+    → has_path more (parent_folder path) ≡ true → Covers named old → NameWaits old new path
+    → Covers (record (owned named path) { changed = with_folders named.changed more }) new
+name_covered named old new path more there covers waits = record {
+  files = λ other waiting. covers.files other (waits.files other waiting);
+  folders = λ folder waiting. noted_are_listed named.changed more folder (elim (waits.folders folder waiting) [
+    | inl before ↦ inl (covers.folders folder before)
+    | inr here ↦ inr (ap (has_path more) here ∙ there)
+  ]);
+  own = λ folder waiting. elim (waits.folders folder waiting) [
+    | inl before ↦ own_kept named.own (parent_folder path) folder (covers.own folder before)
+    | inr here ↦ ap (has_folder (with_folder named.own (parent_folder path))) here ∙ own_there named.own (parent_folder path)
+  ];
+}
+
+pub names_are_covered : NamesAreCovered
+names_are_covered named old new path covers waits = (
+  name_covered named old new path (folders_above path) (parent_above path) covers waits,
+  (
+    name_covered named old new path (parent_folder path ∷ []) (itself (parent_folder path)) covers waits,
+    name_covered named old new path (unsettled named.settled (folders_above path)) (parent_unsettled named.settled path) covers waits,
+  ),
+)
+
+rename_covered : (named : Named) (old new : Waiting) (from to : List ℕ) (front back : List (List ℕ))
+    → has_path front (parent_folder to) ≡ true → has_path back (parent_folder from) ≡ true
+    → Covers named old → RenameWaits old new from to → Covers (renamed_with named from to (front ++ back)) new
+rename_covered named old new from to front back to_there from_there covers waits =
+    let owned_to = with_folder named.own (parent_folder to) in
+    record {
+      files = renamed_there named old new to covers waits.files;
+      folders = λ folder waiting. noted_are_listed named.changed (front ++ back) folder (elim (waits.folders folder waiting) [
+        | inl before ↦ inl (covers.folders folder before)
+        | inr here ↦ inr (elim here [
+          | inl new_one ↦ ap (has_path (front ++ back)) new_one ∙ in_front front back (parent_folder to) to_there
+          | inr old_one ↦ ap (has_path (front ++ back)) old_one ∙ in_back front back (parent_folder from) from_there
+        ])
+      ]);
+      own = λ folder waiting. elim (waits.folders folder waiting) [
+        | inl before ↦ own_kept owned_to (parent_folder from) folder (own_kept named.own (parent_folder to) folder (covers.own folder before))
+        | inr here ↦ elim here [
+          | inl new_one ↦ own_kept owned_to (parent_folder from) folder (ap (has_folder owned_to) new_one ∙ own_there named.own (parent_folder to))
+          | inr old_one ↦ ap (has_folder (with_folder owned_to (parent_folder from))) old_one ∙ own_there owned_to (parent_folder from)
+        ]
+      ];
+    }
 
 pub renames_are_covered : RenamesAreCovered
-renames_are_covered named old new from to covers waits = record {
-  files = λ path waiting. elim (waits.files path waiting) [
-    | inl before ↦ with_path-kept (has_path named.renamed to) named.renamed to path (covers.files path before)
-    | inr here ↦ subst (λ (p : List ℕ). has_path (with_path named.renamed to) p ≡ true) (sym here)
-        (with_path-there (has_path named.renamed to) named.renamed to refl)
-  ];
-  folders = λ folder waiting. noted_are_listed named.changed (folders_above to ++ folders_above from) folder (elim (waits.folders folder waiting) [
-    | inl before ↦ inl (covers.folders folder before)
-    | inr above ↦ inr (elim above [
-      | inl new_one ↦ in_front (folders_above to) (folders_above from) folder (above_there to folder new_one)
-      | inr old_one ↦ in_back (folders_above to) (folders_above from) folder (above_there from folder old_one)
-    ])
-  ]);
-}
+renames_are_covered named old new from to covers waits = (
+  rename_covered named old new from to (folders_above to) (folders_above from) (parent_above to) (parent_above from) covers waits,
+  rename_covered named old new from to (unsettled named.settled (folders_above to)) (unsettled named.settled (folders_above from))
+      (parent_unsettled named.settled to) (parent_unsettled named.settled from) covers waits,
+)
 
 -- ---- nothing waits
 
@@ -175,22 +259,30 @@ all_there P (known ∷ paths) path all there = elim (split (known ∷ []) paths 
   | inr later ↦ all_there P paths path (All-tail P known paths all) later
 ]
 
+-- a folder that needs no sync doesn't wait, if the run has changed a name in each that does
+done_folder : (own : Folders) (old new : Waiting) (folder : List ℕ) → KeepsSynced old new
+    → ((other : List ℕ) → old.folders other ≡ true → has_folder own other ≡ true) → old.folders folder ≡ true
+    → NeedsNoSync own new folder → new.folders folder ≡ false
+done_folder own old new folder kept owns waiting (inl synced) = synced
+done_folder own old new folder kept owns waiting (inr unable) = absurd (unlike (sym unable.0 ∙ owns folder waiting))
+
 pub nothing_waits : (named : Named) (old new : Waiting) → KeepsSynced old new → IsSynced named new → Covers named old
-    → NothingWaits named new
+    → NothingWaits new
 nothing_waits named old new kept synced covers = record {
   files = λ path. elim (cases_Bool (old.files path)) [
     | inl waiting ↦ all_there (λ one. new.files one ≡ false) named.renamed path synced.files (covers.files path waiting)
     | inr done ↦ kept.files path done
   ];
   folders = λ folder. elim (cases_Bool (old.folders folder)) [
-    | inl waiting ↦ all_there (NeedsNoSync named.own new) (listed named.changed) folder synced.folders (covers.folders folder waiting)
-    | inr done ↦ inl (kept.folders folder done)
+    | inl waiting ↦ done_folder named.own old new folder kept covers.own waiting
+        (all_there (NeedsNoSync named.own new) (listed named.changed) folder synced.folders (covers.folders folder waiting))
+    | inr done ↦ kept.folders folder done
   ];
 }
 
 -- the same of an answer that may be a fault
 pub if_nothing_waits : {F : Type 0} (result : Result (Unit {0}) F) (tells : Type 0) (named : Named) (old new : Waiting)
     → (tells → KeepsSynced old new) → IfOk result (λ _. tells → IsSynced named new)
-    → IfOk result (λ _. tells → Covers named old → NothingWaits named new)
+    → IfOk result (λ _. tells → Covers named old → NothingWaits new)
 if_nothing_waits (Ok _) tells named old new kept synced = λ told. nothing_waits named old new (kept told) (synced told)
 if_nothing_waits (Err _) tells named old new kept synced = synced

@@ -22,13 +22,16 @@ keeps_then old between new first next = record {
 }
 
 pub asks_none : (disk : Waiting) → Asks [] disk disk
-asks_none disk = record { kept = keeps_itself disk; asked = sym (append-nil disk.asked) }
+asks_none disk = record { kept = keeps_itself disk; asked = λ logged. (logged, sym (append-nil disk.asked)) }
 
 pub asks_then : (one more : List Sync) (old between new : Waiting) → Asks one old between → Asks more between new
     → Asks (one ++ more) old new
 asks_then one more old between new first next = record {
   kept = keeps_then old between new first.kept next.kept;
-  asked = next.asked ∙ ap (λ (asked : List Sync). asked ++ more) first.asked ∙ append_assoc old.asked one more;
+  asked = λ logged.
+      let later = next.asked logged in
+      let sooner = first.asked later.0 in
+      (sooner.0, later.1 ∙ ap (λ (asked : List Sync). asked ++ more) sooner.1 ∙ append_assoc old.asked one more);
 }
 
 pub settled_still : (own : Folders) (old new : Waiting) → KeepsSynced old new → (folder : List ℕ)

@@ -1,7 +1,7 @@
 -- What a run has named since its names were last synced.
 use Rattle.std.specs.Prelude.{◌≡◌, ◌⊎◌, ℕ, true, false, not, List, ◌∷◌, ◌++◌, map, filter, All, if◌then◌else◌}
 use Rattle.name_syncs.specs.Paths.{has_path, with_path}
-use Rattle.name_syncs.specs.Folders.{IsAbove, parent_folder, folders_above, has_folder, listed, unsettled, with_folder, with_folders}
+use Rattle.name_syncs.specs.Folders.{parent_folder, folders_above, has_folder, listed, unsettled, with_folder, with_folders}
 use Rattle.name_syncs.specs.Waiting.{FileAt, FolderAt, NeedsNoSync, Sync, Waiting}
 use Rattle.name_syncs.specs.declared.named.Named.{Named}
 
@@ -22,6 +22,10 @@ looked_into named folder = record named { seen = with_folders named.seen (folder
 -- a name in the folder of a path is changed by this run
 abbrev pub owned : Named → List ℕ → Named
 owned named path = record named { own = with_folder named.own (parent_folder path) }
+
+-- a folder is made: its name comes
+abbrev pub made_at : Named → List ℕ → Named
+made_at named folder = record (owned named folder) { changed = with_folder named.changed (parent_folder folder) }
 
 -- a name comes, maybe with folders above it
 abbrev pub changed_at : Named → List ℕ → Named
@@ -62,24 +66,36 @@ pub record IsSynced (named : Named) (disk : Waiting) : Type 0 where
   pub files : All (λ path. disk.files path ≡ false) named.renamed
   pub folders : All (NeedsNoSync named.own disk) (listed named.changed)
 
--- each file and folder that waits for the disk was noted
+-- each file and folder that waits for the disk was noted, the folder as one in which the run has changed a name
 pub record Covers (named : Named) (disk : Waiting) : Type 0 where
   pub files : (path : List ℕ) → disk.files path ≡ true → has_path named.renamed path ≡ true
   pub folders : (folder : List ℕ) → disk.folders folder ≡ true → has_path (listed named.changed) folder ≡ true
+  pub own : (folder : List ℕ) → disk.folders folder ≡ true → has_folder named.own folder ≡ true
 
--- nothing at all waits for the disk
-pub record NothingWaits (named : Named) (disk : Waiting) : Type 0 where
+-- nothing waits for the disk
+pub record NothingWaits (disk : Waiting) : Type 0 where
   pub files : (path : List ℕ) → disk.files path ≡ false
-  pub folders : (folder : List ℕ) → NeedsNoSync named.own disk folder
+  pub folders : (folder : List ℕ) → disk.folders folder ≡ false
 
--- A rename makes the file wait at its new name, and the names in the folders above both.
+-- a name that comes or goes makes its folder wait
+pub record NameWaits (old new : Waiting) (path : List ℕ) : Type 0 where
+  pub files : (other : List ℕ) → new.files other ≡ true → old.files other ≡ true
+  pub folders : (folder : List ℕ) → new.folders folder ≡ true → (old.folders folder ≡ true) ⊎ (folder ≡ parent_folder path)
+
+-- a rename makes the file wait at its new name, and both folders
 pub record RenameWaits (old new : Waiting) (from to : List ℕ) : Type 0 where
   pub files : (path : List ℕ) → new.files path ≡ true → (old.files path ≡ true) ⊎ (path ≡ to)
   pub folders : (folder : List ℕ) → new.folders folder ≡ true
-      → (old.folders folder ≡ true) ⊎ (IsAbove folder to ⊎ IsAbove folder from)
+      → (old.folders folder ≡ true) ⊎ ((folder ≡ parent_folder to) ⊎ (folder ≡ parent_folder from))
 
--- where all that waited was noted, so is all that waits after a rename
+-- If all that waited was noted, so is all that waits after a name that comes, that of a folder or one that goes.
+abbrev pub NamesAreCovered : Type 0
+NamesAreCovered =
+    (named : Named) (old new : Waiting) (path : List ℕ) → Covers named old → NameWaits old new path
+    → Covers (changed_at named path) new × (Covers (made_at named path) new × Covers (removed_at named path) new)
+
+-- the same of a rename, also of a file that was there before
 abbrev pub RenamesAreCovered : Type 0
 RenamesAreCovered =
-    (named : Named) (old new : Waiting) (from to : List ℕ)
-    → Covers named old → RenameWaits old new from to → Covers (renamed_to named from to) new
+    (named : Named) (old new : Waiting) (from to : List ℕ) → Covers named old → RenameWaits old new from to
+    → Covers (renamed_to named from to) new × Covers (renamed_known named from to) new

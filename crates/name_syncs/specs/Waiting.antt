@@ -11,7 +11,7 @@ pub data Sync : Type 0 where
 
 -- a disk by what of it waits
 pub record Waiting : Type 0 where
-  -- the file at a path waits: its bytes, its length or its name
+  -- the file at a path has got that name since it was synced last
   pub files : List ℕ → Bool
   -- the names in a folder wait
   pub folders : List ℕ → Bool
@@ -19,6 +19,8 @@ pub record Waiting : Type 0 where
   pub syncs : List ℕ → Bool
   -- the syncs that were asked for so far, in their order
   pub asked : List Sync
+  -- there was memory to keep each of them
+  pub logged : Bool
 
 -- what didn't wait doesn't wait now
 pub record KeepsSynced (old new : Waiting) : Type 0 where
@@ -26,10 +28,14 @@ pub record KeepsSynced (old new : Waiting) : Type 0 where
   pub folders : (folder : List ℕ) → old.folders folder ≡ false → new.folders folder ≡ false
   pub syncs : new.syncs ≡ old.syncs
 
+-- if each sync so far was kept, these were asked for behind those before
+abbrev pub Logs : List Sync → Waiting → Waiting → Type 0
+Logs syncs old new = new.logged ≡ true → (old.logged ≡ true) × (new.asked ≡ old.asked ++ syncs)
+
 -- these syncs were asked for, and nothing else was done
 pub record Asks (syncs : List Sync) (old new : Waiting) : Type 0 where
   pub kept : KeepsSynced old new
-  pub asked : new.asked ≡ old.asked ++ syncs
+  pub asked : Logs syncs old new
 
 -- The folder doesn't wait. Only one in which the run has changed no name of its own may wait still, if its file system
 -- syncs no folders: nobody can have changed a name there that a power cut would undo.

@@ -1,7 +1,7 @@
 //! The folders above a path, and sets of folders.
 ghost use Rattle.std.specs.Prelude.{◌≡◌, false, [], ◌∷◌, OnOk, OnErr, MatchOption};
 ghost use Rattle.std.specs.List.{list_any};
-ghost use Rattle.boot_base.specs.Paths.{is_slash};
+ghost use Rattle.boot_base.specs.Paths.{file_name_of, is_slash};
 ghost use Rattle.name_syncs.specs.Folders.{IsCut, folders_above, has_folder, parent_folder, unsettled, unsettled_above, with_folder, with_folders};
 
 use crate::paths::Paths;
@@ -24,14 +24,23 @@ fn cut(path: &str) -> Option<(&str, &str)>
     path.rsplit_once('/')
 }
 
+/// The folder that a path is in, and the name in it. It takes no memory.
+pub fn parted(path: &str) -> (&str, &str)
+    ensures folder { result.0.now ≡ parent_folder path.now }
+    ensures name { result.1.now ≡ file_name_of path.now }
+{
+    match path.rsplit_once('/') {
+        Some(parts) => parts,
+        None => ("", path),
+    }
+}
+
 /// The folder that a path is in. It takes no memory.
 pub fn folder_of(path: &str) -> &str
     ensures { result.now ≡ parent_folder path.now }
 {
-    match cut(path) {
-        Some((folder, _)) => folder,
-        None => "",
-    }
+    let (folder, _) = parted(path);
+    folder
 }
 
 impl Folders {

@@ -14,8 +14,8 @@ mod paths;
 mod sync;
 
 pub use disk::{Disk, FolderFault};
-pub use folders::{Folders, folder_of};
+pub use folders::{Folders, folder_of, parted};
 pub use laws::note_laws;
 pub use named::Named;
 pub use paths::Paths;
-pub use sync::{sync_changed, sync_seen};
+pub use sync::{sync_changed, sync_names, sync_seen};

@@ -21,7 +21,7 @@ pub struct Named {
 
 impl Named {
     ghost use Rattle.std.specs.Prelude.{◌≡◌, [], false, OnOk};
-    ghost use Rattle.name_syncs.specs.Named.{changed_at, looked_again, looked_at, looked_into, owned, removed_at, renamed_known, renamed_to, renamed_with};
+    ghost use Rattle.name_syncs.specs.Named.{changed_at, looked_again, looked_at, looked_into, made_at, removed_at, renamed_known, renamed_to, renamed_with};
     ghost use Rattle.name_syncs.specs.Folders.{listed};
 
     /// Nothing. It takes no memory.
@@ -44,7 +44,8 @@ impl Named {
     /// A file was looked at: a name above it that another process changed is synced too. Each folder that was seen came
     /// with those above it.
     pub fn look_at(&mut self, path: &str) -> Result<(), AllocError>
-        ensures { OnOk result (self.new ≡ looked_at self.old path.now) }
+        ensures noted { OnOk result (self.new ≡ looked_at self.old path.now) }
+        ensures rest { self.new ≡ record self.old { seen = self.new.seen } }
     {
         if self.seen.has(folder_of(path)) {
             return Ok(());
@@ -54,7 +55,8 @@ impl Named {
 
     /// A file was looked at again, and is as it was before the last sync of names.
     pub fn look_again(&mut self, path: &str) -> Result<(), AllocError>
-        ensures { OnOk result (self.new ≡ looked_again self.old path.now) }
+        ensures noted { OnOk result (self.new ≡ looked_again self.old path.now) }
+        ensures rest { self.new ≡ record self.old { seen = self.new.seen } }
     {
         if self.settled.has(folder_of(path)) {
             return Ok(());
@@ -64,7 +66,8 @@ impl Named {
 
     /// The names of a folder were looked at.
     pub fn look_into(&mut self, folder: &str) -> Result<(), AllocError>
-        ensures { OnOk result (self.new ≡ looked_into self.old folder.now) }
+        ensures noted { OnOk result (self.new ≡ looked_into self.old folder.now) }
+        ensures rest { self.new ≡ record self.old { seen = self.new.seen } }
     {
         self.seen.add(folder)?;
         self.seen.add_above(folder)
@@ -80,9 +83,10 @@ impl Named {
 
     /// A folder is made.
     pub fn make(&mut self, folder: &str) -> Result<(), AllocError>
-        ensures { OnOk result (self.new ≡ owned self.old folder.now) }
+        ensures { OnOk result (self.new ≡ made_at self.old folder.now) }
     {
-        self.own.add(folder_of(folder))
+        self.own.add(folder_of(folder))?;
+        self.changed.add(folder_of(folder))
     }
 
     /// A file gets a new name. The folder in which that name comes is synced before the one in which the old one goes.

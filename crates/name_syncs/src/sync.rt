@@ -9,6 +9,19 @@ use crate::folders::Folders;
 use crate::named::Named;
 use boot_base::Text;
 
+/// Syncs what has changed, and then, as far as it can be done, what was only looked at: nothing waits any more.
+///
+/// # Errors
+///
+/// The first sync of what has changed that fails ends it, and all of it is still to be synced.
+pub fn sync_names<D: Disk>(disk: &mut D, named: &mut Named) -> Result<(), D::Fault>
+    ensures { IfOk result (λ _. IsTrue D.tells → Covers named.old (D.state disk.old) → NothingWaits (D.state disk.new)) }
+{
+    sync_changed(disk, named)?;
+    sync_seen(disk, named);
+    Ok(())
+}
+
 /// Syncs the renamed files, and then the changed folders. What isn't there any longer needs no sync.
 ///
 /// # Errors
@@ -21,7 +34,7 @@ pub fn sync_changed<D: Disk>(disk: &mut D, named: &mut Named) -> Result<(), D::F
     ensures order { IfOk result (λ _. IsTrue D.tells →
         Asks (changed_syncs named.old) (D.state disk.old) (D.state disk.new)) }
     ensures all { IfOk result (λ _. IsTrue D.tells →
-        Covers named.old (D.state disk.old) → NothingWaits named.old (D.state disk.new)) }
+        Covers named.old (D.state disk.old) → NothingWaits (D.state disk.new)) }
     ensures noted { named.new ≡ record named.old { settled = named.new.settled } }
     ensures settled { IsTrue D.tells
         → SettlesOnly (listed named.old.changed) (D.state disk.new) named.old.settled named.new.settled }

@@ -1,4 +1,3 @@
-mod Cuts
 mod Maps
 mod NameSets
 mod Checks

@@ -1,4 +1,3 @@
-pub mod Parts
 pub mod Maps
 pub mod Names
 pub mod Looks

@@ -7,7 +7,7 @@ use Rattle.std.specs.FinMap as map
 use Rattle.std.specs.FinSet as set
 use Rattle.boot_base.specs.Paths.{file_name_of, is_temp}
 use Rattle.run_looks.specs.Names.{NameSet}
-use Rattle.run_looks.specs.Parts.{folder_before}
+use Rattle.name_syncs.specs.Folders.{parent_folder}
 use Rattle.run_looks.specs.declared.identity.Identity.{Identity}
 use Rattle.run_looks.specs.declared.identity.Look.{Look}
 use Rattle.run_looks.specs.declared.identity.Listing.{Listing}
@@ -68,7 +68,7 @@ without_names looks folder = record looks { listings = map.remove looks.listings
 abbrev pub without_path : RunLooks → List ℕ → RunLooks
 without_path looks path = record looks {
   files = map.remove looks.files path;
-  listings = if is_temp path then looks.listings else map.remove looks.listings (folder_before path);
+  listings = if is_temp path then looks.listings else map.remove looks.listings (parent_folder path);
 }
 
 -- a regular file was found at a path since the last reply
@@ -80,7 +80,7 @@ is_known_file looks path =
 abbrev pub has_listed : RunLooks → List ℕ → Bool
 has_listed looks path =
     option_map_or (λ listing. set.contains listing.names (file_name_of path)) (map.get looks.listings
-    (folder_before path)) false
+    (parent_folder path)) false
 
 -- a reply is given: no path was looked at since then
 abbrev pub after_reply : RunLooks → RunLooks

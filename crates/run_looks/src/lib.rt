@@ -12,7 +12,6 @@ mod laws;
 mod looks;
 mod map;
 mod names;
-mod parts;
 
 pub use disk::{CheckFault, LiveDisk};
 pub use identity::{Identity, Listing, Look};
@@ -20,4 +19,3 @@ pub use laws::look_laws;
 pub use looks::{LookFault, RunLooks};
 pub use map::PathMap;
 pub use names::LastingNames;
-pub use parts::parted;

@@ -4,14 +4,14 @@ ghost use Rattle.std.specs.Option.{option_map_or};
 ghost use Rattle.std.specs.FinMap as map;
 ghost use Rattle.std.specs.FinSet as set;
 ghost use Rattle.boot_base.specs.Paths.{file_name_of, is_temp};
-ghost use Rattle.run_looks.specs.Parts.{folder_before};
+ghost use Rattle.name_syncs.specs.Folders.{parent_folder};
 ghost use Rattle.run_looks.specs.Names.{lasting, names_of_list};
 
 use crate::identity::{Identity, Listing, Look, is_same};
 use crate::map::PathMap;
 use crate::names::LastingNames;
-use crate::parts::parted;
 use boot_base::{Text, TextList, ends_as_temp};
+use name_syncs::{folder_of, parted};
 use std::alloc::{AllocError, Global};
 
 /// Why a look isn't taken.
@@ -203,10 +203,9 @@ impl RunLooks {
 
     /// This run itself changes the names of the folder that a path is in.
     pub fn forget_name(&mut self, path: &str)
-        ensures { self.new ≡ without_names self.old (folder_before path.now) }
+        ensures { self.new ≡ without_names self.old (parent_folder path.now) }
     {
-        let (folder, _) = parted(path);
-        self.listings.remove(folder);
+        self.listings.remove(folder_of(path));
     }
 
     /// A reply is given.

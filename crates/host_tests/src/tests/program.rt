@@ -3,7 +3,7 @@ use super::Act::{Append, Create};
 use super::Change::{Crowd, Link, MakeFolder, RemoveFolder, Write};
 use super::Step::{Beside, Does, Faults, Holds, Lacks, Runs, Same};
 use super::{Step, enter_own_folder, go_through, go_through_over, remove_own_folder};
-use host_machine::HostMachine;
+use host_machine::{HostMachine, host_machine};
 use sample_images::{OSREL_TEXT, SampleImage};
 use std::io::Stderr;
 use std::test::Fail;
@@ -106,13 +106,13 @@ fn build_at_the_same_time(
     rt: &HostRuntime,
     second: &mut HostMachine<HostRuntime, Stderr>,
 ) -> Result<(), Fail> {
-    let mut first = HostMachine::new(*rt, rt.stderr());
+    let mut first = host_machine(*rt, rt.stderr());
     go_through(rt, &mut first, &HALF_WRITTEN)?;
     go_through(rt, second, &AT_THE_SAME_TIME)
 }
 
 fn build_twice(rt: &HostRuntime) -> Result<(), Fail> {
-    let mut second = HostMachine::new(*rt, rt.stderr());
+    let mut second = host_machine(*rt, rt.stderr());
     build_at_the_same_time(rt, &mut second)?;
     go_through(rt, &mut second, &AFTERWARDS)
 }

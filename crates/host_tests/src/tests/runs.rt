@@ -3,7 +3,7 @@ use super::Act::{Append, Create, RenameTemp, SyncFile, UnlinkTemp};
 use super::Change::{MakeFolder, Write, WriteAt};
 use super::Step::{Beside, Does, Fails, Faults, Holds, Lacks, Puts, Runs, Syncs};
 use super::{Step, enter_own_folder, remove_own_folder, require, run};
-use host_machine::HostMachine;
+use host_machine::{HostMachine, host_machine};
 use std::io::Stderr;
 use std::test::Fail;
 
@@ -46,8 +46,8 @@ fn go_through_both(
 }
 
 fn run_both_here(rt: &HostRuntime, steps: &[(u8, Step)]) -> Result<(), Fail> {
-    let mut first = HostMachine::new(*rt, rt.stderr());
-    let mut second = HostMachine::new(*rt, rt.stderr());
+    let mut first = host_machine(*rt, rt.stderr());
+    let mut second = host_machine(*rt, rt.stderr());
     go_through_both(rt, &mut first, &mut second, steps)
 }
 

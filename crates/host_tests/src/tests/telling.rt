@@ -1,7 +1,7 @@
 // What the log tells of each call that failed.
 use super::Act::{self, Create, RenameTemp, Unlink};
 use super::{enter_own_folder, holds, is_done, remove_own_folder};
-use host_machine::{HostMachine, reports_are_wanted};
+use host_machine::{host_machine, reports_are_wanted};
 use std::env::FillError;
 use std::fmt::Display;
 use std::fs::OpenOptions;
@@ -48,7 +48,7 @@ static FAILING: [(&str, Act); 3] = [("d", Create), ("e", Unlink), ("e", RenameTe
 
 // How many of these calls fail.
 fn count_failing(rt: HostRuntime, are_wanted: bool) -> Result<u64, Fail> {
-    let mut machine = HostMachine::new(rt, Notes { rt }).with_reports(are_wanted);
+    let mut machine = host_machine(rt, Notes { rt }).with_reports(are_wanted);
     for (path, act) in &FAILING {
         is_done(&mut machine, rt.alloc(), path, *act)?;
     }

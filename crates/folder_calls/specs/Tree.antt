@@ -1,0 +1,31 @@
+-- What stands in a folder, as the system tells of it.
+use Rattle.std.specs.Prelude.{ℕ, ◌==◌, Bool, true, false, ◌&&◌, List, Option, is_some}
+use Rattle.folder_calls.specs.declared.found.Found.{Found}
+use Rattle.folder_calls.specs.declared.found.Kind.{Kind}
+use Rattle.folder_calls.specs.declared.found.Kind.TheVariants.{File, Folder, Link, Other}
+
+-- a folder with all that is below it
+pub record Tree : Type 0 where
+  -- what stands at a path itself, and not behind a link
+  pub stands : List ℕ → Option Found
+  -- the names in a folder that are UTF-8, in the order in which it lists them
+  pub names : List ℕ → List (List ℕ)
+
+-- a regular file
+abbrev pub is_regular : Kind → Bool
+is_regular File = true
+is_regular Folder = false
+is_regular Link = false
+is_regular Other = false
+
+-- what was found is a regular file
+abbrev pub is_file : Found → Bool
+is_file found = is_regular found.kind
+
+-- a regular file that may stand on FAT: FAT can keep its time
+abbrev pub is_fat_file : Found → Bool
+is_fat_file found = is_file found && is_some found.facts.time
+
+-- the same file, by its number and that of its file system (POSIX, sys/stat.h)
+abbrev pub same_inode : Found → Found → Bool
+same_inode one other = (one.device == other.device) && (one.inode == other.inode)

@@ -1,0 +1,160 @@
+//! The calls of the system.
+ghost use Rattle.std.specs.Prelude.{◌≡◌, ◌≤◌, [], ◌∷◌, Bool, ℕ, IfErr, IfOk, IfSome, IsTrue, List, Option, Some, None, false, true, is_some, length, map, string_bytes};
+ghost use Rattle.std.specs.Option.{option_map};
+ghost use Rattle.name_syncs.specs.Named.{NameWaits, RenameWaits};
+ghost use Rattle.name_syncs.specs.Waiting.{Asks, FileAt, FolderAt, KeepsSynced, Waiting};
+ghost use Rattle.boot_base.specs.Paths.{file_name_of};
+ghost use Rattle.folder_calls.specs.Calls.{Inode, IsOpenAt, MayGo, MayGoBut, inode_of};
+ghost use Rattle.folder_calls.specs.Tree.{Tree};
+
+use crate::found::Found;
+use crate::locked::Locked;
+use name_syncs::FolderFault;
+use std::alloc::Global;
+use std::io;
+
+/// Who else may hold the same file or folder.
+#[derive(Clone, Copy, Debug, PartialEq, Eq)]
+pub enum Hold {
+    /// Others that hold it so too.
+    Shared,
+    /// No other run.
+    Alone,
+}
+
+/// Why a file or a folder isn't locked.
+#[derive(Drop)]
+pub enum LockFault {
+    /// Another run holds it.
+    Taken,
+    /// Its file system keeps no locks.
+    KeepsNone(io::Error),
+    Disk(io::Error),
+}
+
+/// How a file is opened that is there.
+#[derive(Clone, Copy, Debug, PartialEq, Eq)]
+pub enum Access {
+    /// To read it, or to list a folder.
+    Read,
+    /// To write behind what it has.
+    Append,
+}
+
+/// The calls on what stands below the folder that the program starts in. That one has no name: its path is empty. A path
+/// leads over links, but where a call says otherwise. No call waits, and none is interrupted.
+pub trait Calls {
+    /// An open file or folder. It is closed, and its lock given back, when it is dropped.
+    type File: Drop;
+
+    /// Folders of this type tell what stands and what waits. Of the others no clause says so.
+    ghost tells: { Bool };
+
+    /// What stands there.
+    ghost tree: { Self → Tree };
+
+    /// What waits for the disk.
+    ghost waits: { Self → Waiting };
+
+    /// Whether bytes of the file at a path were written since it was synced last.
+    ghost written: { Self → List ℕ → Bool };
+
+    /// Which file an open one is.
+    ghost inode: { Self.File → Inode };
+
+    /// What stands at a path.
+    fn find(&self, path: &str) -> io::Result<Option<Found>>;
+
+    /// What stands at a path itself, which may be a link.
+    fn find_itself(&self, path: &str) -> io::Result<Option<Found>>
+        ensures { IfOk result (λ found. IsTrue tells → found ≡ (tree self.now).stands path.now) };
+
+    /// What an open file is.
+    fn find_open(&self, file: &Self::File) -> io::Result<Found>
+        ensures { IfOk result (λ found. IsTrue tells → inode file.now ≡ inode_of found) };
+
+    /// The names in a folder that are UTF-8, and none if it isn't there.
+    fn names(&self, alloc: Global, folder: &str) -> io::Result<Vec<String>>
+        ensures { IfOk result (λ names. IsTrue tells
+            → map string_bytes names.items ≡ (tree self.now).names folder.now) };
+
+    /// Opens a file or a folder.
+    fn open(&self, path: &str, access: Access) -> io::Result<Self::File>;
+
+    /// Some of an open file's bytes from that place on, and none at its end.
+    fn read(&self, file: &Self::File, at: u64, into: &mut [u8]) -> io::Result<usize>
+        ensures { IfOk result (λ n. n ≤ length into.new) };
+
+    /// Locks an open file or folder.
+    fn lock(&self, file: &Self::File, hold: Hold) -> Result<(), LockFault>;
+
+    /// Makes an empty file of that mode, to write to it, where nothing stands.
+    fn create(&mut self, path: &str, mode: u32) -> io::Result<Self::File>
+        ensures { IsTrue tells → NameWaits (waits self.old) (waits self.new) path.now };
+
+    /// Writes all of the bytes behind what an open file has.
+    fn append(&mut self, file: &mut Self::File, bytes: &[u8]) -> io::Result<()>
+        ensures same { IsTrue tells → inode file.new ≡ inode file.old }
+        ensures quiet { IsTrue tells → waits self.new ≡ waits self.old };
+
+    /// Gives an open file a mode, and tells whether its file system has modes.
+    fn set_mode(&mut self, file: &Self::File, mode: u32) -> io::Result<bool>
+        ensures { IsTrue tells → waits self.new ≡ waits self.old };
+
+    /// Makes a folder, unless something stands there.
+    fn make_folder(&mut self, folder: &str) -> io::Result<()>
+        ensures { IsTrue tells → NameWaits (waits self.old) (waits self.new) folder.now };
+
+    /// Gives a file another path. What stood there goes: if it is a file, it is one that is held.
+    fn rename(&mut self, from: &str, to: &str, held: Option<&Locked<Self::File>>) -> io::Result<()>
+        requires { IsTrue tells → MayGo (tree self.old) to.now (option_map (λ file. inode file.now) held) }
+        ensures { IsTrue tells → RenameWaits (waits self.old) (waits self.new) from.now to.now };
+
+    /// The same of a file that this run has made, given open: it shares no clusters with what goes.
+    fn put(
+        &mut self,
+        from: &str,
+        to: &str,
+        made: &Locked<Self::File>,
+        held: Option<&Locked<Self::File>>,
+    ) -> io::Result<()>
+        requires goes { IsTrue tells
+            → MayGoBut (tree self.old) to.now (file_name_of from.now) (option_map (λ file. inode file.now) held) }
+        requires made { IsTrue tells → IsOpenAt (tree self.old) from.now (inode made.now) }
+        ensures { IsTrue tells → RenameWaits (waits self.old) (waits self.new) from.now to.now };
+
+    /// Removes what isn't a folder: if it is a file, it is one that is held.
+    fn unlink(&mut self, path: &str, held: Option<&Locked<Self::File>>) -> io::Result<()>
+        requires { IsTrue tells → MayGo (tree self.old) path.now (option_map (λ file. inode file.now) held) }
+        ensures { IsTrue tells → NameWaits (waits self.old) (waits self.new) path.now };
+
+    /// Syncs the file at a path, if one is there.
+    fn sync_file(&mut self, path: &str) -> io::Result<()>
+        ensures asks { IsTrue tells → Asks (FileAt path.now ∷ []) (waits self.old) (waits self.new) }
+        ensures synced { IfOk result (λ _. IsTrue tells → (waits self.new).files path.now ≡ false) };
+
+    /// Syncs an open file, which is the one at that path or was.
+    fn sync_open(&mut self, path: &str, file: &Self::File) -> io::Result<()>
+        ensures asks { IsTrue tells → Asks (FileAt path.now ∷ []) (waits self.old) (waits self.new) }
+        ensures synced { IfOk result (λ _. IsTrue tells → IsOpenAt (tree self.old) path.now (inode file.now)
+            → (waits self.new).files path.now ≡ false) }
+        ensures whole { IfOk result (λ _. IsTrue tells → IsOpenAt (tree self.old) path.now (inode file.now)
+            → written self.new path.now ≡ false) };
+
+    /// Syncs a folder, and tells whether it was there.
+    fn sync_folder(&mut self, folder: &str) -> Result<bool, FolderFault<io::Error>>
+        ensures asks { IsTrue tells → Asks (FolderAt folder.now ∷ []) (waits self.old) (waits self.new) }
+        ensures synced { IfOk result (λ _. IsTrue tells → (waits self.new).folders folder.now ≡ false) }
+        ensures unable { IfErr result (λ failure. IsTrue tells → failure.syncs_none ≡ true
+            → (waits self.new).syncs folder.now ≡ false) };
+
+    /// Whether the file system of a path that is gone can be written: a rename of the name to itself, which changes nothing.
+    fn try_name(&self, path: &str) -> io::Result<()>;
+
+    /// Writes all of the bytes to standard output.
+    fn print(&self, bytes: &[u8]) -> io::Result<()>;
+
+    /// Some of the next bytes of standard input, and none at its end.
+    fn input(&self, into: &mut [u8]) -> io::Result<usize>
+        ensures { IfOk result (λ n. n ≤ length into.new) };
+}

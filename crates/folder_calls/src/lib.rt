@@ -1,0 +1,15 @@
+//! The calls by which the machine on a real folder reads and changes it: what each tells, what it leaves to be synced,
+//! and what has to be known before one that frees bytes. Who implements `Calls` makes them, and decides nothing.
+#![tactic(auto)]
+
+mod answers;
+mod calls;
+mod found;
+mod locked;
+mod writes;
+
+pub use answers::if_there;
+pub use calls::{Access, Calls, Hold, LockFault};
+pub use found::{Found, Kind};
+pub use locked::Locked;
+pub use writes::write_whole;

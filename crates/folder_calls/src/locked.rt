@@ -1,0 +1,89 @@
+//! An open file with its lock.
+ghost use Rattle.std.specs.Prelude.{◌≡◌, IfOk, IsTrue};
+
+use crate::calls::{Calls, Hold, LockFault};
+use std::io;
+use std::marker::Model;
+
+/// An open file or folder with its lock, which goes when that is closed. Nobody is held up on a file system that keeps no
+/// locks.
+#[derive(Drop)]
+pub struct Locked<F: Drop> {
+    file: F,
+    hold: Hold,
+}
+
+impl<F: Drop> Model for Locked<F> {
+    ghost Value = { F };
+
+    ghost view = { λ locked. locked.file };
+}
+
+impl<F: Drop> Locked<F> {
+    /// Locks an open file.
+    ///
+    /// # Errors
+    ///
+    /// Another run holds it, its file system keeps no locks, or the call has failed.
+    pub fn take<C: Calls<File = F>>(calls: &C, file: F, hold: Hold) -> Result<Self, LockFault>
+        ensures { IfOk result (λ locked. locked ≡ file) }
+    {
+        calls.lock(&file, hold)?;
+        Ok(Locked { file, hold })
+    }
+
+    /// The same, also if its file system keeps no locks.
+    pub fn take_if_kept<C: Calls<File = F>>(
+        calls: &C,
+        file: F,
+        hold: Hold,
+    ) -> Result<Self, LockFault>
+        ensures { IfOk result (λ locked. locked ≡ file) }
+    {
+        if_kept(calls.lock(&file, hold))?;
+        Ok(Locked { file, hold })
+    }
+
+    /// The open file.
+    pub fn file(&self) -> &F
+        ensures { result.now ≡ self.now }
+    {
+        &self.file
+    }
+
+    /// Whether it is held so already.
+    pub fn is_enough(&self, hold: Hold) -> bool {
+        self.hold == Hold::Alone || hold == Hold::Shared
+    }
+
+    /// Holds what is held already.
+    ///
+    /// # Errors
+    ///
+    /// Another run holds it, or the call has failed. Then it is held as it was.
+    pub fn strengthen<C: Calls<File = F>>(&mut self, calls: &C, hold: Hold) -> Result<(), LockFault>
+        ensures { self.new ≡ self.old }
+    {
+        if !self.is_enough(hold) {
+            if_kept(calls.lock(&self.file, hold))?;
+            self.hold = hold;
+        }
+        Ok(())
+    }
+
+    /// Writes all of the bytes behind what the file has.
+    pub fn append<C: Calls<File = F>>(&mut self, calls: &mut C, bytes: &[u8]) -> io::Result<()>
+        ensures quiet { IsTrue C.tells → C.waits calls.new ≡ C.waits calls.old }
+        ensures same { IsTrue C.tells → C.inode self.new ≡ C.inode self.old }
+    {
+        calls.append(&mut self.file, bytes)
+    }
+}
+
+// A file system that keeps no locks holds nobody up.
+fn if_kept(answer: Result<(), LockFault>) -> Result<(), LockFault> {
+    match answer {
+        Err(LockFault::KeepsNone(_)) => Ok(()),
+        answer => answer,
+    }
+}

@@ -1,0 +1,21 @@
+//! Writes that are repeated until all is written.
+use std::io;
+use std::io::{ErrorKind, Write};
+
+/// Writes all of the bytes. A write that is interrupted is made again, and one that takes
+/// none of them is a failure.
+pub fn write_whole<W: Write>(writer: &mut W, bytes: &[u8]) -> io::Result<()> {
+    let mut rest = bytes;
+    for _ in 0..u64::MAX {
+        if rest.is_empty() {
+            return Ok(());
+        }
+        match writer.write(rest) {
+            Ok(0) => return Err(io::Error::from(ErrorKind::WriteZero)),
+            Ok(count) => rest = &rest[count..],
+            Err(error) if error.kind() == ErrorKind::Interrupted => {}
+            Err(error) => return Err(error),
+        }
+    }
+    Err(io::Error::from(ErrorKind::Interrupted))
+}

@@ -1,0 +1,362 @@
+//! The calls that change a folder, with what they leave to be synced.
+ghost use Rattle.std.specs.Prelude.{◌≡◌, IfOk, IsTrue, None, Ok, OnErr, OnOk, false, true};
+ghost use Rattle.std.specs.Option.{option_map};
+ghost use Rattle.name_syncs.specs.Named.{NothingWaits};
+ghost use Rattle.folder_calls.specs.Calls.{MayGoBut};
+
+use crate::paths::copy_path;
+use crate::reports::Reports;
+use crate::sync::{KeptFile, Syncs, is_open_at};
+use crate::twins::{Twins, changed_fault, leave_of, twins_of};
+use folder_calls::{Calls, Found, Locked};
+use name_syncs::{Named, folder_of, parted, sync_names};
+use std::alloc::{AllocError, Global};
+use std::io;
+use std::marker::Model;
+
+/// The calls, and what they leave to be synced. A clause sees the calls alone.
+#[derive(Drop)]
+pub struct Changes<C: Calls + Drop, E: Print + Drop> {
+    syncs: Syncs<C, E>,
+    alloc: Global,
+    named: Named,
+    /// the file that was removed last, until the names are synced
+    removed: Option<String>,
+    /// two names that may be of one file, for which a call has failed
+    twins: Option<Twins>,
+    /// What waits for the disk isn't known any more: a sync has failed, and the system tells of lost bytes once; or there
+    /// was no memory for a note.
+    is_unsure: bool,
+}
+
+impl<C: Calls + Drop, E: Print + Drop> Model for Changes<C, E> {
+    ghost use Rattle.std.specs.Prelude.{IsTrue};
+    ghost use Rattle.folder_changes.specs.Noted.{IsNoted};
+
+    ghost Value = { C };
+
+    ghost view = { λ changes. changes.syncs.calls };
+
+    ghost invariant = { λ changes. IsTrue C.tells → IsNoted changes.is_unsure changes.named (C.waits changes.syncs.calls) };
+}
+
+// There may have been no memory for a note: then it isn't known what waits.
+fn keep_note(is_unsure: &mut bool, noted: Result<(), AllocError>) -> io::Result<()>
+    ensures ok { OnOk result ((noted ≡ Ok tt) × (is_unsure.new ≡ is_unsure.old)) }
+    ensures err { OnErr result (is_unsure.new ≡ true) }
+{
+    if noted.is_err() {
+        *is_unsure = true;
+    }
+    Ok(noted?)
+}
+
+impl<C: Calls + Drop, E: Print + Drop> Changes<C, E> {
+    /// Nothing has changed yet, and nothing waits.
+    pub fn new(alloc: Global, calls: C, err: E) -> Self
+        requires { IsTrue C.tells → NothingWaits (C.waits calls) }
+        ensures { result ≡ calls }
+    {
+        Changes {
+            syncs: Syncs {
+                calls,
+                moved: None,
+                reports: Reports::new(err),
+            },
+            alloc,
+            named: Named::new(alloc),
+            removed: None,
+            twins: None,
+            is_unsure: false,
+        }
+    }
+
+    /// The calls, as far as they only look.
+    pub fn calls(&self) -> &C
+        ensures { result.now ≡ self.now }
+    {
+        &self.syncs.calls
+    }
+
+    /// A file was looked at: a name above it that another process changed is synced too.
+    pub fn look_at(&mut self, path: &str) -> Result<(), AllocError>
+        ensures { self.new ≡ self.old }
+    {
+        self.named.look_at(path)
+    }
+
+    /// A file was looked at again, and is as it was before the last sync of names.
+    pub fn look_again(&mut self, path: &str) -> Result<(), AllocError>
+        ensures { self.new ≡ self.old }
+    {
+        self.named.look_again(path)
+    }
+
+    /// The names of a folder were looked at.
+    pub fn look_into(&mut self, folder: &str) -> Result<(), AllocError>
+        ensures { self.new ≡ self.old }
+    {
+        self.named.look_into(folder)
+    }
+
+    /// A file is about to come, maybe with folders above it: all of these are synced too.
+    pub fn change_above(&mut self, path: &str) -> io::Result<()> {
+        keep_note(&mut self.is_unsure, self.named.change(path))?;
+        Ok(())
+    }
+
+    /// The same of a name that changes in a folder that may not be there: the folders above it that were synced since the
+    /// last reply need no second sync.
+    pub fn change_near(&mut self, path: &str) -> io::Result<()> {
+        keep_note(&mut self.is_unsure, self.named.remove(path))?;
+        Ok(())
+    }
+
+    /// Makes an empty file of that mode, where nothing stands.
+    pub fn create(&mut self, path: &str, mode: u32) -> io::Result<C::File> {
+        keep_note(&mut self.is_unsure, self.named.remove(path))?;
+        self.syncs.calls.create(path, mode)
+    }
+
+    /// Makes a folder, unless something stands there.
+    pub fn make_folder(&mut self, folder: &str) -> io::Result<()> {
+        keep_note(&mut self.is_unsure, self.named.make(folder))?;
+        self.syncs.calls.make_folder(folder)
+    }
+
+    /// Writes all of the bytes behind what an open file has.
+    pub fn append(&mut self, file: &mut Locked<C::File>, bytes: &[u8]) -> io::Result<()> {
+        file.append(&mut self.syncs.calls, bytes)
+    }
+
+    /// Gives an open file a mode, and tells whether its file system has modes.
+    pub fn set_mode(&mut self, file: &C::File, mode: u32) -> io::Result<bool> {
+        self.syncs.calls.set_mode(file, mode)
+    }
+
+    /// Puts a file that this run has made in its place. What stands there goes: a file must be held, and have no twin.
+    /// The two may look alike.
+    pub fn put(
+        &mut self,
+        from: &str,
+        to: &str,
+        made: &Locked<C::File>,
+        held: Option<&Locked<C::File>>,
+    ) -> io::Result<()> {
+        let (_, name) = parted(from);
+        self.require_leave(to, name, held)?;
+        if !is_open_at(&self.syncs.calls, from, made.file()) {
+            return Err(changed_fault());
+        }
+        keep_note(&mut self.is_unsure, self.named.rename(from, to))?;
+        self.syncs.calls.put(from, to, made, held)
+    }
+
+    /// Gives a file another path. What stands there goes: a file must be held, and have no twin.
+    pub fn rename(
+        &mut self,
+        from: &str,
+        to: &str,
+        held: Option<&Locked<C::File>>,
+    ) -> io::Result<()> {
+        self.require_leave(to, "", held)?;
+        keep_note(&mut self.is_unsure, self.named.rename(from, to))?;
+        self.syncs.calls.rename(from, to, held)
+    }
+
+    /// The same of a file that was there before the names were last synced.
+    pub fn rename_known(
+        &mut self,
+        from: &str,
+        to: &str,
+        held: Option<&Locked<C::File>>,
+    ) -> io::Result<()> {
+        self.require_leave(to, "", held)?;
+        keep_note(&mut self.is_unsure, self.named.rename_known(from, to))?;
+        self.syncs.calls.rename(from, to, held)
+    }
+
+    /// Removes a file: it must be held, and have no twin.
+    pub fn unlink(&mut self, path: &str, held: Option<&Locked<C::File>>) -> io::Result<()> {
+        self.require_leave(path, "", held)?;
+        let removed = copy_path(self.alloc, path)?;
+        keep_note(&mut self.is_unsure, self.named.remove(path))?;
+        self.syncs.calls.unlink(path, held)?;
+        self.removed = Some(removed);
+        Ok(())
+    }
+
+    // What stands at a path may go. One name isn't asked whether it is that of a twin.
+    fn require_leave(
+        &mut self,
+        path: &str,
+        but: &str,
+        held: Option<&Locked<C::File>>,
+    ) -> io::Result<()>
+        ensures same { self.new ≡ self.old }
+        ensures leave { IfOk result (λ _. IsTrue C.tells
+            → MayGoBut (C.tree self.old) path.now but.now (option_map (λ file. C.inode file.now) held.entry)) }
+    {
+        let twins = leave_of(&self.syncs.calls, self.alloc, path, but, held)?;
+        self.require_no_twins(twins)
+    }
+
+    // There are no twins. If there are, they are kept to be told of: those that a call has failed for stay, whatever it then
+    // takes back.
+    fn require_no_twins(&mut self, twins: Option<Twins>) -> io::Result<()>
+        ensures same { self.new ≡ self.old }
+        ensures none { IfOk result (λ _. twins ≡ None) }
+    {
+        let Some(twins) = twins else {
+            return Ok(());
+        };
+        self.twins = Some(twins);
+        Err(io::Error::other(
+            "may be one file under two names: run fsck.vfat -a, then this command again",
+        ))
+    }
+
+    /// What was found at a path is changed only if no other name may be of it too.
+    ///
+    /// # Errors
+    ///
+    /// If two names may be of it, they are kept to be told of.
+    pub fn require_one_name(&mut self, path: &str, found: Option<Found>) -> io::Result<()>
+        ensures { self.new ≡ self.old }
+    {
+        let Some(found) = found else {
+            return Ok(());
+        };
+        let twins = twins_of(&self.syncs.calls, self.alloc, path, "", &found)?;
+        self.require_no_twins(twins)
+    }
+
+    /// The two names for which the last call has failed, if it has for such.
+    pub fn take_twins(&mut self) -> Option<Twins>
+        ensures { self.new ≡ self.old }
+    {
+        self.twins.take()
+    }
+
+    /// What waits isn't known any more: no later sync makes good for what has failed.
+    pub fn give_up(&mut self)
+        ensures { self.new ≡ self.old }
+    {
+        self.is_unsure = true;
+    }
+
+    /// Whether no name came or went since the last sync of names.
+    pub fn has_changed_nothing(&self) -> bool {
+        self.named.renamed.as_slice().is_empty() && self.removed.is_none()
+    }
+
+    /// An earlier sync must not have failed: none makes good for it.
+    pub fn require_sure(&self) -> io::Result<()> {
+        require_sync_before(self.is_unsure)
+    }
+
+    /// Syncs the file at a path by an open one: no other one stands there.
+    pub fn sync_file(&mut self, path: &str, file: &Locked<C::File>) -> io::Result<()>
+        ensures { IfOk result (λ _. IsTrue C.tells → C.written self.new path.now ≡ false) }
+    {
+        require_sync_before(self.is_unsure)?;
+        if !is_open_at(&self.syncs.calls, path, file.file()) {
+            return Err(changed_fault());
+        }
+        let answer = self.syncs.calls.sync_open(path, file.file());
+        self.is_unsure = answer.is_err();
+        answer
+    }
+
+    /// Syncs a file that has got its name, and its folder.
+    pub fn sync_name(&mut self, path: &str) -> io::Result<()> {
+        if let Err(fault) = self.syncs.calls.sync_file(path) {
+            self.is_unsure = true;
+            return Err(fault);
+        }
+        self.sync_folder(folder_of(path))
+    }
+
+    /// Syncs a folder.
+    pub fn sync_folder(&mut self, folder: &str) -> io::Result<()> {
+        match self.syncs.calls.sync_folder(folder) {
+            Ok(_) => Ok(()),
+            Err(failure) => {
+                self.is_unsure = true;
+                Err(failure.fault)
+            }
+        }
+    }
+
+    /// Syncs each renamed file, then each changed folder with those above it, and last, as far as it can be done, the
+    /// folders that were looked at. After a failure all of it is still to be synced.
+    pub fn sync_names(&mut self) -> io::Result<()>
+        ensures { IfOk result (λ _. IsTrue C.tells → NothingWaits (C.waits self.new)) }
+    {
+        self.syncs
+            .reports
+            .report("sync", ".", require_sync_before(self.is_unsure))?;
+        let answer = sync_names(&mut self.syncs, &mut self.named);
+        self.is_unsure = answer.is_err();
+        answer?;
+        self.require_writable()?;
+        self.removed = None;
+        self.named.clear();
+        Ok(())
+    }
+
+    // After a removal the file system must still be one that can be written: FAT's driver makes it read-only if the
+    // clusters of the removed file were free already, and answers Ok all the same.
+    fn require_writable(&self) -> io::Result<()> {
+        let Some(removed) = &self.removed else {
+            return Ok(());
+        };
+        let path = removed.as_str();
+        self.syncs
+            .reports
+            .report("sync", path, self.syncs.calls.try_name(path))
+    }
+
+    /// A renamed file that is held is the one at that path, until its name is synced.
+    pub fn keep_moved(&mut self, moved: KeptFile<C::File>)
+        ensures { self.new ≡ self.old }
+    {
+        self.syncs.moved = Some(moved);
+    }
+
+    /// The renamed file that is held, and is held here no longer.
+    pub fn take_moved(&mut self) -> Option<KeptFile<C::File>>
+        ensures { self.new ≡ self.old }
+    {
+        self.syncs.moved.take()
+    }
+
+    /// What is told on standard error.
+    pub fn reports(&self) -> &Reports<E> {
+        &self.syncs.reports
+    }
+
+    /// Whether failures are told from now on.
+    pub fn want_reports(&mut self, are_wanted: bool)
+        ensures { self.new ≡ self.old }
+    {
+        self.syncs.reports.want(are_wanted);
+    }
+
+    /// A reply is printed, or a part of one: no later command relies on a sync before it.
+    pub fn end_reply(&mut self)
+        ensures { self.new ≡ self.old }
+    {
+        self.named.end_reply();
+    }
+}
+
+// An earlier sync must not have failed: none makes good for it.
+fn require_sync_before(is_unsure: bool) -> io::Result<()>
+    ensures { IfOk result (λ _. is_unsure ≡ false) }
+{
+    if is_unsure {
+        return Err(io::Error::other("an earlier sync failed"));
+    }
+    Ok(())
+}

@@ -1,0 +1,19 @@
+//! Changes of a real folder, over any calls: each is noted until it is synced, and nothing is freed that this run doesn't
+//! hold by its lock, or that another name may have.
+#![tactic(auto)]
+
+mod capitals;
+mod changes;
+mod half;
+mod paths;
+mod reports;
+mod sync;
+mod twins;
+
+pub use capitals::{fat_file_at, file_at, is_in_the_way, is_spelled, require_spelled};
+pub use changes::Changes;
+pub use half::{Removal, Rescue, removal_of_old, rescue_of};
+pub use paths::{copy_path, path_in};
+pub use reports::Reports;
+pub use sync::KeptFile;
+pub use twins::Twins;

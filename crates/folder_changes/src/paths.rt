@@ -1,0 +1,25 @@
+//! Paths as texts.
+ghost use Rattle.std.specs.Prelude.{◌≡◌, IfOk, string_bytes};
+ghost use Rattle.folder_calls.specs.Calls.{path_in};
+
+use std::alloc::{AllocError, Global};
+
+/// The same path once more.
+pub fn copy_path(alloc: Global, path: &str) -> Result<String, AllocError>
+    ensures { IfOk result (λ copy. string_bytes copy ≡ path.now) }
+{
+    String::from_str(alloc, path)
+}
+
+/// The path of a name in a folder.
+pub fn path_in(alloc: Global, folder: &str, name: &str) -> Result<String, AllocError>
+    ensures { IfOk result (λ path. string_bytes path ≡ path_in folder.now name.now) }
+{
+    if folder.is_empty() {
+        return copy_path(alloc, name);
+    }
+    let mut path = String::from_str(alloc, folder)?;
+    path.push_str("/")?;
+    path.push_str(name)?;
+    Ok(path)
+}

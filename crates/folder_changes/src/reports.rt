@@ -1,0 +1,61 @@
+//! What is told on standard error: each call that failed.
+ghost use Rattle.std.specs.Prelude.{◌≡◌};
+
+use folder_calls::write_whole;
+use std::io;
+
+/// Standard error, and whether each failure is told there.
+#[derive(Drop)]
+pub struct Reports<E: Print + Drop> {
+    err: E,
+    are_wanted: bool,
+}
+
+impl<E: Print + Drop> Reports<E> {
+    /// Nothing is told.
+    pub fn new(err: E) -> Self {
+        Reports {
+            err,
+            are_wanted: false,
+        }
+    }
+
+    /// Whether failures are told from now on.
+    pub fn want(&mut self, are_wanted: bool) {
+        self.are_wanted = are_wanted;
+    }
+
+    /// Writes all of the bytes to standard error.
+    pub fn print(&self, bytes: &[u8]) -> io::Result<()> {
+        write_whole(&mut io::writer(&self.err), bytes)
+    }
+
+    /// Passes an answer on, and tells of a failure: which call, on what path, and the system's own words. No
+    /// memory is taken for it, and whether it can be printed changes nothing.
+    pub fn report<T: Drop>(&self, call: &str, path: &str, answer: io::Result<T>) -> io::Result<T>
+        ensures { result ≡ answer }
+    {
+        if let Err(error) = &answer {
+            self.tell(call, path, error);
+        }
+        answer
+    }
+
+    /// Tells of one failure.
+    pub fn tell(&self, call: &str, path: &str, error: &io::Error) {
+        if self.are_wanted {
+            let _ = self
+                .err
+                .println(format_args!("boot_tools: {call} {path}: {error}"));
+        }
+    }
+
+    /// Names the two files for which a call has failed, and says what to do if they only look like one.
+    pub fn report_twins(&self, path: &str, other: &str) {
+        if self.are_wanted {
+            let _ = self.err.println(format_args!(
+                "boot_tools: {path} and {other}: if the check finds nothing to mend, touch one of them"
+            ));
+        }
+    }
+}

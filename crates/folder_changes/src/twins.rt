@@ -1,0 +1,212 @@
+//! Files that may have the same clusters on FAT.
+//!
+//! FAT makes a rename in steps. A power cut between two of them can leave two names over the same clusters: the old one,
+//! the new one, or a short alias whose long name isn't on the disk. Who then removes, cuts or replaces the one file frees
+//! the clusters of the other. Only a check of the file system parts them. So a file is changed only if its folder shows
+//! it as it is spelled, and no other name there may be the same file.
+ghost use Rattle.std.specs.Prelude.{◌≡◌, All, IfOk, IsTrue, None, Some, false, map, string_bytes};
+ghost use Rattle.std.specs.Option.{option_map};
+ghost use Rattle.folder_changes.specs.Sought.{is_twins_name};
+ghost use Rattle.folder_calls.specs.Calls.{IsAloneBut, MayGoBut, inode_of, is_twin};
+
+use crate::paths::{copy_path, path_in};
+use fat_rules::{is_in_capitals, may_be_of_one_file, may_share};
+use folder_calls::{Calls, Found, Locked};
+use name_syncs::parted;
+use std::alloc::Global;
+use std::io;
+use std::io::ErrorKind;
+
+/// How a folder shows a file that is there.
+#[derive(Clone, Copy, Debug, PartialEq, Eq)]
+pub enum Spelling {
+    /// As the path spells it.
+    AsGiven,
+    /// In capitals: FAT has its short alias alone.
+    InCapitals,
+}
+
+/// Two paths that may be those of one file.
+#[derive(Drop)]
+pub struct Twins {
+    pub path: String,
+    pub other: String,
+}
+
+/// The file for which a twin is looked for.
+#[derive(Drop)]
+struct Sought<'a> {
+    path: &'a str,
+    /// the name that isn't asked
+    but: &'a str,
+    found: &'a Found,
+    is_shown: bool,
+}
+
+// If what was found at a path is a file that may stand on FAT, its folder must show it. If another name there may be of
+// the same file, that is its twin. One name isn't asked.
+pub(crate) fn twins_of<C: Calls>(
+    calls: &C,
+    alloc: Global,
+    path: &str,
+    but: &str,
+    found: &Found,
+) -> io::Result<Option<Twins>>
+    ensures { IfOk result (λ twins. twins ≡ None
+        → IsTrue C.tells → IsAloneBut (C.tree calls.now) path.now but.now found.now) }
+{
+    if !found.is_fat_file() {
+        return Ok(None);
+    }
+    match twin_of(calls, alloc, path, but, found)? {
+        Some(other) => Ok(Some(Twins {
+            path: copy_path(alloc, path)?,
+            other,
+        })),
+        None => Ok(None),
+    }
+}
+
+// The path of the twin of what was found at a path.
+fn twin_of<C: Calls>(
+    calls: &C,
+    alloc: Global,
+    path: &str,
+    but: &str,
+    found: &Found,
+) -> io::Result<Option<String>>
+    ensures { IfOk result (λ twin. twin ≡ None
+        → IsTrue C.tells → IsAloneBut (C.tree calls.now) path.now but.now found.now) }
+{
+    let (folder, name) = parted(path);
+    let names = calls.names(alloc, folder)?;
+    let is_shown = spelling_in(&names, name)? == Spelling::AsGiven;
+    let sought = Sought {
+        path,
+        but,
+        found,
+        is_shown,
+    };
+    twin_among(calls, alloc, &sought, names.as_slice())
+}
+
+// The twin among the names of a folder.
+fn twin_among<C: Calls>(
+    calls: &C,
+    alloc: Global,
+    sought: &Sought<'_>,
+    names: &[String],
+) -> io::Result<Option<String>>
+    ensures { IfOk result (λ twin. twin ≡ None → IsTrue C.tells
+        → All (λ name. is_twins_name (C.tree calls.now) sought.now name ≡ false) (map string_bytes names.now)) }
+{
+    for other in names {
+        if let Some(twin) = twin_by_name(calls, alloc, sought, other.as_str())? {
+            return Ok(Some(twin));
+        }
+    }
+    Ok(None)
+}
+
+// The twin if it is that name's file. A file that is shown by its alias alone may be any.
+fn twin_by_name<C: Calls>(
+    calls: &C,
+    alloc: Global,
+    sought: &Sought<'_>,
+    other: &str,
+) -> io::Result<Option<String>>
+    ensures { IfOk result (λ twin. twin ≡ None → IsTrue C.tells
+        → is_twins_name (C.tree calls.now) sought.now other.now ≡ false) }
+{
+    let (folder, name) = parted(sought.path);
+    if other == sought.but || (sought.is_shown && !may_be_of_one_file(name, other)) {
+        return Ok(None);
+    }
+    let other = path_in(alloc, folder, other)?;
+    if is_twin(sought.found, calls.find_itself(other.as_str())?) {
+        Ok(Some(other))
+    } else {
+        Ok(None)
+    }
+}
+
+fn is_twin(found: &Found, other: Option<Found>) -> bool
+    ensures { result ≡ is_twin found.now other }
+{
+    match other {
+        Some(other) => {
+            other.is_file() && !found.is_same(&other) && may_share(&found.facts, &other.facts)
+        }
+        None => false,
+    }
+}
+
+// If what stands at a path may go: None if it is no regular file, or one that is held, and has no twin. One name isn't
+// asked.
+pub(crate) fn leave_of<C: Calls>(
+    calls: &C,
+    alloc: Global,
+    path: &str,
+    but: &str,
+    held: Option<&Locked<C::File>>,
+) -> io::Result<Option<Twins>>
+    ensures { IfOk result (λ twins. twins ≡ None → IsTrue C.tells
+        → MayGoBut (C.tree calls.now) path.now but.now (option_map (λ file. C.inode file.now) held.entry)) }
+{
+    match calls.find_itself(path)? {
+        Some(found) if found.is_file() => {
+            require_held(calls, &found, held)?;
+            twins_of(calls, alloc, path, but, &found)
+        }
+        _ => Ok(None),
+    }
+}
+
+// A file that goes must be the one that this run holds.
+fn require_held<C: Calls>(
+    calls: &C,
+    found: &Found,
+    held: Option<&Locked<C::File>>,
+) -> io::Result<()>
+    ensures { IfOk result (λ _. IsTrue C.tells
+        → option_map (λ file. C.inode file.now) held.entry ≡ Some (inode_of found.now)) }
+{
+    if let Some(locked) = held
+        && calls.find_open(locked.file())?.is_same(found)
+    {
+        return Ok(());
+    }
+    Err(changed_fault())
+}
+
+// What stands at a path isn't what this run holds there.
+pub(crate) fn changed_fault() -> io::Error {
+    io::Error::new(
+        ErrorKind::WouldBlock,
+        "another run has changed what stands there",
+    )
+}
+
+/// How the folder of a file that is there shows it.
+///
+/// # Errors
+///
+/// The folder shows another spelling: it is the name of another file. Or a call has failed.
+pub fn spelling_at<C: Calls>(calls: &C, alloc: Global, path: &str) -> io::Result<Spelling> {
+    let (folder, name) = parted(path);
+    spelling_in(&calls.names(alloc, folder)?, name)
+}
+
+// How a folder with these names shows a file that is found by a name.
+fn spelling_in(names: &Vec<String>, name: &str) -> io::Result<Spelling> {
+    if names.iter().any(|other| other.as_str() == name) {
+        return Ok(Spelling::AsGiven);
+    }
+    if names
+        .iter()
+        .any(|other| is_in_capitals(other.as_str(), name))
+    {
+        return Ok(Spelling::InCapitals);
+    }
+    Err(io::Error::other("is there under another spelling: type that, or rename it in two steps"))
+}

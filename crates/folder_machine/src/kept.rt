@@ -1,0 +1,134 @@
+//! Temporary files and their locks, and the modes of files.
+use crate::answers::kind_fault;
+use crate::opened::open_file;
+use folder_calls::{Access, Calls, Found, Hold, Kind, LockFault, Locked};
+use folder_changes::Changes;
+use std::io;
+use std::io::ErrorKind;
+
+/// The mode of a file that its owner alone may open.
+pub(crate) const PRIVATE: u32 = 0o600;
+
+/// The mode of a new file, of which the system takes what the umask says.
+pub(crate) const PUBLIC: u32 = 0o644;
+
+/// Why a temporary file is left as it is.
+const HELD: &str = "another run holds it";
+
+// Locks a file without waiting. If another run holds it, these words say so.
+pub(crate) fn lock_file<C: Calls>(
+    calls: &C,
+    file: C::File,
+    words: &str,
+) -> io::Result<Locked<C::File>> {
+    match Locked::take(calls, file, Hold::Alone) {
+        Ok(locked) => Ok(locked),
+        Err(LockFault::Taken) => Err(io::Error::new(ErrorKind::WouldBlock, words)),
+        Err(LockFault::KeepsNone(error) | LockFault::Disk(error)) => Err(error),
+    }
+}
+
+// Opens a temporary file that no other run holds, and locks it until it is closed. What is no regular file is never
+// opened.
+pub(crate) fn open_locked<C: Calls>(
+    calls: &C,
+    path: &str,
+    access: Access,
+) -> io::Result<Locked<C::File>> {
+    if let Some(found) = calls.find_itself(path)?
+        && !found.is_file()
+    {
+        return Err(kind_fault());
+    }
+    let file = calls.open(path, access)?;
+    let opened = calls.find_open(&file)?;
+    match lock_named(calls, path, file, &opened)? {
+        Some(file) => Ok(file),
+        None => Err(held_fault()),
+    }
+}
+
+fn held_fault() -> io::Error {
+    io::Error::new(ErrorKind::WouldBlock, HELD)
+}
+
+// Locks a file, and gives it back if it stands at that path still. Who holds the lock on the file that stands at a
+// temporary path is the only one to write, rename or remove it.
+fn lock_named<C: Calls>(
+    calls: &C,
+    path: &str,
+    file: C::File,
+    opened: &Found,
+) -> io::Result<Option<Locked<C::File>>> {
+    let file = lock_file(calls, file, HELD)?;
+    let found = calls.find_itself(path)?;
+    Ok(if found.is_some_and(|found| found.is_same(opened)) {
+        Some(file)
+    } else {
+        None
+    })
+}
+
+/// A new temporary file with its lock.
+#[derive(Drop)]
+pub(crate) struct Created<F: Drop> {
+    pub(crate) file: Locked<F>,
+    pub(crate) found: Found,
+    /// the mode that the system gave it before it was for its owner alone; None on a file system without modes
+    pub(crate) given: Option<u32>,
+}
+
+// Makes a temporary file, and locks it. Another run may take a file for a leftover before it is locked, so if it is gone
+// it is made once more.
+pub(crate) fn create_locked<C: Calls + Drop, E: Print + Drop>(
+    changes: &mut Changes<C, E>,
+    path: &str,
+    mode: u32,
+) -> io::Result<Created<C::File>> {
+    for _ in 0..2 {
+        let file = create_anew(changes, path, mode)?;
+        let found = changes.calls().find_open(&file)?;
+        let has_modes = found.mode == PRIVATE || changes.set_mode(&file, PRIVATE)?;
+        if let Some(file) = lock_named(changes.calls(), path, file, &found)? {
+            let given = if has_modes { Some(found.mode) } else { None };
+            return Ok(Created { file, found, given });
+        }
+    }
+    Err(held_fault())
+}
+
+// A leftover goes first: it may have another owner, and a second name.
+fn create_anew<C: Calls + Drop, E: Print + Drop>(
+    changes: &mut Changes<C, E>,
+    path: &str,
+    mode: u32,
+) -> io::Result<C::File> {
+    match changes.create(path, mode) {
+        Err(error) if error.kind() == ErrorKind::AlreadyExists => {
+            let held = open_locked(changes.calls(), path, Access::Append)?;
+            changes.unlink(path, Some(&held))?;
+            changes.create(path, mode)
+        }
+        answer => answer,
+    }
+}
+
+// A file, or a link to one, may be replaced by a rename, and nothing else that is found at a path.
+pub(crate) fn require_replaceable(found: Option<Found>) -> io::Result<()> {
+    match found {
+        Some(found) => match found.kind {
+            Kind::File | Kind::Link => Ok(()),
+            Kind::Folder => Err(io::Error::from(ErrorKind::IsADirectory)),
+            Kind::Other => Err(kind_fault()),
+        },
+        None => Ok(()),
+    }
+}
+
+// No other run may be about to rename this temporary file.
+pub(crate) fn require_not_written<C: Calls>(calls: &C, temp: &str) -> io::Result<()> {
+    if let Some((file, _)) = open_file(calls, temp)? {
+        lock_file(calls, file, HELD)?;
+    }
+    Ok(())
+}

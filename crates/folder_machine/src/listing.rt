@@ -1,0 +1,41 @@
+//! The names in a folder.
+use boot_base::{FileName, PathFault};
+use folder_calls::Calls;
+use folder_changes::path_in;
+use std::alloc::Global;
+use std::io;
+use std::io::ErrorKind;
+
+// Those of a folder's names that are the names of regular files, after links.
+pub(crate) fn files_among<C: Calls>(
+    calls: &C,
+    alloc: Global,
+    folder: &str,
+    names: &[String],
+) -> io::Result<Vec<FileName>> {
+    let mut files = Vec::new(alloc);
+    for name in names {
+        let name = name.as_str();
+        let path = path_in(alloc, folder, name)?;
+        if is_file(calls, path.as_str())? {
+            add_name(alloc, &mut files, name)?;
+        }
+    }
+    Ok(files)
+}
+
+fn is_file<C: Calls>(calls: &C, path: &str) -> io::Result<bool> {
+    let found = match calls.find_itself(path)? {
+        Some(found) if found.is_link() => calls.find(path)?,
+        found => found,
+    };
+    Ok(found.is_some_and(|found| found.is_file()))
+}
+
+fn add_name(alloc: Global, names: &mut Vec<FileName>, text: &str) -> io::Result<()> {
+    match FileName::read(alloc, text) {
+        Ok(name) => Ok(names.push(name)?),
+        Err(PathFault::BadPath) => Ok(()),
+        Err(PathFault::Memory) => Err(io::Error::from(ErrorKind::OutOfMemory)),
+    }
+}

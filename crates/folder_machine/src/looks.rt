@@ -1,0 +1,107 @@
+//! The looks of this run at the real folder: `run_looks` keeps them, and the calls of the system are made here.
+use crate::answers::changed_fault;
+use crate::locks::Locks;
+use folder_calls::{Calls, Found, Hold};
+use run_looks::{CheckFault, Identity, LiveDisk, LookFault, RunLooks};
+use std::alloc::{AllocError, Global};
+use std::io;
+
+// What is no regular file isn't there.
+pub(crate) fn identity_of(found: Option<Found>) -> Option<Identity> {
+    let found = found.filter(|found| found.is_file())?;
+    Some(Identity {
+        device: found.device,
+        inode: found.inode,
+        length: found.facts.length,
+        seconds: found.seconds,
+        nanoseconds: found.nanoseconds,
+    })
+}
+
+/// The calls, as far as they look. It tells nothing of what stands there.
+#[derive(Drop)]
+struct LiveFolder<'a, C: Calls> {
+    calls: &'a C,
+    alloc: Global,
+}
+
+impl<'a, C: Calls> LiveDisk for LiveFolder<'a, C> {
+    ghost use Rattle.std.specs.Prelude.{false};
+    ghost use Rattle.folder_machine.specs.Told.{nothing_stands};
+
+    type Fault = io::Error;
+
+    ghost tells = { false };
+
+    ghost stands = { λ _. nothing_stands };
+
+    fn look(&self, path: &str) -> Result<Option<Identity>, io::Error> {
+        Ok(identity_of(self.calls.find(path)?))
+    }
+
+    fn names(&self, folder: &str) -> Result<Vec<String>, io::Error> {
+        self.calls.names(self.alloc, folder)
+    }
+
+    fn changed(&self, path: &str) -> io::Error {
+        changed_fault(self.alloc, path)
+    }
+}
+
+// What is said of a look at a path.
+pub(crate) fn look_answer<T: Drop>(
+    alloc: Global,
+    path: &str,
+    answer: Result<T, LookFault>,
+) -> io::Result<T> {
+    match answer {
+        Ok(value) => Ok(value),
+        Err(LookFault::Changed) => Err(changed_fault(alloc, path)),
+        Err(LookFault::Memory) => Err(io::Error::from(AllocError)),
+    }
+}
+
+fn check_answer(answer: Result<(), CheckFault<io::Error>>) -> io::Result<()> {
+    match answer {
+        Ok(()) => Ok(()),
+        Err(CheckFault::Changed(fault)) => Err(fault),
+        Err(CheckFault::Disk(fault)) => Err(fault),
+        Err(CheckFault::Memory) => Err(io::Error::from(AllocError)),
+    }
+}
+
+// What was looked at since the last reply must still be the same.
+pub(crate) fn require_same<C: Calls>(
+    calls: &C,
+    alloc: Global,
+    looks: &mut RunLooks,
+) -> io::Result<()> {
+    check_answer(looks.require_same(&LiveFolder { calls, alloc }))
+}
+
+// All that was looked at must still be the same.
+pub(crate) fn require_all_same<C: Calls>(
+    calls: &C,
+    alloc: Global,
+    looks: &RunLooks,
+) -> io::Result<()> {
+    check_answer(looks.require_all_same(&LiveFolder { calls, alloc }))
+}
+
+// Holds the folders that were listed, and the files that were looked at since the last reply.
+pub(crate) fn hold_looks<C: Calls>(
+    calls: &C,
+    looks: &RunLooks,
+    locks: &mut Locks<C::File>,
+) -> io::Result<()> {
+    for (folder, _) in looks.listings.iter() {
+        locks.hold_folder(calls, folder.as_str(), Hold::Alone)?;
+    }
+    for path in looks.recent.as_slice() {
+        let path = path.as_str();
+        if looks.is_to_hold(path) {
+            locks.hold_read(calls, path)?;
+        }
+    }
+    Ok(())
+}

@@ -1,0 +1,43 @@
+//! Files that are opened.
+use folder_calls::{Access, Calls, Found, if_there};
+use std::io;
+
+// A regular file to read it, and what was opened. What is something else is never opened.
+pub(crate) fn open_file<C: Calls>(calls: &C, path: &str) -> io::Result<Option<(C::File, Found)>> {
+    match calls.find(path)? {
+        Some(found) if found.is_file() => open_known(calls, path),
+        _ => Ok(None),
+    }
+}
+
+// The same of what was a regular file when it was looked at last.
+pub(crate) fn open_known<C: Calls>(calls: &C, path: &str) -> io::Result<Option<(C::File, Found)>> {
+    let Some(file) = if_there(calls.open(path, Access::Read))? else {
+        return Ok(None);
+    };
+    let found = calls.find_open(&file)?;
+    Ok(if found.is_file() {
+        Some((file, found))
+    } else {
+        None
+    })
+}
+
+// A folder.
+pub(crate) fn open_folder<C: Calls>(
+    calls: &C,
+    folder: &str,
+) -> io::Result<Option<(C::File, Found)>> {
+    match calls.find(folder)? {
+        Some(found) if found.is_folder() => open_found(calls, folder),
+        _ => Ok(None),
+    }
+}
+
+fn open_found<C: Calls>(calls: &C, folder: &str) -> io::Result<Option<(C::File, Found)>> {
+    let Some(file) = if_there(calls.open(folder, Access::Read))? else {
+        return Ok(None);
+    };
+    let found = calls.find_open(&file)?;
+    Ok(Some((file, found)))
+}

@@ -1,0 +1,722 @@
+//! Files and names of a folder, over the calls of a system.
+//!
+//! What is no regular file, after links, isn't there, and is never opened. "Not a directory", "is a
+//! directory" and a loop of links mean that no such file is there.
+ghost use Rattle.std.specs.Prelude.{◌≡◌, ◌≤◌, false, length, IfOk, IsTrue};
+ghost use Rattle.name_syncs.specs.Named.{NothingWaits};
+
+use crate::intent::{HeldIntent, require_intent, require_no_other_move};
+use crate::kept::{
+    PRIVATE, PUBLIC, create_locked, open_locked, require_not_written, require_replaceable,
+};
+use crate::listing::files_among;
+use crate::locks::{Locks, is_payload, is_payload_folder};
+use crate::looks::{hold_looks, identity_of, look_answer, require_all_same, require_same};
+use crate::opened::{open_file, open_known};
+use boot_base::{FileName, INTENT, IntentNames, TEMP_SUFFIX, ends_as_temp};
+use folder_calls::{Access, Calls, Found, Hold, Locked};
+use folder_changes::{
+    Changes, KeptFile, Removal, Reports, Rescue, Twins, copy_path, fat_file_at, file_at,
+    is_in_the_way, is_spelled, path_in, removal_of_old, require_spelled, rescue_of,
+};
+use name_syncs::{Folders, folder_of};
+use run_looks::RunLooks;
+use std::alloc::Global;
+use std::io::ErrorKind;
+use std::{io, mem};
+
+/// The file that was read last.
+#[derive(Drop)]
+struct LookedFile<F: Drop> {
+    path: String,
+    file: F,
+}
+
+/// The files below the folder that the program starts in.
+#[derive(Drop)]
+pub(crate) struct System<C: Calls + Drop, E: Print + Drop> {
+    alloc: Global,
+    changes: Changes<C, E>,
+    looks: RunLooks,
+    locks: Locks<C::File>,
+    /// the intent of this run's move, or the one that a stop has left, with its lock
+    intent: Option<HeldIntent<C::File>>,
+    /// the temporary files beside payloads that were listed since the last sync of names
+    leftovers: Vec<String>,
+    /// the temporary file that is written, with its lock
+    written: Option<KeptFile<C::File>>,
+    /// the mode that the file gets in its place if it replaces none; None on a file system without modes
+    new_mode: Option<u32>,
+    looked: Option<LookedFile<C::File>>,
+}
+
+impl<C: Calls + Drop, E: Print + Drop> System<C, E> {
+    pub(crate) fn new(alloc: Global, calls: C, err: E) -> Self
+        requires { IsTrue C.tells → NothingWaits (C.waits calls) }
+    {
+        System {
+            alloc,
+            changes: Changes::new(alloc, calls, err),
+            looks: RunLooks::new(alloc),
+            locks: Locks::new(alloc),
+            intent: None,
+            leftovers: Vec::new(alloc),
+            written: None,
+            new_mode: None,
+            looked: None,
+        }
+    }
+
+    // What is told on standard error.
+    pub(crate) fn reports(&self) -> &Reports<E> {
+        self.changes.reports()
+    }
+
+    // Whether failures are told from now on.
+    pub(crate) fn want_reports(&mut self, are_wanted: bool) {
+        self.changes.want_reports(are_wanted);
+    }
+
+    // The two names for which the last call has failed, if it has for such.
+    pub(crate) fn take_twins(&mut self) -> Option<Twins>
+        ensures { self.new.changes ≡ self.old.changes }
+    {
+        self.changes.take_twins()
+    }
+
+    // After the recovery of this run an intent that it doesn't hold is that of another run.
+    fn require_no_other_move(&self) -> io::Result<()> {
+        require_no_other_move(self.changes.calls(), self.intent.is_some())
+    }
+
+    // The length of a file, and None if none is there. While another run moves a file it may have no name to be found
+    // by, so that is a fault then.
+    pub(crate) fn size_of(&mut self, path: &str) -> io::Result<Option<u64>> {
+        if path == INTENT {
+            self.changes.look_at(path)?;
+            return self.size_of_intent();
+        }
+        let found = self.changes.calls().find(path)?;
+        if found.is_none() {
+            self.require_no_other_move()?;
+        }
+        self.note_look(path, found)?;
+        match found {
+            Some(found) if found.is_file() && self.is_own(path, &found)? => Ok(Some(
+                found.facts.length,
+            )),
+            _ => Ok(None),
+        }
+    }
+
+    // Whether a file that is found at a path is the one of that name. What FAT shows in capitals alone isn't there, but for
+    // a recovery. A payload that is there isn't written again, so its bytes must be its own.
+    fn is_own(&mut self, path: &str, found: &Found) -> io::Result<bool> {
+        if is_payload(path) {
+            self.require_one_name(path)?;
+        }
+        if !found.is_fat_file() || self.is_left(path) || self.looks.has_listed(path) {
+            return Ok(true);
+        }
+        is_spelled(self.changes.calls(), self.alloc, path)
+    }
+
+    // Whether an intent that a stop has left names this path.
+    fn is_left(&self, path: &str) -> bool {
+        self.left_names().is_some_and(|names| names.from.as_str() == path
+            || names.to.as_str() == path)
+    }
+
+    // This stands at a path, or nothing. Its folder is to be synced, unless it was after a look that found the same.
+    // An intent has a lock of its own.
+    fn note_look(&mut self, path: &str, found: Option<Found>) -> io::Result<()> {
+        if path == INTENT {
+            return Ok(());
+        }
+        let answer = self.looks.add(path, identity_of(found));
+        if look_answer(self.alloc, path, answer)? {
+            self.changes.look_again(path)?;
+        } else {
+            self.changes.look_at(path)?;
+        }
+        self.locks.look_at(path)?;
+        Ok(())
+    }
+
+    // The length of the intent, which this run holds from then on.
+    fn size_of_intent(&mut self) -> io::Result<Option<u64>> {
+        if self.intent.is_none() {
+            self.intent = HeldIntent::take(self.changes.calls(), self.alloc)?;
+        }
+        match &self.intent {
+            Some(held) => Ok(Some(held.length(self.changes.calls())?)),
+            None => Ok(None),
+        }
+    }
+
+    // Some of the file's bytes from that place on, and none where no file is there.
+    pub(crate) fn read_some(&mut self, path: &str, at: u64, into: &mut [u8]) -> io::Result<usize>
+        ensures { IfOk result (λ n. n ≤ length into.new) }
+    {
+        if let Some(file) = self.locks.file_at(path) {
+            return self.changes.calls().read(file, at, into);
+        }
+        let Some(looked) = self.take_looked(path)? else {
+            return Ok(0);
+        };
+        let answer = self.changes.calls().read(&looked.file, at, into);
+        self.looked = Some(looked);
+        answer
+    }
+
+    // The file to read from: the one of the last read, where the path is the same.
+    fn take_looked(&mut self, path: &str) -> io::Result<Option<LookedFile<C::File>>> {
+        match self.looked.take() {
+            Some(looked) if looked.path.as_str() == path => Ok(Some(looked)),
+            _ => self.open_looked(path),
+        }
+    }
+
+    fn open_looked(&mut self, path: &str) -> io::Result<Option<LookedFile<C::File>>> {
+        let kept = copy_path(self.alloc, path)?;
+        let opened = if self.looks.is_known_file(path) {
+            open_known(self.changes.calls(), path)?
+        } else {
+            open_file(self.changes.calls(), path)?
+        };
+        let Some((file, found)) = opened else {
+            self.require_no_other_move()?;
+            self.note_look(path, None)?;
+            return Ok(None);
+        };
+        self.note_look(path, Some(found))?;
+        if !self.is_own(path, &found)? {
+            return Ok(None);
+        }
+        Ok(Some(LookedFile { path: kept, file }))
+    }
+
+    // The names of the files directly in a folder. Names that are not UTF-8 are passed over. While another run moves a
+    // file its names may come and go, so that is a fault.
+    pub(crate) fn names_in(&mut self, alloc: Global, folder: &str) -> io::Result<Vec<FileName>> {
+        self.changes.look_into(folder)?;
+        let names = self.changes.calls().names(self.alloc, folder)?;
+        let files = files_among(self.changes.calls(), alloc, folder, names.as_slice())?;
+        self.require_no_other_move()?;
+        self.note_leftovers(folder, names.as_slice())?;
+        let answer = self.looks.add_names(folder, names);
+        look_answer(self.alloc, folder, answer)?;
+        Ok(files)
+    }
+
+    // The temporary files among the names of a folder of payloads. A cleanup alone lists such a folder.
+    fn note_leftovers(&mut self, folder: &str, names: &[String]) -> io::Result<()> {
+        for name in names {
+            let name = name.as_str();
+            if ends_as_temp(name) && is_payload_folder(folder) {
+                self.leftovers.push(path_in(self.alloc, folder, name)?)?;
+            }
+        }
+        Ok(())
+    }
+
+    // Removes the temporary files beside payloads that were listed, unless another run is at work there.
+    fn remove_leftovers(&mut self) -> io::Result<()> {
+        let leftovers = mem::replace(&mut self.leftovers, Vec::new(self.alloc));
+        for path in leftovers.as_slice() {
+            let path = path.as_str();
+            let answer = self.remove_leftover(path);
+            self.changes.reports().report("remove", path, answer)?;
+        }
+        Ok(())
+    }
+
+    fn remove_leftover(&mut self, path: &str) -> io::Result<()> {
+        match self.take_leftover(path) {
+            Ok(Some(held)) => self.unlink(path, &held),
+            Ok(None) => Ok(()),
+            Err(error) if error.kind() == ErrorKind::WouldBlock => Ok(()),
+            Err(error) => Err(error),
+        }
+    }
+
+    // Holds a temporary file beside payloads. Who writes one holds their folder.
+    fn take_leftover(&mut self, path: &str) -> io::Result<Option<Locked<C::File>>> {
+        self.locks
+            .hold_folder(self.changes.calls(), folder_of(path), Hold::Alone)?;
+        if file_at(self.changes.calls(), path)?.is_none() {
+            return Ok(None);
+        }
+        self.require_one_name(path)?;
+        let file = open_locked(self.changes.calls(), path, Access::Read)?;
+        Ok(Some(file))
+    }
+
+    // Before a change at a path this run takes its locks, and what it has looked at must still be the same.
+    // The folder of the change comes first: another run that has it already goes on then, and this one has disturbed none.
+    fn begin_change(&mut self, path: &str) -> io::Result<()> {
+        let calls = self.changes.calls();
+        let folder = folder_of(path);
+        if self.looks.has_names_of(folder) {
+            self.locks.hold_folder(calls, folder, Hold::Alone)?;
+        }
+        self.locks.hold_changed(calls, path)?;
+        self.locks.hold_payloads(calls)?;
+        hold_looks(calls, &self.looks, &mut self.locks)?;
+        if self.locks.take_new_folder() {
+            require_all_same(calls, self.alloc, &self.looks)
+        } else {
+            require_same(calls, self.alloc, &mut self.looks)
+        }
+    }
+
+    // An empty temporary file, in folders that are made if they are missing. Nothing is changed if the path that it is
+    // for is a folder, if another run holds it or moves a file, or if it may be that path's own file.
+    pub(crate) fn create_file(&mut self, path: &str) -> io::Result<()> {
+        self.looked = None;
+        self.written = None;
+        let kept = copy_path(self.alloc, path)?;
+        let output = path.strip_suffix(TEMP_SUFFIX).unwrap_or(path);
+        let replaced = self.changes.calls().find_itself(output)?;
+        require_replaceable(replaced)?;
+        self.changes.require_one_name(output, replaced)?;
+        self.require_one_name(path)?;
+        self.require_no_other_move()?;
+        self.locks.require_free(self.changes.calls(), output)?;
+        self.changes.change_above(path)?;
+        self.make_folders(path)?;
+        self.begin_change(path)?;
+        self.looks.forget(path);
+        let mode = if is_private(path) { PRIVATE } else { PUBLIC };
+        let created = create_locked(&mut self.changes, path, mode)?;
+        self.sync_growth(path, &created.found)?;
+        self.new_mode = created.given;
+        self.written = Some(KeptFile {
+            path: kept,
+            file: created.file,
+            is_made: true,
+        });
+        Ok(())
+    }
+
+    // Syncs the folder on FAT in which a new file has come. If that made it grow, it shows old bytes of the disk until
+    // then, so nothing else is to be written before.
+    fn sync_growth(&mut self, path: &str, created: &Found) -> io::Result<()> {
+        if created.is_fat_file() {
+            self.changes.sync_folder(folder_of(path))?;
+        }
+        Ok(())
+    }
+
+    // Writes behind what the file has.
+    pub(crate) fn append_bytes(&mut self, path: &str, bytes: &[u8]) -> io::Result<()> {
+        let mut written = self.take_written(path)?;
+        let answer = self.changes.append(&mut written.file, bytes);
+        self.written = Some(written);
+        answer
+    }
+
+    // Syncs a file's contents.
+    pub(crate) fn sync_contents(&mut self, path: &str) -> io::Result<()>
+        ensures { IfOk result (λ _. IsTrue C.tells → C.written self.new.changes path.now ≡ false) }
+    {
+        self.changes.require_sure()?;
+        let written = self.take_written(path)?;
+        let answer = self.changes.sync_file(path, &written.file);
+        self.written = Some(written);
+        answer
+    }
+
+    // The temporary file that is written, with its lock.
+    fn take_written(&mut self, path: &str) -> io::Result<KeptFile<C::File>> {
+        match self.written.take() {
+            Some(written) if written.is_at(path) => Ok(written),
+            _ => self.open_written(path),
+        }
+    }
+
+    fn open_written(&self, path: &str) -> io::Result<KeptFile<C::File>> {
+        let kept = copy_path(self.alloc, path)?;
+        let file = open_locked(self.changes.calls(), path, Access::Append)?;
+        Ok(KeptFile {
+            path: kept,
+            file,
+            is_made: false,
+        })
+    }
+
+    // Renames a temporary file that no other run holds, under its lock.
+    pub(crate) fn move_temp(&mut self, from: &str, to: &str) -> io::Result<()> {
+        let kept = copy_path(self.alloc, to)?;
+        let written = self.take_written(from)?;
+        if to == INTENT {
+            self.begin_intended(from, &written.file)?;
+        } else {
+            self.require_no_other_move()?;
+            self.begin_change(to)?;
+        }
+        let replaced = self.changes.calls().find_itself(to)?;
+        self.give_mode(&written.file, to, replaced)?;
+        self.put(from, to, &written, replaced)?;
+        self.changes.keep_moved(KeptFile {
+            path: kept,
+            ..written
+        });
+        Ok(())
+    }
+
+    // Before an intent is put in place, what it says must be a move that may begin. Else its temporary file goes.
+    fn begin_intended(&mut self, temp: &str, written: &Locked<C::File>) -> io::Result<()> {
+        let answer = self.begin_move_of(temp);
+        if answer.is_err() {
+            let _ = self.changes.unlink(temp, Some(written));
+        }
+        answer
+    }
+
+    fn begin_move_of(&mut self, temp: &str) -> io::Result<()> {
+        let names = require_intent(self.changes.calls(), self.alloc, temp)?;
+        self.begin_move(names.from.as_str(), names.to.as_str())
+    }
+
+    // What is put in place was for its owner alone. It has the mode of the file that it replaces.
+    fn give_mode(
+        &mut self,
+        file: &Locked<C::File>,
+        to: &str,
+        replaced: Option<Found>,
+    ) -> io::Result<()> {
+        let Some(new_mode) = self.new_mode else {
+            return Ok(());
+        };
+        let mode = match replaced {
+            Some(found) if found.is_file() => found.mode,
+            _ => new_mode,
+        };
+        if !is_private(to) && mode != PRIVATE {
+            self.changes.set_mode(file.file(), mode)?;
+        }
+        Ok(())
+    }
+
+    // Renames a boot file, unless another run is about to put a file in place at the new path.
+    pub(crate) fn move_file(&mut self, from: &str, to: &str) -> io::Result<()> {
+        self.begin_move(from, to)?;
+        self.make_room(from, to)?;
+        self.rename_known(from, to)
+    }
+
+    // The same before a boot file is moved, and before the intent that says so.
+    fn begin_move(&mut self, from: &str, to: &str) -> io::Result<()> {
+        self.require_one_name(from)?;
+        let temp = temp_of(self.alloc, to)?;
+        require_not_written(self.changes.calls(), temp.as_str())?;
+        // No other run may put a file at the new path: while there is none it has no lock.
+        self.locks
+            .hold_folder(self.changes.calls(), folder_of(to), Hold::Alone)?;
+        self.locks.hold_changed(self.changes.calls(), from)?;
+        self.begin_change(to)
+    }
+
+    // On FAT the folder grows for a new name before that comes, if it has to: an empty file with a longer name comes and
+    // goes. A leftover stays as it is.
+    fn make_room(&mut self, from: &str, to: &str) -> io::Result<()> {
+        let temp = temp_of(self.alloc, to)?;
+        let temp = temp.as_str();
+        let calls = self.changes.calls();
+        if fat_file_at(calls, from)?.is_none() || calls.find_itself(temp)?.is_some() {
+            return Ok(());
+        }
+        let created = create_locked(&mut self.changes, temp, PRIVATE)?;
+        self.sync_growth(temp, &created.found)?;
+        self.changes.unlink(temp, Some(&created.file))
+    }
+
+    // Renames a file that was there before the names were last synced.
+    fn rename_known(&mut self, from: &str, to: &str) -> io::Result<()> {
+        self.changes.change_near(to)?;
+        let replaced = self.make_way(from, to)?;
+        let held = self.locks.lock_of(replaced);
+        self.changes.rename_known(from, to, held)?;
+        self.end_rename(from, to)
+    }
+
+    // Puts a temporary file in its place. One that this run has made may look like what it replaces.
+    fn put(
+        &mut self,
+        from: &str,
+        to: &str,
+        written: &KeptFile<C::File>,
+        replaced: Option<Found>,
+    ) -> io::Result<()> {
+        let replaced = self.make_way_over(from, to, replaced)?;
+        let held = self.locks.lock_of(replaced);
+        if written.is_made {
+            self.changes.put(from, to, &written.file, held)?;
+        } else {
+            self.changes.rename(from, to, held)?;
+        }
+        self.end_rename(from, to)
+    }
+
+    fn make_way(&mut self, from: &str, to: &str) -> io::Result<Option<Found>> {
+        let replaced = self.changes.calls().find_itself(to)?;
+        self.make_way_over(from, to, replaced)
+    }
+
+    // Before a file gets a name its folders are made if they are missing, and what FAT shows there in capitals goes. It
+    // gives what the file will replace.
+    fn make_way_over(
+        &mut self,
+        from: &str,
+        to: &str,
+        replaced: Option<Found>,
+    ) -> io::Result<Option<Found>> {
+        self.looked = None;
+        drop(self.changes.take_moved());
+        require_replaceable(replaced)?;
+        self.make_folders(to)?;
+        self.looks.forget(from);
+        self.looks.forget(to);
+        if !is_in_the_way(self.changes.calls(), self.alloc, from, to, replaced)? {
+            return Ok(replaced);
+        }
+        self.changes.unlink(to, self.locks.lock_of(replaced))?;
+        self.changes.calls().find_itself(to)
+    }
+
+    // What was renamed is held by its old path no longer, and is shown by its new one.
+    fn end_rename(&mut self, from: &str, to: &str) -> io::Result<()> {
+        self.locks.close_file(from);
+        self.locks.close_file(to);
+        require_spelled(self.changes.calls(), self.alloc, to)
+    }
+
+    // Removes a temporary file that no other run holds, under its lock. A link isn't one.
+    pub(crate) fn remove_temp(&mut self, path: &str) -> io::Result<()> {
+        self.begin_change(path)?;
+        match self.changes.calls().find_itself(path)? {
+            Some(found) if found.is_file() => {
+                let held = self.take_removed(path)?;
+                self.unlink(path, &held)
+            }
+            _ => self.unlink_held(path),
+        }
+    }
+
+    fn take_removed(&mut self, path: &str) -> io::Result<Locked<C::File>> {
+        match self.written.take() {
+            Some(written) if written.is_at(path) => Ok(written.file),
+            _ => open_locked(self.changes.calls(), path, Access::Read),
+        }
+    }
+
+    // Removes a boot file. The old name of a rename that a stop has left half done goes as its bytes allow.
+    pub(crate) fn remove_file(&mut self, path: &str) -> io::Result<()> {
+        self.require_one_name(path)?;
+        if path == INTENT {
+            return self.remove_intent();
+        }
+        self.begin_change(path)?;
+        match self.emptied_name(path)? {
+            Some(to) => self.rename_emptied(path, to.as_str()),
+            None => self.unlink_held(path),
+        }
+    }
+
+    // Renames the old name of a half done rename over the new one, which has lost its bytes.
+    fn rename_emptied(&mut self, from: &str, to: &str) -> io::Result<()> {
+        self.locks.hold_changed(self.changes.calls(), to)?;
+        self.rename_known(from, to)
+    }
+
+    // A file is changed only if no other name may be of it too.
+    fn require_one_name(&mut self, path: &str) -> io::Result<()> {
+        let found = self.changes.calls().find_itself(path)?;
+        self.changes.require_one_name(path, found)
+    }
+
+    fn left_names(&self) -> Option<&IntentNames> {
+        self.intent.as_ref().and_then(HeldIntent::left)
+    }
+
+    // The new name of the rename that a stop has left half done, if this is its old name and the new one has lost its
+    // bytes.
+    fn emptied_name(&self, path: &str) -> io::Result<Option<String>> {
+        let Some(names) = self.left_names() else {
+            return Ok(None);
+        };
+        if names.from.as_str() != path {
+            return Ok(None);
+        }
+        match removal_of_old(self.changes.calls(), names)? {
+            Removal::RenameOver => Ok(Some(copy_path(self.alloc, names.to.as_str())?)),
+            Removal::Unlink => Ok(None),
+        }
+    }
+
+    // Removes the intent, once the file that it names has its bytes on the disk.
+    fn remove_intent(&mut self) -> io::Result<()> {
+        let answer = self.rescue_left();
+        if answer.is_err() {
+            self.changes.give_up();
+        }
+        answer?;
+        if self.intent.is_none() {
+            self.keep_intent();
+        }
+        self.looked = None;
+        self.looks.forget(INTENT);
+        let held = self.intent.as_ref().map(|held| held.file());
+        self.changes.unlink(INTENT, held)?;
+        self.locks.close_file(INTENT);
+        self.intent = None;
+        Ok(())
+    }
+
+    fn rescue_left(&mut self) -> io::Result<()> {
+        self.require_one_name_left()?;
+        match self.find_rescue()? {
+            Some(rescue) => self.rescue(rescue),
+            None => Ok(()),
+        }
+    }
+
+    fn find_rescue(&self) -> io::Result<Option<Rescue>> {
+        match self.left_names() {
+            Some(names) => rescue_of(self.changes.calls(), self.alloc, names),
+            None => Ok(None),
+        }
+    }
+
+    fn rescue(&mut self, rescue: Rescue) -> io::Result<()> {
+        let Rescue { path, by, name } = rescue;
+        let Some(by) = by else {
+            return self.rename_left(path.as_str(), name.as_str());
+        };
+        self.rename_left(path.as_str(), by.as_str())?;
+        self.rename_left(by.as_str(), name.as_str())
+    }
+
+    // No other name than those of the intent may be of its file.
+    fn require_one_name_left(&mut self) -> io::Result<()> {
+        let alloc = self.alloc;
+        let Some(names) = self.left_names() else {
+            return Ok(());
+        };
+        let from = copy_path(alloc, names.from.as_str())?;
+        let to = copy_path(alloc, names.to.as_str())?;
+        self.require_one_name(from.as_str())?;
+        self.require_one_name(to.as_str())
+    }
+
+    // Gives the file of an intent another name, and syncs both.
+    fn rename_left(&mut self, from: &str, to: &str) -> io::Result<()> {
+        self.locks.hold_changed(self.changes.calls(), from)?;
+        self.locks.hold_changed(self.changes.calls(), to)?;
+        self.rename_known(from, to)?;
+        self.changes.sync_name(to)
+    }
+
+    // Removes a file by the lock that is held for its change, or what is no file.
+    fn unlink_held(&mut self, path: &str) -> io::Result<()> {
+        self.looked = None;
+        self.looks.forget(path);
+        let found = self.changes.calls().find_itself(path)?;
+        self.changes.unlink(path, self.locks.lock_of(found))?;
+        self.locks.close_file(path);
+        Ok(())
+    }
+
+    // Removes a file by a lock of its own.
+    fn unlink(&mut self, path: &str, held: &Locked<C::File>) -> io::Result<()> {
+        self.looked = None;
+        self.looks.forget(path);
+        self.changes.unlink(path, Some(held))?;
+        self.locks.close_file(path);
+        Ok(())
+    }
+
+    // Makes the folders above a file that aren't there.
+    fn make_folders(&mut self, path: &str) -> io::Result<()> {
+        let folder = folder_of(path);
+        if folder.is_empty() || self.changes.calls().find(folder)?.is_some() {
+            return Ok(());
+        }
+        let mut above = Folders::new(self.alloc);
+        above.add_above(path)?;
+        for folder in above.below.as_slice().iter().rev() {
+            self.make_folder(folder.as_str())?;
+        }
+        Ok(())
+    }
+
+    fn make_folder(&mut self, folder: &str) -> io::Result<()> {
+        if self.changes.calls().find(folder)?.is_none() {
+            self.looks.forget_name(folder);
+            self.changes.make_folder(folder)?;
+        }
+        Ok(())
+    }
+
+    // Syncs each renamed file, then each changed folder with those above it, and last, as far as it can be
+    // done, the folders that were looked at. After a failure all of it is still to be synced.
+    pub(crate) fn sync_names(&mut self) -> io::Result<()>
+        ensures { IfOk result (λ _. IsTrue C.tells → NothingWaits (C.waits self.new.changes)) }
+    {
+        self.looked = None;
+        let answer = self.changes.require_sure();
+        self.changes.reports().report("sync", ".", answer)?;
+        let has_changed_nothing = self.changes.has_changed_nothing();
+        self.remove_leftovers()?;
+        self.changes.sync_names()?;
+        if has_changed_nothing && self.looks.has_unchecked() {
+            let answer = require_same(self.changes.calls(), self.alloc, &mut self.looks);
+            self.changes.reports().report("look", ".", answer)?;
+        }
+        self.keep_intent();
+        Ok(())
+    }
+
+    // A file that was renamed is synced and needs no lock any more, but for the intent.
+    fn keep_intent(&mut self)
+        ensures { self.new.changes ≡ self.old.changes }
+    {
+        if let Some(moved) = self.changes.take_moved()
+            && moved.is_at(INTENT)
+        {
+            self.intent = Some(HeldIntent::new(moved.file));
+        }
+    }
+
+    // A reply is printed, or a part of one: no later command relies on a sync before it.
+    pub(crate) fn end_reply(&mut self) {
+        self.changes.end_reply();
+        self.looks.end_reply();
+        self.locks.end_reply();
+    }
+
+    // Prints all of the bytes.
+    pub(crate) fn write_out(&self, bytes: &[u8]) -> io::Result<()> {
+        self.changes.calls().print(bytes)
+    }
+
+    // Some of the next bytes of standard input, and none at its end.
+    pub(crate) fn read_input(&self, into: &mut [u8]) -> io::Result<usize>
+        ensures { IfOk result (λ n. n ≤ length into.new) }
+    {
+        self.changes.calls().input(into)
+    }
+}
+
+// The path of a file's temporary file.
+fn temp_of(alloc: Global, path: &str) -> io::Result<String> {
+    let mut temp = copy_path(alloc, path)?;
+    temp.push_str(TEMP_SUFFIX)?;
+    Ok(temp)
+}
+
+// Whether only its owner may ever open a file: an intent, which holds up other runs, or a payload, which may have keys.
+fn is_private(path: &str) -> bool {
+    path.strip_suffix(TEMP_SUFFIX).unwrap_or(path) == INTENT || is_payload(path)
+}

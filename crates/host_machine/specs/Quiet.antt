@@ -1,0 +1,17 @@
+-- What the real folder tells: nothing.
+use Rattle.std.specs.Prelude.{ℕ, false, List, [], None}
+use Rattle.name_syncs.specs.Waiting.{Waiting}
+use Rattle.folder_calls.specs.Calls.{Inode}
+use Rattle.folder_calls.specs.Tree.{Tree}
+
+-- a folder of which no clause says what stands there
+abbrev pub tree_untold : Tree
+tree_untold = record { stands = λ _. None; names = λ _. [] }
+
+-- a disk of which no clause says what waits
+abbrev pub waits_untold : Waiting
+waits_untold = record { files = λ _. false; folders = λ _. false; syncs = λ _. false; asked = []; logged = false }
+
+-- the number of a file of which no clause says which it is
+abbrev pub inode_untold : Inode
+inode_untold = (0, 0)
