@@ -1,0 +1,4 @@
+pub mod Paths
+pub mod Notes
+pub mod Entries
+pub mod Folder

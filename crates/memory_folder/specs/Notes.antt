@@ -1,0 +1,33 @@
+-- What of a folder in memory waits for the disk.
+use Rattle.std.specs.Prelude.{◌≡◌, ℕ, true, List, [], ◌∷◌, ◌++◌, map}
+use Rattle.name_syncs.specs.Paths.{has_path}
+use Rattle.name_syncs.specs.Waiting.{FileAt, FolderAt, Sync, Waiting}
+use Rattle.memory_folder.specs.declared.notes.Notes.{Notes}
+use Rattle.memory_folder.specs.declared.sync_log.Asked.{Asked}
+use Rattle.memory_folder.specs.declared.sync_log.SyncLog.{SyncLog}
+use Rattle.memory_folder.specs.declared.sync_log.Synced.{Synced}
+use Rattle.memory_folder.specs.declared.sync_log.Synced.TheVariants.{File, Folder}
+
+-- a sync of the file or the folder at a path
+abbrev pub sync_with : Synced → List ℕ → Sync
+sync_with File path = FileAt path
+sync_with Folder path = FolderAt path
+
+-- those that were kept
+abbrev pub syncs_of : List Asked → List Sync
+syncs_of asked = map (λ one. sync_with one.synced one.path) asked
+
+-- if each sync so far was kept, this one stands behind those before
+abbrev pub LogsIn : Sync → SyncLog → SyncLog → Type 0
+LogsIn sync old new =
+    new.is_whole ≡ true → (old.is_whole ≡ true) × (syncs_of new.asked.items ≡ syncs_of old.asked.items ++ sync ∷ [])
+
+-- what waits by the notes. Each folder can be synced.
+abbrev pub noted_waits : Notes → Waiting
+noted_waits notes = record {
+  files = has_path notes.files;
+  folders = has_path notes.folders;
+  syncs = λ _. true;
+  asked = syncs_of notes.log.asked.items;
+  logged = notes.log.is_whole;
+}
