@@ -1,2 +1,5 @@
 pub mod Tree
 pub mod Calls
+pub mod Answers
+pub mod Locks
+pub mod Written

@@ -1,5 +1,5 @@
 -- What stands in a folder, as the system tells of it.
-use Rattle.std.specs.Prelude.{ℕ, ◌==◌, Bool, true, false, ◌&&◌, List, Option, is_some}
+use Rattle.std.specs.Prelude.{ℕ, ◌==◌, Bool, true, false, ◌&&◌, List, Option, Some, None, is_some}
 use Rattle.folder_calls.specs.declared.found.Found.{Found}
 use Rattle.folder_calls.specs.declared.found.Kind.{Kind}
 use Rattle.folder_calls.specs.declared.found.Kind.TheVariants.{File, Folder, Link, Other}
@@ -8,6 +8,8 @@ use Rattle.folder_calls.specs.declared.found.Kind.TheVariants.{File, Folder, Lin
 pub record Tree : Type 0 where
   -- what stands at a path itself, and not behind a link
   pub stands : List ℕ → Option Found
+  -- what a path leads to, over links
+  pub leads : List ℕ → Option Found
   -- the names in a folder that are UTF-8, in the order in which it lists them
   pub names : List ℕ → List (List ℕ)
 
@@ -21,6 +23,33 @@ is_regular Other = false
 -- what was found is a regular file
 abbrev pub is_file : Found → Bool
 is_file found = is_regular found.kind
+
+-- a folder
+abbrev pub is_folder_kind : Kind → Bool
+is_folder_kind Folder = true
+is_folder_kind File = false
+is_folder_kind Link = false
+is_folder_kind Other = false
+
+-- what was found is a folder
+abbrev pub is_folder : Found → Bool
+is_folder found = is_folder_kind found.kind
+
+-- a link
+abbrev pub is_link_kind : Kind → Bool
+is_link_kind Link = true
+is_link_kind File = false
+is_link_kind Folder = false
+is_link_kind Other = false
+
+-- what was found is a link
+abbrev pub is_link : Found → Bool
+is_link found = is_link_kind found.kind
+
+-- a link was found
+abbrev pub has_link : Option Found → Bool
+has_link (Some found) = is_link found
+has_link None = false
 
 -- a regular file that may stand on FAT: FAT can keep its time
 abbrev pub is_fat_file : Found → Bool

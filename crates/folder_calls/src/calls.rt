@@ -5,7 +5,7 @@ ghost use Rattle.name_syncs.specs.Named.{NameWaits, RenameWaits};
 ghost use Rattle.name_syncs.specs.Waiting.{Asks, FileAt, FolderAt, KeepsSynced, Waiting};
 ghost use Rattle.boot_base.specs.Paths.{file_name_of};
 ghost use Rattle.folder_calls.specs.Calls.{Inode, IsOpenAt, MayGo, MayGoBut, inode_of};
-ghost use Rattle.folder_calls.specs.Tree.{Tree};
+ghost use Rattle.folder_calls.specs.Tree.{Tree, has_link};
 
 use crate::found::Found;
 use crate::locked::Locked;
@@ -62,8 +62,11 @@ pub trait Calls {
     /// Which file an open one is.
     ghost inode: { Self.File → Inode };
 
-    /// What stands at a path.
-    fn find(&self, path: &str) -> io::Result<Option<Found>>;
+    /// What a path leads to: what stands there itself, if that is no link.
+    fn find(&self, path: &str) -> io::Result<Option<Found>>
+        ensures leads { IfOk result (λ found. IsTrue tells → found ≡ (tree self.now).leads path.now) }
+        ensures itself { IfOk result (λ found. IsTrue tells → has_link ((tree self.now).stands path.now) ≡ false
+            → found ≡ (tree self.now).stands path.now) };
 
     /// What stands at a path itself, which may be a link.
     fn find_itself(&self, path: &str) -> io::Result<Option<Found>>
@@ -79,7 +82,9 @@ pub trait Calls {
             → map string_bytes names.items ≡ (tree self.now).names folder.now) };
 
     /// Opens a file or a folder.
-    fn open(&self, path: &str, access: Access) -> io::Result<Self::File>;
+    fn open(&self, path: &str, access: Access) -> io::Result<Self::File>
+        ensures { IfOk result (λ file. IsTrue tells → has_link ((tree self.now).stands path.now) ≡ false
+            → option_map inode_of ((tree self.now).stands path.now) ≡ Some (inode file)) };
 
     /// Some of an open file's bytes from that place on, and none at its end.
     fn read(&self, file: &Self::File, at: u64, into: &mut [u8]) -> io::Result<usize>

@@ -1,6 +1,6 @@
 //! What the system tells of a file or a folder.
 ghost use Rattle.std.specs.Prelude.{◌≡◌};
-ghost use Rattle.folder_calls.specs.Tree.{is_fat_file, is_file, same_inode};
+ghost use Rattle.folder_calls.specs.Tree.{is_fat_file, is_file, is_folder, is_link, same_inode};
 
 use fat_rules::Facts;
 
@@ -45,7 +45,9 @@ impl Found {
     }
 
     /// Whether it is a folder.
-    pub fn is_folder(&self) -> bool {
+    pub fn is_folder(&self) -> bool
+        ensures { result ≡ is_folder self.now }
+    {
         match self.kind {
             Kind::Folder => true,
             _ => false,
@@ -53,7 +55,9 @@ impl Found {
     }
 
     /// Whether it is a link.
-    pub fn is_link(&self) -> bool {
+    pub fn is_link(&self) -> bool
+        ensures { result ≡ is_link self.now }
+    {
         match self.kind {
             Kind::Link => true,
             _ => false,

@@ -8,7 +8,7 @@ mod found;
 mod locked;
 mod writes;
 
-pub use answers::if_there;
+pub use answers::{folder_answer, if_allowed, if_new, if_there, if_utf8, lock_answer};
 pub use calls::{Access, Calls, Hold, LockFault};
 pub use found::{Found, Kind};
 pub use locked::Locked;

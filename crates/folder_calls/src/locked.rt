@@ -1,5 +1,6 @@
 //! An open file with its lock.
 ghost use Rattle.std.specs.Prelude.{◌≡◌, IfOk, IsTrue};
+ghost use Rattle.folder_calls.specs.Locks.{is_enough, locked_if_kept};
 
 use crate::calls::{Calls, Hold, LockFault};
 use std::io;
@@ -53,14 +54,15 @@ impl<F: Drop> Locked<F> {
 
     /// Whether it is held so already.
     pub fn is_enough(&self, hold: Hold) -> bool {
-        self.hold == Hold::Alone || hold == Hold::Shared
+        is_enough(self.hold, hold)
     }
 
     /// Holds what is held already.
     ///
     /// # Errors
     ///
-    /// Another run holds it, or the call has failed. Then it is held as it was.
+    /// Another run holds it, or the call has failed. Then it may be held no longer: Linux gives up the old lock before it
+    /// takes the new one.
     pub fn strengthen<C: Calls<File = F>>(&mut self, calls: &C, hold: Hold) -> Result<(), LockFault>
         ensures { self.new ≡ self.old }
     {
@@ -80,8 +82,17 @@ impl<F: Drop> Locked<F> {
     }
 }
 
+// Whether what is held in the one way needs no lock to be held in the other.
+fn is_enough(held: Hold, hold: Hold) -> bool
+    ensures { result ≡ is_enough held hold }
+{
+    held == Hold::Alone || hold == Hold::Shared
+}
+
 // A file system that keeps no locks holds nobody up.
-fn if_kept(answer: Result<(), LockFault>) -> Result<(), LockFault> {
+fn if_kept(answer: Result<(), LockFault>) -> Result<(), LockFault>
+    ensures { result ≡ locked_if_kept answer }
+{
     match answer {
         Err(LockFault::KeepsNone(_)) => Ok(()),
         answer => answer,

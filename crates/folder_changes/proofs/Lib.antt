@@ -1,2 +1,4 @@
 mod Noting
 mod NoTwin
+mod Listing
+mod Saved

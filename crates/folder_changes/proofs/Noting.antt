@@ -2,7 +2,7 @@
 use Rattle.std.proofs.Common.{◌≡◌, inl, ℕ, Bool, false, List, sym, ◌∙◌, subst}
 use Rattle.std.specs.Prelude.{Result, Ok, Err, IfOk, OnOk}
 use Rattle.std.specs.declared.alloc.AllocError.{AllocError}
-use Rattle.name_syncs.specs.Named.{Covers, NameWaits}
+use Rattle.name_syncs.specs.Named.{Covers, NameWaits, RenameWaits}
 use Rattle.name_syncs.specs.Waiting.{Waiting}
 use Rattle.name_syncs.specs.declared.named.Named.{Named}
 
@@ -22,3 +22,11 @@ if_ok (Err _) holds = tt
 -- nothing comes or goes
 pub name_waits_none : (waits : Waiting) (path : List ℕ) → NameWaits waits waits path
 name_waits_none waits path = record { files = λ other waiting. waiting; folders = λ folder waiting. inl waiting }
+
+-- the same after a call that changed nothing
+pub name_waits_same : (old new : Waiting) (path : List ℕ) → new ≡ old → NameWaits old new path
+name_waits_same old new path is = subst (λ (waits : Waiting). NameWaits old waits path) (sym is) (name_waits_none old path)
+
+pub rename_waits_same : (old new : Waiting) (from to : List ℕ) → new ≡ old → RenameWaits old new from to
+rename_waits_same old new from to is = subst (λ (waits : Waiting). RenameWaits old waits from to) (sym is)
+    (record { files = λ path waiting. inl waiting; folders = λ folder waiting. inl waiting })

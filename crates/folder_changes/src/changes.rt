@@ -1,8 +1,11 @@
 //! The calls that change a folder, with what they leave to be synced.
-ghost use Rattle.std.specs.Prelude.{◌≡◌, IfOk, IsTrue, None, Ok, OnErr, OnOk, false, true};
+ghost use Rattle.std.specs.Prelude.{◌≡◌, [], ◌∷◌, IfOk, IsTrue, None, Ok, OnErr, OnOk, false, true};
 ghost use Rattle.std.specs.Option.{option_map};
-ghost use Rattle.name_syncs.specs.Named.{NothingWaits};
-ghost use Rattle.folder_calls.specs.Calls.{MayGoBut};
+ghost use Rattle.boot_base.specs.Paths.{file_name_of};
+ghost use Rattle.name_syncs.specs.Folders.{parent_folder};
+ghost use Rattle.name_syncs.specs.Named.{NameWaits, NothingWaits, RenameWaits};
+ghost use Rattle.name_syncs.specs.Waiting.{Asks, FileAt, FolderAt, KeepsSynced};
+ghost use Rattle.folder_calls.specs.Calls.{MayGo, MayGoBut};
 
 use crate::paths::copy_path;
 use crate::reports::Reports;
@@ -100,49 +103,70 @@ impl<C: Calls + Drop, E: Print + Drop> Changes<C, E> {
     }
 
     /// A file is about to come, maybe with folders above it: all of these are synced too.
-    pub fn change_above(&mut self, path: &str) -> io::Result<()> {
+    pub fn change_above(&mut self, path: &str) -> io::Result<()>
+        ensures { self.new ≡ self.old }
+    {
         keep_note(&mut self.is_unsure, self.named.change(path))?;
         Ok(())
     }
 
     /// The same of a name that changes in a folder that may not be there: the folders above it that were synced since the
     /// last reply need no second sync.
-    pub fn change_near(&mut self, path: &str) -> io::Result<()> {
+    pub fn change_near(&mut self, path: &str) -> io::Result<()>
+        ensures { self.new ≡ self.old }
+    {
         keep_note(&mut self.is_unsure, self.named.remove(path))?;
         Ok(())
     }
 
     /// Makes an empty file of that mode, where nothing stands.
-    pub fn create(&mut self, path: &str, mode: u32) -> io::Result<C::File> {
+    #[tactic(auto, using(crate::proofs::Noting::name_waits_same))]
+    pub fn create(&mut self, path: &str, mode: u32) -> io::Result<C::File>
+        ensures { IsTrue C.tells → NameWaits (C.waits self.old) (C.waits self.new) path.now }
+    {
         keep_note(&mut self.is_unsure, self.named.remove(path))?;
         self.syncs.calls.create(path, mode)
     }
 
     /// Makes a folder, unless something stands there.
-    pub fn make_folder(&mut self, folder: &str) -> io::Result<()> {
+    #[tactic(auto, using(crate::proofs::Noting::name_waits_same))]
+    pub fn make_folder(&mut self, folder: &str) -> io::Result<()>
+        ensures { IsTrue C.tells → NameWaits (C.waits self.old) (C.waits self.new) folder.now }
+    {
         keep_note(&mut self.is_unsure, self.named.make(folder))?;
         self.syncs.calls.make_folder(folder)
     }
 
     /// Writes all of the bytes behind what an open file has.
-    pub fn append(&mut self, file: &mut Locked<C::File>, bytes: &[u8]) -> io::Result<()> {
+    pub fn append(&mut self, file: &mut Locked<C::File>, bytes: &[u8]) -> io::Result<()>
+        ensures quiet { IsTrue C.tells → C.waits self.new ≡ C.waits self.old }
+        ensures same { IsTrue C.tells → C.inode file.new ≡ C.inode file.old }
+    {
         file.append(&mut self.syncs.calls, bytes)
     }
 
     /// Gives an open file a mode, and tells whether its file system has modes.
-    pub fn set_mode(&mut self, file: &C::File, mode: u32) -> io::Result<bool> {
+    pub fn set_mode(&mut self, file: &C::File, mode: u32) -> io::Result<bool>
+        ensures { IsTrue C.tells → C.waits self.new ≡ C.waits self.old }
+    {
         self.syncs.calls.set_mode(file, mode)
     }
 
     /// Puts a file that this run has made in its place. What stands there goes: a file must be held, and have no twin.
     /// The two may look alike.
+    #[tactic(auto, using(crate::proofs::Noting::rename_waits_same))]
     pub fn put(
         &mut self,
         from: &str,
         to: &str,
         made: &Locked<C::File>,
         held: Option<&Locked<C::File>>,
-    ) -> io::Result<()> {
+    ) -> io::Result<()>
+        ensures waits { IsTrue C.tells → RenameWaits (C.waits self.old) (C.waits self.new) from.now to.now }
+        ensures leave { IfOk result (λ _. IsTrue C.tells
+            → MayGoBut (C.tree self.old) to.now (file_name_of from.now)
+            (option_map (λ file. C.inode file.now) held.entry)) }
+    {
         let (_, name) = parted(from);
         self.require_leave(to, name, held)?;
         if !is_open_at(&self.syncs.calls, from, made.file()) {
@@ -153,31 +177,41 @@ impl<C: Calls + Drop, E: Print + Drop> Changes<C, E> {
     }
 
     /// Gives a file another path. What stands there goes: a file must be held, and have no twin.
-    pub fn rename(
-        &mut self,
-        from: &str,
-        to: &str,
-        held: Option<&Locked<C::File>>,
-    ) -> io::Result<()> {
+    #[tactic(auto, using(crate::proofs::Noting::rename_waits_same))]
+    pub fn rename(&mut self, from: &str, to: &str, held: Option<&Locked<C::File>>) -> io::Result<()>
+        ensures waits { IsTrue C.tells → RenameWaits (C.waits self.old) (C.waits self.new) from.now to.now }
+        ensures leave { IfOk result (λ _. IsTrue C.tells
+            → MayGo (C.tree self.old) to.now (option_map (λ file. C.inode file.now) held.entry)) }
+    {
         self.require_leave(to, "", held)?;
         keep_note(&mut self.is_unsure, self.named.rename(from, to))?;
         self.syncs.calls.rename(from, to, held)
     }
 
     /// The same of a file that was there before the names were last synced.
+    #[tactic(auto, using(crate::proofs::Noting::rename_waits_same))]
     pub fn rename_known(
         &mut self,
         from: &str,
         to: &str,
         held: Option<&Locked<C::File>>,
-    ) -> io::Result<()> {
+    ) -> io::Result<()>
+        ensures waits { IsTrue C.tells → RenameWaits (C.waits self.old) (C.waits self.new) from.now to.now }
+        ensures leave { IfOk result (λ _. IsTrue C.tells
+            → MayGo (C.tree self.old) to.now (option_map (λ file. C.inode file.now) held.entry)) }
+    {
         self.require_leave(to, "", held)?;
         keep_note(&mut self.is_unsure, self.named.rename_known(from, to))?;
         self.syncs.calls.rename(from, to, held)
     }
 
     /// Removes a file: it must be held, and have no twin.
-    pub fn unlink(&mut self, path: &str, held: Option<&Locked<C::File>>) -> io::Result<()> {
+    #[tactic(auto, using(crate::proofs::Noting::name_waits_same))]
+    pub fn unlink(&mut self, path: &str, held: Option<&Locked<C::File>>) -> io::Result<()>
+        ensures waits { IsTrue C.tells → NameWaits (C.waits self.old) (C.waits self.new) path.now }
+        ensures leave { IfOk result (λ _. IsTrue C.tells
+            → MayGo (C.tree self.old) path.now (option_map (λ file. C.inode file.now) held.entry)) }
+    {
         self.require_leave(path, "", held)?;
         let removed = copy_path(self.alloc, path)?;
         keep_note(&mut self.is_unsure, self.named.remove(path))?;
@@ -269,16 +303,28 @@ impl<C: Calls + Drop, E: Print + Drop> Changes<C, E> {
     }
 
     /// Syncs a file that has got its name, and its folder.
-    pub fn sync_name(&mut self, path: &str) -> io::Result<()> {
-        if let Err(fault) = self.syncs.calls.sync_file(path) {
-            self.is_unsure = true;
-            return Err(fault);
+    pub fn sync_name(&mut self, path: &str) -> io::Result<()>
+        ensures kept { IsTrue C.tells → KeepsSynced (C.waits self.old) (C.waits self.new) }
+        ensures asks { IfOk result (λ _. IsTrue C.tells
+            → Asks (FileAt path.now ∷ FolderAt (parent_folder path.now) ∷ []) (C.waits self.old) (C.waits self.new)) }
+        ensures file { IfOk result (λ _. IsTrue C.tells → (C.waits self.new).files path.now ≡ false) }
+        ensures folder { IfOk result (λ _. IsTrue C.tells
+            → (C.waits self.new).folders (parent_folder path.now) ≡ false) }
+    {
+        match self.syncs.calls.sync_file(path) {
+            Ok(()) => self.sync_folder(folder_of(path)),
+            Err(fault) => {
+                self.is_unsure = true;
+                Err(fault)
+            }
         }
-        self.sync_folder(folder_of(path))
     }
 
     /// Syncs a folder.
-    pub fn sync_folder(&mut self, folder: &str) -> io::Result<()> {
+    pub fn sync_folder(&mut self, folder: &str) -> io::Result<()>
+        ensures asks { IsTrue C.tells → Asks (FolderAt folder.now ∷ []) (C.waits self.old) (C.waits self.new) }
+        ensures synced { IfOk result (λ _. IsTrue C.tells → (C.waits self.new).folders folder.now ≡ false) }
+    {
         match self.syncs.calls.sync_folder(folder) {
             Ok(_) => Ok(()),
             Err(failure) => {

@@ -2,9 +2,20 @@
 //!
 //! A check of the file system empties one of two names that stand over the same clusters. So bytes are never freed
 //! while two names may have them, and afterwards they are kept under the name that has them.
+ghost use Rattle.std.specs.Prelude.{◌≡◌, IfOk, IsTrue, None, OnOk, Some, false, is_some, string_bytes, true};
+ghost use Rattle.std.specs.IoError.{error_kind};
+ghost use Rattle.std.specs.declared.io.ErrorKind.TheVariants.{Other};
+ghost use Rattle.std.specs.Option.{option_map};
+ghost use Rattle.name_syncs.specs.Folders.{parent_folder};
+ghost use Rattle.fat_rules.specs.Recovery.{removal_of};
+ghost use Rattle.folder_calls.specs.Tree.{has_link, is_file, is_folder};
+ghost use Rattle.folder_changes.specs.Files.{facts_there, found_as};
+ghost use Rattle.folder_changes.specs.Rescues.{HasFolderAt, HaveBytes, IsRescueBy, IsSaved, NeedsNoRescue, parts_of_rescue};
+ghost use Rattle.folder_changes.specs.Shown.{is_shown};
+
 use crate::capitals::file_at;
 use crate::paths::{copy_path, path_in};
-use crate::twins::{Spelling, spelling_at};
+use crate::twins::is_shown;
 use boot_base::IntentNames;
 pub use fat_rules::Removal;
 use fat_rules::{Facts, Step, can_be_alias_of, removal_of, step_of_none, step_of_one};
@@ -14,13 +25,18 @@ use std::alloc::Global;
 use std::io;
 
 /// How the old name goes. The two names have no clusters in common.
-pub fn removal_of_old<C: Calls>(calls: &C, names: &IntentNames) -> io::Result<Removal> {
+pub fn removal_of_old<C: Calls>(calls: &C, names: &IntentNames) -> io::Result<Removal>
+    ensures { IfOk result (λ removal. IsTrue C.tells → removal ≡ removal_of
+        (facts_there (C.tree calls.now) names.now.from) (facts_there (C.tree calls.now) names.now.to)) }
+{
     let old = facts_at(calls, names.from.as_str())?;
     let new = facts_at(calls, names.to.as_str())?;
     Ok(removal_of(old, new))
 }
 
-fn facts_at<C: Calls>(calls: &C, path: &str) -> io::Result<Option<Facts>> {
+fn facts_at<C: Calls>(calls: &C, path: &str) -> io::Result<Option<Facts>>
+    ensures { IfOk result (λ facts. IsTrue C.tells → facts ≡ facts_there (C.tree calls.now) path.now) }
+{
     Ok(file_at(calls, path)?.map(|found| found.facts))
 }
 
@@ -36,13 +52,22 @@ pub struct Rescue {
 }
 
 impl Rescue {
-    fn of(alloc: Global, path: &str, by: Option<&str>, name: &str) -> io::Result<Option<Rescue>> {
-        let by = match by {
-            Some(by) => Some(copy_path(alloc, by)?),
-            None => None,
-        };
+    fn of(alloc: Global, path: &str, by: Option<&str>, name: &str) -> io::Result<Option<Rescue>>
+        ensures { IfOk result (λ rescue. option_map parts_of_rescue rescue
+            ≡ Some (path.now, option_map (λ text. text.now) by.entry, name.now)) }
+    {
+        let by = copy_given(alloc, by)?;
         let (path, name) = (copy_path(alloc, path)?, copy_path(alloc, name)?);
         Ok(Some(Rescue { path, by, name }))
+    }
+}
+
+fn copy_given(alloc: Global, path: Option<&str>) -> io::Result<Option<String>>
+    ensures { IfOk result (λ copy. option_map string_bytes copy ≡ option_map (λ text. text.now) path.entry) }
+{
+    match path {
+        Some(path) => Ok(Some(copy_path(alloc, path)?)),
+        None => Ok(None),
     }
 }
 
@@ -52,7 +77,12 @@ pub fn rescue_of<C: Calls>(
     calls: &C,
     alloc: Global,
     names: &IntentNames,
-) -> io::Result<Option<Rescue>> {
+) -> io::Result<Option<Rescue>>
+    ensures { IfOk result (λ rescue. rescue ≡ None → IsTrue C.tells
+        → IsSaved (C.tree calls.now) names.now.from names.now.to
+        (found_as is_file ((C.tree calls.now).stands names.now.from))
+        (found_as is_file ((C.tree calls.now).stands names.now.to))) }
+{
     let (from, to) = (names.from.as_str(), names.to.as_str());
     match (file_at(calls, from)?, file_at(calls, to)?) {
         (Some(_), Some(_)) => Err(io::Error::other("names two files that are both there")),
@@ -69,19 +99,33 @@ fn rescue_at<C: Calls>(
     name: &str,
     other: &str,
     found: &Found,
-) -> io::Result<Option<Rescue>> {
+) -> io::Result<Option<Rescue>>
+    ensures { IfOk result (λ rescue. rescue ≡ None → IsTrue C.tells
+        → NeedsNoRescue (C.tree calls.now) name.now found.now) }
+{
     if !found.is_fat_file() {
         return Ok(None);
     }
     let aliases = aliases_of(calls, alloc, name, other)?;
-    let step = step_of_one(&found.facts, aliases.facts.as_slice());
-    if step != Step::Forget {
-        return aliases.rescue_by(alloc, step, name);
+    match step_of_one(&found.facts, aliases.facts.as_slice()) {
+        Step::Forget => rescue_hidden(calls, alloc, name, other),
+        step => aliases.rescue_by(alloc, step, name),
     }
-    match spelling_at(calls, alloc, name)? {
-        Spelling::AsGiven => Ok(None),
-        Spelling::InCapitals => Rescue::of(alloc, name, Some(other), name),
+}
+
+// The same if the bytes stand under the one name.
+fn rescue_hidden<C: Calls>(
+    calls: &C,
+    alloc: Global,
+    name: &str,
+    other: &str,
+) -> io::Result<Option<Rescue>>
+    ensures { IfOk result (λ rescue. rescue ≡ None → IsTrue C.tells → is_shown (C.tree calls.now) name.now ≡ true) }
+{
+    if is_shown(calls, alloc, name)? {
+        return Ok(None);
     }
+    Rescue::of(alloc, name, Some(other), name)
 }
 
 // The same if neither name is there.
@@ -90,15 +134,27 @@ fn rescue_alias<C: Calls>(
     alloc: Global,
     from: &str,
     to: &str,
-) -> io::Result<Option<Rescue>> {
+) -> io::Result<Option<Rescue>>
+    ensures { IfOk result (λ rescue. rescue ≡ None → IsTrue C.tells
+        → HasFolderAt (C.tree calls.now) (parent_folder to.now)) }
+{
     let has_folder = is_folder(calls, folder_of(to))?;
     let aliases = aliases_of(calls, alloc, to, from)?;
     let step = step_of_none(has_folder, aliases.paths.len());
     aliases.rescue_by(alloc, step, to)
 }
 
-fn is_folder<C: Calls>(calls: &C, path: &str) -> io::Result<bool> {
-    Ok(calls.find(path)?.is_some_and(|found| found.is_folder()))
+fn is_folder<C: Calls>(calls: &C, path: &str) -> io::Result<bool>
+    ensures { IfOk result (λ is_there. IsTrue C.tells → has_link ((C.tree calls.now).stands path.now) ≡ false
+        → is_there ≡ is_some (found_as is_folder ((C.tree calls.now).stands path.now))) }
+{
+    Ok(has_folder(calls.find(path)?))
+}
+
+fn has_folder(found: Option<Found>) -> bool
+    ensures { result ≡ is_some (found_as is_folder found) }
+{
+    found.is_some_and(|found| found.is_folder())
 }
 
 /// Short aliases that have bytes.
@@ -109,8 +165,26 @@ struct Aliases {
 }
 
 impl Aliases {
+    // Adds a path, if a file with bytes stands there.
+    fn add<C: Calls>(&mut self, calls: &C, path: String) -> io::Result<()>
+        ensures { OnOk result (IsTrue C.tells
+            → HaveBytes (C.tree calls.now) self.old → HaveBytes (C.tree calls.now) self.new) }
+    {
+        let Some(found) = file_at(calls, path.as_str())? else {
+            return Ok(());
+        };
+        if found.facts.length == 0 {
+            return Ok(());
+        }
+        self.facts.push(found.facts)?;
+        self.paths.push(path)?;
+        Ok(())
+    }
+
     // The rename that a step asks for, to that name.
-    fn rescue_by(&self, alloc: Global, step: Step, name: &str) -> io::Result<Option<Rescue>> {
+    fn rescue_by(&self, alloc: Global, step: Step, name: &str) -> io::Result<Option<Rescue>>
+        ensures { IfOk result (λ rescue. IsRescueBy step self.now.paths.items name.now rescue) }
+    {
         match step {
             Step::Forget => Ok(None),
             Step::TakeAlias { place } => match self.paths.as_slice().get(place) {
@@ -128,26 +202,27 @@ impl Aliases {
     }
 }
 
-fn lost_fault() -> io::Error {
+fn lost_fault() -> io::Error
+    ensures { error_kind result ≡ Other }
+{
     io::Error::other("names a file that has lost its bytes: look for them, and remove it by hand")
 }
 
 // The short aliases with bytes that one of two names in one folder can have.
-fn aliases_of<C: Calls>(calls: &C, alloc: Global, path: &str, other: &str) -> io::Result<Aliases> {
+fn aliases_of<C: Calls>(calls: &C, alloc: Global, path: &str, other: &str) -> io::Result<Aliases>
+    ensures { IfOk result (λ aliases. IsTrue C.tells → HaveBytes (C.tree calls.now) aliases) }
+{
     let (folder, name) = parted(path);
     let (_, other_name) = parted(other);
-    let (mut paths, mut facts) = (Vec::new(alloc), Vec::new(alloc));
+    let mut aliases = Aliases {
+        paths: Vec::new(alloc),
+        facts: Vec::new(alloc),
+    };
     for alias in calls.names(alloc, folder)? {
         let alias = alias.as_str();
         if can_be_alias_of(alias, name) || can_be_alias_of(alias, other_name) {
-            let path = path_in(alloc, folder, alias)?;
-            if let Some(found) = file_at(calls, path.as_str())?
-                && found.facts.length > 0
-            {
-                facts.push(found.facts)?;
-                paths.push(path)?;
-            }
+            aliases.add(calls, path_in(alloc, folder, alias)?)?;
         }
     }
-    Ok(Aliases { paths, facts })
+    Ok(aliases)
 }

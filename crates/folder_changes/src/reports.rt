@@ -1,5 +1,5 @@
 //! What is told on standard error: each call that failed.
-ghost use Rattle.std.specs.Prelude.{◌≡◌};
+ghost use Rattle.std.specs.Prelude.{◌≡◌, false};
 
 use folder_calls::write_whole;
 use std::io;
@@ -13,7 +13,9 @@ pub struct Reports<E: Print + Drop> {
 
 impl<E: Print + Drop> Reports<E> {
     /// Nothing is told.
-    pub fn new(err: E) -> Self {
+    pub fn new(err: E) -> Self
+        ensures { result ≡ record { err = err; are_wanted = false } }
+    {
         Reports {
             err,
             are_wanted: false,
@@ -21,7 +23,9 @@ impl<E: Print + Drop> Reports<E> {
     }
 
     /// Whether failures are told from now on.
-    pub fn want(&mut self, are_wanted: bool) {
+    pub fn want(&mut self, are_wanted: bool)
+        ensures { self.new ≡ record self.old { are_wanted = are_wanted } }
+    {
         self.are_wanted = are_wanted;
     }
 

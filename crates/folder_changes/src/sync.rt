@@ -1,5 +1,5 @@
 //! The syncs of what has changed, and their faults as they are told.
-ghost use Rattle.std.specs.Prelude.{IfSome, IsTrue};
+ghost use Rattle.std.specs.Prelude.{◌≡◌, IfSome, IsTrue, bytes_eq, string_bytes};
 ghost use Rattle.folder_calls.specs.Calls.{IsOpenAt};
 
 use crate::reports::Reports;
@@ -18,7 +18,9 @@ pub struct KeptFile<F: Drop> {
 
 impl<F: Drop> KeptFile<F> {
     /// Whether it has that path.
-    pub fn is_at(&self, path: &str) -> bool {
+    pub fn is_at(&self, path: &str) -> bool
+        ensures { result ≡ bytes_eq (string_bytes self.now.path) path.now }
+    {
         self.path.as_str() == path
     }
 }

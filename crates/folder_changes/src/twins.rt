@@ -4,8 +4,13 @@
 //! the new one, or a short alias whose long name isn't on the disk. Who then removes, cuts or replaces the one file frees
 //! the clusters of the other. Only a check of the file system parts them. So a file is changed only if its folder shows
 //! it as it is spelled, and no other name there may be the same file.
-ghost use Rattle.std.specs.Prelude.{◌≡◌, All, IfOk, IsTrue, None, Some, false, map, string_bytes};
+ghost use Rattle.std.specs.Prelude.{◌≡◌, All, IfOk, IsTrue, MatchBool, MatchResult, None, Some, false, map, string_bytes};
+ghost use Rattle.std.specs.IoError.{error_kind};
 ghost use Rattle.std.specs.Option.{option_map};
+ghost use Rattle.boot_base.specs.Paths.{file_name_of};
+ghost use Rattle.name_syncs.specs.Folders.{parent_folder};
+ghost use Rattle.name_syncs.specs.Paths.{has_path};
+ghost use Rattle.folder_changes.specs.Shown.{HasCapitals, HasNoCapitals, IsShownAs, IsShownOtherwise, is_shown};
 ghost use Rattle.folder_changes.specs.Sought.{is_twins_name};
 ghost use Rattle.folder_calls.specs.Calls.{IsAloneBut, MayGoBut, inode_of, is_twin};
 
@@ -180,7 +185,9 @@ fn require_held<C: Calls>(
 }
 
 // What stands at a path isn't what this run holds there.
-pub(crate) fn changed_fault() -> io::Error {
+pub(crate) fn changed_fault() -> io::Error
+    ensures { error_kind result ≡ ErrorKind.WouldBlock }
+{
     io::Error::new(
         ErrorKind::WouldBlock,
         "another run has changed what stands there",
@@ -192,21 +199,53 @@ pub(crate) fn changed_fault() -> io::Error {
 /// # Errors
 ///
 /// The folder shows another spelling: it is the name of another file. Or a call has failed.
-pub fn spelling_at<C: Calls>(calls: &C, alloc: Global, path: &str) -> io::Result<Spelling> {
+pub fn spelling_at<C: Calls>(calls: &C, alloc: Global, path: &str) -> io::Result<Spelling>
+    ensures { IfOk result (λ spelling. IsTrue C.tells
+        → IsShownAs ((C.tree calls.now).names (parent_folder path.now)) (file_name_of path.now) spelling) }
+{
     let (folder, name) = parted(path);
     spelling_in(&calls.names(alloc, folder)?, name)
 }
 
+// Whether the folder of a file that is there shows it as the path spells it.
+pub(crate) fn is_shown<C: Calls>(calls: &C, alloc: Global, path: &str) -> io::Result<bool>
+    ensures { IfOk result (λ shown. IsTrue C.tells → shown ≡ is_shown (C.tree calls.now) path.now) }
+{
+    match spelling_at(calls, alloc, path)? {
+        Spelling::AsGiven => Ok(true),
+        Spelling::InCapitals => Ok(false),
+    }
+}
+
 // How a folder with these names shows a file that is found by a name.
-fn spelling_in(names: &Vec<String>, name: &str) -> io::Result<Spelling> {
-    if names.iter().any(|other| other.as_str() == name) {
+fn spelling_in(names: &Vec<String>, name: &str) -> io::Result<Spelling>
+    ensures { MatchResult result (IsShownAs (map string_bytes names.now.items) name.now)
+        (λ _. IsShownOtherwise (map string_bytes names.now.items) name.now) }
+{
+    if has_name(names.as_slice(), name) {
         return Ok(Spelling::AsGiven);
     }
-    if names
-        .iter()
-        .any(|other| is_in_capitals(other.as_str(), name))
-    {
+    if has_capitals(names.as_slice(), name) {
         return Ok(Spelling::InCapitals);
     }
     Err(io::Error::other("is there under another spelling: type that, or rename it in two steps"))
+}
+
+fn has_name(names: &[String], name: &str) -> bool
+    ensures { result ≡ has_path (map string_bytes names.now) name.now }
+{
+    names.iter().any(|other| other.as_str() == name)
+}
+
+// Whether one of the names is that one in capitals.
+fn has_capitals(names: &[String], name: &str) -> bool
+    ensures { MatchBool result (HasCapitals (map string_bytes names.now) name.now)
+        (HasNoCapitals (map string_bytes names.now) name.now) }
+{
+    for other in names {
+        if is_in_capitals(other.as_str(), name) {
+            return true;
+        }
+    }
+    false
 }

@@ -1,3 +1,4 @@
 pub mod Sets
 pub mod Waits
 pub mod Added
+pub mod Numbered

@@ -46,4 +46,8 @@ names_in_folder folder entries =
 
 -- the entries as a folder with all that is below it
 abbrev pub tree_of_entries : List Entry → Tree
-tree_of_entries entries = record { stands = found_at entries; names = λ folder. names_in_folder folder entries }
+tree_of_entries entries = record {
+  stands = found_at entries;
+  leads = found_at entries;
+  names = λ folder. names_in_folder folder entries;
+}

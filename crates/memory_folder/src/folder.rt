@@ -206,6 +206,7 @@ impl Calls for MemoryFolder {
         Ok(names_in_folder(alloc, &self.entries, folder)?)
     }
 
+    #[tactic(auto, using(crate::proofs::Numbered::on_one_system))]
     fn open(&self, path: &str, access: Access) -> io::Result<MemoryFile> {
         let Some(found) = self.found_at(path) else {
             return Err(io::Error::from(ErrorKind::NotFound));
