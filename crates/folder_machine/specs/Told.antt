@@ -1,12 +1,11 @@
 -- What the machine on a real folder tells: its counts, and nothing of what it holds.
-use Rattle.std.specs.Prelude.{◌≡◌, false, [], None, Result, MatchResult}
+use Rattle.std.specs.Prelude.{◌≡◌, [], Result, MatchResult}
 use Rattle.std.specs.FinMap as map
 use Rattle.std.specs.FinSet as set
 use Rattle.boot_machine.specs.Counts.{Counts, DiskFailsOnce, PipeFailsOnce}
 use Rattle.boot_machine.specs.Disk.{State}
 use Rattle.boot_machine.specs.declared.fault.ReadFault.{ReadFault}
 use Rattle.boot_machine.specs.declared.fault.ReadFault.TheVariants.{Memory, Disk}
-use Rattle.run_looks.specs.Standing.{Standing}
 use Rattle.folder_machine.specs.declared.faults.Faults.{Faults}
 
 -- the counts of faults, as the clauses of a machine speak of them
@@ -39,7 +38,3 @@ pub record CountsCall (causes once : Counts → Counts → Type 0) (old new : Fa
 -- the state that no clause speaks of
 abbrev pub no_state : State
 no_state = record { files = map.empty; earlier = []; soft = set.empty; printed = []; input = [] }
-
--- what stands on a disk that tells nothing, of which no clause speaks
-abbrev pub nothing_stands : Standing
-nothing_stands = record { files = λ _. None; names = λ _. set.empty }

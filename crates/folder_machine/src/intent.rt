@@ -1,10 +1,18 @@
 //! The intent of a move: the file that names the two paths of a rename while it is made. It is locked from its creation
 //! until it is gone, and believed only if this program can have written it.
+ghost use Rattle.std.specs.Prelude.{◌≡◌, IfOk, IfSome, IsErrAnd, IsTrue, None, Ok, OnOk, Some, option_copied, true, false};
+ghost use Rattle.std.specs.IoError.{error_kind};
+ghost use Rattle.boot_base.specs.Intents.{names_of};
+ghost use Rattle.fat_rules.specs.Entries.{is_own_move};
+ghost use Rattle.folder_calls.specs.Tree.{same_inode};
+ghost use Rattle.folder_machine.specs.Opening.{IsRead, is_plain_file};
+ghost use Rattle.folder_machine.specs.Refusing.{AnswersWith, other_move_fault};
+
 use crate::kept::lock_file;
 use crate::opened::open_file;
 use boot_base::{INTENT, INTENT_LIMIT, IntentNames};
 use fat_rules::is_own_move;
-use folder_calls::{Calls, Locked};
+use folder_calls::{Calls, Found, Locked};
 use name_syncs::Folders;
 use std::alloc::Global;
 use std::io;
@@ -14,14 +22,25 @@ use std::io::ErrorKind;
 const OTHER_MOVE: &str = "another run is moving a boot file";
 
 // The paths that an intent's file names.
-fn read_from<C: Calls>(
-    calls: &C,
-    alloc: Global,
-    file: &C::File,
-) -> io::Result<Option<IntentNames>> {
+fn read_from<C: Calls>(calls: &C, alloc: Global, file: &C::File) -> io::Result<Option<IntentNames>>
+    ensures { IfOk result (λ left. IfSome left IsRead) }
+{
     let mut bytes = [0; INTENT_LIMIT as usize + 1];
     let count = calls.read(file, 0, &mut bytes)?;
     Ok(IntentNames::read(alloc, &bytes[..count])?)
+}
+
+// The same of the intent, which this program can have written if it names any.
+fn read_own<C: Calls>(calls: &C, alloc: Global, file: &C::File) -> io::Result<Option<IntentNames>>
+    ensures own { IfOk result (λ left. IfSome left (λ names. is_own_move (names_of names) ≡ true)) }
+    ensures plain { IfOk result (λ left. IfSome left
+        (λ _. IsTrue C.tells → is_plain_file ((C.tree calls.now).stands INTENT.now) ≡ true)) }
+{
+    let Some(names) = read_from(calls, alloc, file)? else {
+        return Ok(None);
+    };
+    require_own(calls, alloc, INTENT, &names)?;
+    Ok(Some(names))
 }
 
 /// An intent that this run holds by its lock.
@@ -34,7 +53,9 @@ pub(crate) struct HeldIntent<F: Drop> {
 
 impl<F: Drop> HeldIntent<F> {
     // That of a move of this run.
-    pub(crate) fn new(file: Locked<F>) -> Self {
+    pub(crate) fn new(file: Locked<F>) -> Self
+        ensures { result ≡ record { file = file; left = None } }
+    {
         HeldIntent { file, left: None }
     }
 
@@ -43,14 +64,16 @@ impl<F: Drop> HeldIntent<F> {
     pub(crate) fn take<C: Calls<File = F>>(
         calls: &C,
         alloc: Global,
-    ) -> io::Result<Option<HeldIntent<F>>> {
+    ) -> io::Result<Option<HeldIntent<F>>>
+        ensures own { IfOk result (λ taken. IfSome taken (λ held. IfSome held.left
+            (λ names. is_own_move (names_of names) ≡ true))) }
+        ensures plain { IfOk result (λ taken. IfSome taken (λ held. IfSome held.left
+            (λ _. IsTrue C.tells → is_plain_file ((C.tree calls.now).stands INTENT.now) ≡ true))) }
+    {
         let Some(file) = open_locked_intent(calls)? else {
             return Ok(None);
         };
-        let left = read_from(calls, alloc, file.file())?;
-        if let Some(names) = &left {
-            require_own(calls, alloc, INTENT, names)?;
-        }
+        let left = read_own(calls, alloc, file.file())?;
         Ok(Some(HeldIntent { file, left }))
     }
 
@@ -58,11 +81,15 @@ impl<F: Drop> HeldIntent<F> {
         Ok(calls.find_open(self.file.file())?.facts.length)
     }
 
-    pub(crate) fn file(&self) -> &Locked<F> {
+    pub(crate) fn file(&self) -> &Locked<F>
+        ensures { result.now ≡ self.now.file }
+    {
         &self.file
     }
 
-    pub(crate) fn left(&self) -> Option<&IntentNames> {
+    pub(crate) fn left(&self) -> Option<&IntentNames>
+        ensures { option_copied result ≡ self.now.left }
+    {
         self.left.as_ref()
     }
 }
@@ -72,22 +99,45 @@ fn open_locked_intent<C: Calls>(calls: &C) -> io::Result<Option<Locked<C::File>>
         return Ok(None);
     };
     let file = lock_file(calls, file, OTHER_MOVE)?;
-    // Its run may have ended between opening and locking.
-    match calls.find(INTENT)? {
-        Some(found) if found.is_same(&opened) => Ok(Some(file)),
-        Some(_) => Err(other_move_fault()),
+    if_still_there(calls.find(INTENT)?, &opened, file)
+}
+
+// The intent that was locked, if what is found there now is what was opened. Its run may have ended between opening and
+// locking.
+fn if_still_there<F: Drop>(
+    found: Option<Found>,
+    opened: &Found,
+    file: Locked<F>,
+) -> io::Result<Option<Locked<F>>>
+    ensures gone { found ≡ None → result ≡ Ok None }
+    ensures same { IfSome found (λ found. same_inode found opened.now ≡ true → result ≡ Ok (Some file)) }
+    ensures other { IfSome found (λ found. same_inode found opened.now ≡ false
+        → IsErrAnd result (λ error. error_kind error ≡ ErrorKind.WouldBlock)) }
+{
+    match found {
+        Some(found) if found.is_same(opened) => Ok(Some(file)),
+        Some(_) => Err(other_move()),
         None => Ok(None),
     }
 }
 
-fn other_move_fault() -> io::Error {
+fn other_move() -> io::Error
+    ensures { error_kind result ≡ ErrorKind.WouldBlock }
+{
     io::Error::new(ErrorKind::WouldBlock, OTHER_MOVE)
 }
 
 // After the recovery of this run an intent that it doesn't hold is that of another run.
 pub(crate) fn require_no_other_move<C: Calls>(calls: &C, holds_intent: bool) -> io::Result<()> {
-    match calls.find(INTENT)? {
-        Some(found) if !holds_intent && found.is_file() => Err(other_move_fault()),
+    refuse_other_move(calls.find(INTENT)?, holds_intent)
+}
+
+// The same of what is found at the path of the intent.
+fn refuse_other_move(found: Option<Found>, holds_intent: bool) -> io::Result<()>
+    ensures { AnswersWith (other_move_fault found holds_intent) result }
+{
+    match found {
+        Some(found) if !holds_intent && found.is_file() => Err(other_move()),
         _ => Ok(()),
     }
 }
@@ -98,7 +148,10 @@ pub(crate) fn require_intent<C: Calls>(
     calls: &C,
     alloc: Global,
     temp: &str,
-) -> io::Result<IntentNames> {
+) -> io::Result<IntentNames>
+    ensures own { IfOk result (λ names. is_own_move (names_of names) ≡ true) }
+    ensures plain { OnOk result (IsTrue C.tells → is_plain_file ((C.tree calls.now).stands temp.now) ≡ true) }
+{
     require_no_other_move(calls, false)?;
     let Some((file, _)) = open_file(calls, temp)? else {
         return Err(io::Error::from(ErrorKind::NotFound));
@@ -117,9 +170,11 @@ fn require_own<C: Calls>(
     alloc: Global,
     path: &str,
     names: &IntentNames,
-) -> io::Result<()> {
-    let found = calls.find_itself(path)?;
-    if found.is_some_and(|found| found.is_file() && found.facts.links == 1)
+) -> io::Result<()>
+    ensures own { OnOk result (is_own_move (names_of names.now) ≡ true) }
+    ensures plain { OnOk result (IsTrue C.tells → is_plain_file ((C.tree calls.now).stands path.now) ≡ true) }
+{
+    if is_plain_file(calls.find_itself(path)?)
         && is_own_move(names)
         && !is_below_a_link(calls, alloc, names.from.as_str())?
     {
@@ -129,6 +184,13 @@ fn require_own<C: Calls>(
         ErrorKind::InvalidData,
         "isn't from a move of this program, or leads over a link: remove it by hand",
     ))
+}
+
+// Whether a regular file with one hard link was found.
+fn is_plain_file(found: Option<Found>) -> bool
+    ensures { result ≡ is_plain_file found }
+{
+    found.is_some_and(|found| found.is_file() && found.facts.links == 1)
 }
 
 // Whether a folder on the way to a file is a link.

@@ -1,4 +1,10 @@
 //! Temporary files and their locks, and the modes of files.
+ghost use Rattle.std.specs.Prelude.{◌≡◌, IfOk, IfSome, IsTrue, is_some, true};
+ghost use Rattle.std.specs.IoError.{error_kind};
+ghost use Rattle.folder_calls.specs.Calls.{inode_of};
+ghost use Rattle.folder_machine.specs.Opening.{IsFileAt, stands_still};
+ghost use Rattle.folder_machine.specs.Refusing.{AnswersWith, kind_fault, replace_fault};
+
 use crate::answers::kind_fault;
 use crate::opened::open_file;
 use folder_calls::{Access, Calls, Found, Hold, Kind, LockFault, Locked};
@@ -20,7 +26,9 @@ pub(crate) fn lock_file<C: Calls>(
     calls: &C,
     file: C::File,
     words: &str,
-) -> io::Result<Locked<C::File>> {
+) -> io::Result<Locked<C::File>>
+    ensures { IfOk result (λ locked. locked ≡ file) }
+{
     match Locked::take(calls, file, Hold::Alone) {
         Ok(locked) => Ok(locked),
         Err(LockFault::Taken) => Err(io::Error::new(ErrorKind::WouldBlock, words)),
@@ -34,12 +42,10 @@ pub(crate) fn open_locked<C: Calls>(
     calls: &C,
     path: &str,
     access: Access,
-) -> io::Result<Locked<C::File>> {
-    if let Some(found) = calls.find_itself(path)?
-        && !found.is_file()
-    {
-        return Err(kind_fault());
-    }
+) -> io::Result<Locked<C::File>>
+    ensures { IfOk result (λ locked. IsTrue C.tells → IsFileAt (C.tree calls.now) path.now (C.inode locked)) }
+{
+    require_file(calls.find_itself(path)?)?;
     let file = calls.open(path, access)?;
     let opened = calls.find_open(&file)?;
     match lock_named(calls, path, file, &opened)? {
@@ -48,7 +54,19 @@ pub(crate) fn open_locked<C: Calls>(
     }
 }
 
-fn held_fault() -> io::Error {
+// What is found is a regular file, or nothing.
+fn require_file(found: Option<Found>) -> io::Result<()>
+    ensures { AnswersWith (kind_fault found) result }
+{
+    match found {
+        Some(found) if !found.is_file() => Err(kind_fault()),
+        _ => Ok(()),
+    }
+}
+
+fn held_fault() -> io::Error
+    ensures { error_kind result ≡ ErrorKind.WouldBlock }
+{
     io::Error::new(ErrorKind::WouldBlock, HELD)
 }
 
@@ -59,7 +77,11 @@ fn lock_named<C: Calls>(
     path: &str,
     file: C::File,
     opened: &Found,
-) -> io::Result<Option<Locked<C::File>>> {
+) -> io::Result<Option<Locked<C::File>>>
+    ensures same { IfOk result (λ kept. IfSome kept (λ locked. locked ≡ file)) }
+    ensures stands { IfOk result (λ kept. IsTrue C.tells
+        → is_some kept ≡ stands_still (C.tree calls.now) path.now opened.now) }
+{
     let file = lock_file(calls, file, HELD)?;
     let found = calls.find_itself(path)?;
     Ok(if found.is_some_and(|found| found.is_same(opened)) {
@@ -84,7 +106,13 @@ pub(crate) fn create_locked<C: Calls + Drop, E: Print + Drop>(
     changes: &mut Changes<C, E>,
     path: &str,
     mode: u32,
-) -> io::Result<Created<C::File>> {
+) -> io::Result<Created<C::File>>
+    ensures same { IfOk result (λ made. IsTrue C.tells → C.inode made.file ≡ inode_of made.found) }
+    ensures stands { IfOk result (λ made. IsTrue C.tells
+        → stands_still (C.tree changes.new) path.now made.found ≡ true) }
+    ensures given { IfOk result (λ made. IfSome made.given (λ mode. mode ≡ made.found.mode)) }
+    ensures private { IfOk result (λ made. made.found.mode ≡ PRIVATE → made.given ≡ Some PRIVATE) }
+{
     for _ in 0..2 {
         let file = create_anew(changes, path, mode)?;
         let found = changes.calls().find_open(&file)?;
@@ -114,7 +142,9 @@ fn create_anew<C: Calls + Drop, E: Print + Drop>(
 }
 
 // A file, or a link to one, may be replaced by a rename, and nothing else that is found at a path.
-pub(crate) fn require_replaceable(found: Option<Found>) -> io::Result<()> {
+pub(crate) fn require_replaceable(found: Option<Found>) -> io::Result<()>
+    ensures { AnswersWith (replace_fault found) result }
+{
     match found {
         Some(found) => match found.kind {
             Kind::File | Kind::Link => Ok(()),

@@ -1,4 +1,8 @@
 //! The names in a folder.
+ghost use Rattle.std.specs.Prelude.{◌≡◌, ◌++◌, ◌∷◌, [], IfErr, OnErr, OnOk, if◌then◌else◌};
+ghost use Rattle.std.specs.IoError.{error_kind};
+ghost use Rattle.boot_base.specs.Paths.{is_file_name};
+
 use boot_base::{FileName, PathFault};
 use folder_calls::Calls;
 use folder_changes::path_in;
@@ -32,7 +36,12 @@ fn is_file<C: Calls>(calls: &C, path: &str) -> io::Result<bool> {
     Ok(found.is_some_and(|found| found.is_file()))
 }
 
-fn add_name(alloc: Global, names: &mut Vec<FileName>, text: &str) -> io::Result<()> {
+fn add_name(alloc: Global, names: &mut Vec<FileName>, text: &str) -> io::Result<()>
+    ensures ok { OnOk result (names.new.items
+        ≡ names.old.items ++ (if is_file_name text.now then text.now ∷ [] else [])) }
+    ensures err { OnErr result (names.new.items ≡ names.old.items) }
+    ensures memory { IfErr result (λ error. error_kind error ≡ ErrorKind.OutOfMemory) }
+{
     match FileName::read(alloc, text) {
         Ok(name) => Ok(names.push(name)?),
         Err(PathFault::BadPath) => Ok(()),

@@ -4,6 +4,12 @@
 //! To its end a run holds, alone, the folders that it has listed, since it relies on all names in them; and, with others,
 //! the folders in which it changes single files or has looked at payloads. To its reply it holds, alone, the file that
 //! it replaces, moves or removes; and, with others, the files that it has read for that.
+ghost use Rattle.std.specs.Prelude.{◌≡◌, ◌<◌, [], IfOk, IfSome, IsSome, IsTrue, OnErr, OnOk, false, option_copied, option_map, option_and_then, position, vec_len};
+ghost use Rattle.name_syncs.specs.Folders.{parent_folder};
+ghost use Rattle.folder_machine.specs.Holding.{HoldsMore, TellsNewFolders, has_payloads, held_as, held_by, is_held_as, with_payloads_of};
+ghost use Rattle.folder_machine.specs.Opening.{IsOpenAs};
+ghost use Rattle.folder_machine.specs.Refusing.{AnswersWith, IsLockError, changed_fault};
+
 use crate::answers::{changed_fault, met_fault};
 use crate::opened::{open_file, open_folder, open_known};
 use boot_base::{INTENT, TEMP_SUFFIX, ends_as_temp};
@@ -16,12 +22,16 @@ use std::{io, mem};
 const PAYLOADS: &str = "boot_tools";
 
 // Whether a path is that of a payload, or of its temporary file.
-pub(crate) fn is_payload(path: &str) -> bool {
+pub(crate) fn is_payload(path: &str) -> bool
+    ensures { result ≡ has_payloads (parent_folder path.now) }
+{
     is_payload_folder(folder_of(path))
 }
 
 // Whether payloads stand in a folder.
-pub(crate) fn is_payload_folder(folder: &str) -> bool {
+pub(crate) fn is_payload_folder(folder: &str) -> bool
+    ensures { result ≡ has_payloads folder.now }
+{
     parted(folder).1 == PAYLOADS
 }
 
@@ -47,7 +57,12 @@ pub(crate) struct Locks<F: Drop> {
 }
 
 impl<F: Drop> Locks<F> {
-    pub(crate) fn new(alloc: Global) -> Self {
+    pub(crate) fn new(alloc: Global) -> Self
+        ensures folders { result.folders.items ≡ [] }
+        ensures files { result.files.items ≡ [] }
+        ensures payloads { result.payloads ≡ record { has_root = false; below = [] } }
+        ensures new { result.has_new_folder ≡ false }
+    {
         Locks {
             alloc,
             folders: Vec::new(alloc),
@@ -58,7 +73,11 @@ impl<F: Drop> Locks<F> {
     }
 
     // A file was looked at. If it may be a payload, its folder is to be held before something is changed.
-    pub(crate) fn look_at(&mut self, path: &str) -> Result<(), AllocError> {
+    pub(crate) fn look_at(&mut self, path: &str) -> Result<(), AllocError>
+        ensures ok { OnOk result (self.new
+            ≡ record self.old { payloads = with_payloads_of self.old.payloads path.now }) }
+        ensures err { OnErr result (self.new ≡ self.old) }
+    {
         if is_payload(path) {
             self.payloads.add(folder_of(path))?;
         }
@@ -66,7 +85,12 @@ impl<F: Drop> Locks<F> {
     }
 
     // Holds the folders of the payloads that were looked at.
-    pub(crate) fn hold_payloads<C: Calls<File = F>>(&mut self, calls: &C) -> io::Result<()> {
+    pub(crate) fn hold_payloads<C: Calls<File = F>>(&mut self, calls: &C) -> io::Result<()>
+        ensures folders { HoldsMore C.tells C.inode self.old.folders.items self.new.folders.items }
+        ensures new { TellsNewFolders self.old self.new }
+        ensures files { self.new.files ≡ self.old.files }
+        ensures payloads { self.new.payloads ≡ record { has_root = false; below = [] } }
+    {
         let payloads = mem::replace(&mut self.payloads, Folders::new(self.alloc));
         for folder in payloads.below.as_slice() {
             self.hold_folder(calls, folder.as_str(), Hold::Shared)?;
@@ -80,36 +104,37 @@ impl<F: Drop> Locks<F> {
         calls: &C,
         folder: &str,
         hold: Hold,
-    ) -> io::Result<()> {
-        if !is_held(&self.folders, folder, hold)
-            && let Some(opened) = open_folder(calls, folder)?
-        {
-            let is_new = add_held(self.alloc, &mut self.folders, calls, folder, opened, hold)?;
-            self.has_new_folder = self.has_new_folder || is_new;
+    ) -> io::Result<()>
+        ensures folders { HoldsMore C.tells C.inode self.old.folders.items self.new.folders.items }
+        ensures new { TellsNewFolders self.old self.new }
+        ensures same { self.new
+            ≡ record self.old { folders = self.new.folders; has_new_folder = self.new.has_new_folder } }
+    {
+        if is_held(&self.folders, folder, hold) {
+            return Ok(());
         }
+        let Some(opened) = open_folder(calls, folder)? else {
+            return Ok(());
+        };
+        let is_new = add_held(self.alloc, &mut self.folders, calls, folder, opened, hold)?;
+        self.has_new_folder = self.has_new_folder || is_new;
         Ok(())
     }
 
     // Holds a file that was read, unless its folder is held alone.
-    pub(crate) fn hold_read<C: Calls<File = F>>(
-        &mut self,
-        calls: &C,
-        path: &str,
-    ) -> io::Result<()> {
-        if !is_held(&self.folders, folder_of(path), Hold::Alone)
-            && !is_held(&self.files, path, Hold::Shared)
-            && let Some(opened) = open_known(calls, path)?
+    pub(crate) fn hold_read<C: Calls<File = F>>(&mut self, calls: &C, path: &str) -> io::Result<()>
+        ensures files { HoldsMore C.tells C.inode self.old.files.items self.new.files.items }
+        ensures same { self.new ≡ record self.old { files = self.new.files } }
+    {
+        if is_held(&self.folders, folder_of(path), Hold::Alone)
+            || is_held(&self.files, path, Hold::Shared)
         {
-            add_held(
-                self.alloc,
-                &mut self.files,
-                calls,
-                path,
-                opened,
-                Hold::Shared,
-            )?;
+            return Ok(());
         }
-        Ok(())
+        let Some(opened) = open_known(calls, path)? else {
+            return Ok(());
+        };
+        self.hold_opened(calls, path, opened, Hold::Shared)
     }
 
     // Holds a file that goes, if one is there, and its folder. A temporary file and the intent have locks of their own.
@@ -118,7 +143,12 @@ impl<F: Drop> Locks<F> {
         &mut self,
         calls: &C,
         path: &str,
-    ) -> io::Result<()> {
+    ) -> io::Result<()>
+        ensures folders { HoldsMore C.tells C.inode self.old.folders.items self.new.folders.items }
+        ensures files { HoldsMore C.tells C.inode self.old.files.items self.new.files.items }
+        ensures new { TellsNewFolders self.old self.new }
+        ensures payloads { self.new.payloads ≡ self.old.payloads }
+    {
         if path.strip_suffix(TEMP_SUFFIX).unwrap_or(path) == INTENT {
             return Ok(());
         }
@@ -126,29 +156,45 @@ impl<F: Drop> Locks<F> {
         if ends_as_temp(path) {
             return Ok(());
         }
-        if !is_held(&self.files, path, Hold::Alone)
-            && let Some(opened) = open_file(calls, path)?
-        {
-            add_held(
-                self.alloc,
-                &mut self.files,
-                calls,
-                path,
-                opened,
-                Hold::Alone,
-            )?;
-        }
+        self.hold_file(calls, path)?;
         self.require_named(calls, path)
+    }
+
+    // Holds the file at a path alone, if one is there.
+    fn hold_file<C: Calls<File = F>>(&mut self, calls: &C, path: &str) -> io::Result<()>
+        ensures files { HoldsMore C.tells C.inode self.old.files.items self.new.files.items }
+        ensures same { self.new ≡ record self.old { files = self.new.files } }
+    {
+        if is_held(&self.files, path, Hold::Alone) {
+            return Ok(());
+        }
+        let Some(opened) = open_file(calls, path)? else {
+            return Ok(());
+        };
+        self.hold_opened(calls, path, opened, Hold::Alone)
+    }
+
+    // Holds a file that was opened.
+    fn hold_opened<C: Calls<File = F>>(
+        &mut self,
+        calls: &C,
+        path: &str,
+        opened: (F, Found),
+        hold: Hold,
+    ) -> io::Result<()>
+        ensures files { (IsTrue C.tells → IsOpenAs C.inode opened)
+            → HoldsMore C.tells C.inode self.old.files.items self.new.files.items }
+        ensures same { self.new ≡ record self.old { files = self.new.files } }
+    {
+        add_held(self.alloc, &mut self.files, calls, path, opened, hold)?;
+        Ok(())
     }
 
     // A file that is held must be the one that stands at its path.
     fn require_named<C: Calls<File = F>>(&self, calls: &C, path: &str) -> io::Result<()> {
-        let Some(held) = held_at(&self.files, path) else {
-            return Ok(());
-        };
-        match calls.find(path)? {
-            Some(found) if held.found.is_same(&found) => Ok(()),
-            _ => Err(changed_fault(self.alloc, path)),
+        match held_at(&self.files, path) {
+            Some(held) => require_found(self.alloc, path, &held.found, calls.find(path)?),
+            None => Ok(()),
         }
     }
 
@@ -157,13 +203,16 @@ impl<F: Drop> Locks<F> {
         &mut self,
         calls: &C,
         path: &str,
-    ) -> io::Result<()> {
+    ) -> io::Result<()>
+        ensures files { self.new.files.items ≡ self.old.files.items }
+        ensures same { self.new ≡ record self.old { files = self.new.files } }
+    {
         let Some((file, found)) = open_file(calls, path)? else {
             return Ok(());
         };
-        match held_as(&mut self.files, &found) {
-            Some(held) => {
-                strengthen(self.alloc, calls, held, Hold::Alone)?;
+        match place_of(&self.files, &found) {
+            Some(place) => {
+                strengthen_at(self.alloc, calls, &mut self.files, place, Hold::Alone)?;
             }
             None => {
                 lock(self.alloc, calls, path, file, Hold::Alone)?;
@@ -173,46 +222,83 @@ impl<F: Drop> Locks<F> {
     }
 
     // A file that is held, to read from it.
-    pub(crate) fn file_at(&self, path: &str) -> Option<&F> {
+    pub(crate) fn file_at(&self, path: &str) -> Option<&F>
+        ensures { option_copied result ≡ option_map (λ held. held.file) (held_by self.now.files.items path.now) }
+    {
         let held = held_at(&self.files, path)?;
         Some(held.file.file())
     }
 
     // The lock on the file that was found, maybe by another path.
-    pub(crate) fn lock_of(&self, found: Option<Found>) -> Option<&Locked<F>> {
+    pub(crate) fn lock_of(&self, found: Option<Found>) -> Option<&Locked<F>>
+        ensures { option_copied result
+            ≡ option_and_then (λ found. option_map (λ held. held.file) (held_as self.now.files.items found)) found }
+    {
         let found = found?;
-        let held = self.files.iter().find(|held| held.found.is_same(&found))?;
+        let held = held_as(&self.files, &found)?;
         Some(&held.file)
     }
 
     // A file that has gone is held no longer: the file system frees its bytes only when it is closed.
-    pub(crate) fn close_file(&mut self, path: &str) {
+    pub(crate) fn close_file(&mut self, path: &str)
+        ensures { self.new ≡ record self.old { files = self.new.files } }
+    {
         self.files.retain(|held| held.path.as_str() != path);
     }
 
     // Whether a folder was newly held since this was last asked.
-    pub(crate) fn take_new_folder(&mut self) -> bool {
+    pub(crate) fn take_new_folder(&mut self) -> bool
+        ensures told { result ≡ self.old.has_new_folder }
+        ensures same { self.new ≡ record self.old { has_new_folder = false } }
+    {
         mem::replace(&mut self.has_new_folder, false)
     }
 
     // A reply is given.
-    pub(crate) fn end_reply(&mut self) {
+    pub(crate) fn end_reply(&mut self)
+        ensures files { self.new.files.items ≡ [] }
+        ensures same { self.new ≡ record self.old { files = self.new.files } }
+    {
         self.files.clear();
     }
 }
 
+// What is found at a path must be what is held there.
+fn require_found(alloc: Global, path: &str, held: &Found, found: Option<Found>) -> io::Result<()>
+    ensures { AnswersWith (changed_fault held.now found) result }
+{
+    match found {
+        Some(found) if held.is_same(&found) => Ok(()),
+        _ => Err(changed_fault(alloc, path)),
+    }
+}
+
 // What this run holds by that path.
-fn held_at<'a, F: Drop>(all: &'a Vec<Held<F>>, path: &str) -> Option<&'a Held<F>> {
+fn held_at<'a, F: Drop>(all: &'a Vec<Held<F>>, path: &str) -> Option<&'a Held<F>>
+    ensures { option_copied result ≡ held_by all.now.items path.now }
+{
     all.iter().find(|held| held.path.as_str() == path)
 }
 
-fn is_held<F: Drop>(all: &Vec<Held<F>>, path: &str, hold: Hold) -> bool {
+fn is_held<F: Drop>(all: &Vec<Held<F>>, path: &str, hold: Hold) -> bool
+    ensures { IsTrue result → IsSome (held_by all.now.items path.now) }
+{
     held_at(all, path).is_some_and(|held| held.file.is_enough(hold))
 }
 
 // What this run holds of these already, maybe by another path.
-fn held_as<'a, F: Drop>(all: &'a mut Vec<Held<F>>, found: &Found) -> Option<&'a mut Held<F>> {
-    all.iter_mut().find(|held| held.found.is_same(found))
+fn held_as<'a, F: Drop>(all: &'a Vec<Held<F>>, found: &Found) -> Option<&'a Held<F>>
+    ensures { option_copied result ≡ held_as all.now.items found.now }
+{
+    all.iter().find(|held| held.found.is_same(found))
+}
+
+// Where that stands among these.
+fn place_of<F: Drop>(all: &Vec<Held<F>>, found: &Found) -> Option<usize>
+    ensures place { result ≡ position (is_held_as found.now) all.now.items }
+    ensures within { IfSome result (λ place. place < vec_len all.now) }
+{
+    all.iter().position(|held| held.found.is_same(found))
 }
 
 // Locks what was opened at a path, and tells whether it wasn't held so before. What this run holds already is locked
@@ -222,16 +308,36 @@ fn add_held<C: Calls>(
     all: &mut Vec<Held<C::File>>,
     calls: &C,
     path: &str,
-    (file, found): (C::File, Found),
+    opened: (C::File, Found),
     hold: Hold,
-) -> io::Result<bool> {
-    if let Some(held) = held_as(all, &found) {
-        return strengthen(alloc, calls, held, hold);
+) -> io::Result<bool>
+    ensures more { (IsTrue C.tells → IsOpenAs C.inode opened)
+        → HoldsMore C.tells C.inode all.old.items all.new.items }
+    ensures new { IfOk result (λ is_new. is_new ≡ false → all.new.items ≡ all.old.items) }
+    ensures err { OnErr result (all.new.items ≡ all.old.items) }
+{
+    let (file, found) = opened;
+    if let Some(place) = place_of(all, &found) {
+        return strengthen_at(alloc, calls, all, place, hold);
     }
     let file = lock(alloc, calls, path, file, hold)?;
     let path = String::from_str(alloc, path)?;
     all.push(Held { path, file, found })?;
     Ok(true)
+}
+
+// Holds one of these that is held already, and tells whether it wasn't held so before.
+fn strengthen_at<C: Calls>(
+    alloc: Global,
+    calls: &C,
+    all: &mut Vec<Held<C::File>>,
+    place: usize,
+    hold: Hold,
+) -> io::Result<bool>
+    requires { place < vec_len all.old }
+    ensures { all.new.items ≡ all.old.items }
+{
+    strengthen(alloc, calls, &mut all[place], hold)
 }
 
 // Holds what is held already, and tells whether it wasn't held so before.
@@ -240,7 +346,9 @@ fn strengthen<C: Calls>(
     calls: &C,
     held: &mut Held<C::File>,
     hold: Hold,
-) -> io::Result<bool> {
+) -> io::Result<bool>
+    ensures { held.new ≡ held.old }
+{
     if held.file.is_enough(hold) {
         return Ok(false);
     }
@@ -257,14 +365,18 @@ fn lock<C: Calls>(
     path: &str,
     file: C::File,
     hold: Hold,
-) -> io::Result<Locked<C::File>> {
+) -> io::Result<Locked<C::File>>
+    ensures { IfOk result (λ locked. locked ≡ file) }
+{
     match Locked::take_if_kept(calls, file, hold) {
         Ok(locked) => Ok(locked),
         Err(fault) => Err(lock_fault(alloc, path, fault)),
     }
 }
 
-fn lock_fault(alloc: Global, path: &str, fault: LockFault) -> io::Error {
+fn lock_fault(alloc: Global, path: &str, fault: LockFault) -> io::Error
+    ensures { IsLockError fault result }
+{
     match fault {
         LockFault::Taken => met_fault(alloc, "another run holds", path),
         LockFault::KeepsNone(error) | LockFault::Disk(error) => error,

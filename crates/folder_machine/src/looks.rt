@@ -1,4 +1,11 @@
-//! The looks of this run at the real folder: `run_looks` keeps them, and the calls of the system are made here.
+//! The looks of this run at the folder: `run_looks` keeps them, and the calls of the system are made here.
+ghost use Rattle.std.specs.Prelude.{◌≡◌, IfErr, IfOk, IsErrAnd, IsTrue, Ok, OnErr, OnOk, false};
+ghost use Rattle.std.specs.IoError.{error_kind};
+ghost use Rattle.run_looks.specs.Standing.{AllStand, RecentStand};
+ghost use Rattle.folder_machine.specs.Checking.{IsCheckError};
+ghost use Rattle.folder_machine.specs.Holding.{HoldsMore};
+ghost use Rattle.folder_machine.specs.Looking.{identity_of, look_error_kind, standing_of};
+
 use crate::answers::changed_fault;
 use crate::locks::Locks;
 use folder_calls::{Calls, Found, Hold};
@@ -7,7 +14,9 @@ use std::alloc::{AllocError, Global};
 use std::io;
 
 // What is no regular file isn't there.
-pub(crate) fn identity_of(found: Option<Found>) -> Option<Identity> {
+pub(crate) fn identity_of(found: Option<Found>) -> Option<Identity>
+    ensures { result ≡ identity_of found }
+{
     let found = found.filter(|found| found.is_file())?;
     Some(Identity {
         device: found.device,
@@ -18,7 +27,7 @@ pub(crate) fn identity_of(found: Option<Found>) -> Option<Identity> {
     })
 }
 
-/// The calls, as far as they look. It tells nothing of what stands there.
+/// The calls, as far as they look.
 #[derive(Drop)]
 struct LiveFolder<'a, C: Calls> {
     calls: &'a C,
@@ -26,14 +35,13 @@ struct LiveFolder<'a, C: Calls> {
 }
 
 impl<'a, C: Calls> LiveDisk for LiveFolder<'a, C> {
-    ghost use Rattle.std.specs.Prelude.{false};
-    ghost use Rattle.folder_machine.specs.Told.{nothing_stands};
+    ghost use Rattle.folder_machine.specs.Looking.{standing_of};
 
     type Fault = io::Error;
 
-    ghost tells = { false };
+    ghost tells = { C.tells };
 
-    ghost stands = { λ _. nothing_stands };
+    ghost stands = { λ folder. standing_of (C.tree folder.calls.now) };
 
     fn look(&self, path: &str) -> Result<Option<Identity>, io::Error> {
         Ok(identity_of(self.calls.find(path)?))
@@ -53,7 +61,10 @@ pub(crate) fn look_answer<T: Drop>(
     alloc: Global,
     path: &str,
     answer: Result<T, LookFault>,
-) -> io::Result<T> {
+) -> io::Result<T>
+    ensures value { IfOk result (λ value. answer ≡ Ok value) }
+    ensures fault { IfErr result (λ error. IsErrAnd answer (λ fault. error_kind error ≡ look_error_kind fault)) }
+{
     match answer {
         Ok(value) => Ok(value),
         Err(LookFault::Changed) => Err(changed_fault(alloc, path)),
@@ -61,7 +72,10 @@ pub(crate) fn look_answer<T: Drop>(
     }
 }
 
-fn check_answer(answer: Result<(), CheckFault<io::Error>>) -> io::Result<()> {
+fn check_answer(answer: Result<(), CheckFault<io::Error>>) -> io::Result<()>
+    ensures value { IfOk result (λ value. answer ≡ Ok value) }
+    ensures fault { IfErr result (λ error. IsErrAnd answer (λ fault. IsCheckError fault error)) }
+{
     match answer {
         Ok(()) => Ok(()),
         Err(CheckFault::Changed(fault)) => Err(fault),
@@ -75,7 +89,11 @@ pub(crate) fn require_same<C: Calls>(
     calls: &C,
     alloc: Global,
     looks: &mut RunLooks,
-) -> io::Result<()> {
+) -> io::Result<()>
+    ensures stand { IfOk result (λ _. IsTrue C.tells → RecentStand (standing_of (C.tree calls.now)) looks.old) }
+    ensures ok { OnOk result (looks.new ≡ record looks.old { has_unchecked = false }) }
+    ensures err { OnErr result (looks.new ≡ looks.old) }
+{
     check_answer(looks.require_same(&LiveFolder { calls, alloc }))
 }
 
@@ -84,7 +102,9 @@ pub(crate) fn require_all_same<C: Calls>(
     calls: &C,
     alloc: Global,
     looks: &RunLooks,
-) -> io::Result<()> {
+) -> io::Result<()>
+    ensures { IfOk result (λ _. IsTrue C.tells → AllStand (standing_of (C.tree calls.now)) looks.now) }
+{
     check_answer(looks.require_all_same(&LiveFolder { calls, alloc }))
 }
 
@@ -98,10 +118,23 @@ pub(crate) fn hold_looks<C: Calls>(
         locks.hold_folder(calls, folder.as_str(), Hold::Alone)?;
     }
     for path in looks.recent.as_slice() {
-        let path = path.as_str();
-        if looks.is_to_hold(path) {
-            locks.hold_read(calls, path)?;
-        }
+        hold_recent(calls, looks, path.as_str(), locks)?;
+    }
+    Ok(())
+}
+
+// Holds a file that was looked at, if it is to be held.
+fn hold_recent<C: Calls>(
+    calls: &C,
+    looks: &RunLooks,
+    path: &str,
+    locks: &mut Locks<C::File>,
+) -> io::Result<()>
+    ensures files { HoldsMore C.tells C.inode locks.old.files.items locks.new.files.items }
+    ensures same { locks.new ≡ record locks.old { files = locks.new.files } }
+{
+    if looks.is_to_hold(path) {
+        return locks.hold_read(calls, path);
     }
     Ok(())
 }

@@ -92,9 +92,11 @@ impl<C: Calls + Drop, E: Print + Drop> FolderMachine<C, E> {
 }
 
 impl<C: Calls + Drop, E: Print + Drop> Machine for FolderMachine<C, E> {
-    ghost use Rattle.std.specs.Prelude.{◌≤◌, IsTrue, false, length};
+    ghost use Rattle.std.specs.Prelude.{◌≤◌, ◌⊎◌, IsTrue, false, length};
+    ghost use Rattle.boot_base.specs.Paths.{intent};
     ghost use Rattle.name_syncs.specs.Named.{NothingWaits};
     ghost use Rattle.boot_machine.specs.Prelude.{CountsDisk, CountsPipe, CountsRead, Timeline};
+    ghost use Rattle.folder_machine.specs.Looking.{LooksStand};
     ghost use Rattle.folder_machine.specs.Told.{counts_of, no_state, CountsCall, CountsDiskOnce, CountsPipeOnce, CountsNamesOnce};
     ghost use Rattle.folder_machine.specs.proofs.Silence.{silent};
 
@@ -116,6 +118,7 @@ impl<C: Calls + Drop, E: Print + Drop> Machine for FolderMachine<C, E> {
 
     fn size(&mut self, path: &FilePath) -> Result<Option<u64>, DiskFault>
         ensures call { CountsCall (CountsDisk result) (CountsDiskOnce result) self.old.faults self.new.faults }
+        ensures still { self.new.system.changes ≡ self.old.system.changes }
     {
         let answer = self.system.size_of(path.as_str());
         self.disk("size", path.as_str(), answer)
@@ -124,6 +127,7 @@ impl<C: Calls + Drop, E: Print + Drop> Machine for FolderMachine<C, E> {
     fn read_at(&mut self, path: &FilePath, at: u64, into: &mut [u8]) -> Result<usize, DiskFault>
         ensures within { IfOk result (λ n. n ≤ length into.new) }
         ensures call { CountsCall (CountsDisk result) (CountsDiskOnce result) self.old.faults self.new.faults }
+        ensures still { self.new.system.changes ≡ self.old.system.changes }
     {
         let answer = self.system.read_some(path.as_str(), at, into);
         self.disk("read", path.as_str(), answer)
@@ -131,6 +135,7 @@ impl<C: Calls + Drop, E: Print + Drop> Machine for FolderMachine<C, E> {
 
     fn names(&mut self, alloc: Global, folder: &BootPath) -> Result<Vec<FileName>, NamesFault>
         ensures call { CountsCall (CountsRead result) (CountsNamesOnce result) self.old.faults self.new.faults }
+        ensures still { self.new.system.changes ≡ self.old.system.changes }
     {
         match self.system.names_in(alloc, folder.as_str()) {
             Ok(names) => Ok(names),
@@ -166,6 +171,8 @@ impl<C: Calls + Drop, E: Print + Drop> Machine for FolderMachine<C, E> {
 
     fn rename_temp(&mut self, from: &TempPath, to: &FilePath) -> Result<(), DiskFault>
         ensures call { CountsCall (CountsDisk result) (CountsDiskOnce result) self.old.faults self.new.faults }
+        ensures stand { IfOk result (λ _. IsTrue C.tells
+            → LooksStand (C.tree self.old.system.changes) self.old.system.looks) }
     {
         let answer = self.system.move_temp(from.as_str(), to.as_str());
         self.disk("rename", from.as_str(), answer)
@@ -173,6 +180,8 @@ impl<C: Calls + Drop, E: Print + Drop> Machine for FolderMachine<C, E> {
 
     fn rename_name(&mut self, from: &BootPath, to: &BootPath) -> Result<(), DiskFault>
         ensures call { CountsCall (CountsDisk result) (CountsDiskOnce result) self.old.faults self.new.faults }
+        ensures stand { IfOk result (λ _. IsTrue C.tells
+            → LooksStand (C.tree self.old.system.changes) self.old.system.looks) }
     {
         let answer = self.system.move_file(from.as_str(), to.as_str());
         self.disk("rename", from.as_str(), answer)
@@ -180,6 +189,8 @@ impl<C: Calls + Drop, E: Print + Drop> Machine for FolderMachine<C, E> {
 
     fn unlink(&mut self, path: &FilePath) -> Result<(), DiskFault>
         ensures call { CountsCall (CountsDisk result) (CountsDiskOnce result) self.old.faults self.new.faults }
+        ensures stand { IfOk result (λ _. IsTrue C.tells
+            → path.now ≡ intent ⊎ LooksStand (C.tree self.old.system.changes) self.old.system.looks) }
     {
         let answer = self.system.remove_file(path.as_str());
         self.disk("remove", path.as_str(), answer)
@@ -187,6 +198,8 @@ impl<C: Calls + Drop, E: Print + Drop> Machine for FolderMachine<C, E> {
 
     fn unlink_temp(&mut self, path: &TempPath) -> Result<(), DiskFault>
         ensures call { CountsCall (CountsDisk result) (CountsDiskOnce result) self.old.faults self.new.faults }
+        ensures stand { IfOk result (λ _. IsTrue C.tells
+            → LooksStand (C.tree self.old.system.changes) self.old.system.looks) }
     {
         let answer = self.system.remove_temp(path.as_str());
         self.disk("remove", path.as_str(), answer)

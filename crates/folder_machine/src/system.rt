@@ -2,8 +2,10 @@
 //!
 //! What is no regular file, after links, isn't there, and is never opened. "Not a directory", "is a
 //! directory" and a loop of links mean that no such file is there.
-ghost use Rattle.std.specs.Prelude.{◌≡◌, ◌≤◌, false, length, IfOk, IsTrue};
+ghost use Rattle.std.specs.Prelude.{◌≡◌, ◌≤◌, ◌⊎◌, false, length, IfOk, IsTrue};
+ghost use Rattle.boot_base.specs.Paths.{intent};
 ghost use Rattle.name_syncs.specs.Named.{NothingWaits};
+ghost use Rattle.folder_machine.specs.Looking.{LooksStand};
 
 use crate::intent::{HeldIntent, require_intent, require_no_other_move};
 use crate::kept::{
@@ -73,7 +75,9 @@ impl<C: Calls + Drop, E: Print + Drop> System<C, E> {
     }
 
     // Whether failures are told from now on.
-    pub(crate) fn want_reports(&mut self, are_wanted: bool) {
+    pub(crate) fn want_reports(&mut self, are_wanted: bool)
+        ensures still { self.new.changes ≡ self.old.changes }
+    {
         self.changes.want_reports(are_wanted);
     }
 
@@ -91,7 +95,9 @@ impl<C: Calls + Drop, E: Print + Drop> System<C, E> {
 
     // The length of a file, and None if none is there. While another run moves a file it may have no name to be found
     // by, so that is a fault then.
-    pub(crate) fn size_of(&mut self, path: &str) -> io::Result<Option<u64>> {
+    pub(crate) fn size_of(&mut self, path: &str) -> io::Result<Option<u64>>
+        ensures still { self.new.changes ≡ self.old.changes }
+    {
         if path == INTENT {
             self.changes.look_at(path)?;
             return self.size_of_intent();
@@ -111,7 +117,9 @@ impl<C: Calls + Drop, E: Print + Drop> System<C, E> {
 
     // Whether a file that is found at a path is the one of that name. What FAT shows in capitals alone isn't there, but for
     // a recovery. A payload that is there isn't written again, so its bytes must be its own.
-    fn is_own(&mut self, path: &str, found: &Found) -> io::Result<bool> {
+    fn is_own(&mut self, path: &str, found: &Found) -> io::Result<bool>
+        ensures still { self.new.changes ≡ self.old.changes }
+    {
         if is_payload(path) {
             self.require_one_name(path)?;
         }
@@ -129,7 +137,9 @@ impl<C: Calls + Drop, E: Print + Drop> System<C, E> {
 
     // This stands at a path, or nothing. Its folder is to be synced, unless it was after a look that found the same.
     // An intent has a lock of its own.
-    fn note_look(&mut self, path: &str, found: Option<Found>) -> io::Result<()> {
+    fn note_look(&mut self, path: &str, found: Option<Found>) -> io::Result<()>
+        ensures still { self.new.changes ≡ self.old.changes }
+    {
         if path == INTENT {
             return Ok(());
         }
@@ -144,7 +154,9 @@ impl<C: Calls + Drop, E: Print + Drop> System<C, E> {
     }
 
     // The length of the intent, which this run holds from then on.
-    fn size_of_intent(&mut self) -> io::Result<Option<u64>> {
+    fn size_of_intent(&mut self) -> io::Result<Option<u64>>
+        ensures still { self.new.changes ≡ self.old.changes }
+    {
         if self.intent.is_none() {
             self.intent = HeldIntent::take(self.changes.calls(), self.alloc)?;
         }
@@ -156,7 +168,8 @@ impl<C: Calls + Drop, E: Print + Drop> System<C, E> {
 
     // Some of the file's bytes from that place on, and none where no file is there.
     pub(crate) fn read_some(&mut self, path: &str, at: u64, into: &mut [u8]) -> io::Result<usize>
-        ensures { IfOk result (λ n. n ≤ length into.new) }
+        ensures within { IfOk result (λ n. n ≤ length into.new) }
+        ensures still { self.new.changes ≡ self.old.changes }
     {
         if let Some(file) = self.locks.file_at(path) {
             return self.changes.calls().read(file, at, into);
@@ -170,14 +183,18 @@ impl<C: Calls + Drop, E: Print + Drop> System<C, E> {
     }
 
     // The file to read from: the one of the last read, where the path is the same.
-    fn take_looked(&mut self, path: &str) -> io::Result<Option<LookedFile<C::File>>> {
+    fn take_looked(&mut self, path: &str) -> io::Result<Option<LookedFile<C::File>>>
+        ensures still { self.new.changes ≡ self.old.changes }
+    {
         match self.looked.take() {
             Some(looked) if looked.path.as_str() == path => Ok(Some(looked)),
             _ => self.open_looked(path),
         }
     }
 
-    fn open_looked(&mut self, path: &str) -> io::Result<Option<LookedFile<C::File>>> {
+    fn open_looked(&mut self, path: &str) -> io::Result<Option<LookedFile<C::File>>>
+        ensures still { self.new.changes ≡ self.old.changes }
+    {
         let kept = copy_path(self.alloc, path)?;
         let opened = if self.looks.is_known_file(path) {
             open_known(self.changes.calls(), path)?
@@ -198,26 +215,17 @@ impl<C: Calls + Drop, E: Print + Drop> System<C, E> {
 
     // The names of the files directly in a folder. Names that are not UTF-8 are passed over. While another run moves a
     // file its names may come and go, so that is a fault.
-    pub(crate) fn names_in(&mut self, alloc: Global, folder: &str) -> io::Result<Vec<FileName>> {
+    pub(crate) fn names_in(&mut self, alloc: Global, folder: &str) -> io::Result<Vec<FileName>>
+        ensures still { self.new.changes ≡ self.old.changes }
+    {
         self.changes.look_into(folder)?;
         let names = self.changes.calls().names(self.alloc, folder)?;
         let files = files_among(self.changes.calls(), alloc, folder, names.as_slice())?;
         self.require_no_other_move()?;
-        self.note_leftovers(folder, names.as_slice())?;
+        note_leftovers(self.alloc, &mut self.leftovers, folder, names.as_slice())?;
         let answer = self.looks.add_names(folder, names);
         look_answer(self.alloc, folder, answer)?;
         Ok(files)
-    }
-
-    // The temporary files among the names of a folder of payloads. A cleanup alone lists such a folder.
-    fn note_leftovers(&mut self, folder: &str, names: &[String]) -> io::Result<()> {
-        for name in names {
-            let name = name.as_str();
-            if ends_as_temp(name) && is_payload_folder(folder) {
-                self.leftovers.push(path_in(self.alloc, folder, name)?)?;
-            }
-        }
-        Ok(())
     }
 
     // Removes the temporary files beside payloads that were listed, unless another run is at work there.
@@ -241,7 +249,9 @@ impl<C: Calls + Drop, E: Print + Drop> System<C, E> {
     }
 
     // Holds a temporary file beside payloads. Who writes one holds their folder.
-    fn take_leftover(&mut self, path: &str) -> io::Result<Option<Locked<C::File>>> {
+    fn take_leftover(&mut self, path: &str) -> io::Result<Option<Locked<C::File>>>
+        ensures still { self.new.changes ≡ self.old.changes }
+    {
         self.locks
             .hold_folder(self.changes.calls(), folder_of(path), Hold::Alone)?;
         if file_at(self.changes.calls(), path)?.is_none() {
@@ -254,7 +264,10 @@ impl<C: Calls + Drop, E: Print + Drop> System<C, E> {
 
     // Before a change at a path this run takes its locks, and what it has looked at must still be the same.
     // The folder of the change comes first: another run that has it already goes on then, and this one has disturbed none.
-    fn begin_change(&mut self, path: &str) -> io::Result<()> {
+    fn begin_change(&mut self, path: &str) -> io::Result<()>
+        ensures still { self.new.changes ≡ self.old.changes }
+        ensures stand { IfOk result (λ _. IsTrue C.tells → LooksStand (C.tree self.old.changes) self.old.looks) }
+    {
         let calls = self.changes.calls();
         let folder = folder_of(path);
         if self.looks.has_names_of(folder) {
@@ -263,6 +276,15 @@ impl<C: Calls + Drop, E: Print + Drop> System<C, E> {
         self.locks.hold_changed(calls, path)?;
         self.locks.hold_payloads(calls)?;
         hold_looks(calls, &self.looks, &mut self.locks)?;
+        self.require_looks()
+    }
+
+    // What was looked at since the last reply must still be the same, and all that ever was once a folder is newly held.
+    fn require_looks(&mut self) -> io::Result<()>
+        ensures still { self.new.changes ≡ self.old.changes }
+        ensures stand { IfOk result (λ _. IsTrue C.tells → LooksStand (C.tree self.old.changes) self.old.looks) }
+    {
+        let calls = self.changes.calls();
         if self.locks.take_new_folder() {
             require_all_same(calls, self.alloc, &self.looks)
         } else {
@@ -328,7 +350,10 @@ impl<C: Calls + Drop, E: Print + Drop> System<C, E> {
     }
 
     // The temporary file that is written, with its lock.
-    fn take_written(&mut self, path: &str) -> io::Result<KeptFile<C::File>> {
+    fn take_written(&mut self, path: &str) -> io::Result<KeptFile<C::File>>
+        ensures still { self.new.changes ≡ self.old.changes }
+        ensures looks { self.new.looks ≡ self.old.looks }
+    {
         match self.written.take() {
             Some(written) if written.is_at(path) => Ok(written),
             _ => self.open_written(path),
@@ -346,7 +371,9 @@ impl<C: Calls + Drop, E: Print + Drop> System<C, E> {
     }
 
     // Renames a temporary file that no other run holds, under its lock.
-    pub(crate) fn move_temp(&mut self, from: &str, to: &str) -> io::Result<()> {
+    pub(crate) fn move_temp(&mut self, from: &str, to: &str) -> io::Result<()>
+        ensures stand { IfOk result (λ _. IsTrue C.tells → LooksStand (C.tree self.old.changes) self.old.looks) }
+    {
         let kept = copy_path(self.alloc, to)?;
         let written = self.take_written(from)?;
         if to == INTENT {
@@ -366,7 +393,9 @@ impl<C: Calls + Drop, E: Print + Drop> System<C, E> {
     }
 
     // Before an intent is put in place, what it says must be a move that may begin. Else its temporary file goes.
-    fn begin_intended(&mut self, temp: &str, written: &Locked<C::File>) -> io::Result<()> {
+    fn begin_intended(&mut self, temp: &str, written: &Locked<C::File>) -> io::Result<()>
+        ensures stand { IfOk result (λ _. IsTrue C.tells → LooksStand (C.tree self.old.changes) self.old.looks) }
+    {
         let answer = self.begin_move_of(temp);
         if answer.is_err() {
             let _ = self.changes.unlink(temp, Some(written));
@@ -374,7 +403,10 @@ impl<C: Calls + Drop, E: Print + Drop> System<C, E> {
         answer
     }
 
-    fn begin_move_of(&mut self, temp: &str) -> io::Result<()> {
+    fn begin_move_of(&mut self, temp: &str) -> io::Result<()>
+        ensures still { self.new.changes ≡ self.old.changes }
+        ensures stand { IfOk result (λ _. IsTrue C.tells → LooksStand (C.tree self.old.changes) self.old.looks) }
+    {
         let names = require_intent(self.changes.calls(), self.alloc, temp)?;
         self.begin_move(names.from.as_str(), names.to.as_str())
     }
@@ -400,14 +432,19 @@ impl<C: Calls + Drop, E: Print + Drop> System<C, E> {
     }
 
     // Renames a boot file, unless another run is about to put a file in place at the new path.
-    pub(crate) fn move_file(&mut self, from: &str, to: &str) -> io::Result<()> {
+    pub(crate) fn move_file(&mut self, from: &str, to: &str) -> io::Result<()>
+        ensures stand { IfOk result (λ _. IsTrue C.tells → LooksStand (C.tree self.old.changes) self.old.looks) }
+    {
         self.begin_move(from, to)?;
         self.make_room(from, to)?;
         self.rename_known(from, to)
     }
 
     // The same before a boot file is moved, and before the intent that says so.
-    fn begin_move(&mut self, from: &str, to: &str) -> io::Result<()> {
+    fn begin_move(&mut self, from: &str, to: &str) -> io::Result<()>
+        ensures still { self.new.changes ≡ self.old.changes }
+        ensures stand { IfOk result (λ _. IsTrue C.tells → LooksStand (C.tree self.old.changes) self.old.looks) }
+    {
         self.require_one_name(from)?;
         let temp = temp_of(self.alloc, to)?;
         require_not_written(self.changes.calls(), temp.as_str())?;
@@ -493,7 +530,9 @@ impl<C: Calls + Drop, E: Print + Drop> System<C, E> {
     }
 
     // Removes a temporary file that no other run holds, under its lock. A link isn't one.
-    pub(crate) fn remove_temp(&mut self, path: &str) -> io::Result<()> {
+    pub(crate) fn remove_temp(&mut self, path: &str) -> io::Result<()>
+        ensures stand { IfOk result (λ _. IsTrue C.tells → LooksStand (C.tree self.old.changes) self.old.looks) }
+    {
         self.begin_change(path)?;
         match self.changes.calls().find_itself(path)? {
             Some(found) if found.is_file() => {
@@ -504,7 +543,10 @@ impl<C: Calls + Drop, E: Print + Drop> System<C, E> {
         }
     }
 
-    fn take_removed(&mut self, path: &str) -> io::Result<Locked<C::File>> {
+    fn take_removed(&mut self, path: &str) -> io::Result<Locked<C::File>>
+        ensures still { self.new.changes ≡ self.old.changes }
+        ensures looks { self.new.looks ≡ self.old.looks }
+    {
         match self.written.take() {
             Some(written) if written.is_at(path) => Ok(written.file),
             _ => open_locked(self.changes.calls(), path, Access::Read),
@@ -512,7 +554,10 @@ impl<C: Calls + Drop, E: Print + Drop> System<C, E> {
     }
 
     // Removes a boot file. The old name of a rename that a stop has left half done goes as its bytes allow.
-    pub(crate) fn remove_file(&mut self, path: &str) -> io::Result<()> {
+    pub(crate) fn remove_file(&mut self, path: &str) -> io::Result<()>
+        ensures stand { IfOk result (λ _. IsTrue C.tells
+            → path.now ≡ intent ⊎ LooksStand (C.tree self.old.changes) self.old.looks) }
+    {
         self.require_one_name(path)?;
         if path == INTENT {
             return self.remove_intent();
@@ -531,7 +576,10 @@ impl<C: Calls + Drop, E: Print + Drop> System<C, E> {
     }
 
     // A file is changed only if no other name may be of it too.
-    fn require_one_name(&mut self, path: &str) -> io::Result<()> {
+    fn require_one_name(&mut self, path: &str) -> io::Result<()>
+        ensures still { self.new.changes ≡ self.old.changes }
+        ensures looks { self.new.looks ≡ self.old.looks }
+    {
         let found = self.changes.calls().find_itself(path)?;
         self.changes.require_one_name(path, found)
     }
@@ -599,7 +647,9 @@ impl<C: Calls + Drop, E: Print + Drop> System<C, E> {
     }
 
     // No other name than those of the intent may be of its file.
-    fn require_one_name_left(&mut self) -> io::Result<()> {
+    fn require_one_name_left(&mut self) -> io::Result<()>
+        ensures still { self.new.changes ≡ self.old.changes }
+    {
         let alloc = self.alloc;
         let Some(names) = self.left_names() else {
             return Ok(());
@@ -690,7 +740,9 @@ impl<C: Calls + Drop, E: Print + Drop> System<C, E> {
     }
 
     // A reply is printed, or a part of one: no later command relies on a sync before it.
-    pub(crate) fn end_reply(&mut self) {
+    pub(crate) fn end_reply(&mut self)
+        ensures still { self.new.changes ≡ self.old.changes }
+    {
         self.changes.end_reply();
         self.looks.end_reply();
         self.locks.end_reply();
@@ -707,6 +759,22 @@ impl<C: Calls + Drop, E: Print + Drop> System<C, E> {
     {
         self.changes.calls().input(into)
     }
+}
+
+// The temporary files among the names of a folder of payloads. A cleanup alone lists such a folder.
+fn note_leftovers(
+    alloc: Global,
+    leftovers: &mut Vec<String>,
+    folder: &str,
+    names: &[String],
+) -> io::Result<()> {
+    for name in names {
+        let name = name.as_str();
+        if ends_as_temp(name) && is_payload_folder(folder) {
+            leftovers.push(path_in(alloc, folder, name)?)?;
+        }
+    }
+    Ok(())
 }
 
 // The path of a file's temporary file.

@@ -1,12 +1,12 @@
 -- What the real folder tells: nothing.
-use Rattle.std.specs.Prelude.{ℕ, false, List, [], None}
+use Rattle.std.specs.Prelude.{false, [], None}
 use Rattle.name_syncs.specs.Waiting.{Waiting}
 use Rattle.folder_calls.specs.Calls.{Inode}
 use Rattle.folder_calls.specs.Tree.{Tree}
 
 -- a folder of which no clause says what stands there
 abbrev pub tree_untold : Tree
-tree_untold = record { stands = λ _. None; names = λ _. [] }
+tree_untold = record { stands = λ _. None; leads = λ _. None; names = λ _. [] }
 
 -- a disk of which no clause says what waits
 abbrev pub waits_untold : Waiting

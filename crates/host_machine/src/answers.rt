@@ -1,18 +1,15 @@
-//! What answers of the system mean, and calls that are made again while they are interrupted.
-ghost use Rattle.std.specs.Prelude.{◌≤◌, length, IfOk};
+//! Calls that are made again while they are interrupted.
+ghost use Rattle.std.specs.Prelude.{◌≤◌, length, IfOk, Ok};
 
-use folder_calls::LockFault;
-use std::fs::{File, TryLockError};
+use std::fs::File;
 use std::io;
 use std::io::{ErrorKind, Read};
 use std::os::unix::fs::FileExt;
 
-// The system's answer of a network's file system to a lock on a file that isn't open for writing.
-const BAD_DESCRIPTOR: i32 = 9;
-
 // The answer of a call that isn't interrupted.
 pub(crate) fn repeated<T: Drop, F: Fn() -> io::Result<T>>(call: F) -> io::Result<T>
     requires { F.IsAlwaysCallable call }
+    ensures { IfOk result (λ value. F.post call (Ok value)) }
 {
     for _ in 0..u64::MAX {
         match call() {
@@ -22,63 +19,6 @@ pub(crate) fn repeated<T: Drop, F: Fn() -> io::Result<T>>(call: F) -> io::Result
         }
     }
     Err(io::Error::from(ErrorKind::Interrupted))
-}
-
-// None where an entry of a folder has a name that isn't UTF-8.
-pub(crate) fn if_utf8<T: Drop>(entry: io::Result<T>) -> io::Result<Option<T>> {
-    match entry {
-        Ok(entry) => Ok(Some(entry)),
-        Err(error) if error.kind() == ErrorKind::InvalidFilename => Ok(None),
-        Err(error) => Err(error),
-    }
-}
-
-// Whether something was made. What stood there already stays.
-pub(crate) fn if_new(answer: io::Result<()>) -> io::Result<()> {
-    match answer {
-        Err(error) if error.kind() == ErrorKind::AlreadyExists => Ok(()),
-        answer => answer,
-    }
-}
-
-// Whether the call was done, and not refused by a file system that doesn't know it.
-pub(crate) fn if_allowed(answer: io::Result<()>) -> io::Result<bool> {
-    match answer {
-        Ok(()) => Ok(true),
-        Err(error)
-            if matches!(
-                error.kind(),
-                ErrorKind::PermissionDenied | ErrorKind::Unsupported
-            ) => { Ok(false) }
-        Err(error) => Err(error),
-    }
-}
-
-// What the answer to a lock means.
-pub(crate) fn lock_answer(answer: Result<(), TryLockError>) -> Result<(), LockFault> {
-    match answer {
-        Ok(()) => Ok(()),
-        Err(TryLockError::WouldBlock) => Err(LockFault::Taken),
-        Err(TryLockError::Error(error)) if keeps_no_locks(&error) => {
-            Err(LockFault::KeepsNone(error))
-        }
-        Err(TryLockError::Error(error)) => Err(LockFault::Disk(error)),
-    }
-}
-
-fn keeps_no_locks(error: &io::Error) -> bool {
-    matches!(
-        error.kind(),
-        ErrorKind::Unsupported | ErrorKind::InvalidInput
-    ) || error.raw_os_error() == Some(BAD_DESCRIPTOR)
-}
-
-// Whether the failed sync of a folder is that of a file system that syncs none, as a read-only one.
-pub(crate) fn syncs_no_folders(error: &io::Error) -> bool {
-    matches!(
-        error.kind(),
-        ErrorKind::InvalidInput | ErrorKind::Unsupported | ErrorKind::ReadOnlyFilesystem
-    )
 }
 
 // One read that isn't interrupted.

@@ -1,10 +1,14 @@
 //! The calls on the real folder.
-use crate::answers::{
-    if_allowed, if_new, if_utf8, lock_answer, read_once, read_once_at, repeated, syncs_no_folders,
-};
+ghost use Rattle.std.specs.Prelude.{◌≡◌};
+ghost use Rattle.host_machine.specs.Told.{path_for_system};
+
+use crate::answers::{read_once, read_once_at, repeated};
 use crate::found::found_of;
 use crate::streams::StandIns;
-use folder_calls::{Access, Calls, Found, Hold, Kind, LockFault, Locked, if_there, write_whole};
+use folder_calls::{
+    Access, Calls, Found, Hold, Kind, LockFault, Locked, folder_answer, if_allowed, if_new,
+    if_there, if_utf8, lock_answer, write_whole,
+};
 use name_syncs::FolderFault;
 use std::alloc::Global;
 use std::fs::{File, OpenOptions, Permissions};
@@ -38,7 +42,9 @@ impl<R: Runtime<File = File> + AllocGlobal> RealFolder<R> {
 }
 
 // The folder of no name, as the system takes it.
-fn system_path(path: &str) -> &str {
+fn system_path(path: &str) -> &str
+    ensures { result.now ≡ path_for_system path.now }
+{
     if path.is_empty() { "." } else { path }
 }
 
@@ -166,17 +172,6 @@ impl<R: Runtime<File = File> + AllocGlobal> Calls for RealFolder<R> {
         ensures { IfOk result (λ n. n ≤ length into.new) }
     {
         read_once(&mut self.rt.reader(), into)
-    }
-}
-
-// Whether a folder that was there is synced.
-fn folder_answer(answer: io::Result<()>) -> Result<bool, FolderFault<io::Error>> {
-    match answer {
-        Ok(()) => Ok(true),
-        Err(fault) => {
-            let syncs_none = syncs_no_folders(&fault);
-            Err(FolderFault { syncs_none, fault })
-        }
     }
 }
 
