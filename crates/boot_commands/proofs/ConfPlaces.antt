@@ -14,7 +14,7 @@ use Rattle.boot_machine.specs.Disk.{Files}
 use Rattle.command_plans.specs.Declining.{◌>>=◌, path_in, path_or, path_under}
 use Rattle.menu_order.specs.declared.counted.Suffix.{Suffix}
 use Rattle.menu_order.specs.declared.counted.Suffix.TheVariants.{Conf, Efi}
-use Rattle.boot_folder.specs.Entries.{entries_below, images_below}
+use Rattle.boot_base.specs.Layout.{entries_below, images_below}
 use Rattle.command_plans.specs.Folders.{folders_of}
 use Rattle.entry_commands.specs.GoodEntries.{HasGoodEntry}
 use Rattle.loader_commands.specs.Places.{conf_below, conf_path}

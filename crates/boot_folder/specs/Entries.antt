@@ -1,7 +1,8 @@
 -- The entries of the boot files, and their menu.
-use Rattle.std.specs.Prelude.{◌≡◌, ℕ, true, false, Bool, ◌&&◌, ◌+◌, List, codes, bytes_eq, count_by, Option, Some, None, option_and_then, if◌then◌else◌}
+use Rattle.std.specs.Prelude.{◌≡◌, ℕ, true, false, Bool, ◌&&◌, ◌+◌, List, bytes_eq, count_by, Option, Some, None, option_and_then, if◌then◌else◌}
 use Rattle.std.specs.List.{filter_map}
 use Rattle.std.specs.FinMap as map
+use Rattle.boot_base.specs.Layout.{entries_below, images_below}
 use Rattle.boot_base.specs.Paths.{Path, path_of, path_below, under, file_name_of, is_file_name}
 use Rattle.menu_order.specs.Splits.{has_suffix}
 use Rattle.menu_order.specs.declared.counted.Suffix.{Suffix}
@@ -11,14 +12,6 @@ use Rattle.menu_order.specs.declared.item.MenuItem.{MenuItem}
 use Rattle.menu_order.specs.Menu.{menu_of}
 use Rattle.boot_folder.specs.Records.{type1_entry, type2_entry}
 use Rattle.boot_folder.specs.declared.folders.Folders.{Folders}
-
--- where entries of type 1 stand below an EFI system partition
-abbrev pub entries_below : List ℕ
-entries_below = codes "loader/entries"
-
--- where images of type 2 stand there
-abbrev pub images_below : List ℕ
-images_below = codes "EFI/Linux"
 
 -- the two folders, if both have paths
 abbrev pub folders_from : Option Path → Option Path → Option Folders

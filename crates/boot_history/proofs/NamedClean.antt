@@ -8,6 +8,7 @@ use Rattle.std.proofs.lemmas.Bool.{and_parts, not-true, or_parts}
 use Rattle.std.proofs.lemmas.List.{append_cancel_right}
 use Rattle.std.proofs.lemmas.List.Elements.{All-cons, All-contains, All-nil, All-weaker, Contains-append_cases, Contains-append_left, Contains-append_right}
 use Rattle.std.proofs.lemmas.Slice.Eq.{bytes_eq-Decides}
+use Rattle.boot_base.specs.Layout.{payloads_below}
 use Rattle.boot_base.specs.Paths.{Path, file_name_of, under}
 use Rattle.boot_folder.specs.Entries.{IsEntry, boot_menu, entry_count}
 use Rattle.boot_folder.specs.declared.folders.Folders.{Folders}
@@ -118,7 +119,7 @@ unnamed_none esp e view path is item entry value among name fits at names =
     let last : file_name_of path ≡ name = ap file_name_of at ∙ file_name_under (payload_folder esp) name (payload_slash name fits) in
     let whole : under (payload_folder esp) name ≡ under (payload_folder e) name = sym at ∙ sym stands ∙ ap (under (payload_folder e)) last in
     let folders = append_cancel_right (payload_folder esp) (payload_folder e) (47 ∷ name) whole in
-    let same : esp ≡ e = append_cancel_right esp e (47 ∷ codes "boot_tools") folders in
+    let same : esp ≡ e = append_cancel_right esp e (47 ∷ payloads_below) folders in
     let own : IsEntry view (folders_at e) item = subst (λ x. IsEntry view (folders_at x) item) same entry in
     let listed = ((entries_menu view (folders_at e)).entries item).1 own in
     let none_item = All-contains (λ i. item_names e path i ≡ false) (boot_menu view (folders_at e)) item

@@ -7,6 +7,7 @@ use Rattle.std.specs.Option.{option_to_list}
 use Rattle.std.proofs.lemmas.Bool.{and_parts, eqb-true}
 use Rattle.std.proofs.lemmas.List.{append_cancel_right}
 use Rattle.std.proofs.lemmas.List.Elements.{All-cons, All-contains, All-head, All-nil, All-push, All-tail, All-weaker}
+use Rattle.boot_base.specs.Layout.{entries_below}
 use Rattle.boot_base.specs.Paths.{Path, file_name_of, is_kept, is_slash, under}
 use Rattle.boot_machine.specs.Disk.{Files}
 use Rattle.boot_machine.specs.proofs.Maps.{get-insert_apart, get-insert_here, same_apart}
@@ -83,7 +84,7 @@ module _ (counts : List ℕ → Bool) (esp : Path) (e : Path) (v : Files) where
   -- then the entry may be entered
   pub entered : (view : Files) (plan : Type1Plan) (name : List ℕ) → plan.esp ≡ e → PutSoFar (plan.linux ∷ plan.initrds) view
       → IsNormal e → is_kept name ≡ true → list_any is_slash name ≡ false → has_suffix Conf name ≡ true
-      → path_under e (codes "loader/entries/" ++ name) ≡ Ok plan.entry
+      → path_under e (under entries_below name) ≡ Ok plan.entry
       → type1_of (entry_text (fields_of v plan)) ≡ fields_of v plan
       → AreNamedThere counts esp (map_of.insert view plan.entry (entry_text (fields_of v plan)))
   unfolding PlacedValue
@@ -96,7 +97,7 @@ module _ (counts : List ℕ → Bool) (esp : Path) (e : Path) (v : Files) where
       let names_same : conf.name ≡ name = sym (conf_name esp plan.entry conf) ∙ last in
       let whole : under (folders_at esp).entries name ≡ under (folders_at e).entries name = ap (under (folders_at esp).entries) (sym names_same) ∙ sym conf.at ∙ stands in
       let folders : (folders_at esp).entries ≡ (folders_at e).entries = append_cancel_right (folders_at esp).entries (folders_at e).entries (47 ∷ name) whole in
-      let same : esp ≡ e = append_cancel_right esp e (47 ∷ codes "loader/entries") folders in
+      let same : esp ≡ e = append_cancel_right esp e (47 ∷ entries_below) folders in
       let said : Contains (option_to_list (fields_of v plan).linux ++ (fields_of v plan).initrds) value =
       subst (λ (f : Type1). Contains (option_to_list f.linux ++ f.initrds) value) reads among in
       let found = All-contains (PlacedValue view) (map (value_of_file v) (plan.linux ∷ plan.initrds)) value (placed_values view (plan.linux ∷ plan.initrds) so_far.placed) said in

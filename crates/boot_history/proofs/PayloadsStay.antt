@@ -6,6 +6,7 @@ use Rattle.std.specs.FinMap as map_of
 use Rattle.std.specs.List.{list_any}
 use Rattle.std.proofs.lemmas.Bool.{and_parts, or_cases}
 use Rattle.std.proofs.lemmas.Slice.Eq.{bytes_eq-Decides}
+use Rattle.boot_base.specs.Layout.{entries_below, images_below}
 use Rattle.boot_base.specs.Paths.{Path, file_name_of, is_file_name, is_kept, is_slash, normal_of, path_of, under}
 use Rattle.boot_base.specs.declared.refusal.Refusal.{Refusal}
 use Rattle.boot_base.specs.declared.refusal.Refusal.TheVariants as refusals
@@ -133,10 +134,10 @@ unlink_apart esp name word at is =
     let e = done_by (path_in word) _ at is in
     by (is_entry_name name) refl e.0 e.2
   where
-    ends : (e : Path) → is_file_name name ≡ true → (conf : Bool) → path_under e ((if conf then codes "loader/entries/" else codes "EFI/Linux/") ++ name) ≡ Ok at
+    ends : (e : Path) → is_file_name name ≡ true → (conf : Bool) → path_under e (under (if conf then entries_below else images_below) name) ≡ Ok at
         → file_name_of at ≡ name
-    ends e is_name true is = let parts = name_parts name is_name in last_below e (codes "loader/entries") name at parts.0 parts.1 is
-    ends e is_name false is = let parts = name_parts name is_name in last_below e (codes "EFI/Linux") name at parts.0 parts.1 is
+    ends e is_name true is = let parts = name_parts name is_name in last_below e entries_below name at parts.0 parts.1 is
+    ends e is_name false is = let parts = name_parts name is_name in last_below e images_below name at parts.0 parts.1 is
 
     by : (fits : Bool) → is_entry_name name ≡ fits → (e : Path) → (if fits then path_under e (entry_below name) else Err (refusals.BadName name)) ≡ Ok at → NotPayload esp at
     by false fits e is = absurd (err_ok (refusals.BadName name) at is)

@@ -3,7 +3,9 @@
 -- limits are profile).
 use Rattle.std.specs.Prelude.{◌≡◌, ◌≤◌, ℕ, ◌==◌, Bool, true, false, not, ◌&&◌, ◌||◌, All, List, [], ◌∷◌, ◌++◌, codes, length, map, nat_le, Option, Some, None}
 use Rattle.std.specs.List.{list_all}
+use Rattle.boot_base.specs.Layout.{payloads_below}
 use Rattle.boot_base.specs.Limits.{text_limit}
+use Rattle.boot_base.specs.Paths.{under}
 use Rattle.boot_texts.specs.BootEntries.{boots, type1_of}
 use Rattle.boot_texts.specs.FileLines.{key_line, text_of_lines}
 use Rattle.boot_texts.specs.declared.entry.Type1.{Type1}
@@ -71,7 +73,7 @@ is_payload_name name = length name == 64 && list_all is_hex_lower name
 
 -- how an entry names a payload
 abbrev pub payload_value : List ℕ → List ℕ
-payload_value name = codes "/boot_tools/" ++ name
+payload_value name = 47 ∷ under payloads_below name
 
 -- a value that names a payload
 abbrev pub IsPayloadValue : List ℕ → Type 0

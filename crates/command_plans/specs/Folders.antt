@@ -1,7 +1,7 @@
 -- The two folders of boot entries in an EFI system partition, by a word (UAPI Boot Loader Specification).
 use Rattle.std.specs.Prelude.{ℕ, List, Result, Ok}
+use Rattle.boot_base.specs.Layout.{entries_below, images_below}
 use Rattle.boot_base.specs.declared.refusal.Refusal.{Refusal}
-use Rattle.boot_folder.specs.Entries.{entries_below, images_below}
 use Rattle.boot_folder.specs.declared.folders.Folders.{Folders}
 use Rattle.command_plans.specs.Declining.{◌>>=◌, path_in, path_under}
 

@@ -1,5 +1,6 @@
 //! Words that are refused, and what refusals say of paths.
 ghost use Rattle.std.specs.Prelude.{◌≡◌, IfOk};
+ghost use Rattle.boot_base.specs.Paths.{under};
 ghost use Rattle.command_plans.specs.Prelude.{Means, install_name, path_in, path_under, printed_path};
 
 use boot_base::{BootPath, PathFault, Refusal, Text};
@@ -59,6 +60,19 @@ pub fn path_under(alloc: Global, folder: &BootPath, below: &str) -> Result<BootP
             }))
         }
     }
+}
+
+/// The path of a file of that name in a folder below another one, or the refusal of the joined text.
+pub fn file_under(
+    alloc: Global,
+    above: &BootPath,
+    folder: &str,
+    name: &str,
+) -> Result<BootPath, Declined>
+    ensures { Means (λ path. path) result (path_under above.now (under folder.now name.now)) }
+{
+    let below = format!(in alloc; "{folder}/{name}")?;
+    path_under(alloc, above, below.as_str())
 }
 
 /// A path's text as it is printed, with a leading `/`.

@@ -26,7 +26,9 @@ mod unsaid;
 
 pub use changes::{gone_line, installed_text, plan_copy, plan_removal, printed_line};
 pub use choices::{banks_of, paths_of};
-pub use declined::{Declined, check_name, not_there, path_in, path_under, printed_path};
+pub use declined::{
+    Declined, check_name, file_under, not_there, path_in, path_under, printed_path,
+};
 pub use files::{
     file_bytes, file_part, head_of_size, image_head, not_pe, readable_size, sized_head, too_large,
 };

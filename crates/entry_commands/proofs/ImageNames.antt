@@ -1,9 +1,10 @@
 -- The name of an installed image's file is the last component of its path.
 use Rattle.std.proofs.Common.{◌≡◌, inl, inr, ℕ, ◌≤◌, Bool, true, false, List, ◌∷◌, ◌++◌, Option, Some, None, Result, Ok, Err, length, refl, sym, ap, ◌∙◌, arith, lit<, length-append, append_assoc}
-use Rattle.std.specs.Prelude.{IfSome, codes, ◌==◌, if◌then◌else◌}
+use Rattle.std.specs.Prelude.{IfSome, ◌==◌, if◌then◌else◌}
 use Rattle.std.specs.Fmt.{decimal}
 use Rattle.std.specs.List.{list_any}
 use Rattle.std.proofs.lemmas.Bool.{cases_Bool, cond-false, cond-true}
+use Rattle.boot_base.specs.Layout.{images_below}
 use Rattle.boot_base.specs.Paths.{Path, components, file_name_of, is_kept, is_path, is_slash, normal_of, path_below, path_of, under}
 use Rattle.boot_base.proofs.Joined.{add_piece, is_kept-long, join_filtered, join_filtered-kept}
 use Rattle.boot_base.proofs.Normal.{path-some}
@@ -66,14 +67,14 @@ there false read target is = cc
 
 -- a file in the folder of images has its name as the last component of its path
 last_in_images : (esp file : List ℕ) (target : Path) → is_kept file ≡ true → list_any is_slash file ≡ false
-    → path_below esp (codes "EFI/Linux/" ++ file) ≡ Some target → file_name_of target ≡ file
+    → path_below esp (under images_below file) ≡ Some target → file_name_of target ≡ file
 last_in_images esp file target kept none is =
-    let below = codes "EFI/Linux/" ++ file in
+    let below = under images_below file in
     let text = under esp below in
-    let images = under esp (codes "EFI/Linux") in
+    let images = under esp images_below in
     let read = there (list_any is_kept (components below)) (path_of text) target is in
     let normal = path-some (is_path text) (normal_of text) target read in
-    let parts : text ≡ under images file = sym (append_assoc esp (47 ∷ codes "EFI/Linux") (47 ∷ file)) in
+    let parts : text ≡ under images file = sym (append_assoc esp (47 ∷ images_below) (47 ∷ file)) in
     ap file_name_of (sym normal.1 ∙ ap normal_of parts) ∙ read_last file kept none images
 
 found : (text : List ℕ) (read : Option Path) (target : Path) → path_or text read ≡ Ok target → read ≡ Some target
@@ -97,5 +98,5 @@ image_file name file tries none few is = record {
 pub target_suffix : (word file : List ℕ) (target : Path) → IsImageName file → image_path word file ≡ Ok target
     → has_suffix Efi (file_name_of target) ≡ true
 target_suffix word file target image is =
-    let esp = next_of (path_in word) (λ esp. path_under esp (codes "EFI/Linux/" ++ file)) target is in
+    let esp = next_of (path_in word) (λ esp. path_under esp (under images_below file)) target is in
     ap (has_suffix Efi) (last_in_images esp.0 file target image.kept image.no_slash (found _ _ target esp.1)) ∙ image.suffix

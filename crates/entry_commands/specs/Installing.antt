@@ -1,8 +1,9 @@
 -- `install`: a unified kernel image comes to stand among the boot entries (profile).
-use Rattle.std.specs.Prelude.{ℕ, ◌≡◌, true, false, List, ◌++◌, codes, Option, Some, None, Result, Ok, Err, MatchResult}
+use Rattle.std.specs.Prelude.{ℕ, ◌≡◌, true, false, List, ◌++◌, Option, Some, None, Result, Ok, Err, MatchResult}
 use Rattle.std.specs.FinMap.{insert}
 use Rattle.std.specs.List.{list_any}
-use Rattle.boot_base.specs.Paths.{Path, is_kept, is_slash}
+use Rattle.boot_base.specs.Layout.{images_below}
+use Rattle.boot_base.specs.Paths.{Path, is_kept, is_slash, under}
 use Rattle.boot_base.specs.declared.refusal.Refusal.{Refusal}
 use Rattle.boot_base.specs.declared.refusal.Refusal.TheVariants as refusals
 use Rattle.menu_order.specs.Counter.{suffix_text, written_name}
@@ -39,7 +40,7 @@ image_name_in name tries = install_name Efi name >>= λ name. if_given count_in 
 
 -- where an image of that file name stands in an ESP
 abbrev pub image_path : List ℕ → List ℕ → Result Path Refusal
-image_path word name = path_in word >>= λ esp. path_under esp (codes "EFI/Linux/" ++ name)
+image_path word name = path_in word >>= λ esp. path_under esp (under images_below name)
 
 -- the file, and where its bytes come to stand
 abbrev pub installation_of : List ℕ → List ℕ → Option (List ℕ) → List ℕ → Result Installation Refusal

@@ -1,7 +1,8 @@
 -- `bootctl unlink`: an entry's own file goes.
-use Rattle.std.specs.Prelude.{ℕ, Bool, ◌&&◌, ◌||◌, List, ◌++◌, codes, nat_eq, Result, Err, if◌then◌else◌}
+use Rattle.std.specs.Prelude.{ℕ, Bool, ◌&&◌, ◌||◌, List, codes, nat_eq, Result, Err, if◌then◌else◌}
 use Rattle.std.specs.List.{ends_with}
-use Rattle.boot_base.specs.Paths.{Path, is_file_name}
+use Rattle.boot_base.specs.Layout.{entries_below, images_below}
+use Rattle.boot_base.specs.Paths.{Path, is_file_name, under}
 use Rattle.boot_base.specs.declared.refusal.Refusal.{Refusal}
 use Rattle.boot_base.specs.declared.refusal.Refusal.TheVariants as refusals
 use Rattle.command_plans.specs.Declining.{◌>>=◌, path_in, path_under}
@@ -14,9 +15,13 @@ is_type1_name name = ends_with nat_eq name (codes ".conf")
 abbrev pub is_entry_name : List ℕ → Bool
 is_entry_name name = is_file_name name && (is_type1_name name || ends_with nat_eq name (codes ".efi"))
 
+-- the folder of an entry of that name, below an ESP
+abbrev pub entry_folder : List ℕ → List ℕ
+entry_folder name = if is_type1_name name then entries_below else images_below
+
 -- where an entry of that name stands below an ESP
 abbrev pub entry_below : List ℕ → List ℕ
-entry_below name = (if is_type1_name name then codes "loader/entries/" else codes "EFI/Linux/") ++ name
+entry_below name = under (entry_folder name) name
 
 -- the path of the entry of that name in an ESP, or the refusal of a name that no entry has
 abbrev pub entry_under : Path → List ℕ → Result Path Refusal

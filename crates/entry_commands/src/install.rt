@@ -15,12 +15,12 @@ ghost use Rattle.entry_commands.specs.Installing.{IsImageName, ShowsEntry, entry
 ghost use Rattle.menu_order.specs.declared.item.MenuItem.{MenuItem};
 
 use crate::counts::count_in;
-use boot_base::{BootPath, PeText, Refusal, Text};
+use boot_base::{BootPath, IMAGES, PeText, Refusal, Text};
 use boot_folder::{ItemFault, Missing, uki_item};
 use boot_machine::Machine;
 use command_plans::{
-    Declined, Plan, Stop, Unsaid, answer_or_refusal, check_name, installed_text, not_pe, path_in,
-    path_under, plan_copy, readable_size,
+    Declined, Plan, Stop, Unsaid, answer_or_refusal, check_name, file_under, installed_text,
+    not_pe, path_in, plan_copy, readable_size,
 };
 use menu_order::{Counted, Suffix};
 use std::alloc::{AllocError, Global};
@@ -70,8 +70,7 @@ fn image_path(alloc: Global, esp: &str, name: &str) -> Result<BootPath, Declined
     ensures { Means (λ path. path) result (image_path esp.now name.now) }
 {
     let esp = path_in(alloc, esp)?;
-    let below = format!(in alloc; "EFI/Linux/{name}")?;
-    path_under(alloc, &esp, below.as_str())
+    file_under(alloc, &esp, IMAGES, name)
 }
 
 fn installation_of(

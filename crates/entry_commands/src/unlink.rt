@@ -1,12 +1,12 @@
 //! `bootctl unlink`.
-ghost use Rattle.std.specs.Prelude.{◌≡◌, string_bytes, IfOk, IsTrue};
+ghost use Rattle.std.specs.Prelude.{◌≡◌, IfOk, IsTrue};
 ghost use Rattle.boot_machine.specs.Prelude.{Looks, TakesAtMost, seen};
 ghost use Rattle.command_plans.specs.Prelude.{CountsStop, Means, Plans, RefusesWords, unless_refused, unlink_answer};
-ghost use Rattle.entry_commands.specs.Unlinking.{entry_below, entry_path, entry_under, is_entry_name, is_type1_name};
+ghost use Rattle.entry_commands.specs.Unlinking.{entry_folder, entry_path, entry_under, is_entry_name, is_type1_name};
 
-use boot_base::{BootPath, FileName, PathFault, Refusal, Text};
+use boot_base::{BootPath, ENTRIES, FileName, IMAGES, PathFault, Refusal, Text};
 use boot_machine::Machine;
-use command_plans::{Declined, Plan, Stop, Unsaid, path_in, path_under, plan_removal, plan_unsaid};
+use command_plans::{Declined, Plan, Stop, Unsaid, file_under, path_in, plan_removal, plan_unsaid};
 use std::alloc::{AllocError, Global};
 
 fn is_type1_name(name: &str) -> bool
@@ -25,14 +25,11 @@ fn is_entry_name(alloc: Global, name: &str) -> Result<bool, AllocError>
     }
 }
 
-// Where an entry of that name stands below an EFI system partition.
-fn entry_below(alloc: Global, name: &str) -> Result<String, AllocError>
-    ensures { IfOk result (λ below. string_bytes below ≡ entry_below name.now) }
+// The folder of an entry of that name, below an EFI system partition.
+fn entry_folder(name: &str) -> &'static str
+    ensures { result.now ≡ entry_folder name.now }
 {
-    if is_type1_name(name) {
-        return format!(in alloc; "loader/entries/{name}");
-    }
-    format!(in alloc; "EFI/Linux/{name}")
+    if is_type1_name(name) { ENTRIES } else { IMAGES }
 }
 
 fn entry_under(alloc: Global, esp: &BootPath, name: &str) -> Result<BootPath, Declined>
@@ -42,8 +39,7 @@ fn entry_under(alloc: Global, esp: &BootPath, name: &str) -> Result<BootPath, De
         let text = Text::of(alloc, name)?;
         return Err(Declined::Refused(Refusal::BadName { text }));
     }
-    let below = entry_below(alloc, name)?;
-    path_under(alloc, esp, below.as_str())
+    file_under(alloc, esp, entry_folder(name), name)
 }
 
 fn entry_path(alloc: Global, name: &str, esp: &str) -> Result<BootPath, Declined>

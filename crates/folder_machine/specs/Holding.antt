@@ -1,5 +1,6 @@
 -- What a run holds by its locks.
-use Rattle.std.specs.Prelude.{◌≡◌, ℕ, Bool, false, List, ◌++◌, All, Option, IsTrue, bytes_eq, codes, find, string_bytes, if◌then◌else◌}
+use Rattle.std.specs.Prelude.{◌≡◌, ℕ, Bool, false, List, ◌++◌, All, Option, IsTrue, bytes_eq, find, string_bytes, if◌then◌else◌}
+use Rattle.boot_base.specs.Layout.{payloads_below}
 use Rattle.boot_base.specs.Paths.{file_name_of}
 use Rattle.name_syncs.specs.Folders.{parent_folder, with_folder}
 use Rattle.name_syncs.specs.declared.folders.Folders.{Folders}
@@ -11,7 +12,7 @@ use Rattle.folder_machine.specs.declared.locks.Locks.{Locks}
 
 -- payloads stand in a folder whose last component is `boot_tools`
 abbrev pub has_payloads : List ℕ → Bool
-has_payloads folder = bytes_eq (file_name_of folder) (codes "boot_tools")
+has_payloads folder = bytes_eq (file_name_of folder) payloads_below
 
 -- these folders, and that of a path if payloads stand in it
 abbrev pub with_payloads_of : Folders → List ℕ → Folders

@@ -12,14 +12,11 @@ ghost use Rattle.folder_machine.specs.Refusing.{AnswersWith, IsLockError, change
 
 use crate::answers::{changed_fault, met_fault};
 use crate::opened::{open_file, open_folder, open_known};
-use boot_base::{INTENT, TEMP_SUFFIX, ends_as_temp};
+use boot_base::{INTENT, PAYLOADS, TEMP_SUFFIX, ends_as_temp};
 use folder_calls::{Calls, Found, Hold, LockFault, Locked};
 use name_syncs::{Folders, folder_of, parted};
 use std::alloc::{AllocError, Global};
 use std::{io, mem};
-
-// The last component of the path of a folder of payloads, the kernels and initrds that entries name by their digests.
-const PAYLOADS: &str = "boot_tools";
 
 // Whether a path is that of a payload, or of its temporary file.
 pub(crate) fn is_payload(path: &str) -> bool

@@ -4,6 +4,7 @@ use Rattle.std.specs.Prelude.{All, codes, if◌then◌else◌}
 use Rattle.std.specs.FinMap as map_of
 use Rattle.std.specs.List.{list_any}
 use Rattle.std.proofs.lemmas.List.Elements.{All-cons, All-nil}
+use Rattle.boot_base.specs.Layout.{entries_below, images_below}
 use Rattle.boot_base.specs.Paths.{Path, is_kept, is_slash, normal_of, under}
 use Rattle.boot_base.specs.declared.refusal.Refusal.TheVariants as refusals
 use Rattle.boot_folder.specs.Entries.{boot_menu, entry_count}
@@ -31,14 +32,14 @@ all_kept test (path ∷ paths) = by_test (all_kept test paths) (test path) refl
 pub folders_are : (word : List ℕ) (e : Path) (folders : Folders) → path_in word ≡ Ok e → folders_of word ≡ Ok folders → folders ≡ folders_at e
 folders_are word e folders at ok =
     let esp = done_by (path_in word) _ folders ok in
-    let entries = done_by (path_under esp.0 (codes "loader/entries")) _ folders esp.2 in
-    let images = done_by (path_under esp.0 (codes "EFI/Linux")) _ folders entries.2 in
+    let entries = done_by (path_under esp.0 entries_below) _ folders esp.2 in
+    let images = done_by (path_under esp.0 images_below) _ folders entries.2 in
     let normal = word_normal word esp.0 esp.1 in
     let same : esp.0 ≡ e = ok_is esp.0 e (sym esp.1 ∙ at) in
     let of : Path → Path → Folders = λ a b. record { entries = a; images = b } in
     sym (ok_is _ folders images.2)
-    ∙ ap (λ a. of a images.0) (below esp.0 (codes "loader") (codes "entries") entries.0 normal refl refl refl refl (sym (under_is esp.0 (codes "loader/entries") entries.0 entries.1)))
-    ∙ ap (of (under esp.0 (codes "loader/entries"))) (below esp.0 (codes "EFI") (codes "Linux") images.0 normal refl refl refl refl (sym (under_is esp.0 (codes "EFI/Linux") images.0 images.1)))
+    ∙ ap (λ a. of a images.0) (below esp.0 (codes "loader") (codes "entries") entries.0 normal refl refl refl refl (sym (under_is esp.0 entries_below entries.0 entries.1)))
+    ∙ ap (of (under esp.0 entries_below)) (below esp.0 (codes "EFI") (codes "Linux") images.0 normal refl refl refl refl (sym (under_is esp.0 images_below images.0 images.1)))
     ∙ ap folders_at same
   where
     below : (e a b path : Path) → IsNormal e → is_kept a ≡ true → list_any is_slash a ≡ false

@@ -8,6 +8,7 @@ use Rattle.std.proofs.lemmas.List.Elements.{All-cons, All-nil}
 use Rattle.std.proofs.lemmas.Slice.Eq.{bytes_eq-Decides}
 use Rattle.boot_base.specs.Limits.{file_limit}
 use Rattle.std.specs.Str.{is_utf8}
+use Rattle.boot_base.specs.Layout.{entries_below}
 use Rattle.boot_base.specs.Paths.{Path, components, file_name_of, is_kept, is_path, is_slash, normal_of, path_below, path_of, under}
 use Rattle.boot_base.specs.declared.refusal.Refusal.TheVariants as refusals
 use Rattle.boot_base.proofs.Normal.{path-some}
@@ -54,12 +55,12 @@ under_is folder below path is =
 
 -- the path of an entry
 pub entry_is : (esp name path : Path) → IsNormal esp → is_kept name ≡ true → list_any is_slash name ≡ false
-    → path_under esp (codes "loader/entries/" ++ name) ≡ Ok path → path ≡ under (folders_at esp).entries name
+    → path_under esp (under entries_below name) ≡ Ok path → path ≡ under (folders_at esp).entries name
 entry_is esp name path normal kept one is =
     let entries = under_normal (under esp (codes "loader")) (codes "entries") (under_normal esp (codes "loader") normal refl refl) refl refl in
-    let parts : under esp (codes "loader/entries/" ++ name) ≡ under (under (under esp (codes "loader")) (codes "entries")) name =
-    sym (append_assoc esp (47 ∷ codes "loader/entries") (47 ∷ name)) ∙ ap (λ (p : Path). under p name) (sym (append_assoc esp (47 ∷ codes "loader") (47 ∷ codes "entries"))) in
-    sym (under_is esp (codes "loader/entries/" ++ name) path is) ∙ ap normal_of parts ∙ child_normal (under (under esp (codes "loader")) (codes "entries")) name entries kept one
+    let parts : under esp (under entries_below name) ≡ under (under (under esp (codes "loader")) (codes "entries")) name =
+    sym (append_assoc esp (47 ∷ entries_below) (47 ∷ name)) ∙ ap (λ (p : Path). under p name) (sym (append_assoc esp (47 ∷ codes "loader") (47 ∷ codes "entries"))) in
+    sym (under_is esp (under entries_below name) path is) ∙ ap normal_of parts ∙ child_normal (under (under esp (codes "loader")) (codes "entries")) name entries kept one
     ∙ ap (λ (p : Path). under p name) (append_assoc esp (47 ∷ codes "loader") (47 ∷ codes "entries"))
 
 -- a value names the payload of that name

@@ -3,6 +3,7 @@ use Rattle.std.proofs.Common.{◌≡◌, ◌≢◌, ◌≤◌, ◌<◌, ◌+◌,
 use Rattle.std.specs.Prelude.{bytes_eq, codes, nat_le, nat_lt, replicate}
 use Rattle.std.specs.List.{list_all, list_any}
 use Rattle.std.proofs.lemmas.Bool.{and_from, and_parts, eqb-true, le-leb, le-ltb, leb-true, ne_eqb, not-true, or_cases, or_from, or_parts}
+use Rattle.boot_base.specs.Layout.{payloads_below}
 use Rattle.boot_base.specs.Paths.{IsFree, Path, components, intent, is_component, is_file_name, is_form, is_kept, is_normal, is_slash, is_temp, normal_of, path_below, path_of, under}
 use Rattle.boot_base.proofs.Beside.{MayEnd, end_free, end_shown, kept_from_long, path_of_child, unlike_short}
 use Rattle.boot_base.proofs.Normal.{normal-short}
@@ -112,7 +113,7 @@ payload_file name fits =
 
 -- ---- the folder
 
-tools_end : MayEnd (codes "boot_tools")
+tools_end : MayEnd (payloads_below)
 tools_end = record { kept = refl; one = refl; allowed = refl; no_nul = refl }
 
 module _ (esp : Path) (normal : is_normal esp ≡ true) where
@@ -120,9 +121,9 @@ module _ (esp : Path) (normal : is_normal esp ≡ true) where
   tools_are = sym (append_assoc esp (47 ∷ codes "boot_tool") (115 ∷ []))
 
   -- the folder has a path, if it leaves room
-  pub folder_below : length (payload_folder esp) + 65 ≤ 1024 → path_below esp (codes "boot_tools") ≡ Some (payload_folder esp)
+  pub folder_below : length (payload_folder esp) + 65 ≤ 1024 → path_below esp (payloads_below) ≡ Some (payload_folder esp)
   folder_below room =
-      path_of_child esp (codes "boot_tools") tools_end normal (normal_some esp normal) (omega (arith, room))
+      path_of_child esp (payloads_below) tools_end normal (normal_some esp normal) (omega (arith, room))
       (ap is_temp tools_are ∙ end_shown (esp ++ 47 ∷ codes "boot_tool") 115 (λ e. omega (arith, e)) (λ e. omega (arith, e)))
       (ap (λ (p : Path). bytes_eq p intent) tools_are ∙ end_free (esp ++ 47 ∷ codes "boot_tool") 115 (λ e. omega (arith, e)) (λ e. omega (arith, e)))
 
@@ -130,8 +131,8 @@ module _ (esp : Path) (normal : is_normal esp ≡ true) where
     -- the longest path of a payload
     pub probe_is : probe ≡ under (payload_folder esp) (replicate 64 48)
     probe_is =
-        let folder = under_normal esp (codes "boot_tools") (normal_is esp normal) refl refl in
-        let parts : under esp payload_probe ≡ under (payload_folder esp) (replicate 64 48) = sym (append_assoc esp (47 ∷ codes "boot_tools") (47 ∷ replicate 64 48)) in
+        let folder = under_normal esp (payloads_below) (normal_is esp normal) refl refl in
+        let parts : under esp payload_probe ≡ under (payload_folder esp) (replicate 64 48) = sym (append_assoc esp (47 ∷ payloads_below) (47 ∷ replicate 64 48)) in
         sym (under_is esp payload_probe probe is) ∙ ap normal_of parts ∙ child_normal (payload_folder esp) (replicate 64 48) folder refl refl
 
     -- it leaves room for each

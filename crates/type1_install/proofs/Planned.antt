@@ -7,7 +7,8 @@ use Rattle.std.proofs.lemmas.Bool.{and_parts, ltb-false, not-true, or_parts}
 use Rattle.std.proofs.lemmas.List.{length-map}
 use Rattle.std.proofs.lemmas.List.Elements.{All-cons, All-nil}
 use Rattle.std.proofs.lemmas.Slice.Eq.{bytes_eq-Decides}
-use Rattle.boot_base.specs.Paths.{Path, is_form, is_kept, is_normal, is_slash, is_temp, normal_of, path_of}
+use Rattle.boot_base.specs.Layout.{entries_below}
+use Rattle.boot_base.specs.Paths.{Path, is_form, is_kept, is_normal, is_slash, is_temp, normal_of, path_of, under}
 use Rattle.boot_base.specs.declared.refusal.Refusal.TheVariants as refusals
 use Rattle.boot_machine.specs.Disk.{Files}
 use Rattle.boot_machine.specs.Rows.{contents}
@@ -156,7 +157,7 @@ pub record IsPlanned (view : Files) (plan : Type1Plan) : Type 0 where
   pub one : list_any is_slash name ≡ false
   pub of_type : has_suffix Conf name ≡ true
   pub normal : IsNormal plan.esp
-  pub entry : path_under plan.esp (codes "loader/entries/" ++ name) ≡ Ok plan.entry
+  pub entry : path_under plan.esp (under entries_below name) ≡ Ok plan.entry
   pub sources : All (IsSource plan.esp view) (plan.linux ∷ plan.initrds)
   pub back : ReadsBack (fields_of view plan)
 
@@ -167,7 +168,7 @@ record IsRead (words : Type1Words) (plan : Type1Plan) : Type 0 where
   fields : AreFields plan.texts
   few : length plan.initrds ≤ 64
   normal : IsNormal plan.esp
-  entry : path_under plan.esp (codes "loader/entries/" ++ name) ≡ Ok plan.entry
+  entry : path_under plan.esp (under entries_below name) ≡ Ok plan.entry
   sources : (found : List Path) × (each (install_source plan.esp) (plan.linux ∷ plan.initrds) ≡ Ok found)
 
 read_words : (words : Type1Words) (plan : Type1Plan) → install_plan words ≡ Ok plan → IsRead words plan
@@ -185,15 +186,15 @@ read_words words plan ok =
     let files_are = ok_is _ files.0 initrds.2 in
     let esp = done_by (path_in words.esp) _ place.0 place.1 in
     let probe = done_by (path_under esp.0 payload_probe) _ place.0 esp.2 in
-    let entry = done_by (path_under esp.0 (codes "loader/entries/" ++ file.0)) _ place.0 probe.2 in
+    let entry = done_by (path_under esp.0 (under entries_below file.0)) _ place.0 probe.2 in
     let place_is = ok_is _ place.0 entry.2 in
     let no_slash = ap (list_any is_slash) (sym (taken_is Conf words.name taken.0 taken.1)) ∙ taken_slash Conf words.name taken.0 taken.1 in
     let count : length files.0.initrds ≤ 64 =
     subst (λ (s : SourceFiles). length s.initrds ≤ 64) files_are
     (few_paths words.initrds initrds.0 (each_length path_in words.initrds initrds.0 initrds.1) (few_is words.initrds (nat_lt 64 (length words.initrds)) refl some.0 some.1)) in
     let normal : IsNormal place.0.esp = subst (λ (p : EntryPlace). IsNormal p.esp) place_is (word_normal words.esp esp.0 esp.1) in
-    let there : path_under place.0.esp (codes "loader/entries/" ++ file.0) ≡ Ok place.0.entry =
-    subst (λ (p : EntryPlace). path_under p.esp (codes "loader/entries/" ++ file.0) ≡ Ok p.entry) place_is entry.1 in
+    let there : path_under place.0.esp (under entries_below file.0) ≡ Ok place.0.entry =
+    subst (λ (p : EntryPlace). path_under p.esp (under entries_below file.0) ≡ Ok p.entry) place_is entry.1 in
     subst (IsRead words) (ok_is _ plan sources.2) (record {
       name = file.0;
       file = subst IsEntryFile name_is (file_of taken.0 no_slash);

@@ -1,6 +1,7 @@
 -- The commands that `type1 install` stands for on a view, or what it is refused for (profile).
 use Rattle.std.specs.Prelude.{ℕ, List, [], ◌∷◌, ◌++◌, bytes_eq, codes, length, map, nat_lt, replicate, sum_by, Some, None, Result, Ok, Err, if◌then◌else◌}
 use Rattle.std.specs.Option.{option_to_list}
+use Rattle.boot_base.specs.Layout.{entries_below, payloads_below}
 use Rattle.boot_base.specs.Paths.{Path, file_name_of, under}
 use Rattle.boot_base.specs.declared.refusal.Refusal.{Refusal}
 use Rattle.boot_base.specs.declared.refusal.Refusal.TheVariants as refusals
@@ -60,7 +61,7 @@ files_in words =
 
 -- the longest path of a payload, below its ESP
 abbrev pub payload_probe : List ℕ
-payload_probe = codes "boot_tools/" ++ replicate 64 48
+payload_probe = under payloads_below (replicate 64 48)
 
 -- the ESP, and where the entry comes to stand in it
 pub record EntryPlace : Type 0 where
@@ -72,7 +73,7 @@ abbrev pub place_in : List ℕ → List ℕ → Result EntryPlace Refusal
 place_in word name =
     path_in word >>= λ esp.
     path_under esp payload_probe >>= λ probe.
-    path_under esp (codes "loader/entries/" ++ name) >>= λ entry.
+    path_under esp (under entries_below name) >>= λ entry.
     Ok (record { esp = esp; entry = entry })
 
 -- the file, or the refusal of one that lies directly in the ESP's folder of payloads

@@ -6,6 +6,7 @@ use Rattle.std.specs.List.{list_any}
 use Rattle.std.specs.Option.{option_to_list}
 use Rattle.std.specs.Str.{is_utf8}
 use Rattle.hex.specs.Hex.{encode_lower}
+use Rattle.boot_base.specs.Layout.{entries_below, images_below, payloads_below}
 use Rattle.boot_base.specs.Paths.{Path, file_name_of, path_below, under}
 use Rattle.pcr_values.specs.Banks.{digest_of}
 use Rattle.pcr_values.specs.declared.bank.Bank.TheVariants as banks
@@ -20,7 +21,7 @@ payload_name bytes = encode_lower (digest_of banks.Sha256 bytes)
 
 -- the folder of an ESP's payloads, which is named by no word
 abbrev pub payload_folder : Path → Path
-payload_folder esp = under esp (codes "boot_tools")
+payload_folder esp = under esp payloads_below
 
 -- where the payload of these bytes stands
 abbrev pub payload_path : Path → List ℕ → Path
@@ -61,4 +62,4 @@ pub record HasPayload (esp : Path) (name : List ℕ) (view : Files) : Type 0 whe
 -- the folders of an ESP
 abbrev pub folders_at : Path → Folders
 folders_at esp =
-    record { entries = under esp (codes "loader/entries"); images = under esp (codes "EFI/Linux") }
+    record { entries = under esp entries_below; images = under esp images_below }

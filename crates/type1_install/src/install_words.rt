@@ -7,9 +7,9 @@ ghost use Rattle.type1_install.specs.Payloads.{payload_folder};
 ghost use Rattle.type1_install.specs.Shown.{AreFields, files_shown, place_shown, plan_shown};
 
 use crate::place::payload_folder;
-use boot_base::{BootPath, Refusal, Text};
+use boot_base::{BootPath, ENTRIES, Refusal, Text};
 use boot_texts::is_field;
-use command_plans::{Declined, check_name, path_in, path_under, printed_path, push};
+use command_plans::{Declined, check_name, file_under, path_in, printed_path, push};
 use menu_order::Suffix;
 use std::alloc::{AllocError, Global};
 use tool_words::{EntryTexts, Type1Words};
@@ -120,8 +120,7 @@ fn place_in(alloc: Global, word: &str, name: &str) -> Result<Place, Declined>
 {
     let esp = path_in(alloc, word)?;
     let folder = payload_folder(alloc, &esp)?;
-    let below = format!(in alloc; "loader/entries/{name}")?;
-    let entry = path_under(alloc, &esp, below.as_str())?;
+    let entry = file_under(alloc, &esp, ENTRIES, name)?;
     Ok(Place { esp, folder, entry })
 }
 

@@ -10,7 +10,7 @@ ghost use Rattle.type1_install.specs.Shown.{AreFields, HasPayloadName, fields_wi
 use crate::install_words::{Place, install_plan};
 use crate::payload::{Payload, payload_at, payloads_at};
 use crate::place::payload_path;
-use boot_base::{BootPath, Bytes, BytesList, PIECE_SIZE, Text};
+use boot_base::{BootPath, Bytes, BytesList, PAYLOADS, PIECE_SIZE, Text};
 use boot_machine::Machine;
 use boot_texts::{Type1, entry_text};
 use command_plans::{Unsaid, push};
@@ -49,7 +49,7 @@ fn value_of_payload(alloc: Global, payload: &Payload) -> Result<Bytes, AllocErro
     ensures { IfOk result (λ value. value ≡ value_of_payload payload.now) }
 {
     let name = payload.name.as_str();
-    let value = format!(in alloc; "/boot_tools/{name}")?;
+    let value = format!(in alloc; "/{PAYLOADS}/{name}")?;
     Ok(Bytes::from(value.into_bytes()))
 }
 

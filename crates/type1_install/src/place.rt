@@ -1,5 +1,5 @@
 //! Where payloads stand.
-ghost use Rattle.std.specs.Prelude.{◌≡◌, ◌≤◌, ◌+◌, ◌++◌, true, codes, length, replicate, string_bytes, IfOk};
+ghost use Rattle.std.specs.Prelude.{◌≡◌, ◌≤◌, ◌+◌, length, replicate, IfOk, true};
 ghost use Rattle.boot_base.specs.Paths.{under};
 ghost use Rattle.boot_texts.specs.EntryText.{is_payload_name};
 ghost use Rattle.command_plans.specs.Prelude.{Means, path_under};
@@ -7,12 +7,11 @@ ghost use Rattle.type1_install.specs.Installing.{payload_probe};
 ghost use Rattle.type1_install.specs.Payloads.{payload_folder};
 
 use boot_base::{BootPath, PAYLOADS, PathFault};
-use command_plans::{Declined, path_under};
+use command_plans::{Declined, file_under};
 use std::alloc::{AllocError, Global};
 
-/// The longest path of a payload, below its ESP.
-const PAYLOAD_PROBE: &str =
-    "boot_tools/0000000000000000000000000000000000000000000000000000000000000000";
+/// A name as long as that of each payload.
+const PROBE_NAME: &str = "0000000000000000000000000000000000000000000000000000000000000000";
 
 /// The folder of an ESP's payloads, or the refusal of the longest path in it.
 pub(crate) fn payload_folder(alloc: Global, esp: &BootPath) -> Result<BootPath, Declined>
@@ -21,7 +20,7 @@ pub(crate) fn payload_folder(alloc: Global, esp: &BootPath) -> Result<BootPath, 
     ensures room { IfOk result (λ folder. length folder + 65 ≤ 1024) }
 {
     esp.know_normal();
-    let probe = path_under(alloc, esp, PAYLOAD_PROBE)?;
+    let probe = file_under(alloc, esp, PAYLOADS, PROBE_NAME)?;
     drop(probe);
     Ok(folder_below(alloc, esp)?)
 }

@@ -1,5 +1,5 @@
 use Rattle.std.proofs.Common.{◌∙◌}
-use Rattle.boot_folder.specs.Entries.{entries_below, images_below}
+use Rattle.boot_base.specs.Layout.{entries_below, images_below}
 use Rattle.command_plans.specs.Declining.{path_under}
 use Rattle.command_plans.proofs.Declining.{declined_first, declined_next, done_next, means_declined}
 use Rattle.command_plans.proofs.menus.folders_in.Goals as goal
