@@ -5,3 +5,4 @@ pub mod Refusing
 pub mod Looking
 pub mod Checking
 pub mod Holding
+pub mod Moving

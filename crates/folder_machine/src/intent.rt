@@ -3,6 +3,7 @@
 ghost use Rattle.std.specs.Prelude.{◌≡◌, IfOk, IfSome, IsErrAnd, IsTrue, None, Ok, OnOk, Some, option_copied, true, false};
 ghost use Rattle.std.specs.IoError.{error_kind};
 ghost use Rattle.boot_base.specs.Intents.{names_of};
+ghost use Rattle.boot_base.specs.Paths.{intent};
 ghost use Rattle.fat_rules.specs.Entries.{is_own_move};
 ghost use Rattle.folder_calls.specs.Tree.{same_inode};
 ghost use Rattle.folder_machine.specs.Opening.{IsRead, is_plain_file};
@@ -128,7 +129,10 @@ fn other_move() -> io::Error
 }
 
 // After the recovery of this run an intent that it doesn't hold is that of another run.
-pub(crate) fn require_no_other_move<C: Calls>(calls: &C, holds_intent: bool) -> io::Result<()> {
+pub(crate) fn require_no_other_move<C: Calls>(calls: &C, holds_intent: bool) -> io::Result<()>
+    ensures { IfOk result (λ _. IsTrue C.tells
+        → other_move_fault ((C.tree calls.now).leads intent) holds_intent ≡ None) }
+{
     refuse_other_move(calls.find(INTENT)?, holds_intent)
 }
 

@@ -1,6 +1,7 @@
 //! Temporary files and their locks, and the modes of files.
 ghost use Rattle.std.specs.Prelude.{◌≡◌, IfOk, IfSome, IsTrue, is_some, true};
 ghost use Rattle.std.specs.IoError.{error_kind};
+ghost use Rattle.name_syncs.specs.Named.{NameWaits};
 ghost use Rattle.folder_calls.specs.Calls.{inode_of};
 ghost use Rattle.folder_machine.specs.Opening.{IsFileAt, stands_still};
 ghost use Rattle.folder_machine.specs.Refusing.{AnswersWith, kind_fault, replace_fault};
@@ -102,6 +103,7 @@ pub(crate) struct Created<F: Drop> {
 
 // Makes a temporary file, and locks it. Another run may take a file for a leftover before it is locked, so if it is gone
 // it is made once more.
+#[tactic(auto, using(crate::proofs::NameSteps::name_waits_twice, crate::proofs::NameSteps::name_waits_none))]
 pub(crate) fn create_locked<C: Calls + Drop, E: Print + Drop>(
     changes: &mut Changes<C, E>,
     path: &str,
@@ -111,6 +113,7 @@ pub(crate) fn create_locked<C: Calls + Drop, E: Print + Drop>(
     ensures stands { IfOk result (λ made. IsTrue C.tells
         → stands_still (C.tree changes.new) path.now made.found ≡ true) }
     ensures given { IfOk result (λ made. IfSome made.given (λ mode. mode ≡ made.found.mode)) }
+    ensures waits { IsTrue C.tells → NameWaits (C.waits changes.old) (C.waits changes.new) path.now }
     ensures private { IfOk result (λ made. made.found.mode ≡ PRIVATE → made.given ≡ Some PRIVATE) }
 {
     for _ in 0..2 {
@@ -126,11 +129,14 @@ pub(crate) fn create_locked<C: Calls + Drop, E: Print + Drop>(
 }
 
 // A leftover goes first: it may have another owner, and a second name.
+#[tactic(auto, using(crate::proofs::NameSteps::name_waits_twice))]
 fn create_anew<C: Calls + Drop, E: Print + Drop>(
     changes: &mut Changes<C, E>,
     path: &str,
     mode: u32,
-) -> io::Result<C::File> {
+) -> io::Result<C::File>
+    ensures { IsTrue C.tells → NameWaits (C.waits changes.old) (C.waits changes.new) path.now }
+{
     match changes.create(path, mode) {
         Err(error) if error.kind() == ErrorKind::AlreadyExists => {
             let held = open_locked(changes.calls(), path, Access::Append)?;

@@ -1,7 +1,8 @@
 //! The names in a folder.
-ghost use Rattle.std.specs.Prelude.{◌≡◌, ◌++◌, ◌∷◌, [], IfErr, OnErr, OnOk, if◌then◌else◌};
+ghost use Rattle.std.specs.Prelude.{◌≡◌, ◌++◌, ◌∷◌, [], IfErr, IfOk, IsTrue, OnErr, OnOk, if◌then◌else◌, map, string_bytes};
 ghost use Rattle.std.specs.IoError.{error_kind};
 ghost use Rattle.boot_base.specs.Paths.{is_file_name};
+ghost use Rattle.folder_machine.specs.Looking.{files_in, leads_to_file};
 
 use boot_base::{FileName, PathFault};
 use folder_calls::Calls;
@@ -16,7 +17,10 @@ pub(crate) fn files_among<C: Calls>(
     alloc: Global,
     folder: &str,
     names: &[String],
-) -> io::Result<Vec<FileName>> {
+) -> io::Result<Vec<FileName>>
+    ensures { IfOk result (λ files. IsTrue C.tells
+        → files.items ≡ files_in (C.tree calls.now) folder.now (map string_bytes names.now)) }
+{
     let mut files = Vec::new(alloc);
     for name in names {
         let name = name.as_str();
@@ -28,7 +32,9 @@ pub(crate) fn files_among<C: Calls>(
     Ok(files)
 }
 
-fn is_file<C: Calls>(calls: &C, path: &str) -> io::Result<bool> {
+fn is_file<C: Calls>(calls: &C, path: &str) -> io::Result<bool>
+    ensures { IfOk result (λ is. IsTrue C.tells → is ≡ leads_to_file (C.tree calls.now) path.now) }
+{
     let found = match calls.find_itself(path)? {
         Some(found) if found.is_link() => calls.find(path)?,
         found => found,

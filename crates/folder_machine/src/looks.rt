@@ -3,7 +3,7 @@ ghost use Rattle.std.specs.Prelude.{◌≡◌, IfErr, IfOk, IsErrAnd, IsTrue, Ok
 ghost use Rattle.std.specs.IoError.{error_kind};
 ghost use Rattle.run_looks.specs.Standing.{AllStand, RecentStand};
 ghost use Rattle.folder_machine.specs.Checking.{IsCheckError};
-ghost use Rattle.folder_machine.specs.Holding.{HoldsMore};
+ghost use Rattle.folder_machine.specs.Holding.{HoldsMore, TellsNewFolders};
 ghost use Rattle.folder_machine.specs.Looking.{identity_of, look_error_kind, standing_of};
 
 use crate::answers::changed_fault;
@@ -113,10 +113,34 @@ pub(crate) fn hold_looks<C: Calls>(
     calls: &C,
     looks: &RunLooks,
     locks: &mut Locks<C::File>,
-) -> io::Result<()> {
+) -> io::Result<()>
+    ensures folders { HoldsMore C.tells C.inode locks.old.folders.items locks.new.folders.items }
+    ensures files { HoldsMore C.tells C.inode locks.old.files.items locks.new.files.items }
+    ensures new { TellsNewFolders locks.old locks.new }
+{
+    hold_listed(calls, looks, locks)?;
+    hold_read_files(calls, looks, locks)
+}
+
+fn hold_listed<C: Calls>(calls: &C, looks: &RunLooks, locks: &mut Locks<C::File>) -> io::Result<()>
+    ensures folders { HoldsMore C.tells C.inode locks.old.folders.items locks.new.folders.items }
+    ensures files { locks.new.files ≡ locks.old.files }
+    ensures new { TellsNewFolders locks.old locks.new }
+{
     for (folder, _) in looks.listings.iter() {
         locks.hold_folder(calls, folder.as_str(), Hold::Alone)?;
     }
+    Ok(())
+}
+
+fn hold_read_files<C: Calls>(
+    calls: &C,
+    looks: &RunLooks,
+    locks: &mut Locks<C::File>,
+) -> io::Result<()>
+    ensures files { HoldsMore C.tells C.inode locks.old.files.items locks.new.files.items }
+    ensures same { locks.new ≡ record locks.old { files = locks.new.files } }
+{
     for path in looks.recent.as_slice() {
         hold_recent(calls, looks, path.as_str(), locks)?;
     }

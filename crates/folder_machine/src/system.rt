@@ -2,24 +2,30 @@
 //!
 //! What is no regular file, after links, isn't there, and is never opened. "Not a directory", "is a
 //! directory" and a loop of links mean that no such file is there.
-ghost use Rattle.std.specs.Prelude.{◌≡◌, ◌≤◌, ◌⊎◌, false, length, IfOk, IsTrue};
-ghost use Rattle.boot_base.specs.Paths.{intent};
-ghost use Rattle.name_syncs.specs.Named.{NothingWaits};
+ghost use Rattle.std.specs.Prelude.{◌≡◌, ◌≤◌, ◌⊎◌, ◌++◌, false, true, length, IfOk, IsSomeAnd, IsTrue, None, OnOk, is_some, string_bytes};
+ghost use Rattle.boot_base.specs.Paths.{intent, temp_end};
+ghost use Rattle.name_syncs.specs.Folders.{parent_folder};
+ghost use Rattle.name_syncs.specs.Named.{NameWaits, NothingWaits};
+ghost use Rattle.folder_calls.specs.Calls.{inode_of};
+ghost use Rattle.folder_calls.specs.Tree.{is_fat_file};
 ghost use Rattle.folder_machine.specs.Looking.{LooksStand};
+ghost use Rattle.folder_machine.specs.Moving.{mode_in_place};
+ghost use Rattle.folder_machine.specs.Opening.{IsFileAt};
+ghost use Rattle.folder_machine.specs.Refusing.{other_move_fault, replace_fault};
 
 use crate::intent::{HeldIntent, require_intent, require_no_other_move};
 use crate::kept::{
-    PRIVATE, PUBLIC, create_locked, open_locked, require_not_written, require_replaceable,
+    Created, PRIVATE, PUBLIC, create_locked, open_locked, require_not_written, require_replaceable,
 };
 use crate::listing::files_among;
 use crate::locks::{Locks, is_payload, is_payload_folder};
 use crate::looks::{hold_looks, identity_of, look_answer, require_all_same, require_same};
 use crate::opened::{open_file, open_known};
-use boot_base::{FileName, INTENT, IntentNames, TEMP_SUFFIX, ends_as_temp};
+use boot_base::{FileName, INTENT, TEMP_SUFFIX, ends_as_temp};
 use folder_calls::{Access, Calls, Found, Hold, Locked};
 use folder_changes::{
-    Changes, KeptFile, Removal, Reports, Rescue, Twins, copy_path, fat_file_at, file_at,
-    is_in_the_way, is_spelled, path_in, removal_of_old, require_spelled, rescue_of,
+    Changes, KeptFile, Reports, Twins, copy_path, fat_file_at, file_at, is_in_the_way, is_spelled,
+    path_in, require_spelled,
 };
 use name_syncs::{Folders, folder_of};
 use run_looks::RunLooks;
@@ -27,11 +33,22 @@ use std::alloc::Global;
 use std::io::ErrorKind;
 use std::{io, mem};
 
+mod recovery;
+
 /// The file that was read last.
 #[derive(Drop)]
 struct LookedFile<F: Drop> {
     path: String,
     file: F,
+}
+
+/// The temporary file that is written, with its lock.
+#[derive(Drop)]
+struct Written<F: Drop> {
+    kept: KeptFile<F>,
+    /// the mode that it gets in its place if it replaces no file; None if this run hasn't made it, or its file system has
+    /// no modes
+    mode: Option<u32>,
 }
 
 /// The files below the folder that the program starts in.
@@ -45,10 +62,7 @@ pub(crate) struct System<C: Calls + Drop, E: Print + Drop> {
     intent: Option<HeldIntent<C::File>>,
     /// the temporary files beside payloads that were listed since the last sync of names
     leftovers: Vec<String>,
-    /// the temporary file that is written, with its lock
-    written: Option<KeptFile<C::File>>,
-    /// the mode that the file gets in its place if it replaces none; None on a file system without modes
-    new_mode: Option<u32>,
+    written: Option<Written<C::File>>,
     looked: Option<LookedFile<C::File>>,
 }
 
@@ -64,7 +78,6 @@ impl<C: Calls + Drop, E: Print + Drop> System<C, E> {
             intent: None,
             leftovers: Vec::new(alloc),
             written: None,
-            new_mode: None,
             looked: None,
         }
     }
@@ -89,7 +102,10 @@ impl<C: Calls + Drop, E: Print + Drop> System<C, E> {
     }
 
     // After the recovery of this run an intent that it doesn't hold is that of another run.
-    fn require_no_other_move(&self) -> io::Result<()> {
+    fn require_no_other_move(&self) -> io::Result<()>
+        ensures { IfOk result (λ _. IsTrue C.tells
+            → other_move_fault ((C.tree self.now.changes).leads intent) (is_some self.now.intent) ≡ None) }
+    {
         require_no_other_move(self.changes.calls(), self.intent.is_some())
     }
 
@@ -127,12 +143,6 @@ impl<C: Calls + Drop, E: Print + Drop> System<C, E> {
             return Ok(true);
         }
         is_spelled(self.changes.calls(), self.alloc, path)
-    }
-
-    // Whether an intent that a stop has left names this path.
-    fn is_left(&self, path: &str) -> bool {
-        self.left_names().is_some_and(|names| names.from.as_str() == path
-            || names.to.as_str() == path)
     }
 
     // This stands at a path, or nothing. Its folder is to be synced, unless it was after a look that found the same.
@@ -294,7 +304,10 @@ impl<C: Calls + Drop, E: Print + Drop> System<C, E> {
 
     // An empty temporary file, in folders that are made if they are missing. Nothing is changed if the path that it is
     // for is a folder, if another run holds it or moves a file, or if it may be that path's own file.
-    pub(crate) fn create_file(&mut self, path: &str) -> io::Result<()> {
+    pub(crate) fn create_file(&mut self, path: &str) -> io::Result<()>
+        ensures { IfOk result (λ _. IsSomeAnd self.new.written
+            (λ written. (string_bytes written.kept.path ≡ path.now) × (written.kept.is_made ≡ true))) }
+    {
         self.looked = None;
         self.written = None;
         let kept = copy_path(self.alloc, path)?;
@@ -310,30 +323,39 @@ impl<C: Calls + Drop, E: Print + Drop> System<C, E> {
         self.begin_change(path)?;
         self.looks.forget(path);
         let mode = if is_private(path) { PRIVATE } else { PUBLIC };
-        let created = create_locked(&mut self.changes, path, mode)?;
-        self.sync_growth(path, &created.found)?;
-        self.new_mode = created.given;
-        self.written = Some(KeptFile {
-            path: kept,
-            file: created.file,
-            is_made: true,
+        let created = self.make_temp(path, mode)?;
+        self.written = Some(Written {
+            kept: KeptFile {
+                path: kept,
+                file: created.file,
+                is_made: true,
+            },
+            mode: created.given,
         });
         Ok(())
     }
 
-    // Syncs the folder on FAT in which a new file has come. If that made it grow, it shows old bytes of the disk until
-    // then, so nothing else is to be written before.
-    fn sync_growth(&mut self, path: &str, created: &Found) -> io::Result<()> {
-        if created.is_fat_file() {
+    // Makes a temporary file with its lock, and syncs its folder on FAT. If that has grown for it, it shows old bytes of
+    // the disk until then, so nothing else is to be written before.
+    fn make_temp(&mut self, path: &str, mode: u32) -> io::Result<Created<C::File>>
+        ensures same { IfOk result (λ made. IsTrue C.tells → C.inode made.file ≡ inode_of made.found) }
+        ensures waits { IsTrue C.tells → NameWaits (C.waits self.old.changes) (C.waits self.new.changes) path.now }
+        ensures grown { IfOk result (λ made. IsTrue C.tells → is_fat_file made.found ≡ true
+            → (C.waits self.new.changes).folders (parent_folder path.now) ≡ false) }
+    {
+        let created = create_locked(&mut self.changes, path, mode)?;
+        if created.found.is_fat_file() {
             self.changes.sync_folder(folder_of(path))?;
         }
-        Ok(())
+        Ok(created)
     }
 
     // Writes behind what the file has.
-    pub(crate) fn append_bytes(&mut self, path: &str, bytes: &[u8]) -> io::Result<()> {
+    pub(crate) fn append_bytes(&mut self, path: &str, bytes: &[u8]) -> io::Result<()>
+        ensures { IsTrue C.tells → C.waits self.new.changes ≡ C.waits self.old.changes }
+    {
         let mut written = self.take_written(path)?;
-        let answer = self.changes.append(&mut written.file, bytes);
+        let answer = self.changes.append(&mut written.kept.file, bytes);
         self.written = Some(written);
         answer
     }
@@ -344,29 +366,37 @@ impl<C: Calls + Drop, E: Print + Drop> System<C, E> {
     {
         self.changes.require_sure()?;
         let written = self.take_written(path)?;
-        let answer = self.changes.sync_file(path, &written.file);
+        let answer = self.changes.sync_file(path, &written.kept.file);
         self.written = Some(written);
         answer
     }
 
     // The temporary file that is written, with its lock.
-    fn take_written(&mut self, path: &str) -> io::Result<KeptFile<C::File>>
+    fn take_written(&mut self, path: &str) -> io::Result<Written<C::File>>
         ensures still { self.new.changes ≡ self.old.changes }
         ensures looks { self.new.looks ≡ self.old.looks }
+        ensures at { IfOk result (λ written. string_bytes written.kept.path ≡ path.now) }
     {
         match self.written.take() {
-            Some(written) if written.is_at(path) => Ok(written),
+            Some(written) if written.kept.is_at(path) => Ok(written),
             _ => self.open_written(path),
         }
     }
 
-    fn open_written(&self, path: &str) -> io::Result<KeptFile<C::File>> {
+    fn open_written(&self, path: &str) -> io::Result<Written<C::File>>
+        ensures at { IfOk result (λ written. string_bytes written.kept.path ≡ path.now) }
+        ensures file { IfOk result (λ written. IsTrue C.tells
+            → IsFileAt (C.tree self.now.changes) path.now (C.inode written.kept.file)) }
+    {
         let kept = copy_path(self.alloc, path)?;
         let file = open_locked(self.changes.calls(), path, Access::Append)?;
-        Ok(KeptFile {
-            path: kept,
-            file,
-            is_made: false,
+        Ok(Written {
+            kept: KeptFile {
+                path: kept,
+                file,
+                is_made: false,
+            },
+            mode: None,
         })
     }
 
@@ -377,17 +407,17 @@ impl<C: Calls + Drop, E: Print + Drop> System<C, E> {
         let kept = copy_path(self.alloc, to)?;
         let written = self.take_written(from)?;
         if to == INTENT {
-            self.begin_intended(from, &written.file)?;
+            self.begin_intended(from, &written.kept.file)?;
         } else {
             self.require_no_other_move()?;
             self.begin_change(to)?;
         }
         let replaced = self.changes.calls().find_itself(to)?;
-        self.give_mode(&written.file, to, replaced)?;
-        self.put(from, to, &written, replaced)?;
+        self.give_mode(&written, to, replaced)?;
+        self.put(from, to, &written.kept, replaced)?;
         self.changes.keep_moved(KeptFile {
             path: kept,
-            ..written
+            ..written.kept
         });
         Ok(())
     }
@@ -414,19 +444,18 @@ impl<C: Calls + Drop, E: Print + Drop> System<C, E> {
     // What is put in place was for its owner alone. It has the mode of the file that it replaces.
     fn give_mode(
         &mut self,
-        file: &Locked<C::File>,
+        written: &Written<C::File>,
         to: &str,
         replaced: Option<Found>,
-    ) -> io::Result<()> {
-        let Some(new_mode) = self.new_mode else {
+    ) -> io::Result<()>
+        ensures { IsTrue C.tells → C.waits self.new.changes ≡ C.waits self.old.changes }
+    {
+        let Some(new_mode) = written.mode else {
             return Ok(());
         };
-        let mode = match replaced {
-            Some(found) if found.is_file() => found.mode,
-            _ => new_mode,
-        };
+        let mode = mode_in_place(new_mode, replaced);
         if !is_private(to) && mode != PRIVATE {
-            self.changes.set_mode(file.file(), mode)?;
+            self.changes.set_mode(written.kept.file.file(), mode)?;
         }
         Ok(())
     }
@@ -457,22 +486,24 @@ impl<C: Calls + Drop, E: Print + Drop> System<C, E> {
 
     // On FAT the folder grows for a new name before that comes, if it has to: an empty file with a longer name comes and
     // goes. A leftover stays as it is.
-    fn make_room(&mut self, from: &str, to: &str) -> io::Result<()> {
+    fn make_room(&mut self, from: &str, to: &str) -> io::Result<()>
+        ensures { IsTrue C.tells → NameWaits (C.waits self.old.changes) (C.waits self.new.changes) (to.now ++ temp_end) }
+    {
         let temp = temp_of(self.alloc, to)?;
         let temp = temp.as_str();
         let calls = self.changes.calls();
         if fat_file_at(calls, from)?.is_none() || calls.find_itself(temp)?.is_some() {
             return Ok(());
         }
-        let created = create_locked(&mut self.changes, temp, PRIVATE)?;
-        self.sync_growth(temp, &created.found)?;
+        let created = self.make_temp(temp, PRIVATE)?;
         self.changes.unlink(temp, Some(&created.file))
     }
 
     // Renames a file that was there before the names were last synced.
     fn rename_known(&mut self, from: &str, to: &str) -> io::Result<()> {
         self.changes.change_near(to)?;
-        let replaced = self.make_way(from, to)?;
+        let replaced = self.changes.calls().find_itself(to)?;
+        let replaced = self.make_way(from, to, replaced)?;
         let held = self.locks.lock_of(replaced);
         self.changes.rename_known(from, to, held)?;
         self.end_rename(from, to)
@@ -486,7 +517,7 @@ impl<C: Calls + Drop, E: Print + Drop> System<C, E> {
         written: &KeptFile<C::File>,
         replaced: Option<Found>,
     ) -> io::Result<()> {
-        let replaced = self.make_way_over(from, to, replaced)?;
+        let replaced = self.make_way(from, to, replaced)?;
         let held = self.locks.lock_of(replaced);
         if written.is_made {
             self.changes.put(from, to, &written.file, held)?;
@@ -496,19 +527,18 @@ impl<C: Calls + Drop, E: Print + Drop> System<C, E> {
         self.end_rename(from, to)
     }
 
-    fn make_way(&mut self, from: &str, to: &str) -> io::Result<Option<Found>> {
-        let replaced = self.changes.calls().find_itself(to)?;
-        self.make_way_over(from, to, replaced)
-    }
-
     // Before a file gets a name its folders are made if they are missing, and what FAT shows there in capitals goes. It
     // gives what the file will replace.
-    fn make_way_over(
+    fn make_way(
         &mut self,
         from: &str,
         to: &str,
         replaced: Option<Found>,
-    ) -> io::Result<Option<Found>> {
+    ) -> io::Result<Option<Found>>
+        ensures may { OnOk result (replace_fault replaced ≡ None) }
+        ensures left { IfOk result (λ left. left ≡ replaced
+            ⊎ (IsTrue C.tells → left ≡ (C.tree self.new.changes).stands to.now)) }
+    {
         self.looked = None;
         drop(self.changes.take_moved());
         require_replaceable(replaced)?;
@@ -523,7 +553,10 @@ impl<C: Calls + Drop, E: Print + Drop> System<C, E> {
     }
 
     // What was renamed is held by its old path no longer, and is shown by its new one.
-    fn end_rename(&mut self, from: &str, to: &str) -> io::Result<()> {
+    fn end_rename(&mut self, from: &str, to: &str) -> io::Result<()>
+        ensures still { self.new.changes ≡ self.old.changes }
+        ensures looks { self.new.looks ≡ self.old.looks }
+    {
         self.locks.close_file(from);
         self.locks.close_file(to);
         require_spelled(self.changes.calls(), self.alloc, to)
@@ -548,7 +581,7 @@ impl<C: Calls + Drop, E: Print + Drop> System<C, E> {
         ensures looks { self.new.looks ≡ self.old.looks }
     {
         match self.written.take() {
-            Some(written) if written.is_at(path) => Ok(written.file),
+            Some(written) if written.kept.is_at(path) => Ok(written.kept.file),
             _ => open_locked(self.changes.calls(), path, Access::Read),
         }
     }
@@ -569,12 +602,6 @@ impl<C: Calls + Drop, E: Print + Drop> System<C, E> {
         }
     }
 
-    // Renames the old name of a half done rename over the new one, which has lost its bytes.
-    fn rename_emptied(&mut self, from: &str, to: &str) -> io::Result<()> {
-        self.locks.hold_changed(self.changes.calls(), to)?;
-        self.rename_known(from, to)
-    }
-
     // A file is changed only if no other name may be of it too.
     fn require_one_name(&mut self, path: &str) -> io::Result<()>
         ensures still { self.new.changes ≡ self.old.changes }
@@ -584,92 +611,11 @@ impl<C: Calls + Drop, E: Print + Drop> System<C, E> {
         self.changes.require_one_name(path, found)
     }
 
-    fn left_names(&self) -> Option<&IntentNames> {
-        self.intent.as_ref().and_then(HeldIntent::left)
-    }
-
-    // The new name of the rename that a stop has left half done, if this is its old name and the new one has lost its
-    // bytes.
-    fn emptied_name(&self, path: &str) -> io::Result<Option<String>> {
-        let Some(names) = self.left_names() else {
-            return Ok(None);
-        };
-        if names.from.as_str() != path {
-            return Ok(None);
-        }
-        match removal_of_old(self.changes.calls(), names)? {
-            Removal::RenameOver => Ok(Some(copy_path(self.alloc, names.to.as_str())?)),
-            Removal::Unlink => Ok(None),
-        }
-    }
-
-    // Removes the intent, once the file that it names has its bytes on the disk.
-    fn remove_intent(&mut self) -> io::Result<()> {
-        let answer = self.rescue_left();
-        if answer.is_err() {
-            self.changes.give_up();
-        }
-        answer?;
-        if self.intent.is_none() {
-            self.keep_intent();
-        }
-        self.looked = None;
-        self.looks.forget(INTENT);
-        let held = self.intent.as_ref().map(|held| held.file());
-        self.changes.unlink(INTENT, held)?;
-        self.locks.close_file(INTENT);
-        self.intent = None;
-        Ok(())
-    }
-
-    fn rescue_left(&mut self) -> io::Result<()> {
-        self.require_one_name_left()?;
-        match self.find_rescue()? {
-            Some(rescue) => self.rescue(rescue),
-            None => Ok(()),
-        }
-    }
-
-    fn find_rescue(&self) -> io::Result<Option<Rescue>> {
-        match self.left_names() {
-            Some(names) => rescue_of(self.changes.calls(), self.alloc, names),
-            None => Ok(None),
-        }
-    }
-
-    fn rescue(&mut self, rescue: Rescue) -> io::Result<()> {
-        let Rescue { path, by, name } = rescue;
-        let Some(by) = by else {
-            return self.rename_left(path.as_str(), name.as_str());
-        };
-        self.rename_left(path.as_str(), by.as_str())?;
-        self.rename_left(by.as_str(), name.as_str())
-    }
-
-    // No other name than those of the intent may be of its file.
-    fn require_one_name_left(&mut self) -> io::Result<()>
-        ensures still { self.new.changes ≡ self.old.changes }
-    {
-        let alloc = self.alloc;
-        let Some(names) = self.left_names() else {
-            return Ok(());
-        };
-        let from = copy_path(alloc, names.from.as_str())?;
-        let to = copy_path(alloc, names.to.as_str())?;
-        self.require_one_name(from.as_str())?;
-        self.require_one_name(to.as_str())
-    }
-
-    // Gives the file of an intent another name, and syncs both.
-    fn rename_left(&mut self, from: &str, to: &str) -> io::Result<()> {
-        self.locks.hold_changed(self.changes.calls(), from)?;
-        self.locks.hold_changed(self.changes.calls(), to)?;
-        self.rename_known(from, to)?;
-        self.changes.sync_name(to)
-    }
-
     // Removes a file by the lock that is held for its change, or what is no file.
-    fn unlink_held(&mut self, path: &str) -> io::Result<()> {
+    #[tactic(auto, using(crate::proofs::NameSteps::name_waits_none))]
+    fn unlink_held(&mut self, path: &str) -> io::Result<()>
+        ensures { IsTrue C.tells → NameWaits (C.waits self.old.changes) (C.waits self.new.changes) path.now }
+    {
         self.looked = None;
         self.looks.forget(path);
         let found = self.changes.calls().find_itself(path)?;
@@ -679,7 +625,9 @@ impl<C: Calls + Drop, E: Print + Drop> System<C, E> {
     }
 
     // Removes a file by a lock of its own.
-    fn unlink(&mut self, path: &str, held: &Locked<C::File>) -> io::Result<()> {
+    fn unlink(&mut self, path: &str, held: &Locked<C::File>) -> io::Result<()>
+        ensures { IsTrue C.tells → NameWaits (C.waits self.old.changes) (C.waits self.new.changes) path.now }
+    {
         self.looked = None;
         self.looks.forget(path);
         self.changes.unlink(path, Some(held))?;
@@ -701,7 +649,10 @@ impl<C: Calls + Drop, E: Print + Drop> System<C, E> {
         Ok(())
     }
 
-    fn make_folder(&mut self, folder: &str) -> io::Result<()> {
+    #[tactic(auto, using(crate::proofs::NameSteps::name_waits_none))]
+    fn make_folder(&mut self, folder: &str) -> io::Result<()>
+        ensures { IsTrue C.tells → NameWaits (C.waits self.old.changes) (C.waits self.new.changes) folder.now }
+    {
         if self.changes.calls().find(folder)?.is_none() {
             self.looks.forget_name(folder);
             self.changes.make_folder(folder)?;
@@ -761,6 +712,16 @@ impl<C: Calls + Drop, E: Print + Drop> System<C, E> {
     }
 }
 
+// The mode of a file in its place: that of the file which it replaces, if there is one.
+fn mode_in_place(new_mode: u32, replaced: Option<Found>) -> u32
+    ensures { result ≡ mode_in_place new_mode replaced }
+{
+    match replaced {
+        Some(found) if found.is_file() => found.mode,
+        _ => new_mode,
+    }
+}
+
 // The temporary files among the names of a folder of payloads. A cleanup alone lists such a folder.
 fn note_leftovers(
     alloc: Global,
@@ -778,7 +739,9 @@ fn note_leftovers(
 }
 
 // The path of a file's temporary file.
-fn temp_of(alloc: Global, path: &str) -> io::Result<String> {
+fn temp_of(alloc: Global, path: &str) -> io::Result<String>
+    ensures { IfOk result (λ temp. string_bytes temp ≡ path.now ++ temp_end) }
+{
     let mut temp = copy_path(alloc, path)?;
     temp.push_str(TEMP_SUFFIX)?;
     Ok(temp)

@@ -1,0 +1,7 @@
+use Rattle.std.specs.Prelude.{IsTrue}
+use Rattle.name_syncs.specs.Named.{NameWaits}
+use Rattle.folder_machine.proofs.kept.create_locked.Given as goal
+
+-- nothing but the name has come or gone since the call began
+abbrev pub invariant-loop : goal.invariant-loop
+invariant-loop g l = IsTrue g.C.Calls.tells → NameWaits (g.C.Calls.waits l.fn.changes) (g.C.Calls.waits l.changes) l.fn.path
