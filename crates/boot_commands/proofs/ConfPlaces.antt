@@ -63,7 +63,8 @@ module _ (first last : List ℕ) (first_kept : is_kept first ≡ true) (last_kep
       let whole = ap (join_filtered 47 is_kept) (pieces.2 ∙ ap (λ (l : List (List ℕ)). (pieces.0 ∷ pieces.1) ++ l) two) in
       (ends.0, sym (by (list_any is_kept (components below)) (is_path (under folder below)) is) ∙ whole ∙ ends.1)
     where
-      by : (counts reads : Bool) → path_or (under folder below) (if counts then (if reads then Some (normal_of (under folder below)) else None) else None) ≡ Ok path → normal_of (under folder below) ≡ path
+      by : (counts reads : Bool) → path_or (under folder below)
+          (if counts then (if reads then Some (normal_of (under folder below)) else None) else None) ≡ Ok path → normal_of (under folder below) ≡ path
       by true true is = cc
       by true false is = cc
       by false reads is = cc
@@ -77,7 +78,8 @@ last_byte front other name last b c unlike one single is =
     unlike (same_from_push front other b c folders).1
 
 -- where a folder ends in another byte, no file in it stands where a loader.conf does
-apart_from_conf : (folder name esp : List ℕ) (front : List ℕ) (b : ℕ) → folder ≡ front ++ b ∷ [] → b ≢ 114 → list_any is_slash name ≡ false → (path : Path) → path ≡ under folder name → conf_path esp ≢ Ok path
+apart_from_conf : (folder name esp : List ℕ) (front : List ℕ) (b : ℕ) → folder ≡ front ++ b ∷ [] → b ≢ 114
+    → list_any is_slash name ≡ false → (path : Path) → path ≡ under folder name → conf_path esp ≢ Ok path
 apart_from_conf folder name esp front b ends unlike one path stands is = at (path_in esp) is
   where
     at : (read : Result Path Refusal) → (read >>= λ esp. path_under esp conf_below) ≡ Ok path → ⊥
@@ -96,7 +98,8 @@ record AreBelow (folders : Folders) : Type 0 where
 are_below : (word : List ℕ) (folders : Folders) → folders_of word ≡ Ok folders → AreBelow folders
 are_below word folders is = at (path_in word) is
   where
-    given : (entries images : Path) → ◌≡◌ {A = Result Folders Refusal} (Ok (record { entries = entries; images = images })) (Ok folders) → ◌≡◌ {A = Folders} (record { entries = entries; images = images }) folders
+    given : (entries images : Path) → ◌≡◌ {A = Result Folders Refusal} (Ok (record { entries = entries; images = images })) (Ok folders)
+        → ◌≡◌ {A = Folders} (record { entries = entries; images = images }) folders
     given entries images is = cc
 
     both : (esp : Path) (entries images : Result Path Refusal) → path_under esp entries_below ≡ entries → path_under esp images_below ≡ images
@@ -107,7 +110,8 @@ are_below word folders is = at (path_in word) is
     both esp (Ok entries) (Err why) first second is = cc
     both esp (Err why) images first second is = cc
 
-    at : (read : Result Path Refusal) → (read >>= λ esp. path_under esp entries_below >>= λ entries. path_under esp images_below >>= λ images. Ok (record { entries = entries; images = images })) ≡ Ok folders → AreBelow folders
+    at : (read : Result Path Refusal) → (read >>= λ esp. path_under esp entries_below >>= λ entries. path_under esp images_below >>= λ images. Ok
+        (record { entries = entries; images = images })) ≡ Ok folders → AreBelow folders
     at (Ok esp) is = both esp (path_under esp entries_below) (path_under esp images_below) refl refl is
     at (Err why) is = cc
 

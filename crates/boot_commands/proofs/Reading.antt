@@ -20,7 +20,8 @@ module _ {D : Type 0} (time : Timeline D) (state : D → State) (old mid new : D
   same_deed : OnlyReads time state old mid → answer_of_plan (seen (state old)) plan ≡ answer → deed_of_answer (answer_of_plan (seen (state mid)) plan) ≡ deed_of_answer answer
   same_deed reads is = ap (λ (s : State). deed_of_answer (answer_of_plan (seen s) plan)) reads.same ∙ ap deed_of_answer is
 
-  pub performs_after : ((m : Files) → IsImage (state old) m → IsIn (recovered_view m) (recovered_views (state old))) → OnlyReads time state old mid → answer_of_plan (seen (state old)) plan ≡ answer → IsFirm (state old)
+  pub performs_after : ((m : Files) → IsImage (state old) m → IsIn (recovered_view m) (recovered_views (state old)))
+      → OnlyReads time state old mid → answer_of_plan (seen (state old)) plan ≡ answer → IsFirm (state old)
       → (IsFirm (state mid) → Performs time state end_of mid new (deed_of_answer (answer_of_plan (seen (state mid)) plan)) result) → Performs time state end_of old new (deed_of_answer answer) result
   performs_after sees reads is firm performs =
       after_reads time state old (deed_of_answer answer) mid new result sees reads

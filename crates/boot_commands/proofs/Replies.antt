@@ -91,7 +91,8 @@ some_shown : (timeout : Option (List ℕ)) (item : Option MenuItem) → HasText 
 some_shown timeout None = tt
 some_shown timeout (Some item) = omega arith
 
-some_changed : (view : Files) (key : ConfKey) (value : List ℕ) (change : Result (Path × List ℕ) Refusal) → 0 < length (answer_or_refusal view (change >>= λ change. Ok (changed_conf view key value change))).text
+some_changed : (view : Files) (key : ConfKey) (value : List ℕ) (change : Result (Path × List ℕ) Refusal)
+    → 0 < length (answer_or_refusal view (change >>= λ change. Ok (changed_conf view key value change))).text
 some_changed view Default value (Ok change) = omega arith
 some_changed view Timeout value (Ok change) = omega arith
 some_changed view key value (Err why) = some_line why
@@ -107,7 +108,8 @@ unfolding one_reply
 some_text view (one.Build words) = some_built view words.measure (build_of view words)
 some_text view (one.Calculate words) =
     some_said view (calculate_result view words)
-    (text_next (each (under_name path_in) (present_parts (part_words words))) _ (λ paths. text_next (each (under_name (bytes_at view)) paths) _ (λ parts. some_told words.json _ (banks_of words.banks) words.phases)))
+    (text_next (each (under_name path_in) (present_parts (part_words words))) _
+    (λ paths. text_next (each (under_name (bytes_at view)) paths) _ (λ parts. some_told words.json _ (banks_of words.banks) words.phases)))
 some_text view (one.Inspect file json) =
     some_said view (inspect_result view file json)
     (text_next (path_in file) (inspection_at view json) (λ path. text_next (image_at view path) _ (λ image. some_sections json path (map (section_facts image.0) image.1.sections))))
@@ -123,7 +125,8 @@ some_text view (one.Unlink name esp) = some_unless view (entry_path name esp) (u
 some_text view (one.Install file name tries esp) = some_install view file name tries esp
 some_text view (one.Bless verb path esp) = some_marked view verb path esp
 some_text view (one.LoaderShow esp) = some_said view (show_result view esp)
-    (text_next (loader_paths esp) _ (λ paths. text_next (conf_bytes view paths.conf) _ (λ bytes. text_next (menu_at view paths.folders) (menu_shown bytes) (λ menu. some_shown (conf_timeout bytes) (default_item (conf_default bytes) menu)))))
+    (text_next (loader_paths esp) _ (λ paths. text_next (conf_bytes view paths.conf) _
+    (λ bytes. text_next (menu_at view paths.folders) (menu_shown bytes) (λ menu. some_shown (conf_timeout bytes) (default_item (conf_default bytes) menu)))))
 some_text view (one.LoaderDefault pattern esp) = some_changed view Default pattern (conf_update view Default pattern esp)
 some_text view (one.LoaderTimeout value esp) = some_changed view Timeout value (conf_update view Timeout value esp)
 

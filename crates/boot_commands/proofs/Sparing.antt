@@ -102,7 +102,8 @@ module _ (word : List ℕ) (folders : Folders) (read : folders_of word ≡ Ok fo
   kept (one.Install file name tries esp) spares = kept_install folders path view entry file name tries esp
   kept (one.Bless verb word esp) spares = kept_bless folders path view entry verb word esp spares
   kept (one.LoaderShow esp) spares = kept_said (show_result view esp)
-  kept (one.LoaderDefault pattern esp) spares = kept_changed Default pattern (conf_update view Default pattern esp) (set_apart view Default pattern esp path (conf_apart word esp folders path view read entry))
+  kept (one.LoaderDefault pattern esp) spares = kept_changed Default pattern (conf_update view Default pattern esp)
+      (set_apart view Default pattern esp path (conf_apart word esp folders path view read entry))
   kept (one.LoaderTimeout value esp) spares = kept_changed Timeout value (conf_update view Timeout value esp) (set_apart view Timeout value esp path (conf_apart word esp folders path view read entry))
 
   -- and for each action

@@ -23,7 +23,8 @@ untold stops.Pipe c old new same = λ differs. absurd (differs (ap (λ (s : Stat
 untold stops.Memory c old new same = tt
 
 -- the change was made, but where the disk failed
-made_or_not : (fault : MachineFault) (change : Change) (c : One) (old new : State) → ((files : Files) → Drops change old.files files → LeavesTidied c files) → fault_drops fault change old.files new.files → stop_tidies (stop_of fault) c old new
+made_or_not : (fault : MachineFault) (change : Change) (c : One) (old new : State)
+    → ((files : Files) → Drops change old.files files → LeavesTidied c files) → fault_drops fault change old.files new.files → stop_tidies (stop_of fault) c old new
 made_or_not faults.Disk change c old new so dropped = tt
 made_or_not faults.Pipe change c old new so dropped = λ differs. so new.files dropped
 

@@ -103,6 +103,7 @@ module _ (counts : List ℕ → Bool) (esp : Path) (e : Path) (v : Files) where
       let found = All-contains (PlacedValue view) (map (value_of_file v) (plan.linux ∷ plan.initrds)) value (placed_values view (plan.linux ∷ plan.initrds) so_far.placed) said in
       let fits = payload_name_fits found.0 in
       let named : path_of_value e (payload_value (payload_name found.0)) ≡ Some (under (payload_folder e) digits) =
-      subst (λ x. path_of_value x (payload_value (payload_name found.0)) ≡ Some (under (payload_folder x) digits)) same (subst (λ (w : List ℕ). path_of_value esp w ≡ Some (under (payload_folder esp) digits)) found.1 names) in
+      subst (λ x. path_of_value x (payload_value (payload_name found.0)) ≡ Some (under (payload_folder x) digits)) same
+      (subst (λ (w : List ℕ). path_of_value esp w ≡ Some (under (payload_folder esp) digits)) found.1 names) in
       let digits_are = value_names e (payload_name found.0) digits normal fits (kept_digits (payload_name found.0) fits) is named in
       subst (λ x. HasPayload x digits view) (sym same) (subst (λ d. HasPayload e d view) digits_are found.2))

@@ -214,8 +214,11 @@ newest_law state run words n folders start history meant acts allowed view there
     let all : run.sent ≡ join_replies (replies first lines) → boot_menu view folders ≡ kept_records n per_key (boot_menu first folders) =
     λ said.
     let every : length (replies first lines) ≤ from.may.acked =
-    acked.most (length (replies first lines)) (omega arith)
-    ([], append-nil (join_replies (take (length (replies first lines)) (replies first lines))) ∙ ap join_replies (take_all (length (replies first lines)) (replies first lines) (omega arith)) ∙ sym said) in
+    acked.most (length (replies first lines)) (omega arith) (
+      [],
+      append-nil (join_replies (take (length (replies first lines)) (replies first lines)))
+          ∙ ap join_replies (take_all (length (replies first lines)) (replies first lines) (omega arith)) ∙ sym said,
+    ) in
     let more : from.may.acked ≤ from.n = ⊎_elim (λ (e : from.n ≡ from.may.acked). omega arith) (λ (e : from.n ≡ from.may.acked + 1). omega arith) from.may.one_more in
     let whole : length doomed ≤ from.n = omega (arith, length-replies first lines, long, every, more) in
     shows

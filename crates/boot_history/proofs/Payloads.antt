@@ -79,7 +79,8 @@ module _ (counts : List ℕ → Bool) (esp : Path) (first : Files) (plan : Type1
       let now = entered counts esp plan.esp first view plan is.name refl done is.normal is.kept is.one is.of_type is.entry is.back.same in
       last n (subst (AreNamedThere counts esp) (sym (enter_line view plan.entry (entry_text (fields_of first plan)))) now)
     where
-      last : (n : ℕ) → AreNamedThere counts esp (line_deed view (Part (enter_of first plan))).after → AreNamedThere counts esp (view_after (line_deed view (Part (enter_of first plan))).after (take n []))
+      last : (n : ℕ) → AreNamedThere counts esp (line_deed view (Part (enter_of first plan))).after
+          → AreNamedThere counts esp (view_after (line_deed view (Part (enter_of first plan))).after (take n []))
       last zero now = now
       last (suc n) now = now
   all_put before (file ∷ files) view whole so_far sources (suc n) =

@@ -66,7 +66,8 @@ module _ (view : Files) (words : Type1Words) (plan : Type1Plan) (ok : install_pl
       (refused_too fault (each (bytes_at view) files) (map (payload_of view) files) (install_commands view plan) (subst (UnsaidFor fault) (each_payloads view files) why))
 
   commands_are : (linux : Payload) (initrds : List Payload) → map (payload_of view) files ≡ linux ∷ initrds
-      → install_commands view plan ≡ put_in (payload_folder plan.esp) linux ∷ (map (put_in (payload_folder plan.esp)) initrds ++ action.Enter plan.entry (entry_text (fields_with plan.texts linux initrds)) ∷ [])
+      → install_commands view plan ≡ put_in (payload_folder plan.esp) linux ∷
+      (map (put_in (payload_folder plan.esp)) initrds ++ action.Enter plan.entry (entry_text (fields_with plan.texts linux initrds)) ∷ [])
   commands_are linux initrds is =
       let folder = payload_folder plan.esp in
       let first : payload_of view plan.linux ≡ linux = cc in
@@ -77,13 +78,15 @@ module _ (view : Files) (words : Type1Words) (plan : Type1Plan) (ok : install_pl
       let values = map_both value_of_payload (payload_of view) (value_of_file view) (λ file. refl) plan.initrds in
       let with_values : List (List ℕ) → Type1 = entry_fields plan.texts (value_of_file view plan.linux) in
       ap (λ (l : List Action). put_of view plan.esp plan.linux ∷ (l ++ enter_of view plan ∷ [])) (sym puts)
-      ∙ ap (λ (vs : List (List ℕ)). put_of view plan.esp plan.linux ∷ (map (put_in folder) (map (payload_of view) plan.initrds) ++ action.Enter plan.entry (entry_text (with_values vs)) ∷ [])) (sym values)
+      ∙ ap (λ (vs : List (List ℕ)). put_of view plan.esp plan.linux ∷
+      (map (put_in folder) (map (payload_of view) plan.initrds) ++ action.Enter plan.entry (entry_text (with_values vs)) ∷ [])) (sym values)
       ∙ ap (λ (l : Payload). whole l (map (payload_of view) plan.initrds)) first
       ∙ ap (whole linux) others
 
   -- of files that are all there
   pub expansion_made : (linux : Payload) (initrds : List Payload) → each (payload_at view) (plan.linux ∷ plan.initrds) ≡ Ok (linux ∷ initrds)
-      → install_expansion view words ≡ Ok (put_in (payload_folder plan.esp) linux ∷ (map (put_in (payload_folder plan.esp)) initrds ++ action.Enter plan.entry (entry_text (fields_with plan.texts linux initrds)) ∷ []))
+      → install_expansion view words ≡ Ok (put_in (payload_folder plan.esp) linux ∷
+      (map (put_in (payload_folder plan.esp)) initrds ++ action.Enter plan.entry (entry_text (fields_with plan.texts linux initrds)) ∷ []))
   unfolding install_expansion
   expansion_made linux initrds made =
       let found = by_reads (each (bytes_at view) files) (map (payload_of view) files) (linux ∷ initrds) (install_commands view plan) (sym (each_payloads view files) ∙ made) in

@@ -82,7 +82,8 @@ value_names esp digits name normal fits kept is names =
       where
         by_front : (b : Bool) → eqb (length (normal_of folder)) 0 ≡ b → file_name_of (normal_of (under folder digits)) ≡ digits
         by_front true is = ap file_name_of (normal_more folder digits kept one ∙ cond-true (eqb (length (normal_of folder)) 0) digits (under (normal_of folder) digits) is) ∙ file_name_whole digits one
-        by_front false is = ap file_name_of (normal_more folder digits kept one ∙ cond-false (eqb (length (normal_of folder)) 0) digits (under (normal_of folder) digits) is) ∙ file_name_under (normal_of folder) digits one
+        by_front false is = ap file_name_of (normal_more folder digits kept one
+            ∙ cond-false (eqb (length (normal_of folder)) 0) digits (under (normal_of folder) digits) is) ∙ file_name_under (normal_of folder) digits one
 
 -- ---- the sources
 
@@ -103,7 +104,8 @@ source_apart : (esp file : Path) (b : Bool) → bytes_eq (under (payload_folder 
     → (q : Path) → (if b then Err (refusals.PayloadSource (printed_path file)) else Ok file) ≡ Ok q → (bytes : List ℕ) → file ≢ payload_path esp bytes
 source_apart esp file true is q ok bytes same = absurd (err_ok (refusals.PayloadSource (printed_path file)) q ok)
 source_apart esp file false is q ok bytes same =
-    let name : file_name_of file ≡ payload_name bytes = ap file_name_of same ∙ file_name_under (payload_folder esp) (payload_name bytes) (payload_slash (payload_name bytes) (payload_name_fits bytes)) in
+    let name : file_name_of file ≡ payload_name bytes = ap file_name_of same
+    ∙ file_name_under (payload_folder esp) (payload_name bytes) (payload_slash (payload_name bytes) (payload_name_fits bytes)) in
     let whole : under (payload_folder esp) (file_name_of file) ≡ file = ap (under (payload_folder esp)) name ∙ sym same in
     clash ((bytes_eq-Decides (under (payload_folder esp) (file_name_of file)) file).1 whole) is
   where

@@ -97,7 +97,8 @@ option_one (Some text) = omega arith
 
 -- ---- files
 
-few_is : (words : List (List ℕ)) (b : Bool) → nat_lt 64 (length words) ≡ b → (found : List (List ℕ)) → (if b then Err (refusals.TooManyFiles (length words)) else Ok words) ≡ Ok found → length words ≤ 64
+few_is : (words : List (List ℕ)) (b : Bool) → nat_lt 64 (length words) ≡ b → (found : List (List ℕ))
+    → (if b then Err (refusals.TooManyFiles (length words)) else Ok words) ≡ Ok found → length words ≤ 64
 few_is words true is found ok = absurd (err_ok (refusals.TooManyFiles (length words)) found ok)
 few_is words false is found ok = ltb-false 64 (length words) is
 

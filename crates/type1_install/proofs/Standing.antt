@@ -134,10 +134,13 @@ member_keys files path = sym (map_of.contains_key-keys files path)
 payload_found : (folder : Path) (names : List (List ℕ)) (p : Path) → is_member p (payloads_in folder names) ≡ true
     → (name : List ℕ) × Contains names name × (is_payload_name name ≡ true) × (p ≡ under folder name)
 payload_found folder [] p is = cc
-payload_found folder (name ∷ names) p is = by (λ is. let found = payload_found folder names p is in (found.0, Contains-later name found.0 names found.1, found.2, found.3)) (is_payload_name name) refl is
+payload_found folder (name ∷ names) p is = by (λ is. let found =
+    payload_found folder names p is in (found.0, Contains-later name found.0 names found.1, found.2, found.3)) (is_payload_name name) refl is
   where
-    by : (is_member p (payloads_in folder names) ≡ true → ((other : List ℕ) × Contains (name ∷ names) other × (is_payload_name other ≡ true) × (p ≡ under folder other))) → (b : Bool) → is_payload_name name ≡ b
-        → is_member p (map (under folder) (cond b (name ∷ filter is_payload_name names) (filter is_payload_name names))) ≡ true → ((other : List ℕ) × Contains (name ∷ names) other × (is_payload_name other ≡ true) × (p ≡ under folder other))
+    by : (is_member p (payloads_in folder names) ≡ true → ((other : List ℕ) × Contains (name ∷ names) other ×
+        (is_payload_name other ≡ true) × (p ≡ under folder other))) → (b : Bool) → is_payload_name name ≡ b
+        → is_member p (map (under folder) (cond b (name ∷ filter is_payload_name names) (filter is_payload_name names))) ≡ true
+        → ((other : List ℕ) × Contains (name ∷ names) other × (is_payload_name other ≡ true) × (p ≡ under folder other))
     by behind true e is = elim (cases_same p (under folder name)) [
       | inl one ↦ (name, Contains-head name names, e, one)
       | inr apart ↦ behind (member_rest p (under folder name) (payloads_in folder names) apart is)
@@ -157,7 +160,8 @@ payload_there folder (first ∷ names) name is fits = ⊎_elim
         ap (λ b. is_member (under folder name) (map (under folder) (cond b (first ∷ filter is_payload_name names) (filter is_payload_name names)))) (ap is_payload_name one ∙ fits)
         ∙ member_here (under folder name) (under folder first) (payloads_in folder names) (ap (under folder) (sym one))
 
-    by : (b : Bool) → is_member (under folder name) (payloads_in folder names) ≡ true → is_member (under folder name) (map (under folder) (cond b (first ∷ filter is_payload_name names) (filter is_payload_name names))) ≡ true
+    by : (b : Bool) → is_member (under folder name) (payloads_in folder names) ≡ true
+        → is_member (under folder name) (map (under folder) (cond b (first ∷ filter is_payload_name names) (filter is_payload_name names))) ≡ true
     by true rest = member_later (under folder name) (under folder first) (payloads_in folder names) rest
     by false rest = rest
 
@@ -183,7 +187,8 @@ module _ (esp : Path) (items : List MenuItem) (files : Files) (names : List (Lis
       has_view files path (ap is_temp found.3 ∙ payload_shown folder found.0 found.2) ∙ ap (has files) found.3 ∙ there in
       let whole : under folder (file_name_of path) ≡ path = ap (under folder) last ∙ sym found.3 in
       let place : is_payload_path esp path ≡ true =
-      and_from (is_payload_name (file_name_of path)) (bytes_eq (under folder (file_name_of path)) path) (ap is_payload_name last ∙ found.2) ((bytes_eq-Decides (under folder (file_name_of path)) path).1 whole) in
+      and_from (is_payload_name (file_name_of path)) (bytes_eq (under folder (file_name_of path)) path)
+      (ap is_payload_name last ∙ found.2) ((bytes_eq-Decides (under folder (file_name_of path)) path).1 whole) in
       in_filter (is_unnamed esp items) path (map_of.keys (view files)) (and_from (is_payload_path esp path) (is_left path) place listed.0) (member_keys (view files) path ∙ seen)
 
   listed : (path : Path) → is_member path (unnamed_payloads (view files) esp items) ≡ true → is_member path paths ≡ true

@@ -11,13 +11,16 @@ pub returns-in_err-plan-clause-performs : goal.returns-in_err-plan-clause-perfor
 returns-in_err-plan-clause-performs g c told firm =
     let old = c.args.machine.now in
     plan_failed g.M.Machine.time g.M.Machine.state old (action_deed (seen (g.M.Machine.state old)) c.args.action.now) c.plan_action.new.machine c.in_err-plan.field-0.0
-    c.from_residual.result c.from_residual.ensures.0 c.from_residual.ensures.1 (λ m image. sees (g.M.Machine.state old) (g.met.M.Machine.sound old told) firm m image) firm (c.plan_action.ensures.looks.reads told)
+    c.from_residual.result c.from_residual.ensures.0 c.from_residual.ensures.1
+    (λ m image. sees (g.M.Machine.state old) (g.met.M.Machine.sound old told) firm m image) firm (c.plan_action.ensures.looks.reads told)
 
 pub returns-clause-performs : goal.returns-clause-performs
 returns-clause-performs g c told firm =
     let old = c.args.machine.now in
-    performs_after g.M.Machine.time g.M.Machine.state old c.plan_action.new.machine c.carry_out.new.machine c.in_ok-plan.plan (action_reply (seen (g.M.Machine.state old)) c.args.action.now) c.carry_out.result
-    (λ m image. sees (g.M.Machine.state old) (g.met.M.Machine.sound old told) firm m image) (c.plan_action.ensures.looks.reads told) (c.in_ok-plan.ensures.plans told).answer_is firm (c.carry_out.ensures.performs told)
+    performs_after g.M.Machine.time g.M.Machine.state old c.plan_action.new.machine c.carry_out.new.machine c.in_ok-plan.plan
+    (action_reply (seen (g.M.Machine.state old)) c.args.action.now) c.carry_out.result
+    (λ m image. sees (g.M.Machine.state old) (g.met.M.Machine.sound old told) firm m image)
+    (c.plan_action.ensures.looks.reads told) (c.in_ok-plan.ensures.plans told).answer_is firm (c.carry_out.ensures.performs told)
 
 pub returns-in_err-plan-clause-spares : goal.returns-in_err-plan-clause-spares
 returns-in_err-plan-clause-spares g c told =
@@ -26,5 +29,6 @@ returns-in_err-plan-clause-spares g c told =
 
 pub returns-clause-spares : goal.returns-clause-spares
 returns-clause-spares g c told =
-    spares_after c.in_ok-plan.plan (action_reply (seen (g.M.Machine.state c.args.machine.now)) c.args.action.now) (g.M.Machine.state c.args.machine.now) (g.M.Machine.state c.plan_action.new.machine) _ (c.plan_action.ensures.looks.reads told).same (c.in_ok-plan.ensures.plans told).answer_is
+    spares_after c.in_ok-plan.plan (action_reply (seen (g.M.Machine.state c.args.machine.now)) c.args.action.now)
+    (g.M.Machine.state c.args.machine.now) (g.M.Machine.state c.plan_action.new.machine) _ (c.plan_action.ensures.looks.reads told).same (c.in_ok-plan.ensures.plans told).answer_is
     (c.carry_out.ensures.spares told)

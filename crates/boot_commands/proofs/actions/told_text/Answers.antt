@@ -12,4 +12,5 @@ returns-then-is_empty c =
 pub returns : goal.returns
 returns c =
     IfOk-weaker c.of-2.result _ _
-    (λ told is. is ∙ c.as_slice-text.ensures ∙ sym (told_some c.args.text.now (λ none. eqb-false _ 0 (sym c.is_empty.ensures ∙ c.if-is_empty.false) (ap (λ (l : List ℕ). length l) c.as_slice-text.ensures ∙ none)))) c.of-2.ensures
+    (λ told is. is ∙ c.as_slice-text.ensures ∙ sym (told_some c.args.text.now
+    (λ none. eqb-false _ 0 (sym c.is_empty.ensures ∙ c.if-is_empty.false) (ap (λ (l : List ℕ). length l) c.as_slice-text.ensures ∙ none)))) c.of-2.ensures

@@ -10,13 +10,15 @@ use Rattle.boot_commands.proofs.carrying.carry_out.Goals as goal
 pub returns-in_err-result-clause-performs : goal.returns-in_err-result-clause-performs
 returns-in_err-result-clause-performs g c told firm =
     let old = c.args.machine.now in
-    stopped_by g.M.Machine.time g.M.Machine.state old c.perform-result.new.machine (deed_of_answer (answer_of_plan (seen (g.M.Machine.state old)) c.args.plan)) c.in_err-result.field-0.0 c.from_residual.result
+    stopped_by g.M.Machine.time g.M.Machine.state old c.perform-result.new.machine
+    (deed_of_answer (answer_of_plan (seen (g.M.Machine.state old)) c.args.plan)) c.in_err-result.field-0.0 c.from_residual.result
     c.from_residual.ensures.0 c.from_residual.ensures.1 (c.in_err-result.ensures.performs told firm)
 
 pub returns-clause-performs : goal.returns-clause-performs
 returns-clause-performs g c told firm =
     let old = c.args.machine.now in
-    done_by g.M.Machine.time g.M.Machine.state old c.perform-result.new.machine (deed_of_answer (answer_of_plan (seen (g.M.Machine.state old)) c.args.plan)) c.in_ok-result.field-0 (c.in_ok-result.ensures.performs told firm)
+    done_by g.M.Machine.time g.M.Machine.state old c.perform-result.new.machine
+    (deed_of_answer (answer_of_plan (seen (g.M.Machine.state old)) c.args.plan)) c.in_ok-result.field-0 (c.in_ok-result.ensures.performs told firm)
 
 pub returns-in_err-result-clause-tidies : goal.returns-in_err-result-clause-tidies
 returns-in_err-result-clause-tidies g c told command so =

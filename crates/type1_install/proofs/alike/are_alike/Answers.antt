@@ -23,13 +23,15 @@ loop-done-init g c =
 
 pub returns-in_err-count-clause-looks : goal.returns-in_err-count-clause-looks
 returns-in_err-count-clause-looks g c = record {
-  reads = λ told. reads_on g.M.Machine.time g.M.Machine.state c.args.machine.now c.loop-done.machine c.same_piece.new.machine (c.loop-done.invariant.reads told) (c.same_piece.ensures.looks.reads told);
+  reads = λ told. reads_on g.M.Machine.time g.M.Machine.state c.args.machine.now c.loop-done.machine c.same_piece.new.machine
+      (c.loop-done.invariant.reads told) (c.same_piece.ensures.looks.reads told);
   counted = search rules;
 }
 
 pub returns-then-count-eq0-clause-looks : goal.returns-then-count-eq0-clause-looks
 returns-then-count-eq0-clause-looks g c = record {
-  reads = λ told. reads_on g.M.Machine.time g.M.Machine.state c.args.machine.now c.loop-done.machine c.same_piece.new.machine (c.loop-done.invariant.reads told) (c.same_piece.ensures.looks.reads told);
+  reads = λ told. reads_on g.M.Machine.time g.M.Machine.state c.args.machine.now c.loop-done.machine c.same_piece.new.machine
+      (c.loop-done.invariant.reads told) (c.same_piece.ensures.looks.reads told);
   counted = search rules;
 }
 

@@ -60,7 +60,8 @@ returns-clause-looks g c = looks_on c.payload_at.ensures.looks c.payloads_at.ens
 pub returns-clause-says : goal.returns-clause-says
 returns-clause-says g c told =
     let made : Path → List Payload → List Action =
-    λ folder initrds. put_in folder c.in_ok-linux.linux ∷ (map (put_in folder) initrds ++ action.Enter c.in_ok-plan.plan.place.entry (entry_text (fields_with c.args.words.now.texts c.in_ok-linux.linux initrds)) ∷ []) in
+    λ folder initrds. put_in folder c.in_ok-linux.linux ∷ (map (put_in folder) initrds ++ action.Enter c.in_ok-plan.plan.place.entry
+    (entry_text (fields_with c.args.words.now.texts c.in_ok-linux.linux initrds)) ∷ []) in
     let view = seen (g.M.Machine.state c.args.machine.now) in
     let plan = plan_shown c.args.words.now.texts c.in_ok-plan.plan in
     let same = (c.payload_at.ensures.looks.reads told).same in

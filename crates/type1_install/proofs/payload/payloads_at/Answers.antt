@@ -63,7 +63,8 @@ loop-file-preserved g c =
       taken = λ told.
           more_read (λ (file : Path). digesting_length (bytes_at (seen first) file)) c.args.files.now c.loop-file.file-index c.file-item.result _ _ _ c.loop-file-test.true c.file-item.is
           (before.taken told)
-          (subst (λ (s : State). TakesAtMost (digesting_length (bytes_at (seen s) c.file-item.result)) (g.M.Machine.taken c.loop-file.machine) (g.M.Machine.taken c.payload_at.new.machine)) (before.reads told).same (c.payload_at.ensures.taken told));
+          (subst (λ (s : State). TakesAtMost (digesting_length (bytes_at (seen s) c.file-item.result)) (g.M.Machine.taken c.loop-file.machine)
+          (g.M.Machine.taken c.payload_at.new.machine)) (before.reads told).same (c.payload_at.ensures.taken told));
     }
 
 pub returns-clause-count : goal.returns-clause-count
@@ -75,7 +76,8 @@ returns-in_err-payload-clause-taken g c told =
     let first = g.M.Machine.state c.args.machine.now in
     last_read (λ (file : Path). digesting_length (bytes_at (seen first) file)) c.args.files.now c.loop-file.file-index c.file-item.result _ _ _ c.loop-file-test.true c.file-item.is
     (before.taken told)
-    (subst (λ (s : State). TakesAtMost (digesting_length (bytes_at (seen s) c.file-item.result)) (g.M.Machine.taken c.loop-file.machine) (g.M.Machine.taken c.payload_at.new.machine)) (before.reads told).same (c.payload_at.ensures.taken told))
+    (subst (λ (s : State). TakesAtMost (digesting_length (bytes_at (seen s) c.file-item.result)) (g.M.Machine.taken c.loop-file.machine)
+    (g.M.Machine.taken c.payload_at.new.machine)) (before.reads told).same (c.payload_at.ensures.taken told))
 
 pub returns-in_err-push-clause-taken : goal.returns-in_err-push-clause-taken
 returns-in_err-push-clause-taken g c told =
@@ -83,7 +85,8 @@ returns-in_err-push-clause-taken g c told =
     let first = g.M.Machine.state c.args.machine.now in
     last_read (λ (file : Path). digesting_length (bytes_at (seen first) file)) c.args.files.now c.loop-file.file-index c.file-item.result _ _ _ c.loop-file-test.true c.file-item.is
     (before.taken told)
-    (subst (λ (s : State). TakesAtMost (digesting_length (bytes_at (seen s) c.file-item.result)) (g.M.Machine.taken c.loop-file.machine) (g.M.Machine.taken c.payload_at.new.machine)) (before.reads told).same (c.payload_at.ensures.taken told))
+    (subst (λ (s : State). TakesAtMost (digesting_length (bytes_at (seen s) c.file-item.result)) (g.M.Machine.taken c.loop-file.machine)
+    (g.M.Machine.taken c.payload_at.new.machine)) (before.reads told).same (c.payload_at.ensures.taken told))
 
 pub returns-clause-taken : goal.returns-clause-taken
 returns-clause-taken g c told =
