@@ -1,0 +1,140 @@
+//! Whole commands of which one call fails.
+use super::handle::{Ran, SharedShelf, Trouble, files_of, run_line, run_with};
+use super::shelf::Kept;
+use super::{
+    command_of, have_same_boot_files, have_same_files, is_cut_short, recovers, say_same, start,
+    turns_of,
+};
+use std::alloc::Global;
+use std::io;
+use std::test::Fail;
+
+/// The call of that number fails.
+#[derive(Drop)]
+struct FailsAt {
+    call: u64,
+}
+
+impl Trouble for FailsAt {
+    fn come(&self, call: u64, _shelf: &SharedShelf) -> io::Result<()> {
+        if call == self.call {
+            return Err(io::Error::other("failed"));
+        }
+        Ok(())
+    }
+}
+
+/// A command, and for each of its calls in their order what comes of it if that one fails. Calls in a row with the same
+/// letter have one.
+///
+/// - `f`: a fault of the disk, no reply, and each boot file as before: the change isn't made yet.
+/// - `F`: a fault of the disk before the last reply, and each boot file as after: the change is made. It isn't synced, or its
+///   intent isn't gone for good.
+/// - `p`: a fault of the pipe, and the same: the last reply isn't printed.
+/// - `m`: either fault in a command of several actions, of which some are done.
+/// - `d`: all is as usual. The sync of a folder that was only looked at may fail, and a look whether the renamed file that
+///   is open still has its name: then it is synced by its name.
+///
+/// The next list then ends well, changes no boot file and leaves no intent. The same command once more does what it does on
+/// these files; behind `m` it does the rest.
+const ROWS: [(&str, &str); 21] = [
+    // A run begins with a look for an intent. What reads alone looks again at all that it has read, behind its sync.
+    ("list", "fdfp"),
+    ("show", "fdfp"),
+    ("status", "fdfp"),
+    ("identify", "fdfp"),
+    ("inspect", "fdfp"),
+    ("calculate", "fdfp"),
+    ("image", "fdfp"),
+    // A script is read first, and its reply has a line behind it.
+    ("script", "pfdfp"),
+    // The plan looks for the file, and its folders are synced. The file and its folder are locked before it goes. Then
+    // come the sync, and a look whether the file system can still be written.
+    ("unlink five", "fdfFp"),
+    // What is put in place gets its name last. Behind that are the looks at the new name, and the syncs.
+    ("build", "fdfFdFp"),
+    ("default", "fdfFdFp"),
+    ("timeout", "fdfFdFp"),
+    ("install", "fdfFdFp"),
+    ("install five", "fdfFdFp"),
+    // The intent is put in its place and synced before the entry gets its new name, and goes behind the sync of that.
+    ("good", "fdfdfFp"),
+    ("boot", "fdfdfFp"),
+    // A leftover isn't a boot file.
+    ("tidy", "fdfp"),
+    // The payload is put in its place, and then the entry.
+    ("type1", "fdfmdmFdFp"),
+    // The payload stands there already, so its reply is all that the first action does.
+    ("type1 of gone", "fdfmFdFp"),
+    ("cleanup", "fdfFp"),
+    // Two entries go.
+    ("keep", "fdfmdmFp"),
+];
+
+/// A command, the files before it, and what comes of it the first time and the second.
+#[derive(Drop)]
+struct Usual<'a> {
+    line: &'a str,
+    before: Vec<Kept>,
+    once: Ran,
+    twice: Ran,
+}
+
+fn usual_of(alloc: Global, line: &str) -> io::Result<Usual<'_>> {
+    let shelf = start(alloc)?;
+    Ok(Usual {
+        line,
+        before: files_of(&shelf)?,
+        once: run_line(alloc, &shelf, line)?,
+        twice: run_line(alloc, &shelf, line)?,
+    })
+}
+
+fn letter_of(usual: &Usual<'_>, ran: &Ran) -> char {
+    let is_after = have_same_boot_files(&ran.files, &usual.once.files);
+    let is_before = have_same_boot_files(&ran.files, &usual.before);
+    match ran.status {
+        0 if say_same(ran, &usual.once) && have_same_files(&ran.files, &usual.once.files) => 'd',
+        3 if ran.said.is_empty() && is_before => 'f',
+        3 if is_cut_short(ran, &usual.once) && is_after => 'F',
+        4 if is_cut_short(ran, &usual.once) && is_after => 'p',
+        3 | 4 if is_cut_short(ran, &usual.once) => 'm',
+        _ => 'w',
+    }
+}
+
+fn letter_at(alloc: Global, usual: &Usual<'_>, call: u64) -> io::Result<char> {
+    let shelf = start(alloc)?;
+    let ran = run_with(alloc, &shelf, usual.line, FailsAt { call })?;
+    let letter = letter_of(usual, &ran);
+    let wanted = match letter {
+        'F' | 'p' => &usual.twice,
+        _ => &usual.once,
+    };
+    let is_begun = letter == 'm';
+    if letter == 'd' || recovers(alloc, &shelf, &ran.files, usual.line, wanted, is_begun)? {
+        Ok(letter)
+    } else {
+        Ok('w')
+    }
+}
+
+fn letters_of(alloc: Global, usual: &Usual<'_>) -> io::Result<String> {
+    let mut letters = Vec::new(alloc);
+    for earlier in 0..usual.once.calls {
+        letters.push(letter_at(alloc, usual, earlier.saturating_add(1))?)?;
+    }
+    Ok(turns_of(alloc, letters.as_slice())?)
+}
+
+#[test]
+fn a_call_that_fails_leaves_no_half_a_change(rt: HostRuntime) -> Result<(), Fail> {
+    let alloc = rt.alloc();
+    for (name, wanted) in ROWS {
+        let usual = usual_of(alloc, command_of(name)?)?;
+        assert_eq!(rt; usual.once.status, 0, "{name}");
+        let letters = letters_of(alloc, &usual)?;
+        assert_eq!(rt; letters.as_str(), wanted, "{name}");
+    }
+    Ok(())
+}

@@ -1,0 +1,300 @@
+//! A run's handle on a folder that several runs share. It tells nothing of what stands there.
+ghost use Rattle.std.specs.Prelude.{◌≤◌, length, IfOk};
+
+use super::shelf::{Kept, OpenFile, Shelf, copy_some};
+use boot_run::run;
+use folder_calls::{Access, Calls, Found, Hold, LockFault, Locked};
+use folder_machine::FolderMachine;
+use name_syncs::FolderFault;
+use std::alloc::{AllocError, Global};
+use std::cell::{Cell, RefCell, RefMut};
+use std::fmt::Display;
+use std::io;
+use std::rc::Rc;
+
+/// The folder.
+pub(crate) type SharedShelf = Rc<RefCell<Shelf>>;
+
+/// What comes before a call of a run.
+pub(crate) trait Trouble {
+    /// It is to come before the call of that number, counted from 1. If it is a failure the call isn't made.
+    fn come(&self, call: u64, shelf: &SharedShelf) -> io::Result<()>;
+}
+
+/// None comes.
+#[derive(Drop)]
+struct Peace;
+
+impl Trouble for Peace {
+    fn come(&self, _call: u64, _shelf: &SharedShelf) -> io::Result<()> {
+        Ok(())
+    }
+}
+
+/// What a run has to read and how much of that it has read, how many calls it has made, and what it has printed on both
+/// streams.
+#[derive(Drop)]
+struct Notes {
+    input: Vec<u8>,
+    read: Cell<usize>,
+    calls: Cell<u64>,
+    said: RefCell<Vec<u8>>,
+}
+
+impl Notes {
+    fn count(&self) -> u64 {
+        self.calls.set(self.calls.get().saturating_add(1));
+        self.calls.get()
+    }
+
+    // Reads some of the input.
+    fn take_input(&self, into: &mut [u8]) -> usize
+        ensures { result ≤ length into.new }
+    {
+        let count = copy_some(&self.input, self.read.get(), into);
+        self.read.set(self.read.get().saturating_add(count));
+        count
+    }
+
+    fn say(&self, bytes: &[u8]) -> io::Result<()> {
+        match self.said.try_borrow_mut() {
+            Ok(mut said) => Ok(said.extend_from_slice(bytes)?),
+            Err(_) => Err(io::Error::other("in use")),
+        }
+    }
+}
+
+// Standard error.
+#[derive(Drop)]
+struct Said {
+    alloc: Global,
+    notes: Rc<Notes>,
+}
+
+impl Print for Said {
+    fn print<D: Display + Drop>(&self, value: D) -> io::Result<()> {
+        let text = format!(in self.alloc; "{value}")?;
+        self.notes.say(text.as_bytes())
+    }
+
+    fn println<D: Display + Drop>(&self, value: D) -> io::Result<()> {
+        let text = format!(in self.alloc; "{value}\n")?;
+        self.notes.say(text.as_bytes())
+    }
+
+    fn write_all(&self, bytes: &[u8]) -> io::Result<()> {
+        self.notes.say(bytes)
+    }
+}
+
+/// The calls of a run.
+#[derive(Drop)]
+struct Handle<T: Trouble + Drop> {
+    shelf: SharedShelf,
+    notes: Rc<Notes>,
+    trouble: T,
+}
+
+// The folder, if no call is at it.
+fn at_work(shelf: &RefCell<Shelf>) -> io::Result<RefMut<'_, Shelf>> {
+    match shelf.try_borrow_mut() {
+        Ok(shelf) => Ok(shelf),
+        Err(_) => Err(io::Error::other("in use")),
+    }
+}
+
+impl<T: Trouble + Drop> Handle<T> {
+    // A call begins.
+    fn begin(&self) -> io::Result<RefMut<'_, Shelf>> {
+        self.trouble.come(self.notes.count(), &self.shelf)?;
+        at_work(&self.shelf)
+    }
+}
+
+impl<T: Trouble + Drop> Calls for Handle<T> {
+    ghost use Rattle.std.specs.Prelude.{false, None, []};
+
+    type File = OpenFile;
+
+    ghost tells = { false };
+
+    ghost tree = { λ _. record { stands = λ _. None; leads = λ _. None; names = λ _. [] } };
+
+    ghost waits = { λ _. record { files = λ _. false; folders = λ _. false; syncs = λ _. false; asked = []; logged = false } };
+
+    ghost written = { λ _ _. false };
+
+    ghost inode = { λ _. (0, 0) };
+
+    fn find(&self, path: &str) -> io::Result<Option<Found>> {
+        Ok(self.begin()?.find(path))
+    }
+
+    fn find_itself(&self, path: &str) -> io::Result<Option<Found>> {
+        Ok(self.begin()?.find(path))
+    }
+
+    fn find_open(&self, file: &OpenFile) -> io::Result<Found> {
+        self.begin()?.find_open(file)
+    }
+
+    fn names(&self, alloc: Global, folder: &str) -> io::Result<Vec<String>> {
+        self.begin()?.names(alloc, folder)
+    }
+
+    fn open(&self, path: &str, access: Access) -> io::Result<OpenFile> {
+        self.begin()?.open(path, access)
+    }
+
+    fn read(&self, file: &OpenFile, at: u64, into: &mut [u8]) -> io::Result<usize> {
+        self.begin()?.read(file, at, into)
+    }
+
+    fn lock(&self, file: &OpenFile, hold: Hold) -> Result<(), LockFault> {
+        match self.begin() {
+            Ok(mut shelf) => shelf.lock(file, hold),
+            Err(error) => Err(LockFault::Disk(error)),
+        }
+    }
+
+    fn create(&mut self, path: &str, mode: u32) -> io::Result<OpenFile> {
+        self.begin()?.create(path, mode)
+    }
+
+    fn append(&mut self, file: &mut OpenFile, bytes: &[u8]) -> io::Result<()> {
+        self.begin()?.append(file, bytes)
+    }
+
+    fn set_mode(&mut self, file: &OpenFile, mode: u32) -> io::Result<bool> {
+        self.begin()?.set_mode(file, mode);
+        Ok(true)
+    }
+
+    fn make_folder(&mut self, folder: &str) -> io::Result<()> {
+        self.begin()?.make_folder(folder)
+    }
+
+    fn rename(&mut self, from: &str, to: &str, _held: Option<&Locked<OpenFile>>) -> io::Result<()> {
+        self.begin()?.rename(from, to)
+    }
+
+    fn put(
+        &mut self,
+        from: &str,
+        to: &str,
+        _made: &Locked<OpenFile>,
+        _held: Option<&Locked<OpenFile>>,
+    ) -> io::Result<()> {
+        self.begin()?.rename(from, to)
+    }
+
+    fn unlink(&mut self, path: &str, _held: Option<&Locked<OpenFile>>) -> io::Result<()> {
+        self.begin()?.unlink(path)
+    }
+
+    fn sync_file(&mut self, _path: &str) -> io::Result<()> {
+        self.begin()?;
+        Ok(())
+    }
+
+    fn sync_open(&mut self, _path: &str, _file: &OpenFile) -> io::Result<()> {
+        self.begin()?;
+        Ok(())
+    }
+
+    fn sync_folder(&mut self, folder: &str) -> Result<bool, FolderFault<io::Error>> {
+        match self.begin() {
+            Ok(shelf) => Ok(shelf.has_folder(folder)),
+            Err(fault) => Err(FolderFault {
+                syncs_none: false,
+                fault,
+            }),
+        }
+    }
+
+    fn try_name(&self, _path: &str) -> io::Result<()> {
+        self.begin()?;
+        Ok(())
+    }
+
+    fn print(&self, bytes: &[u8]) -> io::Result<()> {
+        self.begin()?;
+        self.notes.say(bytes)
+    }
+
+    fn input(&self, into: &mut [u8]) -> io::Result<usize>
+        ensures { IfOk result (λ n. n ≤ length into.new) }
+    {
+        self.begin()?;
+        Ok(self.notes.take_input(into))
+    }
+}
+
+/// All files of the folder.
+pub(crate) fn files_of(shelf: &SharedShelf) -> io::Result<Vec<Kept>> {
+    Ok(at_work(shelf)?.files()?)
+}
+
+/// What a run came to, and the files behind it.
+#[derive(Drop)]
+pub(crate) struct Ran {
+    pub(crate) status: u8,
+    pub(crate) said: Vec<u8>,
+    pub(crate) calls: u64,
+    pub(crate) files: Vec<Kept>,
+}
+
+// The words of a line without quotes, which single spaces part.
+fn words_of(alloc: Global, line: &str) -> Result<Vec<String>, AllocError> {
+    let mut words = Vec::new(alloc);
+    for word in line.split(' ') {
+        words.push(String::from_str(alloc, word)?)?;
+    }
+    Ok(words)
+}
+
+/// Runs the program whole on the folder. It reads what stands behind the first line.
+pub(crate) fn run_with<T: Trouble + Drop>(
+    alloc: Global,
+    shelf: &SharedShelf,
+    line: &str,
+    trouble: T,
+) -> io::Result<Ran> {
+    let (line, input) = line.split_once('\n').unwrap_or((line, ""));
+    let words = words_of(alloc, line)?;
+    let notes = Rc::new(
+        alloc,
+        Notes {
+            input: input.as_bytes().to_vec(alloc)?,
+            read: Cell::new(0),
+            calls: Cell::new(0),
+            said: RefCell::new(Vec::new(alloc)),
+        },
+    )?;
+    let err = Said {
+        alloc,
+        notes: notes.clone()?,
+    };
+    let calls = Handle {
+        shelf: shelf.clone()?,
+        notes: notes.clone()?,
+        trouble,
+    };
+    let mut machine = FolderMachine::new(alloc, calls, err);
+    let status = run(alloc, &words, &mut machine);
+    drop(machine);
+    let Ok(said) = notes.said.try_replace(Vec::new(alloc)) else {
+        return Err(io::Error::other("in use"));
+    };
+    Ok(Ran {
+        status,
+        said,
+        calls: notes.calls.get(),
+        files: files_of(shelf)?,
+    })
+}
+
+/// The same without trouble.
+pub(crate) fn run_line(alloc: Global, shelf: &SharedShelf, line: &str) -> io::Result<Ran> {
+    run_with(alloc, shelf, line, Peace)
+}
