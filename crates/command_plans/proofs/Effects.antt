@@ -9,7 +9,7 @@ use Rattle.boot_machine.specs.Sent.{seen}
 use Rattle.boot_machine.proofs.Recovering.{recovered_view-calm}
 use Rattle.image_writer.specs.Sourced.{planned_image}
 use Rattle.image_writer.specs.declared.sources.Sources.{Sources}
-use Rattle.pe_builder.specs.declared.plan.Plan.{Plan as ImagePlan}
+use Rattle.pe_builder.specs.declared.plan.ImageLayout.{ImageLayout}
 use Rattle.install_steps.specs.Steps.{after_copy, after_move}
 use Rattle.install_steps.proofs.RefusedLemmas.{moved_there}
 use Rattle.command_plans.specs.Plans.{CanMake, with_copy, effect, view_with_image}
@@ -20,7 +20,7 @@ use Rattle.command_plans.specs.declared.plan.RefusalLine.{RefusalLine}
 clash : {x : _} → x ≡ true → x ≡ false → ⊥
 clash e f = cc
 
-pub written_rested : (s : State) (image : ImagePlan) (sources : Sources) (path : Path) → IsRested s
+pub written_rested : (s : State) (image : ImageLayout) (sources : Sources) (path : Path) → IsRested s
     → insert (recovered_view s.files) path (planned_image image sources (seen s)) ≡ view_with_image image sources path (seen s)
 written_rested s image sources path rested = ap (λ (v : Files). insert v path (planned_image image sources (seen s))) (recovered_view-calm s.files rested)
 

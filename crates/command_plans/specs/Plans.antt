@@ -7,7 +7,7 @@ use Rattle.boot_base.specs.declared.refusal.Refusal.{Refusal}
 use Rattle.boot_machine.specs.Disk.{Files, State, has}
 use Rattle.boot_machine.specs.Rows.{contents, move_in}
 use Rattle.boot_machine.specs.Sent.{seen}
-use Rattle.pe_builder.specs.declared.plan.Plan.{Plan as ImagePlan}
+use Rattle.pe_builder.specs.declared.plan.ImageLayout.{ImageLayout}
 use Rattle.image_writer.specs.declared.sources.Sources.{Sources}
 use Rattle.image_writer.specs.Sourced.{IsSourced, planned_image}
 use Rattle.image_writer.specs.Taken.{writing_length}
@@ -23,7 +23,7 @@ use Rattle.command_plans.specs.declared.plan.Change.TheVariants.{Nothing, Remove
 use Rattle.command_plans.specs.declared.plan.Plan.{Plan}
 
 -- the view with the finished image by a plan of these sources at a path
-abbrev pub view_with_image : ImagePlan → Sources → Path → Files → Files
+abbrev pub view_with_image : ImageLayout → Sources → Path → Files → Files
 view_with_image plan sources path view = insert view path (planned_image plan sources view)
 
 -- the view with the bytes of the file at one path at another too

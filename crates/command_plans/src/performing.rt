@@ -22,7 +22,7 @@ use install_steps::{
 // has to make room for it.
 #[inline(never)]
 fn write<M: Machine>(
-    image: &pe_builder::Plan,
+    image: &pe_builder::ImageLayout,
     sources: &Sources,
     target: &Target,
     machine: &mut M,

@@ -31,7 +31,7 @@ pub enum Change {
     /// The finished image by a plan of these sources comes to stand at the target, in place of a file that is
     /// there.
     Write {
-        image: pe_builder::Plan,
+        image: pe_builder::ImageLayout,
         sources: Sources,
         target: Target,
     },

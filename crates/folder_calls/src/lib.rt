@@ -12,4 +12,4 @@ pub use answers::{folder_answer, if_allowed, if_new, if_there, if_utf8, lock_ans
 pub use calls::{Access, Calls, Hold, LockFault};
 pub use found::{Found, Kind};
 pub use locked::Locked;
-pub use writes::write_whole;
+pub use writes::write_all_bytes;

@@ -8,7 +8,7 @@ use std::io::{ErrorKind, Write};
 
 /// Writes all of the bytes. A write that is interrupted is made again, and one that takes
 /// none of them is a failure.
-pub fn write_whole<W: Write>(writer: &mut W, bytes: &[u8]) -> io::Result<()>
+pub fn write_all_bytes<W: Write>(writer: &mut W, bytes: &[u8]) -> io::Result<()>
     ensures whole { OnOk result (Appends (W.contents writer.old) (W.contents writer.new) bytes.now) }
     ensures part { AppendsStart (W.contents writer.old) (W.contents writer.new) bytes.now }
 {

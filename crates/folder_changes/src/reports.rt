@@ -1,7 +1,7 @@
 //! What is told on standard error: each call that failed.
 ghost use Rattle.std.specs.Prelude.{◌≡◌, false};
 
-use folder_calls::write_whole;
+use folder_calls::write_all_bytes;
 use std::io;
 
 /// Standard error, and whether each failure is told there.
@@ -31,7 +31,7 @@ impl<E: Print + Drop> Reports<E> {
 
     /// Writes all of the bytes to standard error.
     pub fn print(&self, bytes: &[u8]) -> io::Result<()> {
-        write_whole(&mut io::writer(&self.err), bytes)
+        write_all_bytes(&mut io::writer(&self.err), bytes)
     }
 
     /// Passes an answer on, and tells of a failure: which call, on what path, and the system's own words. No

@@ -3,7 +3,7 @@ use Rattle.std.specs.Prelude.{◌≡◌, ℕ, Bool, false, List, ◌++◌, All, 
 use Rattle.boot_base.specs.Layout.{payloads_below}
 use Rattle.boot_base.specs.Paths.{file_name_of}
 use Rattle.name_syncs.specs.Folders.{parent_folder, with_folder}
-use Rattle.name_syncs.specs.declared.folders.Folders.{Folders}
+use Rattle.name_syncs.specs.declared.folders.FolderSet.{FolderSet}
 use Rattle.folder_calls.specs.Calls.{Inode, inode_of}
 use Rattle.folder_calls.specs.Tree.{same_inode}
 use Rattle.folder_calls.specs.declared.found.Found.{Found}
@@ -15,7 +15,7 @@ abbrev pub has_payloads : List ℕ → Bool
 has_payloads folder = bytes_eq (file_name_of folder) payloads_below
 
 -- these folders, and that of a path if payloads stand in it
-abbrev pub with_payloads_of : Folders → List ℕ → Folders
+abbrev pub with_payloads_of : FolderSet → List ℕ → FolderSet
 with_payloads_of folders path =
     if has_payloads (parent_folder path) then with_folder folders (parent_folder path) else folders
 

@@ -14,7 +14,7 @@ use crate::opened::open_file;
 use boot_base::{INTENT, INTENT_LIMIT, IntentNames};
 use fat_rules::is_own_move;
 use folder_calls::{Calls, Found, Locked};
-use name_syncs::Folders;
+use name_syncs::FolderSet;
 use std::alloc::Global;
 use std::io;
 use std::io::ErrorKind;
@@ -199,7 +199,7 @@ fn is_plain_file(found: Option<Found>) -> bool
 
 // Whether a folder on the way to a file is a link.
 fn is_below_a_link<C: Calls>(calls: &C, alloc: Global, path: &str) -> io::Result<bool> {
-    let mut folders = Folders::new(alloc);
+    let mut folders = FolderSet::new(alloc);
     folders.add_above(path)?;
     for folder in folders.below.as_slice() {
         let found = calls.find_itself(folder.as_str())?;

@@ -14,7 +14,7 @@ use crate::answers::{changed_fault, met_fault};
 use crate::opened::{open_file, open_folder, open_known};
 use boot_base::{INTENT, PAYLOADS, TEMP_SUFFIX, ends_as_temp};
 use folder_calls::{Calls, Found, Hold, LockFault, Locked};
-use name_syncs::{Folders, folder_of, parted};
+use name_syncs::{FolderSet, folder_of, parted};
 use std::alloc::{AllocError, Global};
 use std::{io, mem};
 
@@ -48,7 +48,7 @@ pub(crate) struct Locks<F: Drop> {
     /// until the next reply
     files: Vec<Held<F>>,
     /// the folders of payloads in which a file was looked at
-    payloads: Folders,
+    payloads: FolderSet,
     /// whether a folder is held since this was last asked
     has_new_folder: bool,
 }
@@ -64,7 +64,7 @@ impl<F: Drop> Locks<F> {
             alloc,
             folders: Vec::new(alloc),
             files: Vec::new(alloc),
-            payloads: Folders::new(alloc),
+            payloads: FolderSet::new(alloc),
             has_new_folder: false,
         }
     }
@@ -88,7 +88,7 @@ impl<F: Drop> Locks<F> {
         ensures files { self.new.files ≡ self.old.files }
         ensures payloads { self.new.payloads ≡ record { has_root = false; below = [] } }
     {
-        let payloads = mem::replace(&mut self.payloads, Folders::new(self.alloc));
+        let payloads = mem::replace(&mut self.payloads, FolderSet::new(self.alloc));
         for folder in payloads.below.as_slice() {
             self.hold_folder(calls, folder.as_str(), Hold::Shared)?;
         }

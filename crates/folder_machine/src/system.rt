@@ -27,7 +27,7 @@ use folder_changes::{
     Changes, KeptFile, Reports, Twins, copy_path, fat_file_at, file_at, is_in_the_way, is_spelled,
     path_in, require_spelled,
 };
-use name_syncs::{Folders, folder_of};
+use name_syncs::{FolderSet, folder_of};
 use run_looks::RunLooks;
 use std::alloc::Global;
 use std::io::ErrorKind;
@@ -641,7 +641,7 @@ impl<C: Calls + Drop, E: Print + Drop> System<C, E> {
         if folder.is_empty() || self.changes.calls().find(folder)?.is_some() {
             return Ok(());
         }
-        let mut above = Folders::new(self.alloc);
+        let mut above = FolderSet::new(self.alloc);
         above.add_above(path)?;
         for folder in above.below.as_slice().iter().rev() {
             self.make_folder(folder.as_str())?;

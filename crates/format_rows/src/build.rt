@@ -6,7 +6,7 @@ use crate::case::Case;
 use crate::fault::RowFault;
 use crate::refusal::{fault_text, in_place, part_flags, part_name};
 use crate::words::{bytes_of, split_at_mark};
-use pe_builder::{PartSize, Plan, image_bytes};
+use pe_builder::{ImageLayout, PartSize, image_bytes};
 use pe_reader::Pe;
 use std::alloc::Global;
 use uki_parts::SectionName;
@@ -79,7 +79,7 @@ fn image_of(alloc: Global, case: &Case, parts: &Parts) -> Result<PlannedImage, R
     let stub = case.file();
     let pe = Pe::read(alloc, stub)?;
     let sbat = in_place(&pe, &case.sbat);
-    let plan = Plan::make(alloc, &pe, stub.len() as u32, &sizes, sbat)?;
+    let plan = ImageLayout::make(alloc, &pe, stub.len() as u32, &sizes, sbat)?;
     let image = image_bytes(alloc, &plan, stub, &parts.contents, &case.sbat)?;
     let planned = plan.image_length();
     Ok(PlannedImage { planned, image })
@@ -99,7 +99,7 @@ pub(crate) fn build(alloc: Global, case: &mut Case, rest: &str) -> Result<String
     let parts = parts_of(alloc, rest)?;
     match image_of(alloc, case, &parts) {
         Ok(planned) => take_image(alloc, case, planned),
-        Err(RowFault::Plan(fault)) => Ok(fault_text(alloc, fault)?),
+        Err(RowFault::Layout(fault)) => Ok(fault_text(alloc, fault)?),
         Err(fault) => Err(fault),
     }
 }

@@ -1,6 +1,6 @@
 //! Why the rows aren't told to their end, or one of them isn't understood.
 use boot_base::PathFault;
-use pe_builder::PlanFault;
+use pe_builder::LayoutFault;
 use pe_reader::PeFault;
 use std::alloc::{AllocError, AllocFailed};
 use std::io;
@@ -12,7 +12,7 @@ pub(crate) enum RowFault {
     /// There is no memory.
     Memory,
     /// There is no image.
-    Plan(PlanFault),
+    Layout(LayoutFault),
     /// Standard input isn't read, or standard output isn't written.
     Pipe,
 }
@@ -47,9 +47,9 @@ impl From<PeFault> for RowFault {
     }
 }
 
-impl From<PlanFault> for RowFault {
-    fn from(fault: PlanFault) -> Self {
-        RowFault::Plan(fault)
+impl From<LayoutFault> for RowFault {
+    fn from(fault: LayoutFault) -> Self {
+        RowFault::Layout(fault)
     }
 }
 

@@ -7,7 +7,7 @@ ghost use Rattle.pe_builder.specs.Planned.{sbat_if_in_place};
 use crate::case::Case;
 use crate::fault::RowFault;
 use crate::words::{number, quote_bytes, split_at_mark};
-use pe_builder::{PlanFault, WideSize, plan_refusal};
+use pe_builder::{LayoutFault, WideSize, plan_refusal};
 use pe_reader::Pe;
 use sample_images::{DATA, READ_ONLY_CODE};
 use std::alloc::{AllocError, Global};
@@ -82,8 +82,8 @@ pub(crate) fn in_place(stub: &Pe, sbat: &[u8]) -> Option<u32>
 }
 
 /// The fault, with the name of a section that is there twice.
-pub(crate) fn fault_text(alloc: Global, fault: PlanFault) -> Result<String, AllocError> {
-    let PlanFault::SectionTwice { name } = fault else {
+pub(crate) fn fault_text(alloc: Global, fault: LayoutFault) -> Result<String, AllocError> {
+    let LayoutFault::SectionTwice { name } = fault else {
         return format!(in alloc; "{fault}");
     };
     let name = quote_bytes(alloc, name.bytes())?;

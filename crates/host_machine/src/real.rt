@@ -7,7 +7,7 @@ use crate::found::found_of;
 use crate::streams::StandIns;
 use folder_calls::{
     Access, Calls, Found, Hold, Kind, LockFault, Locked, folder_answer, if_allowed, if_new,
-    if_there, if_utf8, lock_answer, write_whole,
+    if_there, if_utf8, lock_answer, write_all_bytes,
 };
 use name_syncs::FolderFault;
 use std::alloc::Global;
@@ -111,7 +111,7 @@ impl<R: Runtime<File = File> + AllocGlobal> Calls for RealFolder<R> {
     }
 
     fn append(&mut self, file: &mut File, bytes: &[u8]) -> io::Result<()> {
-        write_whole(file, bytes)
+        write_all_bytes(file, bytes)
     }
 
     fn set_mode(&mut self, file: &File, mode: u32) -> io::Result<bool> {
@@ -165,7 +165,7 @@ impl<R: Runtime<File = File> + AllocGlobal> Calls for RealFolder<R> {
     }
 
     fn print(&self, bytes: &[u8]) -> io::Result<()> {
-        write_whole(&mut io::writer(&self.rt), bytes)
+        write_all_bytes(&mut io::writer(&self.rt), bytes)
     }
 
     fn input(&self, into: &mut [u8]) -> io::Result<usize>

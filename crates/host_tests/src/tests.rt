@@ -109,15 +109,15 @@ fn path_of(alloc: Global, path: &str) -> Result<FilePath, Fail> {
 
 // The path of a file, and where it is written first.
 #[derive(Drop)]
-struct Place {
+struct TestRoom {
     path: FilePath,
     temp: TempPath,
 }
 
-fn place_of(alloc: Global, path: &str) -> Result<Place, Fail> {
+fn place_of(alloc: Global, path: &str) -> Result<TestRoom, Fail> {
     let path = path_of(alloc, path)?;
     let temp = TempPath::of(alloc, &path)?;
-    Ok(Place { path, temp })
+    Ok(TestRoom { path, temp })
 }
 
 // Whether the file at a path is moved to another.

@@ -18,8 +18,8 @@ use Rattle.uki_parts.specs.Names.{padded_name}
 use Rattle.uki_parts.specs.declared.piece.Piece.{Piece}
 use Rattle.uki_parts.specs.declared.piece.Piece.TheVariants as pieces
 use Rattle.uki_parts.specs.Pieces.{Reading, HasSizes, bytes_of, piece_bytes, piece_length, total_length}
-use Rattle.pe_builder.specs.declared.fault.PlanFault.{PlanFault}
-use Rattle.pe_builder.specs.declared.fault.PlanFault.TheVariants as faults
+use Rattle.pe_builder.specs.declared.fault.LayoutFault.{LayoutFault}
+use Rattle.pe_builder.specs.declared.fault.LayoutFault.TheVariants as faults
 use Rattle.pe_builder.specs.declared.size.WideSize.{WideSize}
 use Rattle.pe_builder.specs.Image.{finished_image}
 use Rattle.pe_builder.specs.Planned.{Makes, PlansImage, sbat_if_in_place}
@@ -28,7 +28,7 @@ use Rattle.pe_builder.specs.Replaced.{sbat_name}
 use Rattle.pe_builder.specs.Sizes.{any_size, part_flags}
 use Rattle.image_writer.specs.Sourced.{IsPieced, IsSourced, new_sbat, part_list, parts_bytes, planned_image, stub_path}
 use Rattle.image_writer.specs.declared.sources.Sources.{Sources}
-use Rattle.pe_builder.specs.declared.plan.Plan.{Plan}
+use Rattle.pe_builder.specs.declared.plan.ImageLayout.{ImageLayout}
 use Rattle.image_writer.proofs.PlannedImages.{planned_image-is}
 use Rattle.image_build.specs.declared.build_plan.ImagePlan.{ImagePlan}
 use Rattle.image_build.specs.Building.{BuiltImage, builder_refusal, has_bytes, has_sbat, image_of_parts, image_or, size_of_part}
@@ -82,7 +82,7 @@ filled_read files (part ∷ parts) pieced =
       | false ↦ refl
     ]
 
-sourced_for : (plan : Plan) (sources : Sources) (view : Files) (h : Headers) (in_place : Option ℕ) → pe_of (contents view (stub_path sources)) ≡ Ok h
+sourced_for : (plan : ImageLayout) (sources : Sources) (view : Files) (h : Headers) (in_place : Option ℕ) → pe_of (contents view (stub_path sources)) ≡ Ok h
     → All (IsPieced (contents view)) (part_list sources) → option_map length (sbat_if_in_place in_place (new_sbat sources)) ≡ in_place
     → PlansImage plan h (length (contents view (stub_path sources))) (map any_size (part_list sources)) in_place → IsSourced plan sources view
 sourced_for plan sources view h in_place reads pieced len plans = record {
@@ -102,18 +102,18 @@ abbrev built : Path → List ℕ → Result BuiltImage Refusal
 built output image = Ok (record { output = output; image = image })
 
 -- of parts that are read, the first refusal goes by the sizes that they say
-refusal_read : (output : Path) (h : Headers) (files : Reading) (stub : List ℕ) (parts : List Part) (in_place : Option ℕ) (sbat : List ℕ) (refused : Option PlanFault)
+refusal_read : (output : Path) (h : Headers) (files : Reading) (stub : List ℕ) (parts : List Part) (in_place : Option ℕ) (sbat : List ℕ) (refused : Option LayoutFault)
     → All (IsPieced files) parts → option_map length (sbat_if_in_place in_place sbat) ≡ in_place → first_refusal h (length stub) (map any_size parts) in_place ≡ refused
     → image_of_parts output h stub (map (part_as files) parts) (sbat_if_in_place in_place sbat)
     ≡ image_or output h stub (map (part_as files) parts) (sbat_if_in_place in_place sbat) (option_and_then (builder_refusal output) refused)
 refusal_read output h files stub parts in_place sbat refused pieced len is =
     let read = map (part_as files) parts in
-    let or : Option PlanFault → Result BuiltImage Refusal = λ o. image_or output h stub read (sbat_if_in_place in_place sbat) (option_and_then (builder_refusal output) o) in
+    let or : Option LayoutFault → Result BuiltImage Refusal = λ o. image_or output h stub read (sbat_if_in_place in_place sbat) (option_and_then (builder_refusal output) o) in
     ap (λ (l : List WideSize). or (first_refusal h (length stub) l (option_map length (sbat_if_in_place in_place sbat)))) (sizes_read files parts pieced)
     ∙ ap (λ (o : Option ℕ). or (first_refusal h (length stub) (map any_size parts) o)) len
     ∙ ap or is
 
-image_for : (output : Path) (plan : Plan) (sources : Sources) (view : Files) (h : Headers) (in_place : Option ℕ) → pe_of (contents view (stub_path sources)) ≡ Ok h
+image_for : (output : Path) (plan : ImageLayout) (sources : Sources) (view : Files) (h : Headers) (in_place : Option ℕ) → pe_of (contents view (stub_path sources)) ≡ Ok h
     → All (IsPieced (contents view)) (part_list sources) → option_map length (sbat_if_in_place in_place (new_sbat sources)) ≡ in_place
     → PlansImage plan h (length (contents view (stub_path sources))) (map any_size (part_list sources)) in_place
     → image_of_parts output h (contents view (stub_path sources)) (map (part_as (contents view)) (part_list sources))
@@ -162,7 +162,7 @@ images_made view h n stub parts in_place sbat image read is =
     (subst (λ (s : List ℕ). F (stub_path image.sources) (part_list image.sources) s) is.sbat_is (images_plan view h n in_place image))) in
     all read is.plans
 
-images_refused : (view : Files) (h : Headers) (n : ℕ) (stub : Path) (parts : List Part) (in_place : Option ℕ) (sbat : List ℕ) (fault : PlanFault) → Read view h n stub parts in_place sbat
+images_refused : (view : Files) (h : Headers) (n : ℕ) (stub : Path) (parts : List Part) (in_place : Option ℕ) (sbat : List ℕ) (fault : LayoutFault) → Read view h n stub parts in_place sbat
     → first_refusal h n (map any_size parts) in_place ≡ Some fault → (output : Path) (why : Refusal) → builder_refusal output fault ≡ Some why
     → parts_meant view h stub parts in_place sbat output ≡ Err why
 images_refused view h n stub parts in_place sbat fault read is output why told =
@@ -171,19 +171,19 @@ images_refused view h n stub parts in_place sbat fault read is output why told =
     ∙ ap (λ (o : Option Refusal). image_or output h (contents view stub) (map (part_as (contents view)) parts) (sbat_if_in_place in_place sbat) o) told
 
 -- so a refusal is the one that is meant
-pub refused_as : (view : Files) (meant : Path → Result BuiltImage Refusal) (fault : PlanFault) (output : Path) (why : Refusal) → builder_refusal output fault ≡ Some why → Images view meant (Err fault)
+pub refused_as : (view : Files) (meant : Path → Result BuiltImage Refusal) (fault : LayoutFault) (output : Path) (why : Refusal) → builder_refusal output fault ≡ Some why → Images view meant (Err fault)
     → meant output ≡ Err why
 refused_as view meant faults.Memory output why told images = absurd (cc told)
 refused_as view meant fault output why told images = images output why told
 
 -- What a plan of parts comes to where they are read.
-pub images_parts : (view : Files) (h : Headers) (n : ℕ) (stub : Path) (parts : List Part) (in_place : Option ℕ) (sbat : List ℕ) (result : Result ImagePlan PlanFault)
+pub images_parts : (view : Files) (h : Headers) (n : ℕ) (stub : Path) (parts : List Part) (in_place : Option ℕ) (sbat : List ℕ) (result : Result ImagePlan LayoutFault)
     → Read view h n stub parts in_place sbat → PlansParts h n stub parts in_place sbat result → Images view (parts_meant view h stub parts in_place sbat) result
 images_parts view h n stub parts in_place sbat (Ok image) read is = images_made view h n stub parts in_place sbat image read is
 images_parts view h n stub parts in_place sbat (Err faults.Memory) read is = tt
 images_parts view h n stub parts in_place sbat (Err fault) read is = images_refused view h n stub parts in_place sbat fault read is
 
-pub images_as : (view : Files) (meant other : Path → Result BuiltImage Refusal) (result : Result ImagePlan PlanFault)
+pub images_as : (view : Files) (meant other : Path → Result BuiltImage Refusal) (result : Result ImagePlan LayoutFault)
     → ((output : Path) → other output ≡ meant output) → Images view meant result → Images view other result
 images_as view meant other (Ok image) same is = (is.0, λ output. same output ∙ is.1 output)
 images_as view meant other (Err faults.Memory) same is = tt
@@ -223,7 +223,7 @@ meant_without view h stub parts linux [] output none = refl
 meant_without view h stub parts linux (byte ∷ text) output none = absurd (omega arith)
 
 -- without an SBAT text
-pub images_without : (view : Files) (h : Headers) (n : ℕ) (stub : Path) (parts list : List Part) (linux : Part) (sbat : List ℕ) (result : Result ImagePlan PlanFault) → AreOrdered parts linux
+pub images_without : (view : Files) (h : Headers) (n : ℕ) (stub : Path) (parts list : List Part) (linux : Part) (sbat : List ℕ) (result : Result ImagePlan LayoutFault) → AreOrdered parts linux
     → list ≡ filter is_filled (parts ++ linux ∷ []) → length sbat ≡ 0 → PlansParts h n stub list None sbat result → AreRead view h n stub parts linux
     → Images view (image_result view h stub parts linux sbat) result
 images_without view h n stub parts list linux sbat result are is none planned read =
@@ -245,7 +245,7 @@ meant_in_place view h stub parts linux (byte ∷ text) output some has = rw has 
 
 -- with one in the place of the stub's
 pub images_in_place : (view : Files) (h : Headers) (n : ℕ) (stub : Path) (parts list : List Part) (linux : Part) (sbat : List ℕ) (count : ℕ)
-    (result : Result ImagePlan PlanFault)
+    (result : Result ImagePlan LayoutFault)
     → AreOrdered parts linux
     → list ≡ filter is_filled (parts ++ linux ∷ []) → 0 < length sbat → has_sbat h ≡ true → length sbat ≡ count → PlansParts h n stub list (Some count) sbat result → AreRead view h n stub parts linux
     → Images view (image_result view h stub parts linux sbat) result
@@ -296,7 +296,7 @@ text_listed files parts linux part text is =
 
 -- with one as a part
 pub images_as_part : (view : Files) (h : Headers) (n : ℕ) (stub : Path) (parts list : List Part) (linux part : Part) (sbat none : List ℕ)
-    (result : Result ImagePlan PlanFault)
+    (result : Result ImagePlan LayoutFault)
     → AreOrdered parts linux → IsSbatPart part sbat
     → list ≡ filter is_filled ((parts ++ part ∷ []) ++ linux ∷ []) → 0 < length sbat → has_sbat h ≡ false → PlansParts h n stub list None none result → AreRead view h n stub parts linux
     → Images view (image_result view h stub parts linux sbat) result
@@ -312,15 +312,15 @@ images_as_part view h n stub parts list linux part sbat none result are holds is
     (images_parts view h n stub list None none result (filled_are_read view h n stub parts (more ++ linux ∷ []) list linux None none read pieced is refl) planned)
 
 -- the fault of the plan of these parts, as it is handed on
-refused_by : (P : Plan → Type 0) (h : Headers) (n : ℕ) (stub : Path) (parts : List Part) (in_place : Option ℕ) (sbat : List ℕ) (fault : PlanFault)
+refused_by : (P : ImageLayout → Type 0) (h : Headers) (n : ℕ) (stub : Path) (parts : List Part) (in_place : Option ℕ) (sbat : List ℕ) (fault : LayoutFault)
     → Makes P (Err fault) (first_refusal h n (map any_size parts) in_place) → PlansParts h n stub parts in_place sbat (Err fault)
 refused_by P h n stub parts in_place sbat faults.Memory made = tt
 refused_by P h n stub parts in_place sbat fault made = made
 
-pub plan_refused : (P : Plan → Type 0) (h : Headers) (n : ℕ) (stub : Path) (parts : List Part) (sizes : List WideSize) (in_place : Option ℕ)
-    (sbat : List ℕ) (fault : PlanFault) (result : Result ImagePlan PlanFault)
+pub plan_refused : (P : ImageLayout → Type 0) (h : Headers) (n : ℕ) (stub : Path) (parts : List Part) (sizes : List WideSize) (in_place : Option ℕ)
+    (sbat : List ℕ) (fault : LayoutFault) (result : Result ImagePlan LayoutFault)
     → sizes ≡ map any_size parts → Makes P (Err fault) (first_refusal h n sizes in_place) → IsErr result → IsErrAnd result (λ e. e ≡ fault) → PlansParts h n stub parts in_place sbat result
 plan_refused P h n stub parts sizes in_place sbat fault (Ok image) is made failed same = cc
 plan_refused P h n stub parts sizes in_place sbat fault (Err e) is made failed same =
-    subst (λ (f : PlanFault). PlansParts h n stub parts in_place sbat (Err f)) (sym same)
+    subst (λ (f : LayoutFault). PlansParts h n stub parts in_place sbat (Err f)) (sym same)
     (refused_by P h n stub parts in_place sbat fault (subst (λ (l : List WideSize). Makes P (Err fault) (first_refusal h n l in_place)) is made))

@@ -22,7 +22,7 @@ use Rattle.command_plans.specs.Files.{headers_or}
 use Rattle.image_writer.specs.Sourced.{IsPieced, IsSourced, new_sbat, part_list, parts_bytes, planned_image, stub_path}
 use Rattle.image_writer.specs.declared.sources.Sources.{Sources}
 use Rattle.image_writer.proofs.PlannedImages.{planned_image-is}
-use Rattle.pe_builder.specs.declared.plan.Plan.{Plan}
+use Rattle.pe_builder.specs.declared.plan.ImageLayout.{ImageLayout}
 use Rattle.pe_builder.specs.Planned.{PlansImage, planned_length, sbat_if_in_place}
 use Rattle.pe_builder.specs.Refusals.{IsBuildable}
 use Rattle.pe_builder.proofs.ByPlace.{by_place}
@@ -131,7 +131,7 @@ head_read view files named built is =
     ap (λ (m : Material). pe_of m.stub) (sym same) ∙ read_or (pe_of found.0.stub) headers.0 headers.1 ∙ ap (λ (m : Material). Ok m.headers) same
 
 -- the image by a plan has as many bytes as the plan says
-pub length-planned_image : (plan : Plan) (sources : Sources) (view : Files) → IsSourced plan sources view → length (planned_image plan sources view) ≡ planned_length plan
+pub length-planned_image : (plan : ImageLayout) (sources : Sources) (view : Files) → IsSourced plan sources view → length (planned_image plan sources view) ≡ planned_length plan
 length-planned_image plan sources view is =
     let for = is.plan_is in
     let stub = contents view (stub_path sources) in

@@ -17,8 +17,8 @@ use Rattle.uki_parts.specs.Sbat.{merged_sbat}
 use Rattle.uki_parts.specs.declared.kind.PartKind.{PartKind}
 use Rattle.uki_parts.specs.declared.kind.PartKind.TheVariants as kinds
 use Rattle.uki_parts.specs.declared.name.SectionName.{SectionName}
-use Rattle.pe_builder.specs.declared.fault.PlanFault.{PlanFault}
-use Rattle.pe_builder.specs.declared.fault.PlanFault.TheVariants as faults
+use Rattle.pe_builder.specs.declared.fault.LayoutFault.{LayoutFault}
+use Rattle.pe_builder.specs.declared.fault.LayoutFault.TheVariants as faults
 use Rattle.pe_builder.specs.declared.size.WideSize.{WideSize}
 use Rattle.pe_builder.specs.Image.{finished_image}
 use Rattle.pe_builder.specs.Refusals.{first_refusal}
@@ -129,7 +129,7 @@ abbrev pub part_bytes : Files → NamedPart → Result (SectionName × List ℕ)
 part_bytes view part = each (source_bytes view) part.sources >>= λ bytes. Ok (part.name, joined_bytes bytes)
 
 -- what a builder's fault is told as; want of memory is no refusal, and an image that is too large is told by its path
-abbrev pub builder_refusal : Path → PlanFault → Option Refusal
+abbrev pub builder_refusal : Path → LayoutFault → Option Refusal
 builder_refusal output faults.SignedStub = Some refusals.SignedStub
 builder_refusal output (faults.SectionTwice name) = Some (refusals.SectionTwice (flat_map shown_byte (name_bytes name)))
 builder_refusal output (faults.SbatDoesNotFit length room) = Some (refusals.SbatDoesNotFit length room)

@@ -14,8 +14,8 @@ use Rattle.uki_parts.specs.Names.{padded_name}
 use Rattle.uki_parts.specs.Kinds.{append_place}
 use Rattle.uki_parts.specs.Parts.{part_place}
 use Rattle.uki_parts.specs.Pieces.{HasSizes, Reading, bytes_of, total_length}
-use Rattle.pe_builder.specs.declared.fault.PlanFault.{PlanFault}
-use Rattle.pe_builder.specs.declared.fault.PlanFault.TheVariants as faults
+use Rattle.pe_builder.specs.declared.fault.LayoutFault.{LayoutFault}
+use Rattle.pe_builder.specs.declared.fault.LayoutFault.TheVariants as faults
 use Rattle.pe_builder.specs.Planned.{PlansImage, sbat_if_in_place}
 use Rattle.pe_builder.specs.Refusals.{first_refusal}
 use Rattle.pe_builder.specs.Replaced.{sbat_name}
@@ -73,7 +73,7 @@ image_result view headers stub parts linux sbat output =
 
 -- The plan was made for its sources on a view, and the image by it is the one that is meant; or the refusal is meant.
 -- Without memory nothing is told.
-abbrev pub Images : Files → (Path → Result BuiltImage Refusal) → Result ImagePlan PlanFault → Type 0
+abbrev pub Images : Files → (Path → Result BuiltImage Refusal) → Result ImagePlan LayoutFault → Type 0
 Images view meant (Ok image) =
     IsSourced image.plan image.sources view
     × ((output : Path)
@@ -91,7 +91,7 @@ pub record IsPlanOf (image : ImagePlan) (headers : Headers) (stub_length : ℕ) 
   pub sbat_is : new_sbat image.sources ≡ sbat
 
 -- such a plan was made, or the first refusal is this, unless memory ran out
-abbrev pub PlansParts : Headers → ℕ → Path → List Part → Option ℕ → List ℕ → Result ImagePlan PlanFault → Type 0
+abbrev pub PlansParts : Headers → ℕ → Path → List Part → Option ℕ → List ℕ → Result ImagePlan LayoutFault → Type 0
 PlansParts headers stub_length stub parts in_place sbat (Ok image) =
     IsPlanOf image headers stub_length stub parts in_place sbat
 PlansParts headers stub_length stub parts in_place sbat (Err faults.Memory) = Unit {0}

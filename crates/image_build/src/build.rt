@@ -23,7 +23,7 @@ use crate::source::BuildSources;
 use boot_base::{BootPath, Bytes, Refusal, Target, Text, shown_name};
 use boot_machine::Machine;
 use command_plans::{Change, Outcome, Plan, Stop, Unsaid, plan_declined, plan_unsaid, too_large};
-use pe_builder::PlanFault;
+use pe_builder::LayoutFault;
 use std::alloc::{AllocError, Global};
 use tool_words::BuildWords;
 use uki_parts::SectionName;
@@ -39,18 +39,21 @@ fn section_twice(alloc: Global, name: SectionName) -> Result<Refusal, AllocError
 fn builder_refusal(
     alloc: Global,
     output: &BootPath,
-    fault: PlanFault,
+    fault: LayoutFault,
 ) -> Result<Refusal, AllocError>
     ensures { IfOk result (λ why. builder_refusal output.now fault ≡ Some why) }
 {
     match fault {
-        PlanFault::Memory => Err(AllocError),
-        PlanFault::SignedStub => Ok(Refusal::SignedStub),
-        PlanFault::SectionTwice { name } => section_twice(alloc, name),
-        PlanFault::SbatDoesNotFit { length, room } => Ok(Refusal::SbatDoesNotFit { length, room }),
-        PlanFault::NoHeaderSpace { need, have } => Ok(Refusal::NoHeaderSpace { need, have }),
-        PlanFault::AddressSpace { end } => Ok(Refusal::AddressSpace { end }),
-        PlanFault::ImageTooLarge { size } => too_large(alloc, output, size),
+        LayoutFault::Memory => Err(AllocError),
+        LayoutFault::SignedStub => Ok(Refusal::SignedStub),
+        LayoutFault::SectionTwice { name } => section_twice(alloc, name),
+        LayoutFault::SbatDoesNotFit { length, room } => Ok(Refusal::SbatDoesNotFit {
+            length,
+            room,
+        }),
+        LayoutFault::NoHeaderSpace { need, have } => Ok(Refusal::NoHeaderSpace { need, have }),
+        LayoutFault::AddressSpace { end } => Ok(Refusal::AddressSpace { end }),
+        LayoutFault::ImageTooLarge { size } => too_large(alloc, output, size),
     }
 }
 

@@ -13,7 +13,7 @@ ghost use Rattle.image_build.specs.Imaged.{AreFound, AreOrdered, IsCountable, Is
 
 use boot_base::{BootPath, Bytes};
 use image_writer::Sources;
-use pe_builder::{Plan, PlanFault, WideSize};
+use pe_builder::{ImageLayout, LayoutFault, WideSize};
 use pe_reader::Pe;
 use std::alloc::{AllocError, Global};
 use uki_parts::{Part, PartKind, PartList, Piece, SectionName};
@@ -28,7 +28,7 @@ const MAX_BYTES: u64 = 1 << 61;
 #[derive(Debug, Drop)]
 pub struct ImagePlan {
     /// What the image is to be.
-    pub plan: Plan,
+    pub plan: ImageLayout,
     /// The stub, the parts and the new `.sbat` that the plan was made for.
     pub sources: Sources,
 }
@@ -53,7 +53,7 @@ fn image_plan(
     parts: PartList,
     in_place: Option<u32>,
     sbat: Vec<u8>,
-) -> Result<ImagePlan, PlanFault>
+) -> Result<ImagePlan, LayoutFault>
     requires read { ReadFrom head.now stub_length }
     requires few { length parts ≤ 16777216 }
     requires total { sum_by (λ part. part.length) parts ≤ 2 ^ 62 }
@@ -61,7 +61,7 @@ fn image_plan(
     ensures { PlansParts (headers_of head.now) stub_length stub parts in_place sbat.items result }
 {
     let sizes = any_sizes(alloc, parts.parts())?;
-    let plan = Plan::of_sizes(alloc, head, stub_length, &sizes, in_place)?;
+    let plan = ImageLayout::of_sizes(alloc, head, stub_length, &sizes, in_place)?;
     Ok(ImagePlan {
         plan,
         sources: Sources::new(stub, parts, sbat),
@@ -138,7 +138,7 @@ fn counted_plan(
     parts: Vec<Part>,
     linux: Part,
     sbat: Vec<u8>,
-) -> Result<ImagePlan, PlanFault>
+) -> Result<ImagePlan, LayoutFault>
     requires read { ReadFrom head.now stub_length }
     requires parts { AreOrdered parts.items linux }
     requires counted { IsCountable parts.items sbat.items }
@@ -178,7 +178,7 @@ pub fn plan_image_of(
     parts: Vec<Part>,
     linux: Part,
     sbat: Vec<u8>,
-) -> Result<ImagePlan, PlanFault>
+) -> Result<ImagePlan, LayoutFault>
     requires read { ReadFrom head.now stub_length }
     requires parts { AreOrdered parts.items linux }
     ensures images { (view : Files) → AreFound view (headers_of head.now) stub_length stub parts.items linux
@@ -186,7 +186,7 @@ pub fn plan_image_of(
     ensures own { IfOk result (λ image. IsOwnPlan image (headers_of head.now) stub_length stub) }
 {
     if !is_countable(&parts, &sbat) {
-        return Err(PlanFault::Memory);
+        return Err(LayoutFault::Memory);
     }
     counted_plan(alloc, head, stub_length, stub, parts, linux, sbat)
 }

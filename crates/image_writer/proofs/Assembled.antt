@@ -12,7 +12,7 @@ use Rattle.pe_reader.proofs.Shape.{Shape, stages-shape, pe_of-stages}
 use Rattle.pe_reader.proofs.Tables.{at_list_all}
 use Rattle.uki_parts.specs.declared.part.Part.{Part}
 use Rattle.uki_parts.specs.Pieces.{Reading}
-use Rattle.pe_builder.specs.declared.plan.Plan.{Plan}
+use Rattle.pe_builder.specs.declared.plan.ImageLayout.{ImageLayout}
 use Rattle.pe_builder.specs.declared.plan.SbatPlace.{SbatPlace}
 use Rattle.pe_builder.specs.declared.size.WideSize.{WideSize}
 use Rattle.pe_builder.specs.Puts.{put}
@@ -227,7 +227,7 @@ ordered h stub sbat sizes in_place shape fits has len =
     }
 
 -- the chunks of a plan's image
-planned : (plan : Plan) (stub sbat : List ℕ) (contents : List (List ℕ)) → IsPlanFor plan stub contents sbat
+planned : (plan : ImageLayout) (stub sbat : List ℕ) (contents : List (List ℕ)) → IsPlanFor plan stub contents sbat
     → IsAssembled (new_stub_bytes plan stub sbat) (with_fields plan.before plan.after (flat_map section_header plan.sections.items) (replaced_by plan.sbat sbat stub)) stub
 planned plan stub sbat contents is =
     let h = is.headers in
@@ -246,7 +246,7 @@ planned plan stub sbat contents is =
     (subst (λ (n : ℕ). R h.head (head_with changed new) new (sbat_place h is.in_place) n) (sym p.stub_length_is) here))))
 
 -- The bytes that are appended are the finished image.
-pub finished_bytes : (plan : Plan) (stub sbat : List ℕ) (files : Reading) (parts : List Part) → IsPlanFor plan stub (parts_bytes files parts) sbat → All (IsPieced files) parts
+pub finished_bytes : (plan : ImageLayout) (stub sbat : List ℕ) (files : Reading) (parts : List Part) → IsPlanFor plan stub (parts_bytes files parts) sbat → All (IsPieced files) parts
     → IsFinished plan stub (parts_bytes files parts) sbat (new_stub_bytes plan stub sbat ++ behind_stub files (planned_before plan).file_alignment (planned_stub_length plan) parts)
 finished_bytes plan stub sbat files parts is pieced = λ h sizes in_place reads plans len.
     let contents = parts_bytes files parts in
@@ -259,16 +259,16 @@ finished_bytes plan stub sbat files parts is pieced = λ h sizes in_place reads 
     ∙ image_by-is plan h sizes contents in_place sbat stub reads plans len
 
 -- raw data are aligned
-pub aligned : (plan : Plan) (stub sbat : List ℕ) (contents : List (List ℕ)) → IsPlanFor plan stub contents sbat → 0 < (planned_before plan).file_alignment
+pub aligned : (plan : ImageLayout) (stub sbat : List ℕ) (contents : List (List ℕ)) → IsPlanFor plan stub contents sbat → 0 < (planned_before plan).file_alignment
 aligned plan stub sbat contents is = (fitting plan stub sbat contents is).alignment
 
 -- What a plan was made for has one finished image.
-pub one_image : (plan : Plan) (stub sbat : List ℕ) (contents : List (List ℕ)) (a b : List ℕ) → IsPlanFor plan stub contents sbat
+pub one_image : (plan : ImageLayout) (stub sbat : List ℕ) (contents : List (List ℕ)) (a b : List ℕ) → IsPlanFor plan stub contents sbat
     → IsFinished plan stub contents sbat a → IsFinished plan stub contents sbat b → a ≡ b
 one_image plan stub sbat contents a b is first second =
     first is.headers is.sizes is.in_place is.reads is.plans is.sbat_length ∙ sym (second is.headers is.sizes is.in_place is.reads is.plans is.sbat_length)
 
-pub is_finished : (plan : Plan) (stub sbat : List ℕ) (contents : List (List ℕ)) (h : Headers) (sizes : List WideSize) (in_place : Option ℕ)
+pub is_finished : (plan : ImageLayout) (stub sbat : List ℕ) (contents : List (List ℕ)) (h : Headers) (sizes : List WideSize) (in_place : Option ℕ)
     → pe_of stub ≡ Ok h → PlansImage plan h (length stub) sizes in_place → option_map length (sbat_if_in_place in_place sbat) ≡ in_place
     → IsFinished plan stub contents sbat (finished_image h sizes contents (sbat_if_in_place in_place sbat) stub)
 is_finished plan stub sbat contents h sizes in_place reads plans len = λ h' sizes' in_place' reads' plans' len'.
@@ -287,7 +287,7 @@ row_within before after sections (Some p) n sbat o =
     omega (arith, o.fields, o.behind, o.inside, stands.0, stands.1, stands.2, stands.3)
 
 -- No byte of the stub is read twice.
-pub kept_within : (plan : Plan) (stub sbat : List ℕ) (contents : List (List ℕ)) → IsPlanFor plan stub contents sbat → kept_length plan ≤ planned_stub_length plan
+pub kept_within : (plan : ImageLayout) (stub sbat : List ℕ) (contents : List (List ℕ)) → IsPlanFor plan stub contents sbat → kept_length plan ≤ planned_stub_length plan
 kept_within plan stub sbat contents is =
     let h = is.headers in
     let p = is.plans in
@@ -303,7 +303,7 @@ kept_within plan stub sbat contents is =
     (subst (λ (n : ℕ). R h.head (head_with changed new) (sbat_place h is.in_place) n) (sym p.stub_length_is) here)))
 
 -- What stands in the place of the stub has as many bytes.
-pub stub_kept : (plan : Plan) (stub sbat : List ℕ) (contents : List (List ℕ)) → IsPlanFor plan stub contents sbat → length (new_stub_bytes plan stub sbat) ≡ planned_stub_length plan
+pub stub_kept : (plan : ImageLayout) (stub sbat : List ℕ) (contents : List (List ℕ)) → IsPlanFor plan stub contents sbat → length (new_stub_bytes plan stub sbat) ≡ planned_stub_length plan
 stub_kept plan stub sbat contents is =
     let front = planned plan stub sbat contents is in
     ap length front.is ∙ front.long ∙ sym is.plans.stub_length_is

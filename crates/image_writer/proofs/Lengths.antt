@@ -11,7 +11,7 @@ use Rattle.uki_parts.specs.declared.part.Part.{Part}
 use Rattle.uki_parts.specs.declared.piece.Piece.{Piece}
 use Rattle.uki_parts.specs.declared.piece.Piece.TheVariants as pieces
 use Rattle.uki_parts.specs.Pieces.{Reading, file_length}
-use Rattle.pe_builder.specs.declared.plan.Plan.{Plan}
+use Rattle.pe_builder.specs.declared.plan.ImageLayout.{ImageLayout}
 use Rattle.pe_builder.specs.Known.{planned_before, planned_stub_length}
 use Rattle.image_writer.specs.Chunks.{behind_stub, gap, given_bytes, padded_part, new_stub_bytes}
 use Rattle.image_writer.specs.Sourced.{IsSourced, new_sbat, part_list, planned_image, stub_path}
@@ -60,7 +60,7 @@ behind_long files unit n (part ∷ parts) =
     omega (arith, parts_long files unit (part ∷ parts), length-append (replicate (gap unit n) 0) (flat_map (padded_part files unit) (part ∷ parts)))
 
 -- An image has at least as many bytes as are read to write it.
-pub writing_within : (plan : Plan) (sources : Sources) (view : Files) → IsSourced plan sources view → writing_length plan sources ≤ length (planned_image plan sources view)
+pub writing_within : (plan : ImageLayout) (sources : Sources) (view : Files) → IsSourced plan sources view → writing_length plan sources ≤ length (planned_image plan sources view)
 writing_within plan sources view sourced =
     let files = contents view in
     let stub = files (stub_path sources) in

@@ -12,7 +12,7 @@ use Rattle.uki_parts.specs.declared.part.Part.{Part}
 use Rattle.uki_parts.specs.declared.piece.Piece.{Piece}
 use Rattle.uki_parts.specs.declared.piece.Piece.TheVariants as pieces
 use Rattle.uki_parts.specs.Pieces.{Reading}
-use Rattle.pe_builder.specs.declared.plan.Plan.{Plan}
+use Rattle.pe_builder.specs.declared.plan.ImageLayout.{ImageLayout}
 use Rattle.pe_builder.specs.declared.plan.SbatPlace.{SbatPlace}
 use Rattle.pe_builder.specs.Known.{planned_stub_length, planned_before, planned_after, planned_sections, planned_sbat}
 use Rattle.image_writer.specs.declared.chunk.Chunk.{Chunk}
@@ -71,7 +71,7 @@ abbrev pub headers_bytes : List ℕ → List ℕ → List Section → List ℕ
 headers_bytes stub sbat sections = flat_map (λ s. chunks_bytes stub sbat (section_chunks s)) sections
 
 -- what stands in the place of the stub
-abbrev pub new_stub_bytes : Plan → List ℕ → List ℕ → List ℕ
+abbrev pub new_stub_bytes : ImageLayout → List ℕ → List ℕ → List ℕ
 new_stub_bytes plan stub sbat =
     chunks_bytes stub sbat (number_chunks (planned_before plan) (planned_after plan))
     ++ chunks_bytes stub sbat (table_chunks (planned_before plan) (planned_sbat plan))

@@ -6,7 +6,7 @@ use Rattle.boot_machine.specs.Disk.{Files}
 use Rattle.boot_machine.specs.Rows.{contents}
 use Rattle.uki_parts.specs.declared.part.Part.{Part}
 use Rattle.uki_parts.specs.Pieces.{Reading, bytes_of, total_length, HasSizes}
-use Rattle.pe_builder.specs.declared.plan.Plan.{Plan}
+use Rattle.pe_builder.specs.declared.plan.ImageLayout.{ImageLayout}
 use Rattle.pe_builder.specs.Planned.{IsPlanFor, IsFinished, image_by}
 use Rattle.image_writer.specs.declared.sources.Sources.{Sources}
 
@@ -33,19 +33,19 @@ pub record IsPieced (files : Reading) (part : Part) : Type 0 where
 
 -- The plan was made for these sources: for the bytes that the stub and the parts have in these files, and for the new
 -- `.sbat`.
-pub record IsSourced (plan : Plan) (sources : Sources) (files : Files) : Type 0 where
+pub record IsSourced (plan : ImageLayout) (sources : Sources) (files : Files) : Type 0 where
   pub plan_is : IsPlanFor plan (contents files (stub_path sources)) (parts_bytes (contents files) (part_list sources))
       (new_sbat sources)
   pub pieced : All (IsPieced (contents files)) (part_list sources)
 
 -- the bytes are the finished image by the plan of these sources in these files
-abbrev pub IsPlannedImage : Plan → Sources → Files → List ℕ → Type 0
+abbrev pub IsPlannedImage : ImageLayout → Sources → Files → List ℕ → Type 0
 IsPlannedImage plan sources files image =
     IsFinished plan (contents files (stub_path sources)) (parts_bytes (contents files) (part_list sources))
     (new_sbat sources) image
 
 -- the finished image by the plan of these sources in these files: where the plan was made for them, the one that is so
-abbrev pub planned_image : Plan → Sources → Files → List ℕ
+abbrev pub planned_image : ImageLayout → Sources → Files → List ℕ
 planned_image plan sources files =
     image_by plan (parts_bytes (contents files) (part_list sources)) (new_sbat sources)
     (contents files (stub_path sources))

@@ -2,7 +2,7 @@
 use Rattle.std.specs.Prelude.{ℕ, ◌+◌, ◌*◌, ◌-◌, List, sum_by}
 use Rattle.uki_parts.specs.declared.part.Part.{Part}
 use Rattle.uki_parts.specs.Pieces.{file_length}
-use Rattle.pe_builder.specs.declared.plan.Plan.{Plan}
+use Rattle.pe_builder.specs.declared.plan.ImageLayout.{ImageLayout}
 use Rattle.pe_builder.specs.Known.{planned_stub_length, planned_before, planned_after, planned_sbat}
 use Rattle.image_writer.specs.declared.chunk.Chunk.{Chunk}
 use Rattle.image_writer.specs.declared.chunk.Chunk.TheVariants as chunks
@@ -24,7 +24,7 @@ abbrev pub chunks_length : List Chunk → ℕ
 chunks_length cs = sum_by chunk_length cs
 
 -- how many bytes of the stub's file stand in its place, none of them in the headers of new sections
-abbrev pub kept_length : Plan → ℕ
+abbrev pub kept_length : ImageLayout → ℕ
 kept_length plan =
     chunks_length (number_chunks (planned_before plan) (planned_after plan))
     + (chunks_length (table_chunks (planned_before plan) (planned_sbat plan))
@@ -37,5 +37,5 @@ part_reading part = sum_by file_length part.pieces.items
 
 -- how many bytes of files are read to write the image by a plan of these sources, at most: the stub's and those of each
 -- part, each once
-abbrev pub writing_length : Plan → Sources → ℕ
+abbrev pub writing_length : ImageLayout → Sources → ℕ
 writing_length plan sources = planned_stub_length plan + sum_by part_reading (part_list sources)

@@ -4,7 +4,7 @@ ghost use Rattle.std.specs.Prelude.{◌≡◌, ◌+◌, ◌*◌};
 ghost use Rattle.pe_builder.specs.Known.{planned_stub_length, planned_before, planned_after, planned_sbat};
 ghost use Rattle.image_writer.specs.Chunks.{number_chunks, table_chunks, section_chunks, rest_chunks};
 
-use pe_builder::Plan;
+use pe_builder::ImageLayout;
 use pe_reader::Section;
 
 /// Some bytes of an image, up to the end of its stub.
@@ -25,7 +25,7 @@ pub enum Chunk {
 }
 
 /// From the start up to the CheckSum.
-pub fn number_chunks(plan: &Plan) -> [Chunk; 8]
+pub fn number_chunks(plan: &ImageLayout) -> [Chunk; 8]
     ensures { result ≡ number_chunks (planned_before plan.now) (planned_after plan.now) }
 {
     let place = plan.stub_head().pe_place as u64;
@@ -55,7 +55,7 @@ pub fn number_chunks(plan: &Plan) -> [Chunk; 8]
 }
 
 /// From behind the CheckSum up to the end of the stub's section table.
-pub fn table_chunks(plan: &Plan) -> [Chunk; 3]
+pub fn table_chunks(plan: &ImageLayout) -> [Chunk; 3]
     ensures { result ≡ table_chunks (planned_before plan.now) (planned_sbat plan.now) }
 {
     let head = plan.stub_head();
@@ -93,7 +93,7 @@ pub fn section_chunks(section: &Section) -> [Chunk; 7]
 }
 
 /// From the end of the image's section table up to the stub's end.
-pub fn rest_chunks(plan: &Plan) -> [Chunk; 4]
+pub fn rest_chunks(plan: &ImageLayout) -> [Chunk; 4]
     ensures { result ≡ rest_chunks ((planned_before plan.now).table_place
         + 40 * (planned_after plan.now).section_count) (planned_stub_length plan.now) (planned_sbat plan.now) }
 {

@@ -14,7 +14,7 @@ use crate::sources::Sources;
 use boot_base::{Buffer, TempPath};
 use boot_machine::{DiskFault, Machine};
 use install_steps::{append, copy_part};
-use pe_builder::Plan;
+use pe_builder::ImageLayout;
 use pe_reader::Section;
 
 /// Appends the finished image by a plan to a temporary file that is there and empty, as `image_bytes` of `pe_builder`
@@ -26,7 +26,7 @@ use pe_reader::Section;
 ///
 /// Only where the machine has counted a fault of the disk; then some of the image is appended.
 pub fn write_image<M: Machine>(
-    plan: &Plan,
+    plan: &ImageLayout,
     sources: &Sources,
     buffer: &mut Buffer,
     temp: &TempPath,
@@ -61,7 +61,7 @@ pub fn write_image<M: Machine>(
 fn write_stub<M: Machine>(
     machine: &mut M,
     temp: &TempPath,
-    plan: &Plan,
+    plan: &ImageLayout,
     sources: &Sources,
     buffer: &mut Buffer,
 ) -> Result<(), DiskFault>

@@ -12,7 +12,7 @@ use crate::sources::Sources;
 use boot_base::{Buffer, Target};
 use boot_machine::{DiskFault, Machine};
 use install_steps::put_in_place;
-use pe_builder::Plan;
+use pe_builder::ImageLayout;
 
 /// Writes the finished image by a plan of these sources at the target, in place of a file that is there, which may be
 /// one of the sources (UAPI Unified Kernel Image). Its bytes go through the buffer in pieces, and no memory is taken. A
@@ -21,7 +21,7 @@ use pe_builder::Plan;
 /// machine doesn't give.
 pub fn write_planned<M: Machine>(
     machine: &mut M,
-    plan: &Plan,
+    plan: &ImageLayout,
     sources: &Sources,
     target: &Target,
     buffer: &mut Buffer,

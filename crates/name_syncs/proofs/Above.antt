@@ -11,7 +11,7 @@ use Rattle.std.proofs.lemmas.Str.Pattern.{NoCharPasses-char, drop_at_char}
 use borrow.Author.Tests.{ne_eqb}
 use Rattle.boot_base.specs.Paths.{is_slash}
 use Rattle.name_syncs.specs.Folders.{IsCut, folders_above, has_folder, parts_before_slashes, unsettled_above, with_folder, with_folders}
-use Rattle.name_syncs.specs.declared.folders.Folders.{Folders}
+use Rattle.name_syncs.specs.declared.folders.FolderSet.{FolderSet}
 
 -- ---- a path that is cut at its last slash
 
@@ -64,24 +64,24 @@ shorter path folder name r = omega (arith, ap length r.whole, length-append fold
 
 -- ---- what is added
 
-pub with_folders-append : (folders : Folders) (front back : List (List ℕ))
+pub with_folders-append : (folders : FolderSet) (front back : List (List ℕ))
     → with_folders folders (front ++ back) ≡ with_folders (with_folders folders front) back
 with_folders-append folders [] back = refl
 with_folders-append folders (folder ∷ front) back = with_folders-append (with_folder folders folder) front back
 
 -- a step of the loop that adds the folders above
-pub add_step : (folders : Folders) (path folder name : List ℕ) → IsCut path folder name
+pub add_step : (folders : FolderSet) (path folder name : List ℕ) → IsCut path folder name
     → with_folders folders (parts_before_slashes path) ≡ with_folders (with_folder folders folder) (parts_before_slashes folder)
 add_step folders path folder name r = ap (with_folders folders) (parts_cut path folder name r)
 
-skip_or_add : (settled : Bool) (folders : Folders) (folder : List ℕ) (higher : List (List ℕ))
+skip_or_add : (settled : Bool) (folders : FolderSet) (folder : List ℕ) (higher : List (List ℕ))
     → with_folders folders (if settled then higher else (folder ∷ higher))
     ≡ with_folders (with_folders folders (if settled then [] else (folder ∷ []))) higher
 skip_or_add true folders folder higher = refl
 skip_or_add false folders folder higher = refl
 
 -- a step of the loop that adds the unsettled ones
-pub unsettled_step : (folders settled : Folders) (path folder name : List ℕ) → IsCut path folder name
+pub unsettled_step : (folders settled : FolderSet) (path folder name : List ℕ) → IsCut path folder name
     → with_folders folders (unsettled_above settled path (folders_above path))
     ≡ with_folders (with_folders folders (unsettled_above settled path (folder ∷ []))) (unsettled_above settled folder (folders_above folder))
 unsettled_step folders settled path folder name r =

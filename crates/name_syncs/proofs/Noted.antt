@@ -10,7 +10,7 @@ use Rattle.name_syncs.specs.Paths.{has_path, with_path}
 use Rattle.name_syncs.specs.Folders.{FoldersAreAbove, IsAbove, NotedAreListed, folders_above, has_folder, listed, nearest, parent_folder, parts_before_slashes, unsettled, unsettled_above, with_folder, with_folders}
 use Rattle.name_syncs.specs.Named.{Covers, IsSynced, NameWaits, NamesAreCovered, NothingWaits, RenameWaits, RenamesAreCovered, owned, renamed_with}
 use Rattle.name_syncs.specs.Waiting.{NeedsNoSync, KeepsSynced, Waiting}
-use Rattle.name_syncs.specs.declared.folders.Folders.{Folders}
+use Rattle.name_syncs.specs.declared.folders.FolderSet.{FolderSet}
 use Rattle.name_syncs.specs.declared.named.Named.{Named}
 use Rattle.name_syncs.proofs.Syncing.{either, in_back, in_front, itself}
 
@@ -113,7 +113,7 @@ with_path-there : (found : Bool) (paths : List (List ℕ)) (path : List ℕ) →
 with_path-there true paths path is = is
 with_path-there false paths path is = in_back paths (path ∷ []) path (itself path)
 
-listed_kept : (folders : Folders) (folder other : List ℕ) → has_path (listed folders) other ≡ true
+listed_kept : (folders : FolderSet) (folder other : List ℕ) → has_path (listed folders) other ≡ true
     → has_path (listed (with_folder folders folder)) other ≡ true
 listed_kept folders [] other there = elim (split folders.below (if folders.has_root then [] ∷ [] else []) other there) [
   | inl below ↦ in_front folders.below ([] ∷ []) other below
@@ -129,7 +129,7 @@ listed_kept folders (byte ∷ folder) other there =
       | inr same ↦ in_back more root other same
     ]
 
-listed_new : (folders : Folders) (folder : List ℕ) → has_path (listed (with_folder folders folder)) folder ≡ true
+listed_new : (folders : FolderSet) (folder : List ℕ) → has_path (listed (with_folder folders folder)) folder ≡ true
 listed_new folders [] = in_back folders.below ([] ∷ []) [] (itself [])
 listed_new folders (byte ∷ folder) =
     in_front (with_path folders.below (byte ∷ folder)) (if folders.has_root then [] ∷ [] else []) (byte ∷ folder)
@@ -161,7 +161,7 @@ renamed_there named old new to covers waits path waiting = elim (waits path wait
 ]
 
 -- a folder that is among some is so beside another one
-own_kept : (folders : Folders) (folder other : List ℕ) → has_folder folders other ≡ true
+own_kept : (folders : FolderSet) (folder other : List ℕ) → has_folder folders other ≡ true
     → has_folder (with_folder folders folder) other ≡ true
 own_kept folders [] [] there = refl
 own_kept folders [] (byte ∷ other) there = there
@@ -169,7 +169,7 @@ own_kept folders (byte ∷ folder) [] there = there
 own_kept folders (byte ∷ folder) (first ∷ other) there =
     with_path-kept (has_path folders.below (byte ∷ folder)) folders.below (byte ∷ folder) (first ∷ other) there
 
-own_there : (folders : Folders) (folder : List ℕ) → has_folder (with_folder folders folder) folder ≡ true
+own_there : (folders : FolderSet) (folder : List ℕ) → has_folder (with_folder folders folder) folder ≡ true
 own_there folders [] = refl
 own_there folders (byte ∷ folder) =
     with_path-there (has_path folders.below (byte ∷ folder)) folders.below (byte ∷ folder) refl
@@ -188,7 +188,7 @@ parent_above path =
     let first = parent_first path in
     rw first.1 (in_front (parent_folder path ∷ []) first.0 (parent_folder path) (itself (parent_folder path)))
 
-parent_unsettled : (settled : Folders) (path : List ℕ)
+parent_unsettled : (settled : FolderSet) (path : List ℕ)
     → has_path (unsettled settled (folders_above path)) (parent_folder path) ≡ true
 parent_unsettled settled path =
     let first = parent_first path in
@@ -260,7 +260,7 @@ all_there P (known ∷ paths) path all there = elim (split (known ∷ []) paths 
 ]
 
 -- a folder that needs no sync doesn't wait, if the run has changed a name in each that does
-done_folder : (own : Folders) (old new : Waiting) (folder : List ℕ) → KeepsSynced old new
+done_folder : (own : FolderSet) (old new : Waiting) (folder : List ℕ) → KeepsSynced old new
     → ((other : List ℕ) → old.folders other ≡ true → has_folder own other ≡ true) → old.folders folder ≡ true
     → NeedsNoSync own new folder → new.folders folder ≡ false
 done_folder own old new folder kept owns waiting (inl synced) = synced

@@ -9,7 +9,7 @@ use Rattle.std.proofs.lemmas.Slice.Eq.{bytes_eq-Decides}
 use Rattle.name_syncs.specs.Paths.{has_path}
 use Rattle.name_syncs.specs.Folders.{has_folder, with_folder}
 use Rattle.name_syncs.specs.Waiting.{Asks, FileAt, FolderAt, NeedsNoSync, KeepsSynced, SettlesOnly, Sync, Waiting}
-use Rattle.name_syncs.specs.declared.folders.Folders.{Folders}
+use Rattle.name_syncs.specs.declared.folders.FolderSet.{FolderSet}
 
 pub keeps_itself : (disk : Waiting) → KeepsSynced disk disk
 keeps_itself disk = record { files = λ _ same. same; folders = λ _ same. same; syncs = refl }
@@ -34,7 +34,7 @@ asks_then one more old between new first next = record {
       (sooner.0, later.1 ∙ ap (λ (asked : List Sync). asked ++ more) sooner.1 ∙ append_assoc old.asked one more);
 }
 
-pub settled_still : (own : Folders) (old new : Waiting) → KeepsSynced old new → (folder : List ℕ)
+pub settled_still : (own : FolderSet) (old new : Waiting) → KeepsSynced old new → (folder : List ℕ)
     → NeedsNoSync own old folder → NeedsNoSync own new folder
 settled_still own old new kept folder (inl synced) = inl (kept.folders folder synced)
 settled_still own old new kept folder (inr unable) =
@@ -57,10 +57,10 @@ pub in_back : (front back : List (List ℕ)) (path : List ℕ) → has_path back
 in_back front back path there =
     list_any-append (λ known. bytes_eq known path) front back ∙ or_second (has_path front path) (has_path back path) there
 
-pub settles_none : (disk : Waiting) (settled : Folders) → SettlesOnly [] disk settled settled
+pub settles_none : (disk : Waiting) (settled : FolderSet) → SettlesOnly [] disk settled settled
 settles_none disk settled folder there = inl there
 
-pub settles_then : (front back : List (List ℕ)) (old new : Waiting) (before between after : Folders) → KeepsSynced old new
+pub settles_then : (front back : List (List ℕ)) (old new : Waiting) (before between after : FolderSet) → KeepsSynced old new
     → SettlesOnly front old before between → SettlesOnly back new between after → SettlesOnly (front ++ back) new before after
 settles_then front back old new before between after kept first next folder there = elim (next folder there) [
   | inl known ↦ elim (first folder known) [
@@ -93,7 +93,7 @@ with_path-has false paths path other there =
     unlike is = cc
 
 -- a folder that is noted was noted before, or is the new one
-pub with_folder-has : (folders : Folders) (folder other : List ℕ) → has_folder (with_folder folders folder) other ≡ true
+pub with_folder-has : (folders : FolderSet) (folder other : List ℕ) → has_folder (with_folder folders folder) other ≡ true
     → (has_folder folders other ≡ true) ⊎ (folder ≡ other)
 with_folder-has folders [] [] there = inr refl
 with_folder-has folders [] (byte ∷ other) there = inl there
@@ -101,7 +101,7 @@ with_folder-has folders (byte ∷ folder) [] there = inl there
 with_folder-has folders (byte ∷ folder) (first ∷ other) there =
     with_path-has (has_path folders.below (byte ∷ folder)) folders.below (byte ∷ folder) (first ∷ other) there
 
-pub settles_folder : (disk : Waiting) (settled : Folders) (folder : List ℕ) → disk.folders folder ≡ false
+pub settles_folder : (disk : Waiting) (settled : FolderSet) (folder : List ℕ) → disk.folders folder ≡ false
     → SettlesOnly (folder ∷ []) disk settled (with_folder settled folder)
 settles_folder disk settled folder synced other there = elim (with_folder-has settled folder other there) [
   | inl known ↦ inl known
@@ -109,23 +109,23 @@ settles_folder disk settled folder synced other there = elim (with_folder-has se
 ]
 
 -- the note of a folder that was synced may fail for want of memory
-pub settles_noted : (result : Result (Unit {0}) AllocError) (disk : Waiting) (settled after : Folders) (folder : List ℕ)
+pub settles_noted : (result : Result (Unit {0}) AllocError) (disk : Waiting) (settled after : FolderSet) (folder : List ℕ)
     → OnOk result (after ≡ with_folder settled folder) → OnErr result (after ≡ settled) → disk.folders folder ≡ false
     → SettlesOnly (folder ∷ []) disk settled after
 settles_noted (Ok _) disk settled after folder ok err synced other there =
     subst (SettlesOnly (folder ∷ []) disk settled) (sym ok) (settles_folder disk settled folder synced) other there
 settles_noted (Err _) disk settled after folder ok err synced other there =
-    inl (subst (λ (noted : Folders). has_folder noted other ≡ true) err there)
+    inl (subst (λ (noted : FolderSet). has_folder noted other ≡ true) err there)
 
 -- a settled one stays so where others are asked for
-pub settles_kept : (folders : List (List ℕ)) (old new : Waiting) (before after : Folders) → KeepsSynced old new
+pub settles_kept : (folders : List (List ℕ)) (old new : Waiting) (before after : FolderSet) → KeepsSynced old new
     → SettlesOnly folders old before after → SettlesOnly folders new before after
 settles_kept folders old new before after kept settles folder there = elim (settles folder there) [
   | inl known ↦ inl known
   | inr added ↦ inr (added.0, kept.folders folder added.1)
 ]
 
-pub settles_more : (front back : List (List ℕ)) (disk : Waiting) (before after : Folders)
+pub settles_more : (front back : List (List ℕ)) (disk : Waiting) (before after : FolderSet)
     → SettlesOnly front disk before after → SettlesOnly (front ++ back) disk before after
 settles_more front back disk before after settles folder there = elim (settles folder there) [
   | inl known ↦ inl known
@@ -139,7 +139,7 @@ one_more paths i item path inside at is =
     take_more paths i item inside ∙ ap (λ (last : List ℕ). take i paths ++ last ∷ []) (sym at ∙ sym is)
 
 -- the same where what comes behind isn't gone through
-pub settles_some : (paths : List (List ℕ)) (i : ℕ) (path : List ℕ) (old new : Waiting) (before middle after : Folders)
+pub settles_some : (paths : List (List ℕ)) (i : ℕ) (path : List ℕ) (old new : Waiting) (before middle after : FolderSet)
     → take (i + 1) paths ≡ take i paths ++ path ∷ [] → KeepsSynced old new
     → SettlesOnly (take i paths) old before middle → SettlesOnly (path ∷ []) new middle after → SettlesOnly paths new before after
 settles_some paths i path old new before middle after is kept first next =
@@ -170,19 +170,19 @@ files_push paths more path old between new is done asks synced = record {
 -- ---- changed folders, one after the other
 
 -- these changed folders were gone through, and nothing else was done
-pub record FoldersDone (own : Folders) (folders : List (List ℕ)) (old new : Waiting) (before after : Folders) : Type 0 where
+pub record FoldersDone (own : FolderSet) (folders : List (List ℕ)) (old new : Waiting) (before after : FolderSet) : Type 0 where
   pub asks : Asks (map FolderAt folders) old new
   pub synced : All (NeedsNoSync own new) folders
   pub settles : SettlesOnly folders new before after
 
-pub folders_none : (own : Folders) (disk : Waiting) (settled : Folders) → FoldersDone own [] disk disk settled settled
+pub folders_none : (own : FolderSet) (disk : Waiting) (settled : FolderSet) → FoldersDone own [] disk disk settled settled
 folders_none own disk settled = record {
   asks = asks_none disk;
   synced = All-nil (NeedsNoSync own disk);
   settles = settles_none disk settled;
 }
 
-module _ (own : Folders) (folders more : List (List ℕ)) (folder : List ℕ) (old between new : Waiting) (before middle after : Folders) where
+module _ (own : FolderSet) (folders more : List (List ℕ)) (folder : List ℕ) (old between new : Waiting) (before middle after : FolderSet) where
   pub folders_push : more ≡ folders ++ folder ∷ [] → FoldersDone own folders old between before middle
       → Asks (FolderAt folder ∷ []) between new → NeedsNoSync own new folder → SettlesOnly (folder ∷ []) new middle after
       → FoldersDone own more old new before after
@@ -197,17 +197,17 @@ module _ (own : Folders) (folders more : List (List ℕ)) (folder : List ℕ) (o
 -- ---- folders that were seen, one after the other
 
 -- those that were changed are left out
-abbrev pub unchanged : Folders → List (List ℕ) → List (List ℕ)
+abbrev pub unchanged : FolderSet → List (List ℕ) → List (List ℕ)
 unchanged changed folders = filter (λ folder. not (has_folder changed folder)) folders
 
-pub record SeenDone (changed : Folders) (folders : List (List ℕ)) (old new : Waiting) (before after : Folders) : Type 0 where
+pub record SeenDone (changed : FolderSet) (folders : List (List ℕ)) (old new : Waiting) (before after : FolderSet) : Type 0 where
   pub asks : Asks (map FolderAt (unchanged changed folders)) old new
   pub settles : SettlesOnly folders new before after
 
-pub seen_none : (changed : Folders) (disk : Waiting) (settled : Folders) → SeenDone changed [] disk disk settled settled
+pub seen_none : (changed : FolderSet) (disk : Waiting) (settled : FolderSet) → SeenDone changed [] disk disk settled settled
 seen_none changed disk settled = record { asks = asks_none disk; settles = settles_none disk settled }
 
-module _ (changed : Folders) (folders more : List (List ℕ)) (folder : List ℕ) (is : more ≡ folders ++ folder ∷ []) where
+module _ (changed : FolderSet) (folders more : List (List ℕ)) (folder : List ℕ) (is : more ≡ folders ++ folder ∷ []) where
   passed : (own : Bool) → has_folder changed folder ≡ own
       → map FolderAt (unchanged changed more) ≡ map FolderAt (unchanged changed folders) ++ (if own then [] else (FolderAt folder ∷ []))
   passed true own =
@@ -217,7 +217,7 @@ module _ (changed : Folders) (folders more : List (List ℕ)) (folder : List ℕ
       let parts = filter-append (λ folder. not (has_folder changed folder)) folders (folder ∷ []) in
       rw (is, parts, own) (map-append FolderAt (unchanged changed folders) (folder ∷ []))
 
-  module _ (old between new : Waiting) (before middle after : Folders) (done : SeenDone changed folders old between before middle) where
+  module _ (old between new : Waiting) (before middle after : FolderSet) (done : SeenDone changed folders old between before middle) where
     pub seen_skip : has_folder changed folder ≡ true → SeenDone changed more old between before middle
     seen_skip own = record {
       asks = rw (passed true own, append-nil (map FolderAt (unchanged changed folders))) done.asks;

@@ -3,7 +3,7 @@ use Rattle.std.specs.Prelude.{◌≡◌, ◌⊎◌, ◌↔◌, ℕ, Bool, true, 
 use Rattle.std.specs.List.{list_any}
 use Rattle.boot_base.specs.Paths.{is_slash}
 use Rattle.name_syncs.specs.Paths.{has_path, with_path}
-use Rattle.name_syncs.specs.declared.folders.Folders.{Folders}
+use Rattle.name_syncs.specs.declared.folders.FolderSet.{FolderSet}
 
 -- what a path has before each of its slashes, the longest first
 abbrev pub parts_before_slashes : List ℕ → List (List ℕ)
@@ -30,33 +30,33 @@ pub record IsCut (path folder name : List ℕ) : Type 0 where
   pub last : list_any is_slash name ≡ false
 
 -- the folder is among these
-abbrev pub has_folder : Folders → List ℕ → Bool
+abbrev pub has_folder : FolderSet → List ℕ → Bool
 has_folder folders [] = folders.has_root
 has_folder folders (byte ∷ rest) = has_path folders.below (byte ∷ rest)
 
 -- these and the folder
-abbrev pub with_folder : Folders → List ℕ → Folders
+abbrev pub with_folder : FolderSet → List ℕ → FolderSet
 with_folder folders [] = record folders { has_root = true }
 with_folder folders (byte ∷ rest) = record folders { below = with_path folders.below (byte ∷ rest) }
 
 -- these and more folders, in their order
-abbrev pub with_folders : Folders → List (List ℕ) → Folders
+abbrev pub with_folders : FolderSet → List (List ℕ) → FolderSet
 with_folders folders [] = folders
 with_folders folders (folder ∷ more) = with_folders (with_folder folders folder) more
 
 -- The folders as they are gone through: those below the starting one in the order in which they came, that one last.
-abbrev pub listed : Folders → List (List ℕ)
+abbrev pub listed : FolderSet → List (List ℕ)
 listed folders = folders.below ++ (if folders.has_root then [] ∷ [] else [])
 
 -- the folders above one, without each that is settled like the folder below it
-abbrev pub unsettled_above : Folders → List ℕ → List (List ℕ) → List (List ℕ)
+abbrev pub unsettled_above : FolderSet → List ℕ → List (List ℕ) → List (List ℕ)
 unsettled_above settled below [] = []
 unsettled_above settled below (folder ∷ higher) =
     if has_folder settled below && has_folder settled folder then unsettled_above settled folder higher
     else (folder ∷ unsettled_above settled folder higher)
 
 -- some folders from the nearest on, without each above it that is settled like the folder below it
-abbrev pub unsettled : Folders → List (List ℕ) → List (List ℕ)
+abbrev pub unsettled : FolderSet → List (List ℕ) → List (List ℕ)
 unsettled settled [] = []
 unsettled settled (folder ∷ higher) = folder ∷ unsettled_above settled folder higher
 
@@ -71,6 +71,6 @@ FoldersAreAbove = (path folder : List ℕ) → (has_path (folders_above path) fo
 -- What is added is gone through, and so is what was noted before.
 abbrev pub NotedAreListed : Type 0
 NotedAreListed =
-    (folders : Folders) (more : List (List ℕ)) (folder : List ℕ)
+    (folders : FolderSet) (more : List (List ℕ)) (folder : List ℕ)
     → (has_path (listed folders) folder ≡ true) ⊎ (has_path more folder ≡ true)
     → has_path (listed (with_folders folders more)) folder ≡ true

@@ -2,7 +2,7 @@
 use Rattle.std.specs.Prelude.{◌≡◌, ◌⊎◌, ℕ, Bool, true, false, List, ◌++◌}
 use Rattle.name_syncs.specs.Folders.{has_folder}
 use Rattle.name_syncs.specs.Paths.{has_path}
-use Rattle.name_syncs.specs.declared.folders.Folders.{Folders}
+use Rattle.name_syncs.specs.declared.folders.FolderSet.{FolderSet}
 
 -- a sync that was asked for, of the file or the folder at a path
 pub data Sync : Type 0 where
@@ -39,12 +39,12 @@ pub record Asks (syncs : List Sync) (old new : Waiting) : Type 0 where
 
 -- The folder doesn't wait. Only one in which the run has changed no name of its own may wait still, if its file system
 -- syncs no folders: nobody can have changed a name there that a power cut would undo.
-abbrev pub NeedsNoSync : Folders → Waiting → List ℕ → Type 0
+abbrev pub NeedsNoSync : FolderSet → Waiting → List ℕ → Type 0
 NeedsNoSync own disk folder =
     (disk.folders folder ≡ false) ⊎ ((has_folder own folder ≡ false) × (disk.syncs folder ≡ false))
 
 -- A folder is settled only if it was so before, or is among these and doesn't wait.
-abbrev pub SettlesOnly : List (List ℕ) → Waiting → Folders → Folders → Type 0
+abbrev pub SettlesOnly : List (List ℕ) → Waiting → FolderSet → FolderSet → Type 0
 SettlesOnly folders disk old new =
     (folder : List ℕ) → has_folder new folder ≡ true
     → (has_folder old folder ≡ true) ⊎ ((has_path folders folder ≡ true) × (disk.folders folder ≡ false))

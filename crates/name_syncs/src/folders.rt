@@ -9,7 +9,7 @@ use std::alloc::{AllocError, Global};
 
 /// Some folders. The one that the program starts in has no name, and takes no memory.
 #[derive(Drop)]
-pub struct Folders {
+pub struct FolderSet {
     /// Whether the one that the program starts in is among them.
     pub has_root: bool,
     /// The others.
@@ -43,13 +43,13 @@ pub fn folder_of(path: &str) -> &str
     folder
 }
 
-impl Folders {
+impl FolderSet {
     /// None. It takes no memory.
     pub fn new(alloc: Global) -> Self
         ensures root { result.has_root ≡ false }
         ensures below { result.below ≡ [] }
     {
-        Folders {
+        FolderSet {
             has_root: false,
             below: Paths::new(alloc),
         }
@@ -91,7 +91,11 @@ impl Folders {
     }
 
     // Adds the folder of a path, and each above it that isn't settled like the one below it.
-    pub(crate) fn add_unsettled(&mut self, path: &str, settled: &Folders) -> Result<(), AllocError>
+    pub(crate) fn add_unsettled(
+        &mut self,
+        path: &str,
+        settled: &FolderSet,
+    ) -> Result<(), AllocError>
         ensures { OnOk result (self.new ≡ with_folders self.old (unsettled settled.now (folders_above path.now))) }
     {
         match cut(path) {
@@ -107,7 +111,7 @@ impl Folders {
     }
 
     // Adds each folder above one, unless both it and the folder below it are settled.
-    fn add_unsettled_above(&mut self, folder: &str, settled: &Folders) -> Result<(), AllocError>
+    fn add_unsettled_above(&mut self, folder: &str, settled: &FolderSet) -> Result<(), AllocError>
         ensures { OnOk result (self.new ≡ with_folders self.old
             (unsettled_above settled.now folder.now (folders_above folder.now))) }
     {
@@ -124,7 +128,7 @@ impl Folders {
         &mut self,
         below: &str,
         folder: &str,
-        settled: &Folders,
+        settled: &FolderSet,
     ) -> Result<(), AllocError>
         ensures { OnOk result (self.new ≡ with_folders self.old
             (unsettled_above settled.now below.now (folder.now ∷ []))) }

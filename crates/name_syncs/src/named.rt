@@ -1,6 +1,6 @@
 //! What the next sync of names has to sync: the files that got a new name, the folders that were changed, and the
 //! folders that were only looked at.
-use crate::folders::{Folders, folder_of};
+use crate::folders::{FolderSet, folder_of};
 use crate::paths::Paths;
 use std::alloc::{AllocError, Global};
 
@@ -10,13 +10,13 @@ pub struct Named {
     /// The files that got a new name, by it.
     pub renamed: Paths,
     /// The folders in which a name has changed, and those above them.
-    pub changed: Folders,
+    pub changed: FolderSet,
     /// Those of them in which this run has changed a name itself.
-    pub own: Folders,
+    pub own: FolderSet,
     /// The folders that were looked at.
-    pub seen: Folders,
+    pub seen: FolderSet,
     /// The folders that were there and were synced since the last reply.
-    pub settled: Folders,
+    pub settled: FolderSet,
 }
 
 impl Named {
@@ -34,10 +34,10 @@ impl Named {
     {
         Named {
             renamed: Paths::new(alloc),
-            changed: Folders::new(alloc),
-            own: Folders::new(alloc),
-            seen: Folders::new(alloc),
-            settled: Folders::new(alloc),
+            changed: FolderSet::new(alloc),
+            own: FolderSet::new(alloc),
+            seen: FolderSet::new(alloc),
+            settled: FolderSet::new(alloc),
         }
     }
 

@@ -5,7 +5,7 @@ ghost use Rattle.name_syncs.specs.Named.{Covers, IsSynced, NothingWaits, changed
 ghost use Rattle.name_syncs.specs.Waiting.{Asks, FileAt, FolderAt, NeedsNoSync, KeepsSynced, SettlesOnly};
 
 use crate::disk::{Disk, FolderFault};
-use crate::folders::Folders;
+use crate::folders::FolderSet;
 use crate::named::Named;
 use boot_base::Text;
 
@@ -85,8 +85,8 @@ fn sync_files<D: Disk>(disk: &mut D, paths: &[Text]) -> Result<(), D::Fault>
 fn sync_folders<D: Disk>(
     disk: &mut D,
     folders: &[Text],
-    own: &Folders,
-    settled: &mut Folders,
+    own: &FolderSet,
+    settled: &mut FolderSet,
 ) -> Result<(), D::Fault>
     ensures kept { IsTrue D.tells → KeepsSynced (D.state disk.old) (D.state disk.new) }
     ensures synced { IfOk result (λ _. IsTrue D.tells → All (NeedsNoSync own.now (D.state disk.new)) folders.now) }
@@ -104,7 +104,7 @@ fn sync_folders<D: Disk>(
 fn settle<D: Disk>(
     disk: &mut D,
     folder: &str,
-    settled: &mut Folders,
+    settled: &mut FolderSet,
 ) -> Result<(), FolderFault<D::Fault>>
     ensures asks { IsTrue D.tells → Asks (FolderAt folder.now ∷ []) (D.state disk.old) (D.state disk.new) }
     ensures synced { IfOk result (λ _. IsTrue D.tells → (D.state disk.new).folders folder.now ≡ false) }
@@ -123,8 +123,8 @@ fn settle<D: Disk>(
 fn settle_changed<D: Disk>(
     disk: &mut D,
     folder: &str,
-    own: &Folders,
-    settled: &mut Folders,
+    own: &FolderSet,
+    settled: &mut FolderSet,
 ) -> Result<(), D::Fault>
     ensures asks { IsTrue D.tells → Asks (FolderAt folder.now ∷ []) (D.state disk.old) (D.state disk.new) }
     ensures synced { IfOk result (λ _. IsTrue D.tells → NeedsNoSync own.now (D.state disk.new) folder.now) }
@@ -156,7 +156,12 @@ pub fn sync_seen<D: Disk>(disk: &mut D, named: &mut Named)
 }
 
 // Syncs those of these folders that weren't changed.
-fn settle_seen<D: Disk>(disk: &mut D, folders: &[Text], changed: &Folders, settled: &mut Folders)
+fn settle_seen<D: Disk>(
+    disk: &mut D,
+    folders: &[Text],
+    changed: &FolderSet,
+    settled: &mut FolderSet,
+)
     ensures order { IsTrue D.tells → Asks
         (map FolderAt (filter (λ folder. not (has_folder changed.now folder)) folders.now))
         (D.state disk.old) (D.state disk.new) }

@@ -13,7 +13,7 @@ use Rattle.pe_reader.specs.LoadedBytes.{is_named}
 use Rattle.uki_parts.specs.Names.{name_bytes}
 use Rattle.pe_reader.specs.declared.section.Section.{Section}
 use Rattle.pe_builder.specs.declared.size.WideSize.{WideSize}
-use Rattle.pe_builder.specs.declared.fault.PlanFault.TheVariants.{SectionTwice}
+use Rattle.pe_builder.specs.declared.fault.LayoutFault.TheVariants.{SectionTwice}
 use Rattle.pe_builder.specs.Refusals.{is_taken, first_taken, part_is_named}
 
 pub taken_here : (ss : List Section) (parts : List WideSize) (i : ℕ) (d : WideSize) → i < length parts

@@ -2,8 +2,8 @@
 use Rattle.std.proofs.Common.{◌≡◌, ◌<◌, ◌≤◌, ◌+◌, ◌*◌, ℕ, zero, suc, max, List, [], ◌∷◌, ◌++◌, length, take, drop, set, refl, sym, ap, subst, ◌∙◌, arith}
 use Rattle.std.specs.Prelude.{Bool, true, false, Option, Some, None, sum_by}
 use Rattle.pe_builder.proofs.Fits.{FitsSbat, HasImage}
-use Rattle.pe_builder.specs.declared.fault.PlanFault.{PlanFault}
-use Rattle.pe_builder.specs.declared.fault.PlanFault.TheVariants.{SignedStub}
+use Rattle.pe_builder.specs.declared.fault.LayoutFault.{LayoutFault}
+use Rattle.pe_builder.specs.declared.fault.LayoutFault.TheVariants.{SignedStub}
 use Rattle.std.specs.List.{AllByRecursion}
 use Rattle.std.proofs.lemmas.Bool.Decides.{nat_tests}
 use Rattle.std.proofs.lemmas.List.Sums.{sum_by-cons}
@@ -44,7 +44,7 @@ sum-sections_for h r a (p ∷ ps) =
     ∙ ap (λ (k : ℕ). p.length + k) (sum-sections_for h (raw_end s) (virtual_end s) ps)
     ∙ sym (sum_by-cons (λ (x : WideSize). x.length) p ps)
 
-not_signed : (b : Bool) (rest : Option PlanFault) → refuse b SignedStub rest ≡ None → rest ≡ None
+not_signed : (b : Bool) (rest : Option LayoutFault) → refuse b SignedStub rest ≡ None → rest ≡ None
 not_signed true rest e = cc
 not_signed false rest e = e
 
@@ -82,7 +82,7 @@ has_image h n parts fit e =
       file_length = s.file;
     }
 
-taken : (o rest : Option PlanFault) → or_else o rest ≡ None → (o ≡ None) × (rest ≡ None)
+taken : (o rest : Option LayoutFault) → or_else o rest ≡ None → (o ≡ None) × (rest ≡ None)
 taken None rest e = (refl, e)
 taken (Some f) rest e = cc
 

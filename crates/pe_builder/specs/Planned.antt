@@ -3,13 +3,13 @@ use Rattle.std.specs.Prelude.{◌≡◌, ℕ, ◌+◌, ◌-◌, ◌*◌, ◌≤�
 use Rattle.std.specs.List.{flat_map}
 use Rattle.std.specs.Int.{next_multiple_of}
 use Rattle.byteorder.specs.Endian.{little_bytes}
-use Rattle.pe_builder.specs.declared.fault.PlanFault.{PlanFault}
-use Rattle.pe_builder.specs.declared.fault.PlanFault.TheVariants.{Memory}
+use Rattle.pe_builder.specs.declared.fault.LayoutFault.{LayoutFault}
+use Rattle.pe_builder.specs.declared.fault.LayoutFault.TheVariants.{Memory}
 use Rattle.pe_reader.specs.declared.head.Head.{Head}
 use Rattle.pe_reader.specs.Grammar.{Headers, pe_of}
 use Rattle.pe_reader.specs.LoadedBytes.{section_at_index}
 use Rattle.pe_builder.specs.declared.size.WideSize.{WideSize}
-use Rattle.pe_builder.specs.declared.plan.Plan.{Plan}
+use Rattle.pe_builder.specs.declared.plan.ImageLayout.{ImageLayout}
 use Rattle.pe_builder.specs.declared.plan.SbatPlace.{SbatPlace}
 use Rattle.pe_builder.specs.Puts.{put}
 use Rattle.pe_builder.specs.Replaced.{sbat_index, with_sbat_size}
@@ -29,7 +29,7 @@ sbat_place h (Some size) = Some (record {
 
 -- The plan of an image of a stub of that length with these headers, of parts of these sizes, and of a new `.sbat` of
 -- that length where the stub's is replaced in place.
-pub record PlansImage (plan : Plan) (h : Headers) (stub_length : ℕ) (sizes : List WideSize)
+pub record PlansImage (plan : ImageLayout) (h : Headers) (stub_length : ℕ) (sizes : List WideSize)
     (sbat : Option ℕ) : Type 0 where
   pub stub_length_is : plan.stub_length ≡ stub_length
   pub before : plan.before ≡ h.head
@@ -48,11 +48,11 @@ head_after h start parts = record h {
 }
 
 -- how many bytes the image of a plan has
-abbrev pub planned_length : Plan → ℕ
+abbrev pub planned_length : ImageLayout → ℕ
 planned_length plan = plan.image_length
 
 -- A plan was made of which P holds exactly where nothing is refused, unless memory ran out.
-abbrev pub Makes : (Plan → Type 0) → Result Plan PlanFault → Option PlanFault → Type 0
+abbrev pub Makes : (ImageLayout → Type 0) → Result ImageLayout LayoutFault → Option LayoutFault → Type 0
 Makes P (Ok plan) refused = (refused ≡ None) × P plan
 Makes P (Err Memory) refused = Unit {0}
 Makes P (Err f) refused = refused ≡ Some f
@@ -63,7 +63,7 @@ sbat_if_in_place in_place sbat = option_map (λ _. sbat) in_place
 
 -- The plan was made for a stub with these bytes, parts of these lengths, and a new `.sbat` of this length if it
 -- replaces one.
-pub record IsPlanFor (plan : Plan) (stub : List ℕ) (contents : List (List ℕ)) (sbat : List ℕ) : Type 0 where
+pub record IsPlanFor (plan : ImageLayout) (stub : List ℕ) (contents : List (List ℕ)) (sbat : List ℕ) : Type 0 where
   pub headers : Headers
   pub sizes : List WideSize
   pub in_place : Option ℕ
@@ -73,7 +73,7 @@ pub record IsPlanFor (plan : Plan) (stub : List ℕ) (contents : List (List ℕ)
   pub sbat_length : option_map length (sbat_if_in_place in_place sbat) ≡ in_place
 
 -- The bytes are the finished image of whatever the plan was made for.
-abbrev pub IsFinished : Plan → List ℕ → List (List ℕ) → List ℕ → List ℕ → Type 0
+abbrev pub IsFinished : ImageLayout → List ℕ → List (List ℕ) → List ℕ → List ℕ → Type 0
 IsFinished plan stub contents sbat image =
     (h : Headers) (sizes : List WideSize) (in_place : Option ℕ) →
     pe_of stub ≡ Ok h → PlansImage plan h (length stub) sizes in_place →
@@ -89,7 +89,7 @@ replaced_by (Some p) sbat stub =
     put p.size_place (little_bytes 4 p.length) (put p.raw_place (sbat ++ replicate (p.raw_size - length sbat) 0) stub)
 
 -- the image that a plan makes of a stub, contents and a new `.sbat`
-abbrev pub image_by : Plan → List (List ℕ) → List ℕ → List ℕ → List ℕ
+abbrev pub image_by : ImageLayout → List (List ℕ) → List ℕ → List ℕ → List ℕ
 image_by plan contents sbat stub =
     with_raw plan.before.file_alignment (
     with_fields plan.before plan.after (flat_map section_header plan.sections.items) (replaced_by plan.sbat sbat stub))
@@ -102,7 +102,7 @@ FitsPlace (Some p) stub_length sbat_length =
     (sbat_length ≤ p.raw_size) × (p.raw_place + p.raw_size ≤ stub_length) × (p.size_place + 4 ≤ stub_length)
 
 -- all that a plan writes into the stub lies in a stub of that length, and FileAlignment isn't 0
-pub record FitsStub (plan : Plan) (stub_length sbat_length : ℕ) : Type 0 where
+pub record FitsStub (plan : ImageLayout) (stub_length sbat_length : ℕ) : Type 0 where
   pub alignment : 0 < plan.before.file_alignment
   pub before : plan.before.pe_place + 136 ≤ plan.before.table_place
   pub table : plan.before.table_place + 40 * (plan.before.section_count + length plan.sections.items) ≤ stub_length

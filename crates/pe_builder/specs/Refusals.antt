@@ -10,8 +10,8 @@ use Rattle.pe_reader.specs.Grammar.{Headers}
 use Rattle.pe_builder.specs.declared.size.PartSize.{PartSize}
 use Rattle.uki_parts.specs.Names.{name_bytes}
 use Rattle.pe_builder.specs.declared.size.WideSize.{WideSize}
-use Rattle.pe_builder.specs.declared.fault.PlanFault.{PlanFault}
-use Rattle.pe_builder.specs.declared.fault.PlanFault.TheVariants.{SignedStub, SectionTwice, SbatDoesNotFit, NoHeaderSpace, AddressSpace, ImageTooLarge}
+use Rattle.pe_builder.specs.declared.fault.LayoutFault.{LayoutFault}
+use Rattle.pe_builder.specs.declared.fault.LayoutFault.TheVariants.{SignedStub, SectionTwice, SbatDoesNotFit, NoHeaderSpace, AddressSpace, ImageTooLarge}
 use Rattle.pe_builder.specs.Layout.{end_after, length_after, address_after, FitsPart}
 use Rattle.pe_builder.specs.Replaced.{sbat_index, with_sbat_size, MayReplace}
 
@@ -20,11 +20,11 @@ abbrev pub wide_size : PartSize → WideSize
 wide_size p = record { name = p.name; length = p.length; flags = p.flags }
 
 -- a refusal where a test holds, else the rest
-abbrev pub refuse : Bool → PlanFault → Option PlanFault → Option PlanFault
+abbrev pub refuse : Bool → LayoutFault → Option LayoutFault → Option LayoutFault
 refuse holds fault rest = if holds then Some fault else rest
 
 -- the first of two refusals
-abbrev pub or_else : Option PlanFault → Option PlanFault → Option PlanFault
+abbrev pub or_else : Option LayoutFault → Option LayoutFault → Option LayoutFault
 or_else None rest = rest
 or_else (Some fault) rest = Some fault
 
@@ -39,7 +39,7 @@ is_taken sections earlier p =
     || list_any (part_is_named (name_bytes p.name)) earlier
 
 -- the first part whose name is taken, after the earlier ones
-unfoldable pub first_taken : List Section → List WideSize → List WideSize → Option PlanFault
+unfoldable pub first_taken : List Section → List WideSize → List WideSize → Option LayoutFault
 first_taken sections earlier [] = None
 first_taken sections earlier (p ∷ parts) =
     if is_taken sections earlier p then Some (SectionTwice p.name) else first_taken sections (earlier ++ p ∷ []) parts
@@ -49,7 +49,7 @@ abbrev pub sbat_room : Headers → ℕ
 sbat_room h = (section_at_index h.sections (sbat_index h)).raw_size
 
 -- the refusal of a new `.sbat` that has more bytes than there is room for
-abbrev pub sbat_refusal : Headers → Option ℕ → Option PlanFault
+abbrev pub sbat_refusal : Headers → Option ℕ → Option LayoutFault
 sbat_refusal h None = None
 sbat_refusal h (Some length) = refuse (nat_lt (sbat_room h) length) (SbatDoesNotFit length (sbat_room h)) None
 
@@ -71,7 +71,7 @@ abbrev pub initialized_size : Headers → List WideSize → ℕ
 initialized_size h parts = h.head.initialized_size + sum_by (λ p. p.length) parts
 
 -- the first refusal that rests on sizes: of the headers, of addresses, of SizeOfInitializedData, of the file
-unfoldable pub size_refusal : Headers → ℕ → List WideSize → Option PlanFault
+unfoldable pub size_refusal : Headers → ℕ → List WideSize → Option LayoutFault
 size_refusal h stub_length parts =
     refuse (nat_lt (have h) (need h parts)) (NoHeaderSpace (need h parts) (have h)) (
     refuse (nat_le 4294967296 (image_size h parts)) (AddressSpace (image_size h parts)) (
@@ -81,7 +81,7 @@ size_refusal h stub_length parts =
 
 -- The first refusal for a stub of that length with these headers, parts of these sizes, and a new `.sbat` of that
 -- length where the stub's is replaced in place.
-unfoldable pub first_refusal : Headers → ℕ → List WideSize → Option ℕ → Option PlanFault
+unfoldable pub first_refusal : Headers → ℕ → List WideSize → Option ℕ → Option LayoutFault
 first_refusal h stub_length parts sbat =
     refuse (not (h.head.certificate_size == 0)) SignedStub (
     or_else (first_taken h.sections [] parts) (

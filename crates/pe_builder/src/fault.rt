@@ -1,7 +1,7 @@
 //! Why there is no image.
 
 ghost use Rattle.std.specs.Prelude.{◌≡◌};
-ghost use Rattle.pe_builder.specs.declared.fault.PlanFault.TheVariants.{Memory};
+ghost use Rattle.pe_builder.specs.declared.fault.LayoutFault.TheVariants.{Memory};
 
 use std::alloc::AllocError;
 use thiserror::Error;
@@ -9,7 +9,7 @@ use uki_parts::SectionName;
 
 /// Why there is no plan of an image.
 #[derive(Clone, Copy, Debug, PartialEq, Eq, Error)]
-pub enum PlanFault {
+pub enum LayoutFault {
     /// There was no memory for the plan.
     #[error("out of memory")]
     Memory,
@@ -33,10 +33,10 @@ pub enum PlanFault {
     ImageTooLarge { size: u64 },
 }
 
-impl From<AllocError> for PlanFault {
+impl From<AllocError> for LayoutFault {
     ghost from_gives = { λ _ fault. fault ≡ Memory };
 
-    fn from(_error: AllocError) -> PlanFault {
-        PlanFault::Memory
+    fn from(_error: AllocError) -> LayoutFault {
+        LayoutFault::Memory
     }
 }

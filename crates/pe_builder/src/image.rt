@@ -7,7 +7,7 @@ ghost use Rattle.pe_builder.specs.Puts.{put, pad_to};
 ghost use Rattle.pe_builder.specs.Planned.{IsPlanFor, IsFinished, image_by, replaced_by, FitsStub, FitsPlace};
 
 use crate::headers::section_headers;
-use crate::plan::{Plan, SbatPlace};
+use crate::plan::{ImageLayout, SbatPlace};
 use crate::puts::{pad, push_gap, put_bytes, put_u16, put_u32};
 use pe_reader::Head;
 use std::alloc::{AllocError, Global};
@@ -20,7 +20,7 @@ use std::alloc::{AllocError, Global};
 /// Only where there is no memory for the image.
 pub fn image_bytes(
     alloc: Global,
-    plan: &Plan,
+    plan: &ImageLayout,
     stub: &[u8],
     parts: &[Vec<u8>],
     sbat: &[u8],
@@ -34,7 +34,7 @@ pub fn image_bytes(
 // The bytes that a plan makes of a stub and contents.
 fn build_bytes(
     alloc: Global,
-    plan: &Plan,
+    plan: &ImageLayout,
     stub: &[u8],
     contents: &[Vec<u8>],
     sbat: &[u8],

@@ -19,9 +19,9 @@ mod refusal;
 mod size;
 mod taken;
 
-pub use fault::PlanFault;
+pub use fault::LayoutFault;
 pub use image::image_bytes;
 pub use laws::{image_by_place, image_loads, image_reads, sizes_agree};
-pub use plan::{Plan, SbatPlace};
+pub use plan::{ImageLayout, SbatPlace};
 pub use refusal::plan_refusal;
 pub use size::{PartSize, WideSize};

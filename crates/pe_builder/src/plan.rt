@@ -12,7 +12,7 @@ ghost use Rattle.pe_builder.specs.Planned.{PlansImage, Makes, head_after, planne
 ghost use Rattle.pe_builder.specs.Known.{planned_stub_length, planned_before, planned_after, planned_sections, planned_sbat};
 
 use crate::extent::{address_after, length_after, sbat_index, stub_end, total, up};
-use crate::fault::PlanFault;
+use crate::fault::LayoutFault;
 use crate::layout::sections_for;
 use crate::refusal::find_refusal;
 use crate::size::{PartSize, WideSize, wide_sizes};
@@ -22,7 +22,7 @@ use std::alloc::{AllocError, Global};
 /// What an image is to be: which numbers of the stub's headers it has in place of theirs, its new sections, and where
 /// its `.sbat` is replaced.
 #[derive(Debug, Drop)]
-pub struct Plan {
+pub struct ImageLayout {
     /// How many bytes the stub has.
     pub(crate) stub_length: u32,
     /// What the stub's headers say.
@@ -50,7 +50,7 @@ pub struct SbatPlace {
     pub length: u32,
 }
 
-impl Plan {
+impl ImageLayout {
     /// The plan of an image of a stub of `stub_length` bytes and of parts of these sizes, in the order in which they
     /// are to stand. A new `.sbat` of `sbat_in_place` bytes takes the place of the stub's where
     /// that is given, which asks for a stub that has one.
@@ -65,7 +65,7 @@ impl Plan {
         stub_length: u32,
         sizes: &[PartSize],
         sbat_in_place: Option<u32>,
-    ) -> Result<Plan, PlanFault>
+    ) -> Result<ImageLayout, LayoutFault>
         requires read { ReadFrom stub.now stub_length }
         requires few { length sizes.now ≤ 16777216 }
         requires sbat { MayReplace (headers_of stub.now) sbat_in_place }
@@ -74,7 +74,7 @@ impl Plan {
             (first_refusal (headers_of stub.now) stub_length (map wide_size sizes.now) sbat_in_place) }
     {
         let sizes = wide_sizes(alloc, sizes)?;
-        Plan::of_sizes(alloc, stub, stub_length, &sizes, sbat_in_place)
+        ImageLayout::of_sizes(alloc, stub, stub_length, &sizes, sbat_in_place)
     }
 
     /// The same plan of parts that may have any length.
@@ -88,7 +88,7 @@ impl Plan {
         stub_length: u32,
         sizes: &[WideSize],
         sbat_in_place: Option<u32>,
-    ) -> Result<Plan, PlanFault>
+    ) -> Result<ImageLayout, LayoutFault>
         requires read { ReadFrom stub.now stub_length }
         requires few { length sizes.now ≤ 16777216 }
         requires total { sum_by (λ p. p.length) sizes.now ≤ 2 ^ 62 }
@@ -154,7 +154,7 @@ fn lay_out(
     stub_length: u32,
     sizes: &[WideSize],
     sbat_in_place: Option<u32>,
-) -> Result<Plan, AllocError>
+) -> Result<ImageLayout, AllocError>
     requires read { ReadFrom stub.now stub_length }
     requires few { length sizes.now ≤ 16777216 }
     requires total { sum_by (λ p. p.length) sizes.now ≤ 2 ^ 62 }
@@ -166,7 +166,7 @@ fn lay_out(
     let head = stub.head();
     let start = stub_end(stub, sbat_in_place) as u32;
     let sections = sections_for(alloc, head, stub_length, start, sizes)?;
-    Ok(Plan {
+    Ok(ImageLayout {
         stub_length,
         before: *head,
         after: head_after(head, start, sizes),

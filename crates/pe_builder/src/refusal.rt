@@ -8,7 +8,7 @@ ghost use Rattle.pe_builder.specs.Replaced.{with_sbat_size, MayReplace};
 ghost use Rattle.pe_builder.specs.Refusals.{first_taken, first_refusal, sbat_refusal, size_refusal};
 
 use crate::extent::{address_after, length_after, sbat_index, stub_end, total, up};
-use crate::fault::PlanFault;
+use crate::fault::LayoutFault;
 use crate::size::WideSize;
 use crate::taken::{find_taken, first_taken};
 use boot_base::FILE_LIMIT;
@@ -29,7 +29,7 @@ pub fn plan_refusal(
     stub_length: u32,
     sizes: &[WideSize],
     sbat_in_place: Option<u32>,
-) -> Option<PlanFault>
+) -> Option<LayoutFault>
     requires read { ReadFrom stub.now stub_length }
     requires few { length sizes.now ≤ 16777216 }
     requires total { sum_by (λ p. p.length) sizes.now ≤ 2 ^ 62 }
@@ -51,7 +51,7 @@ pub(crate) fn find_refusal(
     stub_length: u32,
     sizes: &[WideSize],
     sbat_in_place: Option<u32>,
-) -> Result<Option<PlanFault>, AllocError>
+) -> Result<Option<LayoutFault>, AllocError>
     requires read { ReadFrom stub.now stub_length }
     requires few { length sizes.now ≤ 16777216 }
     requires total { sum_by (λ p. p.length) sizes.now ≤ 2 ^ 62 }
@@ -69,8 +69,8 @@ fn refusal(
     stub_length: u32,
     parts: &[WideSize],
     sbat_in_place: Option<u32>,
-    taken: Option<PlanFault>,
-) -> Option<PlanFault>
+    taken: Option<LayoutFault>,
+) -> Option<LayoutFault>
     requires read { ReadFrom stub.now stub_length }
     requires few { length parts.now ≤ 16777216 }
     requires total { sum_by (λ p. p.length) parts.now ≤ 2 ^ 62 }
@@ -79,7 +79,7 @@ fn refusal(
     ensures { result ≡ first_refusal (headers_of stub.now) stub_length parts.now sbat_in_place }
 {
     if stub.head().certificate_size != 0 {
-        return Some(PlanFault::SignedStub);
+        return Some(LayoutFault::SignedStub);
     }
     if let Some(fault) = taken {
         return Some(fault);
@@ -91,14 +91,14 @@ fn refusal(
 }
 
 // Whether a new `.sbat` has more bytes than the raw data of the stub's.
-fn sbat_refusal(stub: &Pe, sbat_in_place: Option<u32>) -> Option<PlanFault>
+fn sbat_refusal(stub: &Pe, sbat_in_place: Option<u32>) -> Option<LayoutFault>
     requires { MayReplace (headers_of stub.now) sbat_in_place }
     ensures { result ≡ sbat_refusal (headers_of stub.now) sbat_in_place }
 {
     let length = sbat_in_place?;
     let room = stub.sections()[sbat_index(stub)].raw_size;
     if length > room {
-        return Some(PlanFault::SbatDoesNotFit { length, room });
+        return Some(LayoutFault::SbatDoesNotFit { length, room });
     }
     None
 }
@@ -110,7 +110,7 @@ fn size_refusal(
     stub_length: u32,
     parts: &[WideSize],
     sbat_in_place: Option<u32>,
-) -> Option<PlanFault>
+) -> Option<LayoutFault>
     requires file_unit { 0 < (headers_of stub.now).head.file_alignment }
     requires memory_unit { 0 < (headers_of stub.now).head.section_alignment }
     requires units { (headers_of stub.now).head.file_alignment ≤ (headers_of stub.now).head.section_alignment }
@@ -125,20 +125,20 @@ fn size_refusal(
     let need = head.table_place + 40 * (head.section_count as u32 + parts.len() as u32);
     let have = head.header_size.min(head.table_place + MAX_TABLE);
     if have < need {
-        return Some(PlanFault::NoHeaderSpace { need, have });
+        return Some(LayoutFault::NoHeaderSpace { need, have });
     }
     let start = stub_end(stub, sbat_in_place);
     let image_size = up(address_after(head, start, parts), head.section_alignment);
     if image_size >= 4_294_967_296 {
-        return Some(PlanFault::AddressSpace { end: image_size });
+        return Some(LayoutFault::AddressSpace { end: image_size });
     }
     let initialized = head.initialized_size as u64 + total(parts);
     if initialized >= 4_294_967_296 {
-        return Some(PlanFault::AddressSpace { end: initialized });
+        return Some(LayoutFault::AddressSpace { end: initialized });
     }
     let size = length_after(head, stub_length, parts);
     if size > FILE_LIMIT {
-        return Some(PlanFault::ImageTooLarge { size });
+        return Some(LayoutFault::ImageTooLarge { size });
     }
     None
 }

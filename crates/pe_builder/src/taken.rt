@@ -5,7 +5,7 @@ ghost use Rattle.std.specs.List.{list_any};
 ghost use Rattle.pe_reader.specs.Prelude.{is_named};
 ghost use Rattle.pe_builder.specs.Refusals.{part_is_named, is_taken, first_taken};
 
-use crate::fault::PlanFault;
+use crate::fault::LayoutFault;
 use crate::size::WideSize;
 use pe_reader::Section;
 use std::alloc::{AllocError, Global};
@@ -34,12 +34,12 @@ fn is_taken(sections: &[Section], earlier: &[WideSize], part: &WideSize) -> bool
 }
 
 /// The first part whose name is taken. It takes no memory, and time that grows with the square of the number of parts.
-pub fn first_taken(sections: &[Section], parts: &[WideSize]) -> Option<PlanFault>
+pub fn first_taken(sections: &[Section], parts: &[WideSize]) -> Option<LayoutFault>
     ensures { result ≡ first_taken sections.now [] parts.now }
 {
     for i in 0..parts.len() {
         if is_taken(sections, &parts[..i], &parts[i]) {
-            return Some(PlanFault::SectionTwice {
+            return Some(LayoutFault::SectionTwice {
                 name: parts[i].name,
             });
         }
@@ -57,7 +57,7 @@ pub fn find_taken(
     alloc: Global,
     sections: &[Section],
     parts: &[WideSize],
-) -> Result<Option<PlanFault>, AllocError>
+) -> Result<Option<LayoutFault>, AllocError>
     ensures { IfOk result (λ found. found ≡ first_taken sections.now [] parts.now) }
 {
     let mut names = BTreeSet::new(alloc);
@@ -65,7 +65,7 @@ pub fn find_taken(
         let name = part.name.bytes();
         let is_new = names.insert(name)?;
         if !is_new || is_section(sections, name) {
-            return Ok(Some(PlanFault::SectionTwice { name: part.name }));
+            return Ok(Some(LayoutFault::SectionTwice { name: part.name }));
         }
     }
     Ok(None)

@@ -11,19 +11,19 @@ use Rattle.pe_reader.specs.LoadedBytes.{is_named, loaded_bytes, loaded_in, loade
 use Rattle.pe_reader.proofs.Finding.{find-position}
 use Rattle.uki_parts.specs.Names.{name_bytes}
 use Rattle.pe_builder.specs.declared.size.WideSize.{WideSize}
-use Rattle.pe_builder.specs.declared.fault.PlanFault.{PlanFault}
-use Rattle.pe_builder.specs.declared.fault.PlanFault.TheVariants.{SignedStub, SectionTwice}
+use Rattle.pe_builder.specs.declared.fault.LayoutFault.{LayoutFault}
+use Rattle.pe_builder.specs.declared.fault.LayoutFault.TheVariants.{SignedStub, SectionTwice}
 use Rattle.pe_builder.specs.Replaced.{sbat_name, sbat_index, MayReplace}
 use Rattle.pe_builder.specs.Refusals.{refuse, or_else, part_is_named, is_taken, first_taken, first_refusal}
 use Rattle.pe_builder.specs.Image.{content_named, loaded_or_part}
 use Rattle.pe_builder.specs.Laws.{HasFinished, finished_loaded}
 use Rattle.stub_replay.specs.Laws.{find_content, or_kept, given_parts}
 
-not_signed : (b : Bool) (rest : Option PlanFault) → refuse b SignedStub rest ≡ None → rest ≡ None
+not_signed : (b : Bool) (rest : Option LayoutFault) → refuse b SignedStub rest ≡ None → rest ≡ None
 not_signed true rest e = cc
 not_signed false rest e = e
 
-first_none : (o rest : Option PlanFault) → or_else o rest ≡ None → o ≡ None
+first_none : (o rest : Option LayoutFault) → or_else o rest ≡ None → o ≡ None
 first_none None rest e = refl
 first_none (Some f) rest e = cc
 
@@ -32,7 +32,7 @@ none_taken : (h : Headers) (n : ℕ) (parts : List WideSize) (sbat : Option ℕ)
 unfolding first_refusal
 none_taken h n parts sbat e = first_none (first_taken h.sections [] parts) _ (not_signed _ _ e)
 
-taken_steps : (b : Bool) (fault : PlanFault) (rest : Option PlanFault) → (if b then Some fault else rest) ≡ None → (b ≡ false) × (rest ≡ None)
+taken_steps : (b : Bool) (fault : LayoutFault) (rest : Option LayoutFault) → (if b then Some fault else rest) ≡ None → (b ≡ false) × (rest ≡ None)
 taken_steps true fault rest e = cc
 taken_steps false fault rest e = (refl, e)
 

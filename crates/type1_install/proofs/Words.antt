@@ -10,8 +10,8 @@ use Rattle.command_plans.proofs.Declining.{declined_first, done_next}
 use Rattle.tool_words.specs.declared.command.Type1Words.{Type1Words}
 use Rattle.type1_install.specs.Installing.{entry_file, files_in, install_plan, place_in, install_source}
 use Rattle.type1_install.specs.Shown.{files_shown, place_shown, plan_shown}
-use Rattle.type1_install.specs.declared.install_words.Place.{Place}
-use Rattle.type1_install.specs.declared.install_words.Sources.{Sources}
+use Rattle.type1_install.specs.declared.install_words.EntryRoom.{EntryRoom}
+use Rattle.type1_install.specs.declared.install_words.PayloadFiles.{PayloadFiles}
 
 module _ (f : Path → Result Path Refusal) (x : Path) (xs : List Path) where
   -- the first is declined
@@ -35,7 +35,7 @@ module _ (f : Path → Result Path Refusal) (x : Path) (xs : List Path) where
 
 -- ---- the whole plan
 
-pub plan_is : (words : Type1Words) (name : List ℕ) (files : Sources) (place : Place) → entry_file words ≡ Ok name
+pub plan_is : (words : Type1Words) (name : List ℕ) (files : PayloadFiles) (place : EntryRoom) → entry_file words ≡ Ok name
     → files_in words ≡ Ok (files_shown files) → place_in words.esp name ≡ Ok (place_shown place)
     → each (install_source place.esp) (files.linux ∷ files.initrds.items) ≡ Ok (files.linux ∷ files.initrds.items)
     → install_plan words ≡ Ok (plan_shown words.texts (record { files = files; place = place }))

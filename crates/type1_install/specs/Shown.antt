@@ -15,15 +15,15 @@ use Rattle.type1_install.specs.Installing.{EntryPlace, SourceFiles, Type1Plan, e
 use Rattle.type1_install.specs.Payloads.{payload_name}
 use Rattle.type1_install.specs.declared.payload.Payload.{Payload}
 use Rattle.type1_install.specs.declared.install_words.InstallPlan.{InstallPlan}
-use Rattle.type1_install.specs.declared.install_words.Place.{Place}
-use Rattle.type1_install.specs.declared.install_words.Sources.{Sources}
+use Rattle.type1_install.specs.declared.install_words.EntryRoom.{EntryRoom}
+use Rattle.type1_install.specs.declared.install_words.PayloadFiles.{PayloadFiles}
 
 -- the kernel and the initrds
-abbrev pub files_shown : Sources → SourceFiles
+abbrev pub files_shown : PayloadFiles → SourceFiles
 files_shown files = record { linux = files.linux; initrds = files.initrds.items }
 
 -- the ESP and the entry's path
-abbrev pub place_shown : Place → EntryPlace
+abbrev pub place_shown : EntryRoom → EntryPlace
 place_shown place = record { esp = place.esp; entry = place.entry }
 
 -- the whole plan, with the texts of the words

@@ -21,21 +21,21 @@ const INITRD_LIMIT: usize = 64;
 #[derive(Drop)]
 pub(crate) struct InstallPlan {
     /// The files that are to be its payloads.
-    pub(crate) files: Sources,
+    pub(crate) files: PayloadFiles,
     /// Where it comes to stand.
-    pub(crate) place: Place,
+    pub(crate) place: EntryRoom,
 }
 
 /// The kernel and the initrds.
 #[derive(Drop)]
-pub(crate) struct Sources {
+pub(crate) struct PayloadFiles {
     pub(crate) linux: BootPath,
     pub(crate) initrds: Vec<BootPath>,
 }
 
 /// An ESP with the folder of its payloads, and the path of an entry's file in it.
 #[derive(Drop)]
-pub(crate) struct Place {
+pub(crate) struct EntryRoom {
     pub(crate) esp: BootPath,
     pub(crate) folder: BootPath,
     pub(crate) entry: BootPath,
@@ -105,15 +105,15 @@ fn paths_in(alloc: Global, words: &[Text]) -> Result<Vec<BootPath>, Declined>
     Ok(paths)
 }
 
-fn files_in(alloc: Global, words: &Type1Words) -> Result<Sources, Declined>
+fn files_in(alloc: Global, words: &Type1Words) -> Result<PayloadFiles, Declined>
     ensures { Means files_shown result (files_in words.now) }
 {
     let linux = path_in(alloc, words.linux.as_str())?;
     let initrds = paths_in(alloc, words.initrds.as_slice())?;
-    Ok(Sources { linux, initrds })
+    Ok(PayloadFiles { linux, initrds })
 }
 
-fn place_in(alloc: Global, word: &str, name: &str) -> Result<Place, Declined>
+fn place_in(alloc: Global, word: &str, name: &str) -> Result<EntryRoom, Declined>
     ensures means { Means place_shown result (place_in word.now name.now) }
     ensures folder { IfOk result (λ place. place.folder ≡ payload_folder place.esp) }
     ensures room { IfOk result (λ place. length place.folder + 65 ≤ 1024) }
@@ -121,7 +121,7 @@ fn place_in(alloc: Global, word: &str, name: &str) -> Result<Place, Declined>
     let esp = path_in(alloc, word)?;
     let folder = payload_folder(alloc, &esp)?;
     let entry = file_under(alloc, &esp, ENTRIES, name)?;
-    Ok(Place { esp, folder, entry })
+    Ok(EntryRoom { esp, folder, entry })
 }
 
 // The file lies directly in the folder.
@@ -134,7 +134,7 @@ fn is_in(alloc: Global, folder: &BootPath, path: &BootPath) -> Result<bool, Allo
 }
 
 // The refusal of a file that lies directly in the ESP's folder of payloads.
-fn check_source(alloc: Global, place: &Place, path: &BootPath) -> Result<(), Declined>
+fn check_source(alloc: Global, place: &EntryRoom, path: &BootPath) -> Result<(), Declined>
     requires { place.now.folder ≡ payload_folder place.now.esp }
     ensures { Means (λ _. path.now) result (install_source place.now.esp path.now) }
 {
@@ -145,7 +145,7 @@ fn check_source(alloc: Global, place: &Place, path: &BootPath) -> Result<(), Dec
     Ok(())
 }
 
-fn check_initrds(alloc: Global, place: &Place, paths: &[BootPath]) -> Result<(), Declined>
+fn check_initrds(alloc: Global, place: &EntryRoom, paths: &[BootPath]) -> Result<(), Declined>
     requires { place.now.folder ≡ payload_folder place.now.esp }
     ensures { Means (λ _. paths.now) result (each (install_source place.now.esp) paths.now) }
 {
@@ -156,7 +156,7 @@ fn check_initrds(alloc: Global, place: &Place, paths: &[BootPath]) -> Result<(),
 }
 
 // The refusal of the first file that lies directly in the ESP's folder of payloads.
-fn check_sources(alloc: Global, place: &Place, files: &Sources) -> Result<(), Declined>
+fn check_sources(alloc: Global, place: &EntryRoom, files: &PayloadFiles) -> Result<(), Declined>
     requires { place.now.folder ≡ payload_folder place.now.esp }
     ensures { Means (λ _. files.now.linux ∷ files.now.initrds.items) result
         (each (install_source place.now.esp) (files.now.linux ∷ files.now.initrds.items)) }

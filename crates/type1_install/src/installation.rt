@@ -7,7 +7,7 @@ ghost use Rattle.command_plans.specs.Prelude.{CountsUnsaid, Says};
 ghost use Rattle.type1_install.specs.Installing.{install_expansion, install_plan, installing_length};
 ghost use Rattle.type1_install.specs.Shown.{AreFields, HasPayloadName, fields_with, put_in, value_of_payload};
 
-use crate::install_words::{Place, install_plan};
+use crate::install_words::{EntryRoom, install_plan};
 use crate::payload::{Payload, payload_at, payloads_at};
 use crate::place::payload_path;
 use boot_base::{BootPath, Bytes, BytesList, PAYLOADS, PIECE_SIZE, Text};
@@ -133,7 +133,7 @@ fn enter_in(
 // The payloads are put and then the entry is entered.
 fn install_commands(
     alloc: Global,
-    place: &Place,
+    place: &EntryRoom,
     texts: &EntryTexts,
     linux: &Payload,
     initrds: &[Payload],

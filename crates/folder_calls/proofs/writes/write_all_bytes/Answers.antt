@@ -1,8 +1,8 @@
 use Rattle.std.proofs.Common.{◌≡◌, ℕ, List, ◌++◌, Bor, take, drop, length, ◌-◌, sym, ap, ◌∙◌}
 use Rattle.std.proofs.KnownBytes.{Appends-kept, Appends-trans}
 use Rattle.folder_calls.proofs.Written.{moved_on}
-use Rattle.folder_calls.proofs.writes.write_whole.Goals.{in-Ok, in-Err}
-use Rattle.folder_calls.proofs.writes.write_whole.Goals as goal
+use Rattle.folder_calls.proofs.writes.write_all_bytes.Goals.{in-Ok, in-Err}
+use Rattle.folder_calls.proofs.writes.write_all_bytes.Goals as goal
 
 pub loop-preserved : goal.loop-preserved
 loop-preserved g c =

@@ -1,7 +1,7 @@
 use Rattle.std.proofs.Common.{rules, ◌∙◌, [], ◌∷◌, sym, ap}
 use Rattle.name_syncs.specs.Folders.{parts_before_slashes, with_folder, with_folders}
 use Rattle.name_syncs.proofs.Above.{add_step, parts_none, with_folders-append}
-use Rattle.name_syncs.proofs.folders.Folders.add_above.Goals as goal
+use Rattle.name_syncs.proofs.folders.FolderSet.add_above.Goals as goal
 
 pub loop-folder-preserved : goal.loop-folder-preserved
 loop-folder-preserved c = (

@@ -2,7 +2,7 @@ use Rattle.std.proofs.Common.{◌≡◌, length}
 use denote.Text.{Utf8}
 use denote.Shadow.{shadow}
 use Rattle.name_syncs.specs.Folders.{parts_before_slashes, with_folders}
-use Rattle.name_syncs.proofs.folders.Folders.add_above.Given as goal
+use Rattle.name_syncs.proofs.folders.FolderSet.add_above.Given as goal
 
 -- what is added with the folders that are still to come is all that is to be added
 abbrev pub invariant-loop-folder : goal.invariant-loop-folder

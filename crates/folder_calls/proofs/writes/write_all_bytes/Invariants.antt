@@ -1,6 +1,6 @@
 use Rattle.std.specs.Prelude.{◌≡◌, ℕ, List, ◌++◌}
 use Rattle.std.specs.Io.KnownBytes.{Appends}
-use Rattle.folder_calls.proofs.writes.write_whole.Given as goal
+use Rattle.folder_calls.proofs.writes.write_all_bytes.Given as goal
 
 -- what is gone from the rest was written
 abbrev pub invariant-loop : goal.invariant-loop

@@ -1,7 +1,7 @@
 use Rattle.std.proofs.Common.{rules, ◌∙◌, ◌++◌, [], ◌∷◌, sym, ap}
 use Rattle.name_syncs.specs.Folders.{folders_above, unsettled_above, with_folders}
 use Rattle.name_syncs.proofs.Above.{parts_none, unsettled_step}
-use Rattle.name_syncs.proofs.folders.Folders.add_unsettled_above.Goals as goal
+use Rattle.name_syncs.proofs.folders.FolderSet.add_unsettled_above.Goals as goal
 
 pub loop-above-preserved : goal.loop-above-preserved
 loop-above-preserved c =

@@ -1,7 +1,7 @@
 use Rattle.std.proofs.Common.{◌∙◌, ◌++◌, [], ◌∷◌, sym, ap}
 use Rattle.name_syncs.specs.Folders.{folders_above, unsettled, unsettled_above, with_folders}
 use Rattle.name_syncs.proofs.Above.{parts_cut, parts_none}
-use Rattle.name_syncs.proofs.folders.Folders.add_unsettled.Goals as goal
+use Rattle.name_syncs.proofs.folders.FolderSet.add_unsettled.Goals as goal
 
 pub returns-in_ok-add-in-Some : goal.returns-in_ok-add-in-Some
 returns-in_ok-add-in-Some c =
