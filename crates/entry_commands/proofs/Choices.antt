@@ -45,7 +45,8 @@ chosen verb present source is = elim (cases_Bool (is_there present (target_of ve
   | inl there ↦ absurd (some_choice source (sym (cond-true (is_there present (target_of verb)) Nothing (choice_from (find (is_there present) (bless_sources verb))) there) ∙ is))
   | inr gone ↦ (
     found_there (is_there present) (bless_sources verb) source
-        (one_source (find (is_there present) (bless_sources verb)) source (sym (cond-false (is_there present (target_of verb)) Nothing (choice_from (find (is_there present) (bless_sources verb))) gone) ∙ is)),
+        (one_source (find (is_there present) (bless_sources verb)) source
+        (sym (cond-false (is_there present (target_of verb)) Nothing (choice_from (find (is_there present) (bless_sources verb))) gone) ∙ is)),
     gone,
   )
 ]

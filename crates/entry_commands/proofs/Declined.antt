@@ -53,7 +53,8 @@ module _ {X : Type 0} (read : Result X Refusal) (declined : Declined) (fault : U
       by_result (Err stop) plans = λ _ _. tt
 
 -- nothing is to be tidied where the word has no folders
-pub tidied_unless : (read : Result Folders Refusal) (declined : Declined) (fault : Unsaid) (result : Result Plan Stop) (Told : Type 0) (old : Files) → fault ≡ unsaid_of declined → DeclinedFor declined read
+pub tidied_unless : (read : Result Folders Refusal) (declined : Declined) (fault : Unsaid) (result : Result Plan Stop) (Told : Type 0) (old : Files)
+    → fault ≡ unsaid_of declined → DeclinedFor declined read
     → IfOk result (PlansUnsaid fault) → IfOk result (λ plan. Told → (files : Files) → Drops plan.change old files → CleanAt files read)
 tidied_unless read declined fault (Ok plan) Told old is why plans = λ told files dropped. clean_declined files read declined plan why (as_declined declined fault plan is plans)
 tidied_unless read declined fault (Err stop) Told old is why plans = tt

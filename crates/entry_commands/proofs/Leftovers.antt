@@ -19,7 +19,8 @@ module _ (folder : Path) where
   among_there : (P : Path → Type 0) (names : List (List ℕ)) → All (λ name. P (under folder name)) names → All P (leftovers_among folder names)
   among_there P [] all = All-nil P
   among_there P (name ∷ names) all = elim (cases_Bool (is_temp name)) [
-    | inl temp ↦ rw temp (All-cons P (under folder name) (leftovers_among folder names) (All-head (λ n. P (under folder n)) name names all) (among_there P names (All-tail (λ n. P (under folder n)) name names all)))
+    | inl temp ↦ rw temp (All-cons P (under folder name) (leftovers_among folder names)
+        (All-head (λ n. P (under folder n)) name names all) (among_there P names (All-tail (λ n. P (under folder n)) name names all)))
     | inr other ↦ rw other (among_there P names (All-tail (λ n. P (under folder n)) name names all))
   ]
 
@@ -48,7 +49,8 @@ module _ (folder : Path) where
   each_kept (name ∷ names) = elim (cases_Bool (is_temp name)) [
     | inl temp ↦ subst (λ (temps : List Path). All (IsKept temps) (name ∷ names)) (sym (among_more name names temp))
         (All-cons (IsKept (under folder name ∷ leftovers_among folder names)) name names (first_kept name (leftovers_among folder names))
-        (All-weaker (IsKept (leftovers_among folder names)) (IsKept (under folder name ∷ leftovers_among folder names)) (kept_more (under folder name) (leftovers_among folder names)) names (each_kept names)))
+        (All-weaker (IsKept (leftovers_among folder names)) (IsKept (under folder name ∷ leftovers_among folder names))
+        (kept_more (under folder name) (leftovers_among folder names)) names (each_kept names)))
     | inr shown ↦ subst (λ (temps : List Path). All (IsKept temps) (name ∷ names)) (sym (among_same name names shown))
         (All-cons (IsKept (leftovers_among folder names)) name names (λ is. absurd (cc (is, shown))) (each_kept names))
   ]
@@ -83,7 +85,8 @@ pub clean_after : (old new : Files) (folder : Path) (temps : List Path) → HasL
 clean_after old new folder temps all lacks name is_name temp = elim (cases_Bool (is_listed temps (under folder name))) [
   | inl listed ↦ ap is_some (lacks.files (under folder name)) ∙ rw listed refl
   | inr not_listed ↦ ap is_some (lacks.files (under folder name)) ∙ rw not_listed (elim (cases_Bool (has old (under folder name))) [
-    | inl there ↦ absurd (not_true (sym (nat_list_eq_equiv.refl (under folder name)) ∙ All-contains (λ path. bytes_eq path (under folder name) ≡ false) temps (under folder name) (unlisted temps (under folder name) not_listed) (all name is_name temp there)))
+    | inl there ↦ absurd (not_true (sym (nat_list_eq_equiv.refl (under folder name))
+        ∙ All-contains (λ path. bytes_eq path (under folder name) ≡ false) temps (under folder name) (unlisted temps (under folder name) not_listed) (all name is_name temp there)))
     | inr none ↦ none
   ])
 ]

@@ -70,7 +70,8 @@ cut_short : (text : List ℕ) (cut : Cut) → IfSome (counter_from text cut) Are
 cut_short text None = left_alone (number_in text) (number_short text)
 cut_short text (Some parts) = two_short (number_in parts.0) (number_in parts.1) (number_short parts.0) (number_short parts.1)
 
-counted_short : (make : ℕ × ℕ → Counted) → ((numbers : ℕ × ℕ) → AreShort numbers → IsShort (make numbers)) → (numbers : Option (ℕ × ℕ)) → IfSome numbers AreShort → IfSome (option_map make numbers) IsShort
+counted_short : (make : ℕ × ℕ → Counted) → ((numbers : ℕ × ℕ) → AreShort numbers → IsShort (make numbers))
+    → (numbers : Option (ℕ × ℕ)) → IfSome numbers AreShort → IfSome (option_map make numbers) IsShort
 counted_short make each None short = tt
 counted_short make each (Some numbers) short = each numbers short
 

@@ -124,7 +124,8 @@ some_status paths present = by_counted present.counted
     by_good true = omega arith
     by_good false = by_bad present.bad
 
-    by_counted : (counted : Bool) → HasText (cond counted (Ok (codes "indeterminate\n")) (cond present.good (Ok (codes "good\n")) (cond present.bad (Ok (codes "bad\n")) (Err (refusals.NoSource (printed_path paths.counted))))))
+    by_counted : (counted : Bool) → HasText (cond counted (Ok (codes "indeterminate\n"))
+        (cond present.good (Ok (codes "good\n")) (cond present.bad (Ok (codes "bad\n")) (Err (refusals.NoSource (printed_path paths.counted))))))
     by_counted true = omega arith
     by_counted false = by_good present.good
 
@@ -142,7 +143,8 @@ some_list view esp json =
 pub some_boot : (view : Files) (esp : List ℕ) → 0 < length (boot_answer view esp).text
 some_boot view esp =
     some_answer view (boot_result view esp)
-    (answers_next (folders_of esp) _ (λ folders. answers_next (menu_at view folders) _ (λ menu. answers_next (first_of menu) (boot_entry view folders) (λ item. some_booted view (folder_of folders item.suffix) item.path (booted_name_of (file_name_of item.path))))))
+    (answers_next (folders_of esp) _ (λ folders. answers_next (menu_at view folders) _
+    (λ menu. answers_next (first_of menu) (boot_entry view folders) (λ item. some_booted view (folder_of folders item.suffix) item.path (booted_name_of (file_name_of item.path))))))
 
 pub some_install : (view : Files) (file name : List ℕ) (tries : Option (List ℕ)) (esp : List ℕ) → 0 < length (install_answer view file name tries esp).text
 some_install view file name tries esp =

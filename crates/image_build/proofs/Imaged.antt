@@ -171,7 +171,8 @@ images_refused view h n stub parts in_place sbat fault read is output why told =
     ∙ ap (λ (o : Option Refusal). image_or output h (contents view stub) (map (part_as (contents view)) parts) (sbat_if_in_place in_place sbat) o) told
 
 -- so a refusal is the one that is meant
-pub refused_as : (view : Files) (meant : Path → Result BuiltImage Refusal) (fault : LayoutFault) (output : Path) (why : Refusal) → builder_refusal output fault ≡ Some why → Images view meant (Err fault)
+pub refused_as : (view : Files) (meant : Path → Result BuiltImage Refusal) (fault : LayoutFault) (output : Path) (why : Refusal)
+    → builder_refusal output fault ≡ Some why → Images view meant (Err fault)
     → meant output ≡ Err why
 refused_as view meant faults.Memory output why told images = absurd (cc told)
 refused_as view meant fault output why told images = images output why told

@@ -26,7 +26,8 @@ unfolding each
 with_none made = ap Ok (append-nil made)
 
 -- one more
-pub with_one : (part : WantedPart) (sources : List Source) (made more : Found) → each source_of part.sources ≡ Ok sources → more ≡ made ++ named_part part.kind part.name sources ∷ [] → with_parts made (part ∷ []) ≡ Ok more
+pub with_one : (part : WantedPart) (sources : List Source) (made more : Found) → each source_of part.sources ≡ Ok sources
+    → more ≡ made ++ named_part part.kind part.name sources ∷ [] → with_parts made (part ∷ []) ≡ Ok more
 unfolding each
 with_one part sources made more found is =
     ap (λ r. ((r >>= λ l. Ok (named_part part.kind part.name l)) >>= λ y. Ok (y ∷ [])) >>= λ l. Ok (made ++ l)) found ∙ ap Ok (sym is)
@@ -75,7 +76,8 @@ named_so None is = cc
 named_so (Some name) is = refl
 
 -- a part that is put behind the others
-pub part_put : (old new : List PartSources) (part : PartSources) (sources : List Source) → new ≡ old ++ part ∷ [] → part.sources.items ≡ sources → map part_named new ≡ map part_named old ++ named_part part.kind part.name sources ∷ []
+pub part_put : (old new : List PartSources) (part : PartSources) (sources : List Source) → new ≡ old ++ part ∷ []
+    → part.sources.items ≡ sources → map part_named new ≡ map part_named old ++ named_part part.kind part.name sources ∷ []
 part_put old new part sources is are =
     ap (map part_named) is ∙ map-append part_named old (part ∷ []) ∙ ap (λ (l : List Source). map part_named old ++ named_part part.kind part.name l ∷ []) are
 
@@ -100,7 +102,8 @@ with_more_declined Memory made xs ys why = tt
 with_more_declined (Refused refusal) made xs ys why =
     ap (λ r. r >>= λ l. Ok (made ++ l)) (each_append sources_of xs ys) ∙ more_refused made (each sources_of xs) (each sources_of ys) refusal why
 
-pub after_more_declined : (declined : Declined) (made more : Found) (xs ys : List WantedPart) → with_parts made xs ≡ Ok more → DeclinedFor declined (with_parts more ys) → DeclinedFor declined (with_parts made (xs ++ ys))
+pub after_more_declined : (declined : Declined) (made more : Found) (xs ys : List WantedPart) → with_parts made xs ≡ Ok more
+    → DeclinedFor declined (with_parts more ys) → DeclinedFor declined (with_parts made (xs ++ ys))
 after_more_declined declined made more xs ys is why = subst (DeclinedFor declined) (sym (with_more made more xs ys is)) why
 
 -- all of them, behind none
@@ -125,7 +128,8 @@ module _ (made : Found) (rows : List (PartKind × Offer)) (i : ℕ) (inside : i 
       subst (λ l. DeclinedFor declined (with_parts made l)) (sym split) (with_more_declined declined made (offered_part row) (offered_parts (drop (i + 1) rows) more) why)
 
 -- sections, one by one
-module _ (made now : Found) (sections : List (SectionName × Given)) (i : ℕ) (inside : i < length sections) (before : with_parts made (map extra_part (take i sections)) ≡ Ok now) (section d : SectionName × Given) (is_section : section ≡ get_or sections i d) where
+module _ (made now : Found) (sections : List (SectionName × Given)) (i : ℕ) (inside : i < length sections)
+    (before : with_parts made (map extra_part (take i sections)) ≡ Ok now) (section d : SectionName × Given) (is_section : section ≡ get_or sections i d) where
   pub section_more : (more : Found) → with_parts now (extra_part section ∷ []) ≡ Ok more → with_parts made (map extra_part (take (i + 1) sections)) ≡ Ok more
   section_more more done =
       ap (λ (l : List (SectionName × Given)). with_parts made (map extra_part l)) (take_more sections i d inside)
@@ -138,7 +142,8 @@ module _ (made now : Found) (sections : List (SectionName × Given)) (i : ℕ) (
   section_declined declined why =
       let rest = map extra_part (drop (i + 1) sections) in
       let split : map extra_part sections ≡ map extra_part (take i sections) ++ (extra_part section ∷ rest) =
-      ap (map extra_part) (sym (take-append-drop i sections) ∙ ap (λ l. take i sections ++ l) (drop_more sections i d inside ∙ ap (λ (s : SectionName × Given). s ∷ drop (i + 1) sections) (sym is_section)))
+      ap (map extra_part) (sym (take-append-drop i sections)
+      ∙ ap (λ l. take i sections ++ l) (drop_more sections i d inside ∙ ap (λ (s : SectionName × Given). s ∷ drop (i + 1) sections) (sym is_section)))
       ∙ map-append extra_part (take i sections) (section ∷ drop (i + 1) sections) in
       subst (λ (l : List WantedPart). DeclinedFor declined (with_parts made l)) (sym split)
       (after_more_declined declined made now (map extra_part (take i sections)) (extra_part section ∷ rest) before (with_more_declined declined now (extra_part section ∷ []) rest why))

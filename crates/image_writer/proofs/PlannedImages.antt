@@ -17,4 +17,5 @@ planned_image-is plan sources files = λ h sizes in_place reads plans len.
 pub planned_image-one : (plan : ImageLayout) (sources : Sources) (files : Files) (image : List ℕ) → IsSourced plan sources files → IsPlannedImage plan sources files image
     → image ≡ planned_image plan sources files
 planned_image-one plan sources files image sourced is =
-    one_image plan (contents files (stub_path sources)) (new_sbat sources) (parts_bytes (contents files) (part_list sources)) image (planned_image plan sources files) sourced.plan_is is (planned_image-is plan sources files)
+    one_image plan (contents files (stub_path sources)) (new_sbat sources) (parts_bytes (contents files) (part_list sources)) image
+    (planned_image plan sources files) sourced.plan_is is (planned_image-is plan sources files)

@@ -147,8 +147,10 @@ module _ (n : ℕ) (per_key : Bool) (group : Option (List ℕ)) where
       (λ earlier kept item held.
       let keep : Bool = is_kept_record n per_key earlier item in
       subst (λ s. s ≤ min n (group_size per_key group (earlier ++ item ∷ [])) + cond (has_good per_key group (earlier ++ item ∷ [])) 1 0) (sym (size_kept per_key group kept item keep))
-      (subst (λ s. group_size per_key group kept + cond keep (cond (is_in per_key group item) 1 0) 0 ≤ min n s + cond (has_good per_key group (earlier ++ item ∷ [])) 1 0) (sym (size_push per_key group earlier item))
-      (subst (λ b. group_size per_key group kept + cond keep (cond (is_in per_key group item) 1 0) 0 ≤ min n (group_size per_key group earlier + cond (is_in per_key group item) 1 0) + cond b 1 0) (sym (good_push per_key group earlier item))
+      (subst (λ s. group_size per_key group kept + cond keep (cond (is_in per_key group item) 1 0) 0 ≤ min n s + cond
+      (has_good per_key group (earlier ++ item ∷ [])) 1 0) (sym (size_push per_key group earlier item))
+      (subst (λ b. group_size per_key group kept + cond keep (cond (is_in per_key group item) 1 0) 0 ≤ min n
+      (group_size per_key group earlier + cond (is_in per_key group item) 1 0) + cond b 1 0) (sym (good_push per_key group earlier item))
       (few_step n (group_size per_key group earlier) (group_size per_key group kept) (is_in per_key group item) keep (is_good item) (has_good per_key group earlier) held
       (why_kept earlier item)))))
       menu (omega arith))

@@ -99,10 +99,13 @@ module _ (n : ℕ) (per_key : Bool) (group : Option (List ℕ)) where
       ≡ rest_kept n (group_size per_key group earlier) (has_good per_key group earlier) (cond here (item ∷ of_group later) (of_group later))
   unfolding rest_kept
   next earlier later item true is =
-      ap (λ b. (if b then (item ∷ []) else []) ++ rest_kept n (group_size per_key group (earlier ++ item ∷ [])) (has_good per_key group (earlier ++ item ∷ [])) (of_group later)) (keep_is earlier item is)
-      ∙ ap (λ size. (if nat_lt (group_size per_key group earlier) n || (is_good item && not (has_good per_key group earlier)) then (item ∷ []) else []) ++ rest_kept n size (has_good per_key group (earlier ++ item ∷ [])) (of_group later))
+      ap (λ b. (if b then (item ∷ []) else []) ++ rest_kept n (group_size per_key group (earlier ++ item ∷ []))
+      (has_good per_key group (earlier ++ item ∷ [])) (of_group later)) (keep_is earlier item is)
+      ∙ ap (λ size. (if nat_lt (group_size per_key group earlier) n || (is_good item && not (has_good per_key group earlier)) then
+      (item ∷ []) else []) ++ rest_kept n size (has_good per_key group (earlier ++ item ∷ [])) (of_group later))
       (size_push per_key group earlier item ∙ ap (λ b. group_size per_key group earlier + cond b 1 0) is)
-      ∙ ap (λ good. (if nat_lt (group_size per_key group earlier) n || (is_good item && not (has_good per_key group earlier)) then (item ∷ []) else []) ++ rest_kept n (group_size per_key group earlier + 1) good (of_group later))
+      ∙ ap (λ good. (if nat_lt (group_size per_key group earlier) n || (is_good item && not (has_good per_key group earlier)) then
+      (item ∷ []) else []) ++ rest_kept n (group_size per_key group earlier + 1) good (of_group later))
       (good_push per_key group earlier item ∙ ap (λ b. has_good per_key group earlier || (b && is_good item)) is)
   next earlier later item false is =
       ap (λ size. rest_kept n size (has_good per_key group (earlier ++ item ∷ [])) (of_group later))

@@ -21,7 +21,8 @@ doomed_push n per_key earlier (first ∷ later) item =
     let here : List MenuItem = if is_kept_record n per_key earlier first then [] else (first ∷ []) in
     ap (λ (l : List MenuItem). here ++ l) (doomed_push n per_key (earlier ++ first ∷ []) later item)
     ∙ sym (append_assoc here (doomed_behind n per_key (earlier ++ first ∷ []) later) (if is_kept_record n per_key ((earlier ++ first ∷ []) ++ later) item then [] else (item ∷ [])))
-    ∙ ap (λ (l : List MenuItem). (here ++ doomed_behind n per_key (earlier ++ first ∷ []) later) ++ (if is_kept_record n per_key l item then [] else (item ∷ []))) (append_assoc earlier (first ∷ []) later)
+    ∙ ap (λ (l : List MenuItem). (here ++ doomed_behind n per_key (earlier ++ first ∷ []) later) ++
+    (if is_kept_record n per_key l item then [] else (item ∷ []))) (append_assoc earlier (first ∷ []) later)
 
 -- what is kept of some records has no more of any group than they, and no more of it is doomed than before
 record IsFront (n : ℕ) (per_key : Bool) (doomed earlier kept : List MenuItem) : Type 0 where

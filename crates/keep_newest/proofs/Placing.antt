@@ -61,10 +61,12 @@ module _ (n : ℕ) (per_key : Bool) where
   placed : (earlier later : List MenuItem) → filter_map (slice_get (earlier ++ later)) (places_behind n per_key earlier later) ≡ doomed_behind n per_key earlier later
   placed earlier [] = refl
   placed earlier (item ∷ later) =
-      by (subst (λ (l : List MenuItem). filter_map (slice_get l) (places_behind n per_key (earlier ++ item ∷ []) later) ≡ doomed_behind n per_key (earlier ++ item ∷ []) later) (append_assoc earlier (item ∷ []) later) (placed (earlier ++ item ∷ []) later))
+      by (subst (λ (l : List MenuItem). filter_map (slice_get l) (places_behind n per_key (earlier ++ item ∷ []) later) ≡ doomed_behind n per_key
+      (earlier ++ item ∷ []) later) (append_assoc earlier (item ∷ []) later) (placed (earlier ++ item ∷ []) later))
       (is_kept_record n per_key earlier item)
     where
-      by : filter_map (slice_get (earlier ++ item ∷ later)) (places_behind n per_key (earlier ++ item ∷ []) later) ≡ doomed_behind n per_key (earlier ++ item ∷ []) later → (keep : Bool) → filter_map (slice_get (earlier ++ item ∷ later)) ((if keep then [] else (length earlier ∷ [])) ++ places_behind n per_key (earlier ++ item ∷ []) later)
+      by : filter_map (slice_get (earlier ++ item ∷ later)) (places_behind n per_key (earlier ++ item ∷ []) later) ≡ doomed_behind n per_key
+          (earlier ++ item ∷ []) later → (keep : Bool) → filter_map (slice_get (earlier ++ item ∷ later)) ((if keep then [] else (length earlier ∷ [])) ++ places_behind n per_key (earlier ++ item ∷ []) later)
           ≡ (if keep then [] else (item ∷ [])) ++ doomed_behind n per_key (earlier ++ item ∷ []) later
       by rest true = rest
       by rest false = ap (λ o. cons_option o (filter_map (slice_get (earlier ++ item ∷ later)) (places_behind n per_key (earlier ++ item ∷ []) later))) (got earlier later item)
@@ -83,10 +85,12 @@ module _ (n : ℕ) (per_key : Bool) where
       long : length (earlier ++ item ∷ []) ≡ length earlier + 1
       long = length-append earlier (item ∷ [])
 
-      above : Rises (length (earlier ++ item ∷ [])) (length (earlier ++ item ∷ []) + length later) (places_behind n per_key (earlier ++ item ∷ []) later) → All (λ place. length earlier < place) (places_behind n per_key (earlier ++ item ∷ []) later)
+      above : Rises (length (earlier ++ item ∷ [])) (length (earlier ++ item ∷ []) + length later)
+          (places_behind n per_key (earlier ++ item ∷ []) later) → All (λ place. length earlier < place) (places_behind n per_key (earlier ++ item ∷ []) later)
       above rest = λ k d lt. omega (arith, long, rest.from k d lt)
 
-      by : Rises (length (earlier ++ item ∷ [])) (length (earlier ++ item ∷ []) + length later) (places_behind n per_key (earlier ++ item ∷ []) later) → (keep : Bool) → Rises (length earlier) (length earlier + length (item ∷ later)) ((if keep then [] else (length earlier ∷ [])) ++ places_behind n per_key (earlier ++ item ∷ []) later)
+      by : Rises (length (earlier ++ item ∷ [])) (length (earlier ++ item ∷ []) + length later)
+          (places_behind n per_key (earlier ++ item ∷ []) later) → (keep : Bool) → Rises (length earlier) (length earlier + length (item ∷ later)) ((if keep then [] else (length earlier ∷ [])) ++ places_behind n per_key (earlier ++ item ∷ []) later)
       by rest true = record {
         from = λ k d lt. omega (arith, above rest k d lt);
         upto = λ k d lt. omega (arith, long, rest.upto k d lt);

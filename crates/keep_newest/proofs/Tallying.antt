@@ -24,8 +24,10 @@ places_push n per_key earlier [] item =
 places_push n per_key earlier (first ∷ later) item =
     let here : List ℕ = if is_kept_record n per_key earlier first then [] else (length earlier ∷ []) in
     ap (λ (l : List ℕ). here ++ l) (places_push n per_key (earlier ++ first ∷ []) later item)
-    ∙ sym (append_assoc here (places_behind n per_key (earlier ++ first ∷ []) later) (if is_kept_record n per_key ((earlier ++ first ∷ []) ++ later) item then [] else (length ((earlier ++ first ∷ []) ++ later) ∷ [])))
-    ∙ ap (λ (l : List MenuItem). (here ++ places_behind n per_key (earlier ++ first ∷ []) later) ++ (if is_kept_record n per_key l item then [] else (length l ∷ []))) (append_assoc earlier (first ∷ []) later)
+    ∙ sym (append_assoc here (places_behind n per_key (earlier ++ first ∷ []) later)
+    (if is_kept_record n per_key ((earlier ++ first ∷ []) ++ later) item then [] else (length ((earlier ++ first ∷ []) ++ later) ∷ [])))
+    ∙ ap (λ (l : List MenuItem). (here ++ places_behind n per_key (earlier ++ first ∷ []) later) ++
+    (if is_kept_record n per_key l item then [] else (length l ∷ []))) (append_assoc earlier (first ∷ []) later)
 
 pub place_more : (n : ℕ) (per_key : Bool) (items : List MenuItem) (i : ℕ) (item : MenuItem) (keep : Bool)
     → i < length items → item ≡ get_or items i item → keep ≡ is_kept_record n per_key (take i items) item

@@ -38,7 +38,8 @@ module _ (n : ℕ) (per_key : Bool) where
   apart_doomed path earlier (item ∷ later) apart =
       by (apart_doomed path (earlier ++ item ∷ []) later apart.1) (is_kept_record n per_key earlier item)
     where
-      by : IsApart path (doomed_behind n per_key (earlier ++ item ∷ []) later) → (keep : Bool) → IsApart path ((if keep then [] else (item ∷ [])) ++ doomed_behind n per_key (earlier ++ item ∷ []) later)
+      by : IsApart path (doomed_behind n per_key (earlier ++ item ∷ []) later) → (keep : Bool)
+          → IsApart path ((if keep then [] else (item ∷ [])) ++ doomed_behind n per_key (earlier ++ item ∷ []) later)
       by rest true = rest
       by rest false = (apart.0, rest)
 
@@ -63,7 +64,8 @@ module _ (n : ℕ) (per_key : Bool) where
       apart : IsApart item.path later
       apart = IsDistinct-head bytes_eq item.path (paths_of later) own
 
-      by : filter (goes (paths_of doomed)) later ≡ kept_behind n per_key (earlier ++ item ∷ []) later → (keep : Bool) → filter (goes (paths_of ((if keep then [] else (item ∷ [])) ++ doomed))) (item ∷ later)
+      by : filter (goes (paths_of doomed)) later ≡ kept_behind n per_key (earlier ++ item ∷ []) later
+          → (keep : Bool) → filter (goes (paths_of ((if keep then [] else (item ∷ [])) ++ doomed))) (item ∷ later)
           ≡ (if keep then (item ∷ []) else []) ++ kept_behind n per_key (earlier ++ item ∷ []) later
       by rest true =
           cond-true (goes (paths_of doomed) item) _ _ (ap not (not_among item.path doomed (apart_doomed item.path (earlier ++ item ∷ []) later apart)))

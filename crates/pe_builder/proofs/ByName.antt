@@ -109,5 +109,6 @@ loaded_bytes-finished_image h sizes contents (Some sbat) stub f name =
     let sbat_fits = buildable_sbat h (length stub) sizes (Some (length sbat)) f.buildable in
     let len = length-with_content h sbat stub (stands h stub (length sbat) (stages-shape stub h (pe_of-stages stub h f.reads)) sbat_fits) in
     let H : ℕ → Type 0 = λ k. HasImage changed k sizes in
-    loaded_bytes-image new_stub changed sizes contents name (pe_of-with_content stub sbat h (sbat_index h) f.reads fits) (subst H (sym len) (has_finished h sizes contents (Some sbat) stub f)) f.lengths
+    loaded_bytes-image new_stub changed sizes contents name (pe_of-with_content stub sbat h (sbat_index h) f.reads fits)
+    (subst H (sym len) (has_finished h sizes contents (Some sbat) stub f)) f.lengths
     ∙ replaced_loads h sbat stub name (content_named name sizes contents) f.reads fits

@@ -136,7 +136,8 @@ raw_byte h (p ∷ ps) (c ∷ cs) bytes n a k len e from =
       | inl below ↦
           let none = raw_before h (raw_end s) (virtual_end s) k ps cs below in
           elim (cases_lt k s.raw_place) [
-            | inl gap ↦ rw (covers_before r k gap) (left below ∙ get_or_append_left front (pad_to unit c) 0 k (omega arith) ∙ get_or-pad_to unit bytes k ∙ get_or_past bytes k 0 (omega arith) ∙ sym none)
+            | inl gap ↦ rw (covers_before r k gap) (left below ∙ get_or_append_left front (pad_to unit c) 0 k (omega arith)
+                ∙ get_or-pad_to unit bytes k ∙ get_or_past bytes k 0 (omega arith) ∙ sym none)
             | inr at ↦ elim (cases_lt k (s.raw_place + length c)) [
               | inl inside ↦ rw (covers_inside r k at inside) (left below ∙ here at)
               | inr behind ↦ rw (covers_behind r k behind) (left below ∙ here at ∙ get_or_past c (k - s.raw_place) 0 (omega arith) ∙ sym none)
@@ -175,7 +176,8 @@ whole_byte h sizes contents ranges stub a k ok e =
 -- the fields and headers of an image lie in the stub
 fields_within : (stub : List ℕ) (h changed : Headers) (sizes : List WideSize) (more : List Range) → Shape stub h → changed.head ≡ h.head
     → HasImage changed (length stub) sizes → AllByRecursion (EndWithin (length stub)) more
-    → AllByRecursion (EndWithin (length stub)) (rewritten_fields h.head (head_with changed (new_sections changed (length stub) sizes)) (flat_map section_header (new_sections changed (length stub) sizes)) more)
+    → AllByRecursion (EndWithin (length stub)) (rewritten_fields h.head (head_with changed (new_sections changed (length stub) sizes))
+    (flat_map section_header (new_sections changed (length stub) sizes)) more)
 fields_within stub h changed sizes more shape same has rest =
     let n = length stub in
     let len = length-headers changed.head _ n (end_after changed.head.header_size changed.sections) sizes (small_of stub changed sizes has) in

@@ -109,13 +109,19 @@ agrees place size table n c i g z hs stub tail low r =
     let at : (p k : ℕ) → p + k ≤ n → part (w ++ tail) p k ≡ part w p k = λ p k h. part-append w tail p k (omega arith) in
     record {
       front = at 0 64 (omega arith) ∙ apart_five place size table n c i g z hs stub 0 64 r (inl (omega arith)) (inl (omega arith)) (inl (omega arith)) (inl (omega arith)) (inl (omega arith));
-      signature = u32_field (w ++ tail) stub place 24 0 (omega arith) (at (place + 0) 4 (omega arith) ∙ apart_five place size table n c i g z hs stub (place + 0) 4 r (inl (omega arith)) (inl (omega arith)) (inl (omega arith)) (inl (omega arith)) (inl (omega arith)));
-      optional_size = u16_field (w ++ tail) stub place 24 20 (omega arith) (at (place + 20) 2 (omega arith) ∙ apart_five place size table n c i g z hs stub (place + 20) 2 r (inr (omega arith)) (inl (omega arith)) (inl (omega arith)) (inl (omega arith)) (inl (omega arith)));
+      signature = u32_field (w ++ tail) stub place 24 0 (omega arith)
+          (at (place + 0) 4 (omega arith) ∙ apart_five place size table n c i g z hs stub (place + 0) 4 r (inl (omega arith)) (inl (omega arith)) (inl (omega arith)) (inl (omega arith)) (inl (omega arith)));
+      optional_size = u16_field (w ++ tail) stub place 24 20 (omega arith)
+          (at (place + 20) 2 (omega arith) ∙ apart_five place size table n c i g z hs stub (place + 20) 2 r (inr (omega arith)) (inl (omega arith)) (inl (omega arith)) (inl (omega arith)) (inl (omega arith)));
       same = record {
-        magic = u16_field (w ++ tail) stub (place + 24) size 0 (omega arith) (at (place + 24 + 0) 2 (omega arith) ∙ apart_five place size table n c i g z hs stub (place + 24 + 0) 2 r (inr (omega arith)) (inl (omega arith)) (inl (omega arith)) (inl (omega arith)) (inl (omega arith)));
-        section_alignment = u32_field (w ++ tail) stub (place + 24) size 32 (omega arith) (at (place + 24 + 32) 4 (omega arith) ∙ apart_five place size table n c i g z hs stub (place + 24 + 32) 4 r (inr (omega arith)) (inr (omega arith)) (inl (omega arith)) (inl (omega arith)) (inl (omega arith)));
-        file_alignment = u32_field (w ++ tail) stub (place + 24) size 36 (omega arith) (at (place + 24 + 36) 4 (omega arith) ∙ apart_five place size table n c i g z hs stub (place + 24 + 36) 4 r (inr (omega arith)) (inr (omega arith)) (inl (omega arith)) (inl (omega arith)) (inl (omega arith)));
-        header_size = u32_field (w ++ tail) stub (place + 24) size 60 (omega arith) (at (place + 24 + 60) 4 (omega arith) ∙ apart_five place size table n c i g z hs stub (place + 24 + 60) 4 r (inr (omega arith)) (inr (omega arith)) (inr (omega arith)) (inl (omega arith)) (inl (omega arith)));
+        magic = u16_field (w ++ tail) stub (place + 24) size 0 (omega arith)
+            (at (place + 24 + 0) 2 (omega arith) ∙ apart_five place size table n c i g z hs stub (place + 24 + 0) 2 r (inr (omega arith)) (inl (omega arith)) (inl (omega arith)) (inl (omega arith)) (inl (omega arith)));
+        section_alignment = u32_field (w ++ tail) stub (place + 24) size 32 (omega arith)
+            (at (place + 24 + 32) 4 (omega arith) ∙ apart_five place size table n c i g z hs stub (place + 24 + 32) 4 r (inr (omega arith)) (inr (omega arith)) (inl (omega arith)) (inl (omega arith)) (inl (omega arith)));
+        file_alignment = u32_field (w ++ tail) stub (place + 24) size 36 (omega arith)
+            (at (place + 24 + 36) 4 (omega arith) ∙ apart_five place size table n c i g z hs stub (place + 24 + 36) 4 r (inr (omega arith)) (inr (omega arith)) (inl (omega arith)) (inl (omega arith)) (inl (omega arith)));
+        header_size = u32_field (w ++ tail) stub (place + 24) size 60 (omega arith)
+            (at (place + 24 + 60) 4 (omega arith) ∙ apart_five place size table n c i g z hs stub (place + 24 + 60) 4 r (inr (omega arith)) (inr (omega arith)) (inr (omega arith)) (inl (omega arith)) (inl (omega arith)));
         directory_count = u32_field_behind (w ++ tail) stub (place + 24) size 68 40 (omega arith) behind68;
         certificate_size = u32_field_behind (w ++ tail) stub (place + 24) size 68 80 (omega arith) behind68;
       };
@@ -259,7 +265,12 @@ image_stages stub tail h parts s has len =
       coff_is = coff_of-more n m place _ (part image place 24) s.coff grown agree.signature agree.optional_size (omega (arith, write.count_is)) s.coff_is
           ∙ ap (λ (z : ℕ). let c : Coff = record { section_count = z; optional_size = size } in Ok c) write.count_is;
       head_is = optional_of-more n m place after.section_count s.coff _ (part image (place + 24) size) h.head grown agree.same (omega arith) s.head_is
-          ∙ ap (λ (z : ℕ). let c : Head = record h.head { section_count = after.section_count; initialized_size = z; image_size = u32_at (part image (place + 24) size) 56 } in Ok c) write.initialized_is
+          ∙ ap (λ (z : ℕ). let c : Head = record h.head {
+            section_count = after.section_count;
+            initialized_size =
+                z;
+            image_size = u32_at (part image (place + 24) size) 56;
+          } in Ok c) write.initialized_is
           ∙ ap (λ (z : ℕ). let c : Head = record h.head { section_count = after.section_count; initialized_size = after.initialized_size; image_size = z } in Ok c) write.image_is;
       sections_is = ap (λ (z : List ℕ). sections_of m h.head.header_size (sc + length new) table_place [] z) whole
           ∙ ap (λ (z : ℕ). sections_of m h.head.header_size (sc + z) table_place [] (part stub table_place (40 * sc) ++ headers)) k

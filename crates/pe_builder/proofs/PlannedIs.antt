@@ -73,7 +73,8 @@ unfolding with_headers
 image_by_of plan h sizes contents sbat stub changed n before after sections replaced len =
     ap (λ (b : Head). with_raw b.file_alignment (with_fields b plan.after (flat_map section_header plan.sections.items) (replaced_by plan.sbat sbat stub)) contents) before
     ∙ ap (λ (a : Head). with_raw h.head.file_alignment (with_fields h.head a (flat_map section_header plan.sections.items) (replaced_by plan.sbat sbat stub)) contents) after
-    ∙ ap (λ (s : List Section). with_raw h.head.file_alignment (with_fields h.head (head_with h (new_sections h n sizes)) (flat_map section_header s) (replaced_by plan.sbat sbat stub)) contents) sections
+    ∙ ap (λ (s : List Section). with_raw h.head.file_alignment
+    (with_fields h.head (head_with h (new_sections h n sizes)) (flat_map section_header s) (replaced_by plan.sbat sbat stub)) contents) sections
     ∙ ap (λ (l : List ℕ). with_raw h.head.file_alignment (with_fields h.head (head_with h (new_sections h n sizes)) (flat_map section_header (new_sections h n sizes)) l) contents) replaced
     ∙ ap (λ (k : ℕ). with_raw h.head.file_alignment (with_fields h.head (head_with h (new_sections h k sizes)) (flat_map section_header (new_sections h k sizes)) changed) contents) len
 

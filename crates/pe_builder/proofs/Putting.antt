@@ -8,7 +8,14 @@ use Rattle.pe_builder.specs.Puts.{put}
 
 pub length-put : (place : ℕ) (new bytes : List ℕ) → place + length new ≤ length bytes → length (put place new bytes) ≡ length bytes
 unfolding put
-length-put place new bytes h = omega (arith, length-append (take place bytes) (new ++ drop (place + length new) bytes), length-append new (drop (place + length new) bytes), length-take place bytes, length-drop (place + length new) bytes)
+length-put place new bytes h = omega (
+  arith,
+  length-append (take place bytes) (new ++ drop (place + length new) bytes),
+  length-append new
+      (drop (place + length new) bytes),
+  length-take place bytes,
+  length-drop (place + length new) bytes,
+)
 
 -- what stands before
 pub take-put : (n place : ℕ) (new bytes : List ℕ) → n ≤ place → place ≤ length bytes → take n (put place new bytes) ≡ take n bytes

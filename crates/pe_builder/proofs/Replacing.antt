@@ -145,7 +145,8 @@ header_resized p raw n v fill stub start w at room small =
     let new = put p (little_bytes 4 v) (put raw fill stub) in
     let l1 : length (put raw fill stub) ≡ n = length-put raw fill stub (omega arith) ∙ w.length_is in
     same_section _ _ _ v _ _ _ _ _ _ _ _
-    (take-take 8 40 (drop start new) (omega arith) ∙ apart_two p raw n (little_bytes 4 v) fill stub start 8 w (inl (omega arith)) (inl (omega arith)) ∙ sym (take-take 8 40 (drop start stub) (omega arith)))
+    (take-take 8 40 (drop start new) (omega arith) ∙ apart_two p raw n (little_bytes 4 v) fill stub start 8 w (inl (omega arith)) (inl (omega arith))
+    ∙ sym (take-take 8 40 (drop start stub) (omega arith)))
     (u32_at-part new start 40 8 (omega arith) ∙ ap (u32_at new) at ∙ u32_at-put p v (put raw fill stub) (omega arith) small)
     (u32_field new stub start 40 12 (omega arith) (apart_two p raw n (little_bytes 4 v) fill stub (start + 12) 4 w (inr (omega arith)) (inl (omega arith))))
     (u32_field new stub start 40 16 (omega arith) (apart_two p raw n (little_bytes 4 v) fill stub (start + 16) 4 w (inr (omega arith)) (inl (omega arith))))
@@ -224,9 +225,11 @@ pe_of-with_content stub content h i e fits =
     let lb : length (part stub t (40 * i)) ≡ 40 * i = length-part stub t (40 * i) (omega arith) in
     let lh : length (part stub (t + 40 * i) 40) ≡ 40 = length-part stub (t + 40 * i) 40 (omega arith) in
     let lo : length (part new (t + 40 * i) 40) ≡ 40 = length-part new (t + 40 * i) 40 (omega (arith, len)) in
-    let resized_table = table-resized n h.head.header_size i k t v (part stub t (40 * i)) (part stub (t + 40 * i) 40) (part new (t + 40 * i) 40) (part stub (t + 40 * i + 40) (40 * k)) h.sections no_section lb lh lo header size fits.memory old in
+    let resized_table = table-resized n h.head.header_size i k t v (part stub t (40 * i)) (part stub (t + 40 * i) 40)
+    (part new (t + 40 * i) 40) (part stub (t + 40 * i + 40) (40 * k)) h.sections no_section lb lh lo header size fits.memory old in
     let b0 : part new t (40 * i) ≡ part stub t (40 * i) = apart_two p s.raw_place n _ fill stub t (40 * i) w (inl (omega arith)) (inl (omega arith)) in
-    let b2 : part new (t + 40 * i + 40) (40 * k) ≡ part stub (t + 40 * i + 40) (40 * k) = apart_two p s.raw_place n _ fill stub (t + 40 * i + 40) (40 * k) w (inr (omega (arith, w.size_is))) (inl (omega arith)) in
+    let b2 : part new (t + 40 * i + 40) (40 * k) ≡ part stub (t + 40 * i + 40) (40 * k) =
+    apart_two p s.raw_place n _ fill stub (t + 40 * i + 40) (40 * k) w (inr (omega (arith, w.size_is))) (inl (omega arith)) in
     let now : part new t (40 * (i + suc k)) ≡ part stub t (40 * i) ++ (part new (t + 40 * i) 40 ++ part stub (t + 40 * i + 40) (40 * k)) =
     table-parts new t i k (omega (arith, len))
     ∙ ap (λ (l : List ℕ). l ++ (part new (t + 40 * i) 40 ++ part new (t + 40 * i + 40) (40 * k))) b0

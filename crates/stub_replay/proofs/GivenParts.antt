@@ -122,7 +122,8 @@ given_loaded h sizes contents (Some sbat) stub has name =
     elim (cases_Bool (bytes_eq sbat_name name)) [
       | inl same ↦
           let e : sbat_name ≡ name = (bytes_eq-Decides sbat_name name).0 same in
-          let alone : find_content name sizes contents ≡ None = subst (λ (n : List ℕ). find_content n sizes contents ≡ None) e (sbat_alone h sizes contents (length sbat) has.buildable.may_replace free) in
+          let alone : find_content name sizes contents ≡ None =
+          subst (λ (n : List ℕ). find_content n sizes contents ≡ None) e (sbat_alone h sizes contents (length sbat) has.buildable.may_replace free) in
           rw (same, alone) refl
       | inr other ↦ rw other (stub_or_part h sizes contents stub name has.reads free)
     ]

@@ -68,7 +68,8 @@ unfolding measured_by
 sections_all P file i xs ys end extends = (extends.0, extends.1, λ told. extends.2 told ∙ items_all (λ name. section_items name (loaded_bytes file name)) i end)
 
 -- the one that a register is related to
-first_related : (Q : Register → Type 0) (R : Register → Register → Type 0) (old : Register) (ys : List Register) → ((r : Register) → R old r → Q r) → AllZip R (old ∷ []) ys → Q (slice_index_or ys 0 old)
+first_related : (Q : Register → Type 0) (R : Register → Register → Type 0) (old : Register) (ys : List Register)
+    → ((r : Register) → R old r → Q r) → AllZip R (old ∷ []) ys → Q (slice_index_or ys 0 old)
 first_related Q R old [] goes all = absurd all
 first_related Q R old (y ∷ ys) goes all = goes y all.0
 

@@ -29,14 +29,16 @@ pub returns-clause-entries : goal.returns-clause-entries
 returns-clause-entries g c told =
     let files = (g.M.Machine.state c.args.machine.now).files in
     found_more files c.args.folders.now.entries c.in_ok-temps.temps.items c.each_once.result.items
-    (λ temp is. c.each_once.ensures.all temp (subst (λ (l : List Path). Contains l temp) (sym c.in_ok-append.ensures.items) (Contains-append_left c.in_ok-temps.temps.items c.in_ok-images.images.items temp is)))
+    (λ temp is. c.each_once.ensures.all temp (subst (λ (l : List Path). Contains l temp)
+    (sym c.in_ok-append.ensures.items) (Contains-append_left c.in_ok-temps.temps.items c.in_ok-images.images.items temp is)))
     (c.in_ok-temps.ensures.all told)
 
 pub returns-clause-images : goal.returns-clause-images
 returns-clause-images g c told =
     let files = (g.M.Machine.state c.args.machine.now).files in
     found_more files c.args.folders.now.images c.in_ok-images.images.items c.each_once.result.items
-    (λ temp is. c.each_once.ensures.all temp (subst (λ (l : List Path). Contains l temp) (sym c.in_ok-append.ensures.items) (Contains-append_right c.in_ok-temps.temps.items c.in_ok-images.images.items temp is)))
+    (λ temp is. c.each_once.ensures.all temp (subst (λ (l : List Path). Contains l temp)
+    (sym c.in_ok-append.ensures.items) (Contains-append_right c.in_ok-temps.temps.items c.in_ok-images.images.items temp is)))
     (subst (λ (s : State). HasLeftovers s.files c.args.folders.now.images c.in_ok-images.images.items) (c.leftovers_in.ensures.looks.reads told).same (c.in_ok-images.ensures.all told))
 
 pub returns-clause-within : goal.returns-clause-within

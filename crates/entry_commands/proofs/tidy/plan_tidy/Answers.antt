@@ -17,7 +17,8 @@ returns-in-Err-clause-plans g c =
 
 pub returns-in-Err-clause-tidies : goal.returns-in-Err-clause-tidies
 returns-in-Err-clause-tidies g c =
-    tidied_unless (folders_of c.args.esp.now) c.in-Err.declined c.from.result c.plan_unsaid.result _ (g.M.Machine.state c.args.machine.now).files c.from.ensures c.in-Err.ensures c.plan_unsaid.ensures.plans
+    tidied_unless (folders_of c.args.esp.now) c.in-Err.declined c.from.result c.plan_unsaid.result _
+    (g.M.Machine.state c.args.machine.now).files c.from.ensures c.in-Err.ensures c.plan_unsaid.ensures.plans
 
 pub returns-in-Err-clause-words : goal.returns-in-Err-clause-words
 returns-in-Err-clause-words g c =

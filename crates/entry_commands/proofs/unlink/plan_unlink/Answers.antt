@@ -9,7 +9,8 @@ use Rattle.entry_commands.proofs.unlink.plan_unlink.Goals as goal
 pub returns-in-Err-clause-plans : goal.returns-in-Err-clause-plans
 returns-in-Err-clause-plans g c =
     let s = g.M.Machine.state c.args.machine.now in
-    plans_unless (entry_path c.args.name.now c.args.esp.now) c.in-Err.declined c.from.result c.plan_unsaid.result _ s (unlink_answer (seen s)) c.from.ensures c.in-Err.ensures c.plan_unsaid.ensures.plans
+    plans_unless (entry_path c.args.name.now c.args.esp.now) c.in-Err.declined c.from.result c.plan_unsaid.result _ s
+    (unlink_answer (seen s)) c.from.ensures c.in-Err.ensures c.plan_unsaid.ensures.plans
 
 pub returns-in-Err-clause-words : goal.returns-in-Err-clause-words
 returns-in-Err-clause-words g c =

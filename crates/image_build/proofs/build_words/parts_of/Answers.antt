@@ -16,7 +16,8 @@ returns-in_err-append_offered c =
 
 pub loop-row-preserved : goal.loop-row-preserved
 loop-row-preserved c =
-    let done : with_parts (map part_named c.loop-row.parts.items) (offered_part c.row-item.result) ≡ Ok (map part_named c.append_offered.new.parts.items) = search (rules, c.in_ok-append_offered.ensures) in
+    let done : with_parts (map part_named c.loop-row.parts.items) (offered_part c.row-item.result) ≡ Ok
+    (map part_named c.append_offered.new.parts.items) = search (rules, c.in_ok-append_offered.ensures) in
     sym (row_next (map part_named c.loop-row.parts.items) _ c.loop-row.row-index c.loop-row-test.true c.row-item.result c.row-item.result c.row-item.is _
     (map part_named c.append_offered.new.parts.items) done)
     ∙ c.loop-row.invariant

@@ -28,7 +28,8 @@ loop-section-preserved g c = record {
   appends = appends_on c.loop-section.invariant.appends c.in_ok-write_chunks.ensures.appends;
   grown = λ told.
       grown_as _ _ _ _ _
-      (flat_map-next (λ (stub : List ℕ) (cs : List Chunk). chunks_bytes stub (new_sbat c.args.sources.now) cs) section_chunks _ _ c.args.sections.now c.loop-section.section-index _ _ c.loop-section-test.true
+      (flat_map-next (λ (stub : List ℕ) (cs : List Chunk). chunks_bytes stub
+      (new_sbat c.args.sources.now) cs) section_chunks _ _ c.args.sections.now c.loop-section.section-index _ _ c.loop-section-test.true
       (appends-source (stub_path c.args.sources.now) c.know-2.ensures c.know.ensures.lasting c.loop-section.invariant.appends told) c.section_chunks.ensures)
       (grown_on _ _ _ _ _ _ (c.loop-section.invariant.grown told) (c.in_ok-write_chunks.ensures.grows told));
   taken = λ told. omega (arith, c.loop-section.invariant.taken told, c.in_ok-write_chunks.ensures.taken told, ap chunks_length c.section_chunks.ensures);

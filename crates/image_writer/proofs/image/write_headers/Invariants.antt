@@ -10,6 +10,7 @@ use Rattle.image_writer.proofs.image.write_headers.Given as goal
 abbrev pub invariant-loop-section : goal.invariant-loop-section
 invariant-loop-section g l = record {
   appends : Appends g.M.Machine.tells g.M.Machine.time g.M.Machine.state g.M.Machine.counts (λ before now. now ≡ before) l.temp l.initial.machine l.machine;
-  grown : IsTrue g.M.Machine.tells → IsGrown l.temp (flat_map (λ s. chunks_bytes (contents (g.M.Machine.state l.initial.machine).files (stub_path l.sources)) (new_sbat l.sources) (section_chunks s)) (take l.section-index l.sections)) (g.M.Machine.state l.initial.machine) (g.M.Machine.state l.machine);
+  grown : IsTrue g.M.Machine.tells → IsGrown l.temp (flat_map
+      (λ s. chunks_bytes (contents (g.M.Machine.state l.initial.machine).files (stub_path l.sources)) (new_sbat l.sources) (section_chunks s)) (take l.section-index l.sections)) (g.M.Machine.state l.initial.machine) (g.M.Machine.state l.machine);
   taken : IsTrue g.M.Machine.tells → TakesAtMost 0 (g.M.Machine.taken l.initial.machine) (g.M.Machine.taken l.machine);
 }

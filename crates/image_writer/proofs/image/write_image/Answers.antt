@@ -38,7 +38,8 @@ returns-clause-image g c = ok_then c.write_parts.result c.write_parts.ensures.gr
     ap (λ (head : Head). behind_stub files head.file_alignment c.stub_length-stub_length.result c.parts.result.now) c.stub_head.ensures
     ∙ ap (λ (n : ℕ). behind_stub files (planned_before plan).file_alignment n c.parts.result.now) c.stub_length-stub_length.ensures
     ∙ ap (behind_stub files (planned_before plan).file_alignment (planned_stub_length plan)) c.parts.ensures.items in
-    grown_from_none _ _ _ _ _ _ _ (c.requires.empty told) (grown_as _ _ _ _ _ (ap (λ (l : List ℕ). new_stub_bytes plan l (new_sbat sources)) (sym (contents-view m (stub_path sources) c.know.ensures.lasting))) (c.in_ok-write_stub.ensures.grows told)) back same
+    grown_from_none _ _ _ _ _ _ _ (c.requires.empty told) (grown_as _ _ _ _ _
+    (ap (λ (l : List ℕ). new_stub_bytes plan l (new_sbat sources)) (sym (contents-view m (stub_path sources) c.know.ensures.lasting))) (c.in_ok-write_stub.ensures.grows told)) back same
     ∙ finished_bytes plan stub (new_sbat sources) files (part_list sources) is.plan_is is.pieced h sizes in_place reads plans len)
 
 pub returns-in_err-write_stub-clause-taken : goal.returns-in_err-write_stub-clause-taken

@@ -38,7 +38,11 @@ returns-clause-grows g c = ok_then c.write_chunks-3.result c.write_chunks-3.ensu
     grown_as _ _ _ _ _
     (four _ _ _ _ _ _ _ _
     (ap (chunks_bytes stub sbat) c.number_chunks.ensures)
-    (ap (λ (s : List ℕ). chunks_bytes s sbat c.table_chunks.result) (appends-source (stub_path c.args.sources.now) c.know-2.ensures c.know.ensures.lasting c.write_chunks.ensures.appends told) ∙ ap (chunks_bytes stub sbat) c.table_chunks.ensures)
-    (ap (λ (s : List ℕ). headers_bytes s sbat c.new_sections.result.now) (appends-source (stub_path c.args.sources.now) c.know-2.ensures c.know.ensures.lasting (appends_on c.in_ok-write_chunks.ensures.appends c.write_chunks-2.ensures.appends) told) ∙ ap (headers_bytes stub sbat) c.new_sections.ensures)
-    (ap (λ (s : List ℕ). chunks_bytes s sbat c.rest_chunks.result) (appends-source (stub_path c.args.sources.now) c.know-2.ensures c.know.ensures.lasting (appends_on (appends_on c.in_ok-write_chunks.ensures.appends c.in_ok-write_chunks-2.ensures.appends) c.write_headers.ensures.appends) told) ∙ ap (chunks_bytes stub sbat) c.rest_chunks.ensures))
-    (grown_on _ _ _ _ _ _ (grown_on _ _ _ _ _ _ (grown_on _ _ _ _ _ _ (c.in_ok-write_chunks.ensures.grows told) (c.in_ok-write_chunks-2.ensures.grows told)) (c.in_ok-write_headers.ensures.grows told)) (rest told)))
+    (ap (λ (s : List ℕ). chunks_bytes s sbat c.table_chunks.result)
+    (appends-source (stub_path c.args.sources.now) c.know-2.ensures c.know.ensures.lasting c.write_chunks.ensures.appends told) ∙ ap (chunks_bytes stub sbat) c.table_chunks.ensures)
+    (ap (λ (s : List ℕ). headers_bytes s sbat c.new_sections.result.now)
+    (appends-source (stub_path c.args.sources.now) c.know-2.ensures c.know.ensures.lasting (appends_on c.in_ok-write_chunks.ensures.appends c.write_chunks-2.ensures.appends) told) ∙ ap (headers_bytes stub sbat) c.new_sections.ensures)
+    (ap (λ (s : List ℕ). chunks_bytes s sbat c.rest_chunks.result)
+    (appends-source (stub_path c.args.sources.now) c.know-2.ensures c.know.ensures.lasting (appends_on (appends_on c.in_ok-write_chunks.ensures.appends c.in_ok-write_chunks-2.ensures.appends) c.write_headers.ensures.appends) told) ∙ ap (chunks_bytes stub sbat) c.rest_chunks.ensures))
+    (grown_on _ _ _ _ _ _ (grown_on _ _ _ _ _ _ (grown_on _ _ _ _ _ _ (c.in_ok-write_chunks.ensures.grows told)
+    (c.in_ok-write_chunks-2.ensures.grows told)) (c.in_ok-write_headers.ensures.grows told)) (rest told)))

@@ -15,16 +15,20 @@ pub sections_for-requires-clause-file_unit : goal.sections_for-requires-clause-f
 sections_for-requires-clause-file_unit c = rw c.head-head.ensures (bounds c.args.stub.now c.args.stub_length c.requires.read).file_unit
 
 pub sections_for-requires-clause-memory_unit : goal.sections_for-requires-clause-memory_unit
-sections_for-requires-clause-memory_unit c = rw c.head-head.ensures (omega (arith, (bounds c.args.stub.now c.args.stub_length c.requires.read).file_unit, (bounds c.args.stub.now c.args.stub_length c.requires.read).units))
+sections_for-requires-clause-memory_unit c = rw c.head-head.ensures
+    (omega (arith, (bounds c.args.stub.now c.args.stub_length c.requires.read).file_unit, (bounds c.args.stub.now c.args.stub_length c.requires.read).units))
 
 pub sections_for-requires-clause-file : goal.sections_for-requires-clause-file
-sections_for-requires-clause-file c = rw c.head-head.ensures (plan_numbers c.args.stub.now c.args.stub_length c.stub_end-start.result c.args.sizes.now c.args.sbat_in_place c.stub_end-start.ensures.exact c.requires.none).file
+sections_for-requires-clause-file c = rw c.head-head.ensures
+    (plan_numbers c.args.stub.now c.args.stub_length c.stub_end-start.result c.args.sizes.now c.args.sbat_in_place c.stub_end-start.ensures.exact c.requires.none).file
 
 pub sections_for-requires-clause-memory : goal.sections_for-requires-clause-memory
-sections_for-requires-clause-memory c = rw c.head-head.ensures (plan_numbers c.args.stub.now c.args.stub_length c.stub_end-start.result c.args.sizes.now c.args.sbat_in_place c.stub_end-start.ensures.exact c.requires.none).memory
+sections_for-requires-clause-memory c = rw c.head-head.ensures
+    (plan_numbers c.args.stub.now c.args.stub_length c.stub_end-start.result c.args.sizes.now c.args.sbat_in_place c.stub_end-start.ensures.exact c.requires.none).memory
 
 pub head_after-requires-clause-memory_unit : goal.head_after-requires-clause-memory_unit
-head_after-requires-clause-memory_unit c = rw c.head-head.ensures (omega (arith, (bounds c.args.stub.now c.args.stub_length c.requires.read).file_unit, (bounds c.args.stub.now c.args.stub_length c.requires.read).units))
+head_after-requires-clause-memory_unit c = rw c.head-head.ensures
+    (omega (arith, (bounds c.args.stub.now c.args.stub_length c.requires.read).file_unit, (bounds c.args.stub.now c.args.stub_length c.requires.read).units))
 
 pub head_after-requires-clause-small_unit : goal.head_after-requires-clause-small_unit
 head_after-requires-clause-small_unit c = rw c.head-head.ensures (bounds c.args.stub.now c.args.stub_length c.requires.read).memory_unit
@@ -33,10 +37,12 @@ pub head_after-requires-clause-few : goal.head_after-requires-clause-few
 head_after-requires-clause-few c = rw c.head-head.ensures (plan_numbers c.args.stub.now c.args.stub_length c.stub_end-start.result c.args.sizes.now c.args.sbat_in_place c.stub_end-start.ensures.exact c.requires.none).few
 
 pub head_after-requires-clause-image : goal.head_after-requires-clause-image
-head_after-requires-clause-image c = rw c.head-head.ensures (plan_numbers c.args.stub.now c.args.stub_length c.stub_end-start.result c.args.sizes.now c.args.sbat_in_place c.stub_end-start.ensures.exact c.requires.none).image
+head_after-requires-clause-image c = rw c.head-head.ensures
+    (plan_numbers c.args.stub.now c.args.stub_length c.stub_end-start.result c.args.sizes.now c.args.sbat_in_place c.stub_end-start.ensures.exact c.requires.none).image
 
 pub head_after-requires-clause-initialized : goal.head_after-requires-clause-initialized
-head_after-requires-clause-initialized c = rw c.head-head.ensures (plan_numbers c.args.stub.now c.args.stub_length c.stub_end-start.result c.args.sizes.now c.args.sbat_in_place c.stub_end-start.ensures.exact c.requires.none).initialized
+head_after-requires-clause-initialized c = rw c.head-head.ensures
+    (plan_numbers c.args.stub.now c.args.stub_length c.stub_end-start.result c.args.sizes.now c.args.sbat_in_place c.stub_end-start.ensures.exact c.requires.none).initialized
 
 pub sbat_place-requires-clause-small : goal.sbat_place-requires-clause-small
 sbat_place-requires-clause-small c = omega (arith, table_inside c.args.stub.now c.args.stub_length c.requires.read, c.requires.read.small)
@@ -45,7 +51,8 @@ pub length_after-requires-clause-unit : goal.length_after-requires-clause-unit
 length_after-requires-clause-unit c = rw c.head-head.ensures (bounds c.args.stub.now c.args.stub_length c.requires.read).file_unit
 
 pub length_after-requires-clause-small_unit : goal.length_after-requires-clause-small_unit
-length_after-requires-clause-small_unit c = rw c.head-head.ensures (omega (arith, (bounds c.args.stub.now c.args.stub_length c.requires.read).units, (bounds c.args.stub.now c.args.stub_length c.requires.read).memory_unit))
+length_after-requires-clause-small_unit c = rw c.head-head.ensures
+    (omega (arith, (bounds c.args.stub.now c.args.stub_length c.requires.read).units, (bounds c.args.stub.now c.args.stub_length c.requires.read).memory_unit))
 
 pub returns : goal.returns
 returns c =

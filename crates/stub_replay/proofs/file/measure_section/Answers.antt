@@ -18,16 +18,19 @@ returns-in-None-clause-looks g c = looks_none (g.met.M.Machine.only_now c.args.m
 pub returns-in_ok-measure_part-in-Some-clause-value : goal.returns-in_ok-measure_part-in-Some-clause-value
 returns-in_ok-measure_part-in-Some-clause-value g c =
     let s = g.M.Machine.state c.args.machine.now in
-    section_some (IsTrue g.M.Machine.tells) (contents s.files c.args.path.now) (contents (seen s) c.args.path.now) c.args.name.now (headers_of c.args.head.now) c.in-Some.index c.loaded_range-range.result
+    section_some (IsTrue g.M.Machine.tells) (contents s.files c.args.path.now)
+    (contents (seen s) c.args.path.now) c.args.name.now (headers_of c.args.head.now) c.in-Some.index c.loaded_range-range.result
     c.args.registers.now c.measure_part.new.registers (shown_contents s c.args.path.now c.know.ensures.lasting) c.requires.head
     (sym c.find.ensures.at ∙ c.in-Some.is) c.in-Some.ensures.inside c.loaded_range-range.ensures.exact c.in_ok-measure_part-in-Some.ensures.value
 
 pub returns-in_ok-measure_part-in-Some-clause-taken : goal.returns-in_ok-measure_part-in-Some-clause-taken
 returns-in_ok-measure_part-in-Some-clause-taken g c =
-    section_long (IsTrue g.M.Machine.tells) (contents (g.M.Machine.state c.args.machine.now).files c.args.path.now) c.args.name.now (headers_of c.args.head.now) c.in-Some.index c.loaded_range-range.result _ _
+    section_long (IsTrue g.M.Machine.tells) (contents (g.M.Machine.state c.args.machine.now).files c.args.path.now) c.args.name.now
+    (headers_of c.args.head.now) c.in-Some.index c.loaded_range-range.result _ _
     c.requires.head (sym c.find.ensures.at ∙ c.in-Some.is) c.in-Some.ensures.inside c.loaded_range-range.ensures.exact c.measure_part.ensures.taken
 
 pub returns-in_err-measure_part-in-Some-clause-taken : goal.returns-in_err-measure_part-in-Some-clause-taken
 returns-in_err-measure_part-in-Some-clause-taken g c =
-    section_long (IsTrue g.M.Machine.tells) (contents (g.M.Machine.state c.args.machine.now).files c.args.path.now) c.args.name.now (headers_of c.args.head.now) c.in-Some.index c.loaded_range-range.result _ _
+    section_long (IsTrue g.M.Machine.tells) (contents (g.M.Machine.state c.args.machine.now).files c.args.path.now) c.args.name.now
+    (headers_of c.args.head.now) c.in-Some.index c.loaded_range-range.result _ _
     c.requires.head (sym c.find.ensures.at ∙ c.in-Some.is) c.in-Some.ensures.inside c.loaded_range-range.ensures.exact c.measure_part.ensures.taken

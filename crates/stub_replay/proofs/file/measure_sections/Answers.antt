@@ -38,7 +38,8 @@ loop-name-preserved g c =
     let before = c.loop-name.invariant in
     let section = c.in_ok-measure_section.ensures in
     let file = contents (g.M.Machine.state c.args.machine.now).files c.args.path.now in
-    let same : IsTrue g.M.Machine.tells → contents (g.M.Machine.state c.loop-name.machine).files c.args.path.now ≡ file = λ told. ap (λ (s : State). contents s.files c.args.path.now) (before.reads told).same in
+    let same : IsTrue g.M.Machine.tells → contents (g.M.Machine.state c.loop-name.machine).files c.args.path.now ≡ file =
+    λ told. ap (λ (s : State). contents s.files c.args.path.now) (before.reads told).same in
     let at = name_at c.measured_names-name-items.result.now c.loop-name.name-index _ c.measured_names-name-items.ensures (omega arith) in
     record {
       measured = sections_more (IsTrue g.M.Machine.tells) file _ _ c.loop-name.name-index c.args.registers.now c.loop-name.registers c.measure_section.new.registers same at before.measured section.value;

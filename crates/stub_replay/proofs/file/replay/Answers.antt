@@ -10,10 +10,12 @@ measure_sections-requires-clause-between g c =
 
 pub returns-clause-bank : goal.returns-clause-bank
 returns-clause-bank g c =
-    (one_after (IsTrue g.M.Machine.tells) (measured_list (contents (g.M.Machine.state c.args.machine.now).files c.args.path.now)) c.new-register.result c.from_mut-registers.result.now c.measure_sections.new.registers c.args.bank
+    (one_after (IsTrue g.M.Machine.tells) (measured_list (contents
+    (g.M.Machine.state c.args.machine.now).files c.args.path.now)) c.new-register.result c.from_mut-registers.result.now c.measure_sections.new.registers c.args.bank
     c.new-register.ensures c.from_mut-registers.ensures.value c.in_ok-measure_sections.ensures.value).0
 
 pub returns-clause-value : goal.returns-clause-value
 returns-clause-value g c =
-    (one_after (IsTrue g.M.Machine.tells) (measured_list (contents (g.M.Machine.state c.args.machine.now).files c.args.path.now)) c.new-register.result c.from_mut-registers.result.now c.measure_sections.new.registers c.args.bank
+    (one_after (IsTrue g.M.Machine.tells) (measured_list (contents
+    (g.M.Machine.state c.args.machine.now).files c.args.path.now)) c.new-register.result c.from_mut-registers.result.now c.measure_sections.new.registers c.args.bank
     c.new-register.ensures c.from_mut-registers.ensures.value c.in_ok-measure_sections.ensures.value).1

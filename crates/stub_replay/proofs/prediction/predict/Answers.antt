@@ -24,4 +24,5 @@ returns-clause-value g c told sizes =
     value_shown (IsTrue g.M.Machine.tells × HaveSizes files c.args.parts.now) (items_of (map (named_bytes files) c.args.parts.now)) c.args.banks.now
     c.in_ok-registers.registers.items c.deref_mut.result.now c.measure_all.new.registers c.deref.result.now c.in_ok-values.field-0.items
     c.in_ok-registers.ensures (search rules) c.in_ok-measure_all.ensures.value
-    (c.deref.ensures.value ∙ written_back c.in_ok-registers.registers.len c.in_ok-registers.registers.items c.measure_all.new.registers (search rules) (search rules)) c.in_ok-values.ensures (told, sizes)
+    (c.deref.ensures.value ∙ written_back c.in_ok-registers.registers.len c.in_ok-registers.registers.items c.measure_all.new.registers
+    (search rules) (search rules)) c.in_ok-values.ensures (told, sizes)
