@@ -8,7 +8,7 @@ use crate::counts::count_in;
 use boot_base::{BootPath, Refusal};
 use boot_machine::Machine;
 use command_plans::{Unsaid, folders_in, menu_at};
-use keep_newest::{DoomedFault, doomed_paths};
+use keep_newest::doomed_paths;
 use menu_order::MenuItem;
 use std::alloc::{AllocError, Global};
 use tool_words::KeepWords;
@@ -26,10 +26,7 @@ fn menu_paths(
     if menu.is_empty() {
         return Err(Unsaid::Refused(Refusal::NoEntries));
     }
-    match doomed_paths(alloc, menu, n, per_key) {
-        Ok(paths) => Ok(paths),
-        Err(DoomedFault::Memory) => Err(Unsaid::Memory),
-    }
+    Ok(doomed_paths(alloc, menu, n, per_key)?)
 }
 
 /// Where the entries stand that go if the newest are kept, in the order in which they go, or what the words are refused

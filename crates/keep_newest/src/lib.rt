@@ -8,4 +8,4 @@ mod newest;
 mod tests;
 
 pub use laws::keeping_laws;
-pub use newest::{DoomedFault, doomed, doomed_paths};
+pub use newest::{doomed, doomed_paths};

@@ -8,26 +8,6 @@ use boot_base::BootPath;
 use menu_order::MenuItem;
 use std::alloc::{AllocError, Global};
 use std::collections::BTreeMap;
-use thiserror::Error;
-
-/// Why it isn't known which entries go.
-#[derive(Debug, Drop, Error)]
-pub enum DoomedFault {
-    /// There was no memory to tell.
-    #[error("out of memory")]
-    Memory,
-}
-
-impl From<AllocError> for DoomedFault {
-    ghost use Rattle.std.specs.Prelude.{◌≡◌};
-    ghost use Rattle.keep_newest.specs.declared.newest.DoomedFault.TheVariants.{Memory};
-
-    ghost from_gives = { λ _ fault. fault ≡ Memory };
-
-    fn from(_error: AllocError) -> DoomedFault {
-        DoomedFault::Memory
-    }
-}
 
 /// What was seen of a group: how many entries, and whether one of them is good.
 #[derive(Clone, Copy)]
@@ -105,17 +85,13 @@ fn places(
 
 /// The places of the entries that go if of each group of a menu the first n are kept, and if none of these is good its
 /// first good one: the last of the menu first. With `per_key` the entries of one sort-key are a group, and those without
-/// one too; else all entries are one group.
-///
-/// # Errors
-///
-/// `Memory` alone.
+/// one too; else all entries are one group. Want of memory is its one fault.
 pub fn doomed(
     alloc: Global,
     items: &[MenuItem],
     n: u32,
     per_key: bool,
-) -> Result<Vec<usize>, DoomedFault>
+) -> Result<Vec<usize>, AllocError>
     ensures places { IfOk result (λ places. places.items ≡ doomed_places n per_key items.now) }
     ensures within { IfOk result (λ places. All (λ place. place < length items.now) places.items) }
     ensures entries { IfOk result (λ places. filter_map (slice_get items.now) places.items
@@ -143,19 +119,15 @@ fn paths_at(
     Ok(paths)
 }
 
-/// The paths of the entries that go, in the order of `doomed`.
-///
-/// # Errors
-///
-/// `Memory` alone.
+/// The paths of the entries that go, in the order of `doomed`. Want of memory is its one fault.
 pub fn doomed_paths(
     alloc: Global,
     items: &[MenuItem],
     n: u32,
     per_key: bool,
-) -> Result<Vec<BootPath>, DoomedFault>
+) -> Result<Vec<BootPath>, AllocError>
     ensures { IfOk result (λ paths. paths.items ≡ doomed_paths n per_key items.now) }
 {
     let places = doomed(alloc, items, n, per_key)?;
-    Ok(paths_at(alloc, items, places.as_slice())?)
+    paths_at(alloc, items, places.as_slice())
 }
