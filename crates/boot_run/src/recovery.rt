@@ -8,7 +8,7 @@ ghost use Rattle.command_plans.specs.Prelude.{CountsStop};
 use boot_base::FilePath;
 use boot_machine::Machine;
 use command_plans::Stop;
-use install_steps::{RecoverFault, recover};
+use install_steps::recover;
 use std::alloc::Global;
 
 /// Finishes or undoes the rename that a stop has left half done. Where there is no memory for the intent's path
@@ -25,9 +25,6 @@ pub fn recover_rename<M: Machine>(alloc: Global, machine: &mut M) -> Result<(), 
     ensures counts { CountsStop result (M.counts machine.old) (M.counts machine.new) }
 {
     let intent = FilePath::intent(alloc)?;
-    match recover(alloc, machine, &intent) {
-        Ok(()) => Ok(()),
-        Err(RecoverFault::Memory) => Err(Stop::Memory),
-        Err(RecoverFault::Disk) => Err(Stop::Disk),
-    }
+    recover(alloc, machine, &intent)?;
+    Ok(())
 }

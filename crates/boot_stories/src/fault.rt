@@ -1,7 +1,6 @@
 //! Why a story isn't told to its end, or a line of it isn't understood.
 use boot_base::PathFault;
 use boot_machine::{DiskFault, ReadFault};
-use install_steps::RecoverFault;
 use std::alloc::{AllocError, AllocFailed};
 use std::io;
 use tool_words::LineFault;
@@ -44,15 +43,6 @@ impl From<LineFault> for StoryFault {
         match fault {
             LineFault::Memory => StoryFault::Memory,
             LineFault::OpenQuote => StoryFault::Unclear,
-        }
-    }
-}
-
-impl From<RecoverFault> for StoryFault {
-    fn from(fault: RecoverFault) -> Self {
-        match fault {
-            RecoverFault::Memory => StoryFault::Memory,
-            RecoverFault::Disk => StoryFault::Disk,
         }
     }
 }

@@ -10,8 +10,6 @@ use Rattle.boot_machine.specs.Rows.{contents, move_in}
 use Rattle.boot_machine.specs.Counts.{Counts, DiskFailed}
 use Rattle.install_steps.specs.declared.faults.MoveFault.{MoveFault}
 use Rattle.install_steps.specs.declared.faults.MoveFault.TheVariants.{Disk as MDisk, NotFound as MNotFound, TargetExists}
-use Rattle.install_steps.specs.declared.faults.RecoverFault.{RecoverFault}
-use Rattle.install_steps.specs.declared.faults.RecoverFault.TheVariants.{Disk as RDisk, Memory as RMemory}
 use Rattle.install_steps.specs.declared.faults.StepFault.{StepFault}
 use Rattle.install_steps.specs.declared.faults.StepFault.TheVariants.{Disk as SDisk, NotFound as SNotFound}
 use Rattle.install_steps.specs.declared.moves.Intent.{Intent}
@@ -114,15 +112,6 @@ pub record Intends (from to : Path) (old new : Files) : Type 0 where
 abbrev pub IsIntentOf : Path → Path → Intent → Type 0
 IsIntentOf from to made =
     (made.path ≡ intent) × (made.bytes ≡ intent_bytes from to) × (made.temp ≡ intent ++ temp_end)
-
--- the disk failed, or the counts stay
-abbrev pub recover_fault : RecoverFault → Counts → Counts → Type 0
-recover_fault RDisk old new = DiskFailed old new
-recover_fault RMemory old new = new ≡ old
-
--- the counts after a recovery: a fault of the disk has its cause, and every other answer leaves them
-abbrev pub CountsRecover : {T : Type 0} → Result T RecoverFault → Counts → Counts → Type 0
-CountsRecover result old new = MatchResult result (λ _. new ≡ old) (λ fault. recover_fault fault old new)
 
 -- the files without these paths, and nothing else
 pub record Lacks (paths : List Path) (old new : Files) : Type 0 where

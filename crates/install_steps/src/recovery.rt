@@ -2,9 +2,9 @@
 ghost use Rattle.std.specs.Prelude.{[], ◌≡◌, ◌⊎◌, true, false, length, IsTrue, IfOk, OnOk, Some, option_map};
 ghost use Rattle.boot_base.specs.Intents.{names_of};
 ghost use Rattle.boot_base.specs.Paths.{intent as intent_path};
-ghost use Rattle.boot_machine.specs.Prelude.{CountsDisk, EachSince, HasOneCandidate, IsFirm, IsSettled, Looks, TakesAtMost, TakesNone, contents, has, recovered_view, HasNoHalfRename, intent_names};
+ghost use Rattle.boot_machine.specs.Prelude.{CountsDisk, CountsRead, EachSince, HasOneCandidate, IsFirm, IsSettled, Looks, TakesAtMost, TakesNone, contents, has, recovered_view, HasNoHalfRename, intent_names};
 ghost use Rattle.install_steps.specs.Recovery.{RecoversTo, SameFrom, SeesSame};
-ghost use Rattle.install_steps.specs.Steps.{CanStep, CountsRecover, LeavesAlone, NoNewTemp, StepsTo};
+ghost use Rattle.install_steps.specs.Steps.{CanStep, LeavesAlone, NoNewTemp, StepsTo};
 
 use crate::RecoverFault;
 use crate::steps::{settle, unlink_synced};
@@ -24,7 +24,7 @@ fn left_names<M: Machine>(
     requires size { IsTrue M.tells → size ≡ length (contents (M.state machine.old).files intent_path) }
     ensures names { IfOk result (λ found. IsTrue M.tells
         → option_map names_of found ≡ intent_names (M.state machine.old).files) }
-    ensures looks { Looks M.tells M.time M.state M.counts (CountsRecover result) machine.old machine.new }
+    ensures looks { Looks M.tells M.time M.state M.counts (CountsRead result) machine.old machine.new }
     ensures taken { IsTrue M.tells → TakesAtMost 2050 (M.taken machine.old) (M.taken machine.new) }
 {
     if size > INTENT_LIMIT {
@@ -85,7 +85,7 @@ fn finish_left<M: Machine>(
         (recovered_view (M.state machine.old).files) machine.old machine.new }
     ensures ready { OnOk result (IsTrue M.tells → CanStep (M.state machine.new)) }
     ensures temps { IsTrue M.tells → NoNewTemp (M.state machine.old) (M.state machine.new) }
-    ensures alone { LeavesAlone M.tells M.time M.state M.counts (CountsRecover result) [] machine.old machine.new }
+    ensures alone { LeavesAlone M.tells M.time M.state M.counts (CountsRead result) [] machine.old machine.new }
     ensures taken { IsTrue M.tells → TakesAtMost 2050 (M.taken machine.old) (M.taken machine.new) }
 {
     let Some(size) = machine.size(intent)? else {
@@ -118,7 +118,7 @@ pub fn recover<M: Machine>(
     ensures settled { OnOk result (IsTrue M.tells → IsFirm (M.state machine.old) → IsSettled (M.state machine.new)) }
     ensures ready { OnOk result (IsTrue M.tells → CanStep (M.state machine.new)) }
     ensures temps { IsTrue M.tells → NoNewTemp (M.state machine.old) (M.state machine.new) }
-    ensures alone { LeavesAlone M.tells M.time M.state M.counts (CountsRecover result) [] machine.old machine.new }
+    ensures alone { LeavesAlone M.tells M.time M.state M.counts (CountsRead result) [] machine.old machine.new }
     ensures taken { IsTrue M.tells → TakesAtMost 2050 (M.taken machine.old) (M.taken machine.new) }
 {
     settle(machine)?;
