@@ -4,6 +4,10 @@ use Rattle.boot_base.specs.declared.refusal.Refusal.{Refusal}
 use Rattle.boot_base.specs.declared.refusal.Refusal.TheVariants as refusals
 use Rattle.menu_order.specs.Splits.{number_in}
 
+-- the most that nine digits count
+abbrev pub counter_limit : ℕ
+counter_limit = 999999999
+
 -- the number that was read, unless it is 0, or the refusal of the word
 abbrev pub count_or : List ℕ → Option ℕ → Result ℕ Refusal
 count_or word None = Err (refusals.BadNumber word)

@@ -10,7 +10,7 @@ ghost use Rattle.boot_folder.specs.Records.{Unfit, uki_of};
 ghost use Rattle.boot_folder.specs.Scanning.{image_limit};
 ghost use Rattle.boot_machine.specs.Prelude.{Counts, Looks, State, TakesAtMost, contents, seen};
 ghost use Rattle.command_plans.specs.Prelude.{CanCopy, CountsStop, CountsUnsaid, DeclinesWords, Means, Plans, PlansAs, RefusesWords, Says, UnsaidFor, if_given, unsaid_counts};
-ghost use Rattle.entry_commands.specs.Counts.{count_in};
+ghost use Rattle.entry_commands.specs.Counts.{count_in, counter_limit};
 ghost use Rattle.entry_commands.specs.Installing.{IsImageName, ShowsEntry, entry_or, image_name, image_name_in, image_path, install_answer, install_result, installation_of, installed_entry, installed_image};
 ghost use Rattle.menu_order.specs.declared.item.MenuItem.{MenuItem};
 
@@ -37,7 +37,7 @@ struct Installation {
 // The tries that an option gives, if it is there.
 fn given_tries(alloc: Global, word: Option<&Text>) -> Result<Option<u32>, Declined>
     ensures means { Means (λ tries. tries) result (if_given count_in (option_map (λ text. text.now) word.entry)) }
-    ensures limit { IfOk result (λ tries. IfSome tries (λ n. n ≤ 999999999)) }
+    ensures limit { IfOk result (λ tries. IfSome tries (λ n. n ≤ counter_limit)) }
 {
     match word {
         Some(word) => Ok(Some(count_in(alloc, word.as_str())?)),
@@ -48,7 +48,7 @@ fn given_tries(alloc: Global, word: Option<&Text>) -> Result<Option<u32>, Declin
 // The name of the image's file.
 fn image_name(alloc: Global, name: &str, tries: Option<u32>) -> Result<String, AllocError>
     requires some { 0 < length name.now }
-    requires limit { IfSome tries (λ n. n ≤ 999999999) }
+    requires limit { IfSome tries (λ n. n ≤ counter_limit) }
     ensures { IfOk result (λ file. string_bytes file ≡ image_name name.now tries) }
 {
     match tries {

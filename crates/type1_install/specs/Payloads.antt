@@ -1,6 +1,6 @@
 -- Payloads: kernels and initrds that stand in an EFI system partition under their digests, where entries name them
 -- (profile).
-use Rattle.std.specs.Prelude.{◌≡◌, ℕ, ◌&&◌, Bool, false, List, ◌++◌, bytes_eq, codes, if◌then◌else◌, Option, Some, None}
+use Rattle.std.specs.Prelude.{◌≡◌, ◌≤◌, ◌+◌, ℕ, ◌&&◌, Bool, false, List, ◌++◌, bytes_eq, length, if◌then◌else◌, Option, Some, None}
 use Rattle.std.specs.FinMap as map
 use Rattle.std.specs.List.{list_any}
 use Rattle.std.specs.Option.{option_to_list}
@@ -22,6 +22,10 @@ payload_name bytes = encode_lower (digest_of banks.Sha256 bytes)
 -- the folder of an ESP's payloads, which is named by no word
 abbrev pub payload_folder : Path → Path
 payload_folder esp = under esp payloads_below
+
+-- each payload has a path in the folder: a slash and 64 digits more
+abbrev pub HasRoom : Path → Type 0
+HasRoom folder = length folder + 65 ≤ 1024
 
 -- where the payload of these bytes stands
 abbrev pub payload_path : Path → List ℕ → Path

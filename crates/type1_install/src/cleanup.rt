@@ -1,10 +1,10 @@
 //! The commands that `type1 cleanup` stands for.
-ghost use Rattle.std.specs.Prelude.{◌≡◌, ◌≤◌, ◌+◌, All, IfErr, IfOk, IsTrue, length, map};
+ghost use Rattle.std.specs.Prelude.{◌≡◌, All, IfErr, IfOk, IsTrue, map};
 ghost use Rattle.boot_machine.specs.Prelude.{Looks, TakesAtMost, seen, IsNamesOf};
 ghost use Rattle.tool_words.specs.declared.action.Action.TheVariants.{Remove};
 ghost use Rattle.command_plans.specs.Prelude.{CountsUnsaid, Says, folders_of, menu_limit};
 ghost use Rattle.type1_install.specs.Cleaning.{cleanup_expansion, unnamed_payloads};
-ghost use Rattle.type1_install.specs.Payloads.{payload_folder};
+ghost use Rattle.type1_install.specs.Payloads.{HasRoom, payload_folder};
 ghost use Rattle.type1_install.specs.Unnamed.{IsNoRefusal};
 
 use crate::naming::unnamed;
@@ -40,7 +40,7 @@ fn unnamed_payloads<M: Machine>(
     machine: &mut M,
 ) -> Result<Vec<BootPath>, Unsaid>
     requires folder { folder.now ≡ payload_folder esp.now }
-    requires room { length folder.now + 65 ≤ 1024 }
+    requires room { HasRoom folder.now }
     ensures paths { IfOk result (λ paths. IsTrue M.tells
         → unnamed_payloads (seen (M.state machine.old)) esp.now items.now ≡ paths.items) }
     ensures faults { IfErr result IsNoRefusal }

@@ -1,9 +1,9 @@
 //! What the words of `type1 install` say, or what they are refused for.
-ghost use Rattle.std.specs.Prelude.{◌≡◌, ◌≤◌, ◌+◌, ◌∷◌, bytes_eq, length, IfOk, string_bytes};
+ghost use Rattle.std.specs.Prelude.{◌≡◌, ◌≤◌, ◌∷◌, bytes_eq, length, IfOk, string_bytes};
 ghost use Rattle.boot_base.specs.Paths.{file_name_of, under};
 ghost use Rattle.command_plans.specs.Prelude.{Means, each, if_given, path_in};
 ghost use Rattle.type1_install.specs.Installing.{SourceFiles, entry_file, field_text, files_in, initrds_in, install_plan, place_in, install_source, texts_in};
-ghost use Rattle.type1_install.specs.Payloads.{payload_folder};
+ghost use Rattle.type1_install.specs.Payloads.{HasRoom, payload_folder};
 ghost use Rattle.type1_install.specs.Shown.{AreFields, files_shown, place_shown, plan_shown};
 
 use crate::place::payload_folder;
@@ -116,7 +116,7 @@ fn files_in(alloc: Global, words: &Type1Words) -> Result<PayloadFiles, Declined>
 fn place_in(alloc: Global, word: &str, name: &str) -> Result<EntryRoom, Declined>
     ensures means { Means place_shown result (place_in word.now name.now) }
     ensures folder { IfOk result (λ place. place.folder ≡ payload_folder place.esp) }
-    ensures room { IfOk result (λ place. length place.folder + 65 ≤ 1024) }
+    ensures room { IfOk result (λ place. HasRoom place.folder) }
 {
     let esp = path_in(alloc, word)?;
     let folder = payload_folder(alloc, &esp)?;
@@ -169,7 +169,7 @@ fn check_sources(alloc: Global, place: &EntryRoom, files: &PayloadFiles) -> Resu
 pub(crate) fn install_plan(alloc: Global, words: &Type1Words) -> Result<InstallPlan, Declined>
     ensures means { Means (plan_shown words.now.texts) result (install_plan words.now) }
     ensures folder { IfOk result (λ plan. plan.place.folder ≡ payload_folder plan.place.esp) }
-    ensures room { IfOk result (λ plan. length plan.place.folder + 65 ≤ 1024) }
+    ensures room { IfOk result (λ plan. HasRoom plan.place.folder) }
     ensures texts { IfOk result (λ _. AreFields words.now.texts) }
     ensures few { IfOk result (λ plan. length plan.files.initrds.items ≤ 64) }
 {

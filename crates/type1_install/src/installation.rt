@@ -1,11 +1,12 @@
 //! The commands that `type1 install` stands for.
-ghost use Rattle.std.specs.Prelude.{◌≡◌, ◌≤◌, ◌+◌, ◌++◌, ◌∷◌, [], All, IfOk, IsTrue, OnOk, length, map, option_to_list};
+ghost use Rattle.std.specs.Prelude.{◌≡◌, ◌≤◌, ◌++◌, ◌∷◌, [], All, IfOk, IsTrue, OnOk, length, map, option_to_list};
 ghost use Rattle.boot_machine.specs.Prelude.{Looks, TakesAtMost, seen};
 ghost use Rattle.boot_texts.specs.EntryText.{entry_text};
 ghost use Rattle.tool_words.specs.declared.action.Action.TheVariants.{Enter};
 ghost use Rattle.command_plans.specs.Prelude.{CountsUnsaid, Says};
 ghost use Rattle.type1_install.specs.Installing.{install_expansion, install_plan, installing_length};
 ghost use Rattle.type1_install.specs.Shown.{AreFields, HasPayloadName, fields_with, put_in, value_of_payload};
+ghost use Rattle.type1_install.specs.Payloads.{HasRoom};
 
 use crate::install_words::{EntryRoom, install_plan};
 use crate::payload::{Payload, payload_at, payloads_at};
@@ -18,7 +19,7 @@ use std::alloc::{AllocError, Global};
 use tool_words::{Action, EntryTexts, Type1Words};
 
 fn put_in(alloc: Global, folder: &BootPath, payload: &Payload) -> Result<Action, AllocError>
-    requires room { length folder.now + 65 ≤ 1024 }
+    requires room { HasRoom folder.now }
     requires name { HasPayloadName payload.now }
     ensures { IfOk result (λ command. command ≡ put_in folder.now payload.now) }
 {
@@ -34,7 +35,7 @@ fn add_puts(
     payloads: &[Payload],
     commands: &mut Vec<Action>,
 ) -> Result<(), AllocError>
-    requires room { length folder.now + 65 ≤ 1024 }
+    requires room { HasRoom folder.now }
     requires names { All HasPayloadName payloads.now }
     ensures { OnOk result (commands.new.items ≡ commands.old.items ++ map (put_in folder.now) payloads.now) }
 {
@@ -138,7 +139,7 @@ fn install_commands(
     linux: &Payload,
     initrds: &[Payload],
 ) -> Result<Vec<Action>, AllocError>
-    requires room { length place.now.folder + 65 ≤ 1024 }
+    requires room { HasRoom place.now.folder }
     requires texts { AreFields texts.now }
     requires linux { HasPayloadName linux.now }
     requires initrds { All HasPayloadName initrds.now }

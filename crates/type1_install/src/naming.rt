@@ -1,11 +1,11 @@
 //! The payloads that no entry names.
-ghost use Rattle.std.specs.Prelude.{◌≡◌, ◌≤◌, ◌+◌, ◌++◌, All, Contains, IfOk, OnOk, bytes_eq, filter, length, map, not, filter_map, flat_map, option_to_list};
+ghost use Rattle.std.specs.Prelude.{◌≡◌, ◌++◌, All, Contains, IfOk, OnOk, bytes_eq, filter, map, not, filter_map, flat_map, option_to_list};
 ghost use Rattle.std.specs.List.{list_any};
 ghost use Rattle.std.specs.List.Sorted.{IsStrictlySortedBy};
 ghost use Rattle.boot_base.specs.Paths.{Path, under};
 ghost use Rattle.boot_machine.specs.Prelude.{path_cmp};
 ghost use Rattle.boot_texts.specs.EntryText.{is_payload_name};
-ghost use Rattle.type1_install.specs.Payloads.{path_of_value};
+ghost use Rattle.type1_install.specs.Payloads.{HasRoom, path_of_value};
 ghost use Rattle.type1_install.specs.Unnamed.{paths_named_by, unnamed_among};
 
 use crate::place::payload_path;
@@ -103,7 +103,7 @@ fn payload_paths(
     folder: &BootPath,
     names: &[FileName],
 ) -> Result<Vec<BootPath>, AllocError>
-    requires room { length folder.now + 65 ≤ 1024 }
+    requires room { HasRoom folder.now }
     ensures { IfOk result (λ paths. paths.items ≡ map (under folder.now) (filter is_payload_name names.now)) }
 {
     let mut paths = Vec::new(alloc);
@@ -144,7 +144,7 @@ pub(crate) fn unnamed(
     items: &[MenuItem],
     names: &[FileName],
 ) -> Result<Vec<BootPath>, AllocError>
-    requires room { length folder.now + 65 ≤ 1024 }
+    requires room { HasRoom folder.now }
     ensures sorted { IfOk result (λ paths. IsStrictlySortedBy path_cmp paths.items) }
     ensures among { IfOk result (λ paths. (path : Path) → Contains paths.items path
         → Contains (unnamed_among esp.now folder.now items.now names.now) path) }

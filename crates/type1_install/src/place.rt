@@ -1,10 +1,10 @@
 //! Where payloads stand.
-ghost use Rattle.std.specs.Prelude.{◌≡◌, ◌≤◌, ◌+◌, length, replicate, IfOk, true};
+ghost use Rattle.std.specs.Prelude.{◌≡◌, replicate, IfOk, true};
 ghost use Rattle.boot_base.specs.Paths.{under};
 ghost use Rattle.boot_texts.specs.EntryText.{is_payload_name};
 ghost use Rattle.command_plans.specs.Prelude.{Means, path_under};
 ghost use Rattle.type1_install.specs.Installing.{payload_probe};
-ghost use Rattle.type1_install.specs.Payloads.{payload_folder};
+ghost use Rattle.type1_install.specs.Payloads.{HasRoom, payload_folder};
 
 use boot_base::{BootPath, PAYLOADS, PathFault};
 use command_plans::{Declined, file_under};
@@ -17,7 +17,7 @@ const PROBE_NAME: &str = "000000000000000000000000000000000000000000000000000000
 pub(crate) fn payload_folder(alloc: Global, esp: &BootPath) -> Result<BootPath, Declined>
     ensures means { Means (λ folder. under folder (replicate 64 48)) result (path_under esp.now payload_probe) }
     ensures folder { IfOk result (λ folder. folder ≡ payload_folder esp.now) }
-    ensures room { IfOk result (λ folder. length folder + 65 ≤ 1024) }
+    ensures room { IfOk result (λ folder. HasRoom folder) }
 {
     esp.know_normal();
     let probe = file_under(alloc, esp, PAYLOADS, PROBE_NAME)?;
@@ -27,7 +27,7 @@ pub(crate) fn payload_folder(alloc: Global, esp: &BootPath) -> Result<BootPath, 
 
 // The folder of an ESP's payloads, in which each of them has a path.
 fn folder_below(alloc: Global, esp: &BootPath) -> Result<BootPath, AllocError>
-    requires { length (payload_folder esp.now) + 65 ≤ 1024 }
+    requires { HasRoom (payload_folder esp.now) }
     ensures { IfOk result (λ folder. folder ≡ payload_folder esp.now) }
 {
     esp.know_normal();
@@ -44,7 +44,7 @@ pub(crate) fn payload_path(
     folder: &BootPath,
     name: &str,
 ) -> Result<BootPath, AllocError>
-    requires room { length folder.now + 65 ≤ 1024 }
+    requires room { HasRoom folder.now }
     requires name { is_payload_name name.now ≡ true }
     ensures { IfOk result (λ path. path ≡ under folder.now name.now) }
 {
