@@ -430,12 +430,12 @@ module _ (files : Files) (folders : Folders) (texts images : List (List ℕ))
 
 -- how many bytes are read of the files of both types
 pub taken_of_both : (files : Files) (folders : Folders) (texts images : List (List ℕ)) → AreEntryNames files folders.entries Conf texts → AreEntryNames files folders.images Efi images
-    → (start mid after : ℕ) → mid ≤ start + 65536 * length texts → after ≤ mid + 134999 * length images → after ≤ start + scan_limit files (Some folders)
+    → (start mid after : ℕ) → mid ≤ start + 65536 * length texts → after ≤ mid + 134999 * length images → after ≤ start + scan_limit files folders
 taken_of_both files folders texts images are_texts are_images start mid after first second =
     omega (arith, as_many folders Conf files texts are_texts, as_many folders Efi files images are_images)
 
 pub taken_of_texts : (files : Files) (folders : Folders) (texts : List (List ℕ)) → AreEntryNames files folders.entries Conf texts
-    → (start mid : ℕ) → mid ≤ start + 65536 * length texts → mid ≤ start + scan_limit files (Some folders)
+    → (start mid : ℕ) → mid ≤ start + 65536 * length texts → mid ≤ start + scan_limit files folders
 taken_of_texts files folders texts are_texts start mid first = omega (arith, as_many folders Conf files texts are_texts)
 
 pub found_count : (files : Files) (folders : Folders) (texts images : List (List ℕ)) → AreEntryNames files folders.entries Conf texts → AreEntryNames files folders.images Efi images

@@ -1,10 +1,8 @@
 -- What a scan of the boot folders answers.
-use Rattle.std.specs.Prelude.{◌≡◌, ◌↔◌, ◌+◌, ◌*◌, ℕ, true, List, length, nat_le, bytes_eq, Contains, Option, Some, None, IsSome, Result, MatchResult, if◌then◌else◌}
+use Rattle.std.specs.Prelude.{◌≡◌, ◌↔◌, ◌+◌, ◌*◌, ℕ, true, List, length, nat_le, bytes_eq, Contains, Option, Some, None, Result, MatchResult, if◌then◌else◌}
 use Rattle.std.specs.List.{IsDistinct, filter_map}
 use Rattle.boot_base.specs.Limits.{text_limit}
 use Rattle.boot_base.specs.Paths.{Path, is_file_name, under}
-use Rattle.boot_base.specs.declared.path.PathFault.{PathFault}
-use Rattle.boot_base.specs.declared.path.PathFault.TheVariants as paths
 use Rattle.menu_order.specs.Splits.{has_suffix}
 use Rattle.menu_order.specs.declared.counted.Suffix.{Suffix}
 use Rattle.menu_order.specs.declared.counted.Suffix.TheVariants.{Conf, Efi}
@@ -50,49 +48,30 @@ read_limit Conf = text_limit
 read_limit Efi = image_limit
 
 -- the most bytes that are read of the files of both types
-abbrev pub scan_limit : Files → Option Folders → ℕ
-scan_limit files None = 0
-scan_limit files (Some folders) =
+abbrev pub scan_limit : Files → Folders → ℕ
+scan_limit files folders =
     read_limit Conf * type_count files folders Conf + read_limit Efi * type_count files folders Efi
 
 -- the same of a scan
 abbrev pub scan_counts : ScanFault → Counts → Counts → Type 0
 scan_counts faults.Memory old new = new ≡ old
 scan_counts faults.Disk old new = DiskFailed old new
-scan_counts faults.LongEsp old new = new ≡ old
 scan_counts (faults.TooMany count) old new = new ≡ old
 
 -- the counts after a scan: a fault of the disk has its cause, and every other answer leaves them
 abbrev pub CountsScan : {X : Type 0} → Result X ScanFault → Counts → Counts → Type 0
 CountsScan result old new = MatchResult result (λ _. new ≡ old) (λ fault. scan_counts fault old new)
 
--- what a fault says of the folders: that they are paths, or that one isn't; nothing for want of memory
-abbrev pub fault_folders : ScanFault → Option Folders → Type 0
-fault_folders faults.Memory folders = Unit {0}
-fault_folders faults.Disk folders = IsSome folders
-fault_folders faults.LongEsp folders = folders ≡ None
-fault_folders (faults.TooMany count) folders = IsSome folders
-
--- both folders are paths, or the answer says that they aren't
-abbrev pub FindsFolders : {X : Type 0} → Result X ScanFault → Option Folders → Type 0
-FindsFolders result folders = MatchResult result (λ _. IsSome folders) (λ fault. fault_folders fault folders)
-
 -- what a fault says of the number of entry files, where it tells that they are too many
 abbrev pub fault_many : ScanFault → (ℕ → Type 0) → Type 0
 fault_many faults.Memory P = Unit {0}
 fault_many faults.Disk P = Unit {0}
-fault_many faults.LongEsp P = Unit {0}
 fault_many (faults.TooMany count) P = P count
 
 -- what a fault of reading comes to in a scan
 abbrev pub scan_fault : ReadFault → ScanFault
 scan_fault reads.Memory = faults.Memory
 scan_fault reads.Disk = faults.Disk
-
--- a path that can't be made is one that is too long
-abbrev pub path_fault : PathFault → ScanFault
-path_fault paths.Memory = faults.Memory
-path_fault paths.BadPath = faults.LongEsp
 
 -- entries in the order of their paths
 abbrev pub path_order : MenuItem → MenuItem → Ordering

@@ -15,7 +15,7 @@ ghost use Rattle.menu_order.specs.declared.item.MenuItem.{MenuItem};
 use crate::fault::ItemFault;
 use crate::name::split_name;
 use crate::uki::uki_item;
-use boot_base::{BootPath, FILE_LIMIT, FileName, PathFault, TEXT_LIMIT};
+use boot_base::{BootPath, FILE_LIMIT, FileName, TEXT_LIMIT};
 use boot_machine::{DiskFault, Machine, ReadFault, read_part, zeros};
 use boot_texts::{EntryFault, Type1};
 use menu_order::{MenuItem, Suffix};
@@ -149,11 +149,7 @@ fn path_of_name(
     ensures name { IfOk result (λ path. IfSome path (λ path. file_name_of path ≡ name.now)) }
 {
     folder.know_normal();
-    match BootPath::under(alloc, folder, name.as_str()) {
-        Ok(path) => Ok(Some(path)),
-        Err(PathFault::BadPath) => Ok(None),
-        Err(PathFault::Memory) => Err(AllocError),
-    }
+    BootPath::under(alloc, folder, name.as_str())
 }
 
 /// The entry of the file of that name directly in the folder of its type, None where it is no entry.

@@ -2,11 +2,10 @@
 ghost use Rattle.std.specs.Prelude.{◌≡◌};
 ghost use Rattle.boot_folder.specs.Items.{item_fault};
 ghost use Rattle.boot_folder.specs.Missing.{missing_text};
-ghost use Rattle.boot_folder.specs.Scanning.{path_fault, scan_fault};
+ghost use Rattle.boot_folder.specs.Scanning.{scan_fault};
 ghost use Rattle.boot_folder.specs.declared.fault.ItemFault.TheVariants as faults;
 ghost use Rattle.boot_folder.specs.declared.fault.ScanFault.TheVariants as scans;
 
-use boot_base::PathFault;
 use boot_machine::{DiskFault, ReadFault};
 use pe_reader::{HeadFault, PeReason};
 use std::alloc::AllocError;
@@ -98,9 +97,6 @@ pub enum ScanFault {
     /// The disk failed, and the machine has counted it.
     #[error("disk fault")]
     Disk,
-    /// A folder of entries has no path.
-    #[error("the folders of entries have no path")]
-    LongEsp,
     /// There are more entry files than are read, and how many there are.
     #[error("{count} entries")]
     TooMany { count: u64 },
@@ -111,17 +107,6 @@ impl From<AllocError> for ScanFault {
 
     fn from(_error: AllocError) -> ScanFault {
         ScanFault::Memory
-    }
-}
-
-impl From<PathFault> for ScanFault {
-    ghost from_gives = { λ error fault. fault ≡ path_fault error };
-
-    fn from(error: PathFault) -> ScanFault {
-        match error {
-            PathFault::Memory => ScanFault::Memory,
-            PathFault::BadPath => ScanFault::LongEsp,
-        }
     }
 }
 

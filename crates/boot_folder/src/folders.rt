@@ -1,9 +1,5 @@
 //! The two folders of boot entries.
-ghost use Rattle.std.specs.Prelude.{◌≡◌, IfOk, None, Some};
-ghost use Rattle.boot_folder.specs.Entries.{esp_folders};
-
-use boot_base::{BootPath, ENTRIES, IMAGES, PathFault};
-use std::alloc::Global;
+use boot_base::BootPath;
 
 /// Where the boot entries of an EFI system partition stand (UAPI Boot Loader Specification).
 #[derive(Debug, Drop)]
@@ -12,20 +8,4 @@ pub struct Folders {
     pub entries: BootPath,
     /// `EFI/Linux`, with those of type 2.
     pub images: BootPath,
-}
-
-impl Folders {
-    /// The folders of the partition that stands at a path.
-    ///
-    /// # Errors
-    ///
-    /// `BadPath` exactly where one of them is no path; `Memory` where there is no memory.
-    pub fn of(alloc: Global, esp: &BootPath) -> Result<Folders, PathFault>
-        ensures ok { IfOk result (λ folders. esp_folders esp.now ≡ Some folders) }
-        ensures bad { result ≡ Err PathFault.BadPath → esp_folders esp.now ≡ None }
-    {
-        let entries = BootPath::under(alloc, esp, ENTRIES)?;
-        let images = BootPath::under(alloc, esp, IMAGES)?;
-        Ok(Folders { entries, images })
-    }
 }

@@ -21,5 +21,5 @@ pub use fault::{ItemFault, Missing, ScanFault};
 pub use folders::Folders;
 pub use laws::entries_laws;
 pub use listing::{join_texts, list_text, status_text, title};
-pub use scanning::{scan, scan_folders};
+pub use scanning::scan;
 pub use uki::uki_item;

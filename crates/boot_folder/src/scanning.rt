@@ -1,10 +1,10 @@
 //! The menu of the boot folders.
-ghost use Rattle.std.specs.Prelude.{◌≡◌, ◌≤◌, ◌<◌, ◌*◌, ◌++◌, ◌↔◌, All, Contains, IfErr, IfOk, IfSome, IsTrue, OnOk, Some, option_to_list, length, true};
+ghost use Rattle.std.specs.Prelude.{◌≡◌, ◌≤◌, ◌<◌, ◌*◌, ◌++◌, ◌↔◌, All, Contains, IfErr, IfOk, IsTrue, OnOk, option_to_list, length, true};
 ghost use Rattle.boot_base.specs.Paths.{under};
 ghost use Rattle.menu_order.specs.Splits.{has_suffix};
 ghost use Rattle.menu_order.specs.declared.counted.Suffix.TheVariants.{Conf, Efi};
-ghost use Rattle.boot_folder.specs.Entries.{IsEntry, boot_menu, entry_count, entry_if, esp_folders};
-ghost use Rattle.boot_folder.specs.Scanning.{AreEntryNames, CountsScan, FindsFolders, entries_named, fault_many, read_limit, scan_limit};
+ghost use Rattle.boot_folder.specs.Entries.{IsEntry, boot_menu, entry_count, entry_if};
+ghost use Rattle.boot_folder.specs.Scanning.{AreEntryNames, CountsScan, entries_named, fault_many, read_limit, scan_limit};
 ghost use Rattle.boot_machine.specs.Prelude.{Looks, TakesAtMost, seen, CountsRead};
 ghost use Rattle.menu_order.specs.Menu.{HaveOwnPaths, IsMenu};
 ghost use Rattle.menu_order.specs.declared.item.MenuItem.{MenuItem};
@@ -19,51 +19,19 @@ use boot_machine::{Machine, ReadFault};
 use menu_order::{MenuItem, Suffix};
 use std::alloc::{AllocError, Global};
 
-/// The menu of an EFI system partition: the entries of the files in its two folders, in the order of the menu. A file
-/// that is no valid entry is passed over. It reads at most 65,536 bytes of each file of type 1 and 134,999 of each of
-/// type 2, and none before the files are counted. Nothing is changed.
+/// The menu of the files in the two folders of boot entries: the entries of these files, in the order of the menu. A
+/// file that is no valid entry is passed over. It reads at most 65,536 bytes of each file of type 1 and 134,999 of each
+/// of type 2, and none before the files are counted. Nothing is changed.
 ///
 /// # Errors
 ///
-/// `LongEsp` exactly where one of the folders has no path, else `TooMany` where they have more than 4,096 entry files;
-/// `Disk` only where the machine has counted a fault of the disk; `Memory` where there is no memory.
+/// `TooMany` exactly if they have more than 4,096 entry files; `Disk` only if the machine has counted a fault of the
+/// disk; `Memory` if there is no memory.
 pub fn scan<M: Machine>(
-    alloc: Global,
-    machine: &mut M,
-    esp: &BootPath,
-) -> Result<Vec<MenuItem>, ScanFault>
-    ensures folders { FindsFolders result (esp_folders esp.now) }
-    ensures menu { IfOk result (λ menu. IsTrue M.tells → IfSome (esp_folders esp.now)
-        (λ folders. IsMenu (IsEntry (M.state machine.old).files folders) menu.items)) }
-    ensures value { IfOk result (λ menu. IsTrue M.tells → IfSome (esp_folders esp.now)
-        (λ folders. menu.items ≡ boot_menu (seen (M.state machine.old)) folders)) }
-    ensures few { IfOk result (λ _. IsTrue M.tells → IfSome (esp_folders esp.now)
-        (λ folders. entry_count (M.state machine.old).files folders ≤ 4096)) }
-    ensures many { IfErr result (λ fault. fault_many fault (λ count. (4096 < count)
-        × (IsTrue M.tells → IfSome (esp_folders esp.now)
-        (λ folders. entry_count (M.state machine.old).files folders ≡ count)))) }
-    ensures own_paths { IfOk result (λ menu. HaveOwnPaths menu.items) }
-    ensures unread { IfErr result (λ fault. fault_many fault (λ _. IsTrue M.tells
-        → M.taken machine.new ≡ M.taken machine.old)) }
-    ensures looks { Looks M.tells M.time M.state M.counts (CountsScan result) machine.old machine.new }
-    ensures taken { IsTrue M.tells → TakesAtMost
-        (scan_limit (M.state machine.old).files (esp_folders esp.now)) (M.taken machine.old) (M.taken machine.new) }
-{
-    let folders = Folders::of(alloc, esp)?;
-    scan_folders(alloc, machine, &folders)
-}
-
-/// The menu of the files in the two folders, as `scan` gives it.
-///
-/// # Errors
-///
-/// As of `scan`, but for `LongEsp`, which never comes.
-pub fn scan_folders<M: Machine>(
     alloc: Global,
     machine: &mut M,
     folders: &Folders,
 ) -> Result<Vec<MenuItem>, ScanFault>
-    ensures folders { FindsFolders result (Some folders.now) }
     ensures menu { IfOk result (λ menu. IsTrue M.tells
         → IsMenu (IsEntry (M.state machine.old).files folders.now) menu.items) }
     ensures value { IfOk result (λ menu. IsTrue M.tells
@@ -76,7 +44,7 @@ pub fn scan_folders<M: Machine>(
         → M.taken machine.new ≡ M.taken machine.old)) }
     ensures looks { Looks M.tells M.time M.state M.counts (CountsScan result) machine.old machine.new }
     ensures taken { IsTrue M.tells → TakesAtMost
-        (scan_limit (M.state machine.old).files (Some folders.now)) (M.taken machine.old) (M.taken machine.new) }
+        (scan_limit (M.state machine.old).files folders.now) (M.taken machine.old) (M.taken machine.new) }
 {
     let names = entry_names(alloc, machine, folders)?;
     let items = entries(alloc, machine, folders, &names)?;
@@ -100,7 +68,7 @@ fn entries<M: Machine>(
     ensures taken { IsTrue M.tells
         → AreEntryNames (M.state machine.old).files folders.now.entries Conf names.now.texts.items
         → AreEntryNames (M.state machine.old).files folders.now.images Efi names.now.images.items
-        → TakesAtMost (scan_limit (M.state machine.old).files (Some folders.now))
+        → TakesAtMost (scan_limit (M.state machine.old).files folders.now)
         (M.taken machine.old) (M.taken machine.new) }
 {
     let (texts, images) = (names.texts.as_slice(), names.images.as_slice());

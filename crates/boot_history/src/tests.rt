@@ -74,7 +74,9 @@ fn a_run_prints_nothing_that_is_stopped_at_once(rt: HostRuntime) -> Result<(), F
 
 // A machine with one file, whose nine bytes are an entry.
 fn machine_with(alloc: Global, path: &str) -> Result<MemMachine, Fail> {
-    let path = BootPath::read(alloc, path)?.into_file();
+    let path = BootPath::read(alloc, path)?
+        .ok_or("not a path")?
+        .into_file();
     let bytes = b"linux /k\n".to_vec(alloc)?;
     Ok(MemMachine::new(alloc, vec![in alloc; MemFile { path, bytes }]?)?)
 }

@@ -37,5 +37,4 @@ pub unsaid_menu : (Told : Type 0) (files : Files) (folders : Folders) (fault : S
     → UnsaidFor (scan_unsaid fault) (menu_at (view files) folders)
 unsaid_menu Told files folders scans.Memory told many = tt
 unsaid_menu Told files folders scans.Disk told many = tt
-unsaid_menu Told files folders scans.LongEsp told many = tt
 unsaid_menu Told files folders (scans.TooMany count) told many = many_said files folders count many.0 (many.1 told)

@@ -1,5 +1,5 @@
 -- The menu that a command shows, changes or chooses of (UAPI Boot Loader Specification).
-use Rattle.std.specs.Prelude.{ℕ, List, nat_lt, Some, Result, Ok, Err, if◌then◌else◌}
+use Rattle.std.specs.Prelude.{ℕ, List, nat_lt, Result, Ok, Err, if◌then◌else◌}
 use Rattle.boot_base.specs.declared.refusal.Refusal.{Refusal}
 use Rattle.boot_base.specs.declared.refusal.Refusal.TheVariants as refusals
 use Rattle.boot_machine.specs.Disk.{Files}
@@ -18,15 +18,14 @@ menu_at view folders =
     if nat_lt 4096 (entry_count view folders) then Err (refusals.TooMany (entry_count view folders))
     else Ok (boot_menu view folders)
 
--- why nothing is said where there is no menu; folders that are at hand have paths, so a folder without one never comes
+-- why nothing is said of folders that have no menu
 abbrev pub scan_unsaid : ScanFault → Unsaid
 scan_unsaid scans.Memory = unsaid.Memory
 scan_unsaid scans.Disk = unsaid.Disk
-scan_unsaid scans.LongEsp = unsaid.Memory
 scan_unsaid (scans.TooMany count) = unsaid.Refused (refusals.TooMany count)
 
 -- the most bytes that a command reads for the menu of the folders of a word: as many as a scan of them, none where the
 -- word is refused
 abbrev pub menu_limit : Files → Result Folders Refusal → ℕ
-menu_limit files (Ok folders) = scan_limit files (Some folders)
+menu_limit files (Ok folders) = scan_limit files folders
 menu_limit files (Err why) = 0

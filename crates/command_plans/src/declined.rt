@@ -3,7 +3,7 @@ ghost use Rattle.std.specs.Prelude.{◌≡◌, IfOk};
 ghost use Rattle.boot_base.specs.Paths.{under};
 ghost use Rattle.command_plans.specs.Prelude.{Means, install_name, path_in, path_under, printed_path};
 
-use boot_base::{BootPath, PathFault, Refusal, Text};
+use boot_base::{BootPath, Refusal, Text};
 use menu_order::{Suffix, is_install_name};
 use std::alloc::{AllocError, Global};
 
@@ -31,10 +31,9 @@ impl From<AllocError> for Declined {
 pub fn path_in(alloc: Global, word: &str) -> Result<BootPath, Declined>
     ensures { Means (λ path. path) result (path_in word.now) }
 {
-    match BootPath::read(alloc, word) {
-        Ok(path) => Ok(path),
-        Err(PathFault::Memory) => Err(Declined::Memory),
-        Err(PathFault::BadPath) => Err(bad_path(alloc, word)?),
+    match BootPath::read(alloc, word)? {
+        Some(path) => Ok(path),
+        None => Err(bad_path(alloc, word)?),
     }
 }
 
@@ -49,10 +48,9 @@ fn bad_path(alloc: Global, text: &str) -> Result<Declined, AllocError>
 pub fn path_under(alloc: Global, folder: &BootPath, below: &str) -> Result<BootPath, Declined>
     ensures { Means (λ path. path) result (path_under folder.now below.now) }
 {
-    match BootPath::under(alloc, folder, below) {
-        Ok(path) => Ok(path),
-        Err(PathFault::Memory) => Err(Declined::Memory),
-        Err(PathFault::BadPath) => {
+    match BootPath::under(alloc, folder, below)? {
+        Some(path) => Ok(path),
+        None => {
             let folder = folder.as_str();
             let joined = format!(in alloc; "{folder}/{below}")?;
             Err(Declined::Refused(Refusal::BadPath {

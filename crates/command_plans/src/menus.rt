@@ -1,8 +1,7 @@
 //! The folders of boot entries that a word names, and their menu.
-ghost use Rattle.std.specs.Prelude.{◌≡◌, ◌≢◌, IfOk, IsTrue, Some};
+ghost use Rattle.std.specs.Prelude.{◌≡◌, IfOk, IsTrue};
 ghost use Rattle.boot_folder.specs.Entries.{IsEntry};
 ghost use Rattle.boot_folder.specs.Scanning.{scan_limit};
-ghost use Rattle.boot_folder.specs.declared.fault.ScanFault.TheVariants as scans;
 ghost use Rattle.boot_machine.specs.Prelude.{Looks, TakesAtMost, seen};
 ghost use Rattle.command_plans.specs.Prelude.{CountsUnsaid, Says, Means, folders_of, menu_at, scan_unsaid};
 ghost use Rattle.menu_order.specs.Menu.{IsMenu};
@@ -10,7 +9,7 @@ ghost use Rattle.menu_order.specs.Menu.{IsMenu};
 use crate::declined::{Declined, path_in, path_under};
 use crate::unsaid::Unsaid;
 use boot_base::{ENTRIES, IMAGES, Refusal};
-use boot_folder::{Folders, ScanFault, scan_folders};
+use boot_folder::{Folders, ScanFault, scan};
 use boot_machine::Machine;
 use menu_order::MenuItem;
 use std::alloc::Global;
@@ -27,14 +26,12 @@ pub fn folders_in(alloc: Global, esp: &str) -> Result<Folders, Declined>
 
 // Why nothing is said of folders that have no menu.
 fn scan_unsaid(fault: ScanFault) -> Unsaid
-    requires { fault ≢ scans.LongEsp }
     ensures { result ≡ scan_unsaid fault }
 {
     match fault {
         ScanFault::Memory => Unsaid::Memory,
         ScanFault::Disk => Unsaid::Disk,
         ScanFault::TooMany { count } => Unsaid::Refused(Refusal::TooMany { count }),
-        ScanFault::LongEsp => unreachable!(),
     }
 }
 
@@ -50,9 +47,9 @@ pub fn menu_at<M: Machine>(
         → IsMenu (IsEntry (M.state machine.old).files folders.now) menu.items) }
     ensures looks { Looks M.tells M.time M.state M.counts (CountsUnsaid result) machine.old machine.new }
     ensures taken { IsTrue M.tells → TakesAtMost
-        (scan_limit (M.state machine.old).files (Some folders.now)) (M.taken machine.old) (M.taken machine.new) }
+        (scan_limit (M.state machine.old).files folders.now) (M.taken machine.old) (M.taken machine.new) }
 {
-    match scan_folders(alloc, machine, folders) {
+    match scan(alloc, machine, folders) {
         Ok(menu) => Ok(menu),
         Err(fault) => Err(scan_unsaid(fault)),
     }

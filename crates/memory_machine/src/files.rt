@@ -12,7 +12,7 @@ ghost use Rattle.memory_machine.specs.Stops.{IsFilled};
 
 use crate::MemFile;
 use crate::event::Event;
-use boot_base::{FileName, PathFault, Text, ends_as_temp};
+use boot_base::{FileName, Text, ends_as_temp};
 use std::alloc::{AllocError, Global};
 use std::marker::Model;
 
@@ -90,11 +90,7 @@ fn name_in(alloc: Global, folder: &str, path: &str) -> Result<Option<FileName>, 
     let Some(name) = rest.strip_prefix('/') else {
         return Ok(None);
     };
-    match FileName::read(alloc, name) {
-        Ok(name) => Ok(Some(name)),
-        Err(PathFault::BadPath) => Ok(None),
-        Err(PathFault::Memory) => Err(AllocError),
-    }
+    FileName::read(alloc, name)
 }
 
 fn is_among(names: &[FileName], name: &str) -> bool

@@ -1,5 +1,4 @@
 //! What a call refuses, or why a row isn't told.
-use boot_base::PathFault;
 use boot_texts::EntryFault;
 use std::alloc::{AllocError, AllocFailed};
 use std::io;
@@ -12,7 +11,7 @@ pub(crate) enum RowFault {
     Unclear,
     #[error("out of memory")]
     Memory,
-    #[error("{}", PathFault::BadPath)]
+    #[error("not a path")]
     BadPath,
     #[error("{}", EntryFault::TooLong)]
     TooLong,
@@ -43,15 +42,6 @@ impl From<AllocError> for RowFault {
 impl<T: Drop> From<AllocFailed<T>> for RowFault {
     fn from(_: AllocFailed<T>) -> Self {
         RowFault::Memory
-    }
-}
-
-impl From<PathFault> for RowFault {
-    fn from(fault: PathFault) -> Self {
-        match fault {
-            PathFault::Memory => RowFault::Memory,
-            PathFault::BadPath => RowFault::BadPath,
-        }
     }
 }
 
