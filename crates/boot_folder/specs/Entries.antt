@@ -12,6 +12,10 @@ use Rattle.menu_order.specs.Menu.{menu_of}
 use Rattle.boot_folder.specs.Records.{type1_entry, type2_entry}
 use Rattle.boot_folder.specs.declared.folders.Folders.{Folders}
 
+-- the most entry files of both folders together
+abbrev pub entry_limit : ℕ
+entry_limit = 4096
+
 -- the folder of the files of a type
 abbrev pub folder_of : Folders → Suffix → Path
 folder_of folders Conf = folders.entries

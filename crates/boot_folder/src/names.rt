@@ -3,7 +3,7 @@ ghost use Rattle.std.specs.Prelude.{◌≡◌, ◌≤◌, ◌<◌, All, IfErr, I
 ghost use Rattle.std.specs.List.{IsDistinct};
 ghost use Rattle.menu_order.specs.Splits.{has_suffix};
 ghost use Rattle.menu_order.specs.declared.counted.Suffix.TheVariants.{Conf, Efi};
-ghost use Rattle.boot_folder.specs.Entries.{entry_count};
+ghost use Rattle.boot_folder.specs.Entries.{entry_count, entry_limit};
 ghost use Rattle.boot_folder.specs.Scanning.{AreEntryNames, CountsScan, fault_many};
 ghost use Rattle.boot_machine.specs.Prelude.{Looks, CountsRead};
 
@@ -70,7 +70,7 @@ pub(crate) fn entry_names<M: Machine>(
     ensures image_once { IfOk result (λ names. IsDistinct bytes_eq names.images.items) }
     ensures few { IfOk result (λ names. IsTrue M.tells → entry_count (M.state machine.old).files folders.now ≤ 4096) }
     ensures many { IfErr result (λ fault. fault_many fault (λ count.
-        (4096 < count) × (IsTrue M.tells → entry_count (M.state machine.old).files folders.now ≡ count))) }
+        (entry_limit < count) × (IsTrue M.tells → entry_count (M.state machine.old).files folders.now ≡ count))) }
     ensures looks { Looks M.tells M.time M.state M.counts (CountsScan result) machine.old machine.new }
     ensures taken { IsTrue M.tells → M.taken machine.new ≡ M.taken machine.old }
 {

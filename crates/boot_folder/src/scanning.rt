@@ -3,7 +3,7 @@ ghost use Rattle.std.specs.Prelude.{◌≡◌, ◌≤◌, ◌<◌, ◌*◌, ◌+
 ghost use Rattle.boot_base.specs.Paths.{under};
 ghost use Rattle.menu_order.specs.Splits.{has_suffix};
 ghost use Rattle.menu_order.specs.declared.counted.Suffix.TheVariants.{Conf, Efi};
-ghost use Rattle.boot_folder.specs.Entries.{IsEntry, boot_menu, entry_count, entry_if};
+ghost use Rattle.boot_folder.specs.Entries.{IsEntry, boot_menu, entry_count, entry_if, entry_limit};
 ghost use Rattle.boot_folder.specs.Scanning.{AreEntryNames, CountsScan, entries_named, fault_many, read_limit, scan_limit};
 ghost use Rattle.boot_machine.specs.Prelude.{Looks, TakesAtMost, seen, CountsRead};
 ghost use Rattle.menu_order.specs.Menu.{HaveOwnPaths, IsMenu};
@@ -38,7 +38,7 @@ pub fn scan<M: Machine>(
         → menu.items ≡ boot_menu (seen (M.state machine.old)) folders.now) }
     ensures few { IfOk result (λ _. IsTrue M.tells → entry_count (M.state machine.old).files folders.now ≤ 4096) }
     ensures many { IfErr result (λ fault. fault_many fault (λ count.
-        (4096 < count) × (IsTrue M.tells → entry_count (M.state machine.old).files folders.now ≡ count))) }
+        (entry_limit < count) × (IsTrue M.tells → entry_count (M.state machine.old).files folders.now ≡ count))) }
     ensures own_paths { IfOk result (λ menu. HaveOwnPaths menu.items) }
     ensures unread { IfErr result (λ fault. fault_many fault (λ _. IsTrue M.tells
         → M.taken machine.new ≡ M.taken machine.old)) }

@@ -1,7 +1,7 @@
 -- A good entry stays that no command is told to take away.
 use Rattle.std.specs.Prelude.{◌≡◌, ℕ, ◌≤◌, Bool, true, false, List, ◌++◌, Contains, Ok}
 use Rattle.boot_base.specs.Paths.{Path}
-use Rattle.boot_folder.specs.Entries.{boot_menu, entry_count}
+use Rattle.boot_folder.specs.Entries.{boot_menu, entry_count, entry_limit}
 use Rattle.boot_folder.specs.Listing.{list_text}
 use Rattle.boot_folder.specs.declared.folders.Folders.{Folders}
 use Rattle.boot_machine.specs.Disk.{Files}
@@ -57,4 +57,4 @@ pub record IsListed (view : Files) (esp : List ℕ) (folders : Folders) (path : 
 abbrev pub ListedLaw : Type 0
 ListedLaw =
     (view : Files) (esp : List ℕ) (folders : Folders) (path : Path) → folders_of esp ≡ Ok folders
-    → HasGoodEntry folders path view → entry_count view folders ≤ 4096 → IsListed view esp folders path
+    → HasGoodEntry folders path view → entry_count view folders ≤ entry_limit → IsListed view esp folders path

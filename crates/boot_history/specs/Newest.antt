@@ -7,7 +7,7 @@ use Rattle.boot_machine.specs.Sent.{latest_view}
 use Rattle.menu_order.specs.declared.item.MenuItem.{MenuItem}
 use Rattle.keep_newest.specs.Doomed.{doomed_records, kept_records}
 use Rattle.keep_newest.specs.Laws.{doomed_paths}
-use Rattle.boot_folder.specs.Entries.{boot_menu, entry_count}
+use Rattle.boot_folder.specs.Entries.{boot_menu, entry_count, entry_limit}
 use Rattle.boot_folder.specs.Removals.{menu_without}
 use Rattle.boot_folder.specs.declared.folders.Folders.{Folders}
 use Rattle.tool_words.specs.Meaning.{meaning}
@@ -33,7 +33,7 @@ keep_command words = command.Several (several.Keep words)
 pub record AllowsKeep (view : Files) (words : KeepWords) (n : ℕ) (folders : Folders) : Type 0 where
   pub number : count_in words.number ≡ Ok n
   pub place : folders_of words.esp ≡ Ok folders
-  pub few : entry_count view folders ≤ 4096
+  pub few : entry_count view folders ≤ entry_limit
   pub some : boot_menu view folders ≢ []
 
 -- Of the menu at the start the first so many of the doomed entries are gone, as many as the run acknowledged or one

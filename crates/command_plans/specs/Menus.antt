@@ -4,7 +4,7 @@ use Rattle.boot_base.specs.declared.refusal.Refusal.{Refusal}
 use Rattle.boot_base.specs.declared.refusal.Refusal.TheVariants as refusals
 use Rattle.boot_machine.specs.Disk.{Files}
 use Rattle.menu_order.specs.declared.item.MenuItem.{MenuItem}
-use Rattle.boot_folder.specs.Entries.{boot_menu, entry_count}
+use Rattle.boot_folder.specs.Entries.{boot_menu, entry_count, entry_limit}
 use Rattle.boot_folder.specs.Scanning.{scan_limit}
 use Rattle.boot_folder.specs.declared.fault.ScanFault.{ScanFault}
 use Rattle.boot_folder.specs.declared.fault.ScanFault.TheVariants as scans
@@ -15,7 +15,7 @@ use Rattle.command_plans.specs.declared.unsaid.Unsaid.TheVariants as unsaid
 -- the menu of two folders, or that they have more than 4,096 entry files
 abbrev pub menu_at : Files → Folders → Result (List MenuItem) Refusal
 menu_at view folders =
-    if nat_lt 4096 (entry_count view folders) then Err (refusals.TooMany (entry_count view folders))
+    if nat_lt entry_limit (entry_count view folders) then Err (refusals.TooMany (entry_count view folders))
     else Ok (boot_menu view folders)
 
 -- why nothing is said of folders that have no menu

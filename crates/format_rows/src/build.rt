@@ -1,6 +1,7 @@
 //! Images that are built in memory.
 ghost use Rattle.std.specs.Prelude.{◌≡◌, ◌≤◌, length, map, IfOk};
 ghost use Rattle.pe_builder.specs.Refusals.{wide_size};
+ghost use Rattle.pe_builder.specs.Sizes.{part_limit};
 
 use crate::case::Case;
 use crate::fault::RowFault;
@@ -44,7 +45,7 @@ fn sizes_of(
     names: &[SectionName],
     contents: &[Vec<u8>],
 ) -> Result<Vec<PartSize>, RowFault>
-    requires { length contents.now ≤ 16777216 }
+    requires { length contents.now ≤ part_limit }
     ensures { IfOk result (λ sizes. map length (map (λ c. c.items) contents.now)
         ≡ map (λ p. p.length) (map wide_size sizes.items)) }
 {

@@ -3,6 +3,7 @@ ghost use Rattle.std.specs.Prelude.{◌≡◌, ◌≤◌, ◌^◌, length, sum_b
 ghost use Rattle.pe_reader.specs.Prelude.{headers_of};
 ghost use Rattle.pe_builder.specs.Replaced.{MayReplace};
 ghost use Rattle.pe_builder.specs.Planned.{sbat_if_in_place};
+ghost use Rattle.pe_builder.specs.Sizes.{part_limit};
 
 use crate::case::Case;
 use crate::fault::RowFault;
@@ -57,7 +58,7 @@ fn wide_size(word: &str) -> Result<WideSize, RowFault>
 
 // The sizes of at most sixteen parts.
 fn wide_sizes(alloc: Global, rest: &str) -> Result<Vec<WideSize>, RowFault>
-    ensures few { IfOk result (λ sizes. length sizes.items ≤ 16777216) }
+    ensures few { IfOk result (λ sizes. length sizes.items ≤ part_limit) }
     ensures total { IfOk result (λ sizes. sum_by (λ p. p.length) sizes.items ≤ 2 ^ 62) }
 {
     let mut sizes = Vec::new(alloc);

@@ -6,7 +6,7 @@ ghost use Rattle.boot_machine.specs.Prelude.{Files};
 ghost use Rattle.pe_reader.specs.Prelude.{ReadFrom, headers_of};
 ghost use Rattle.pe_builder.specs.Replaced.{MayReplace};
 ghost use Rattle.pe_builder.specs.Layout.{FitsPart};
-ghost use Rattle.pe_builder.specs.Sizes.{any_size};
+ghost use Rattle.pe_builder.specs.Sizes.{any_size, part_limit};
 ghost use Rattle.uki_parts.specs.Parts.{part_place};
 ghost use Rattle.image_build.specs.Building.{has_sbat};
 ghost use Rattle.image_build.specs.Imaged.{AreFound, AreOrdered, IsCountable, IsOwnPlan, Images, IsSbatPart, PlansParts, image_result, is_filled};
@@ -55,7 +55,7 @@ fn image_plan(
     sbat: Vec<u8>,
 ) -> Result<ImagePlan, LayoutFault>
     requires read { ReadFrom head.now stub_length }
-    requires few { length parts ≤ 16777216 }
+    requires few { length parts ≤ part_limit }
     requires total { sum_by (λ part. part.length) parts ≤ 2 ^ 62 }
     requires sbat { MayReplace (headers_of head.now) in_place }
     ensures { PlansParts (headers_of head.now) stub_length stub parts in_place sbat.items result }

@@ -1,6 +1,6 @@
 //! Finishing or undoing the rename that a stop has left half done.
 ghost use Rattle.std.specs.Prelude.{[], ◌≡◌, ◌⊎◌, true, false, length, IsTrue, IfOk, OnOk, Some, option_map};
-ghost use Rattle.boot_base.specs.Intents.{names_of};
+ghost use Rattle.boot_base.specs.Intents.{names_of, intent_limit};
 ghost use Rattle.boot_base.specs.Paths.{intent as intent_path};
 ghost use Rattle.boot_machine.specs.Prelude.{CountsDisk, CountsRead, EachSince, HasOneCandidate, IsFirm, IsSettled, Looks, TakesAtMost, TakesNone, contents, has, recovered_view, HasNoHalfRename, intent_names};
 ghost use Rattle.install_steps.specs.Recovery.{RecoversTo, SameFrom, SeesSame};
@@ -25,7 +25,7 @@ fn left_names<M: Machine>(
     ensures names { IfOk result (λ found. IsTrue M.tells
         → option_map names_of found ≡ intent_names (M.state machine.old).files) }
     ensures looks { Looks M.tells M.time M.state M.counts (CountsRead result) machine.old machine.new }
-    ensures taken { IsTrue M.tells → TakesAtMost 2050 (M.taken machine.old) (M.taken machine.new) }
+    ensures taken { IsTrue M.tells → TakesAtMost intent_limit (M.taken machine.old) (M.taken machine.new) }
 {
     if size > INTENT_LIMIT {
         return Ok(None);
@@ -86,7 +86,7 @@ fn finish_left<M: Machine>(
     ensures ready { OnOk result (IsTrue M.tells → CanStep (M.state machine.new)) }
     ensures temps { IsTrue M.tells → NoNewTemp (M.state machine.old) (M.state machine.new) }
     ensures alone { LeavesAlone M.tells M.time M.state M.counts (CountsRead result) [] machine.old machine.new }
-    ensures taken { IsTrue M.tells → TakesAtMost 2050 (M.taken machine.old) (M.taken machine.new) }
+    ensures taken { IsTrue M.tells → TakesAtMost intent_limit (M.taken machine.old) (M.taken machine.new) }
 {
     let Some(size) = machine.size(intent)? else {
         return Ok(());
@@ -119,7 +119,7 @@ pub fn recover<M: Machine>(
     ensures ready { OnOk result (IsTrue M.tells → CanStep (M.state machine.new)) }
     ensures temps { IsTrue M.tells → NoNewTemp (M.state machine.old) (M.state machine.new) }
     ensures alone { LeavesAlone M.tells M.time M.state M.counts (CountsRead result) [] machine.old machine.new }
-    ensures taken { IsTrue M.tells → TakesAtMost 2050 (M.taken machine.old) (M.taken machine.new) }
+    ensures taken { IsTrue M.tells → TakesAtMost intent_limit (M.taken machine.old) (M.taken machine.new) }
 {
     settle(machine)?;
     finish_left(alloc, machine, intent)

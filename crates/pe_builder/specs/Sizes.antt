@@ -6,6 +6,10 @@ use Rattle.uki_parts.specs.Names.{name_bytes}
 use Rattle.pe_builder.specs.declared.size.PartSize.{PartSize}
 use Rattle.pe_builder.specs.declared.size.WideSize.{WideSize}
 
+-- the most parts of an image, so that no sum of their sizes needs more than 64 bits
+abbrev pub part_limit : ℕ
+part_limit = 16777216
+
 -- The Characteristics of a part's section: of the kernel, code that is read, else initialized data that are read
 -- (Microsoft PE/COFF; as ukify has them).
 abbrev pub part_flags : SectionName → ℕ

@@ -5,6 +5,7 @@ ghost use Rattle.std.specs.Int.{next_multiple_of};
 ghost use Rattle.pe_reader.specs.Prelude.{headers_of, section_at_index};
 ghost use Rattle.pe_builder.specs.Layout.{virtual_end, end_after, length_after, address_after};
 ghost use Rattle.pe_builder.specs.Replaced.{sbat_index, with_sbat_size, MayReplace};
+ghost use Rattle.pe_builder.specs.Sizes.{part_limit};
 
 use crate::size::WideSize;
 use pe_reader::{Head, Pe, Section};
@@ -72,7 +73,7 @@ pub fn up(x: u64, unit: u32) -> u64
 pub fn length_after(head: &Head, stub_length: u32, parts: &[WideSize]) -> u64
     requires unit { 0 < head.now.file_alignment }
     requires small_unit { head.now.file_alignment ≤ 65536 }
-    requires few { length parts.now ≤ 16777216 }
+    requires few { length parts.now ≤ part_limit }
     requires total { sum_by (λ p. p.length) parts.now ≤ 2 ^ 62 }
     ensures { result ≡ length_after head.now stub_length parts.now }
 {
@@ -88,7 +89,7 @@ pub fn length_after(head: &Head, stub_length: u32, parts: &[WideSize]) -> u64
 pub fn address_after(head: &Head, address: u64, parts: &[WideSize]) -> u64
     requires unit { 0 < head.now.section_alignment }
     requires small_unit { head.now.section_alignment ≤ 65536 }
-    requires few { length parts.now ≤ 16777216 }
+    requires few { length parts.now ≤ part_limit }
     requires total { sum_by (λ p. p.length) parts.now ≤ 2 ^ 62 }
     requires small { address < 2 ^ 33 }
     ensures exact { result ≡ address_after head.now address parts.now }

@@ -10,6 +10,8 @@ ghost use Rattle.pe_builder.specs.Replaced.{sbat_index, with_sbat_size, MayRepla
 ghost use Rattle.pe_builder.specs.Refusals.{wide_size, first_refusal, size_refusal};
 ghost use Rattle.pe_builder.specs.Planned.{PlansImage, Makes, head_after, planned_length, sbat_place};
 ghost use Rattle.pe_builder.specs.Known.{planned_stub_length, planned_before, planned_after, planned_sections, planned_sbat};
+ghost use Rattle.pe_reader.specs.Grammar.{section_limit};
+ghost use Rattle.pe_builder.specs.Sizes.{part_limit};
 
 use crate::extent::{address_after, length_after, sbat_index, stub_end, total, up};
 use crate::fault::LayoutFault;
@@ -67,7 +69,7 @@ impl ImageLayout {
         sbat_in_place: Option<u32>,
     ) -> Result<ImageLayout, LayoutFault>
         requires read { ReadFrom stub.now stub_length }
-        requires few { length sizes.now ≤ 16777216 }
+        requires few { length sizes.now ≤ part_limit }
         requires sbat { MayReplace (headers_of stub.now) sbat_in_place }
         ensures { Makes
             (λ plan. PlansImage plan (headers_of stub.now) stub_length (map wide_size sizes.now) sbat_in_place) result
@@ -90,7 +92,7 @@ impl ImageLayout {
         sbat_in_place: Option<u32>,
     ) -> Result<ImageLayout, LayoutFault>
         requires read { ReadFrom stub.now stub_length }
-        requires few { length sizes.now ≤ 16777216 }
+        requires few { length sizes.now ≤ part_limit }
         requires total { sum_by (λ p. p.length) sizes.now ≤ 2 ^ 62 }
         requires fit { AllByRecursion FitsPart sizes.now }
         requires sbat { MayReplace (headers_of stub.now) sbat_in_place }
@@ -156,7 +158,7 @@ fn lay_out(
     sbat_in_place: Option<u32>,
 ) -> Result<ImageLayout, AllocError>
     requires read { ReadFrom stub.now stub_length }
-    requires few { length sizes.now ≤ 16777216 }
+    requires few { length sizes.now ≤ part_limit }
     requires total { sum_by (λ p. p.length) sizes.now ≤ 2 ^ 62 }
     requires sbat { MayReplace (headers_of stub.now) sbat_in_place }
     requires fit { AllByRecursion FitsPart sizes.now }
@@ -180,7 +182,7 @@ fn lay_out(
 fn head_after(head: &Head, start: u32, parts: &[WideSize]) -> Head
     requires memory_unit { 0 < head.now.section_alignment }
     requires small_unit { head.now.section_alignment ≤ 65536 }
-    requires few { head.now.section_count + length parts.now ≤ 96 }
+    requires few { head.now.section_count + length parts.now ≤ section_limit }
     requires total { sum_by (λ p. p.length) parts.now ≤ 2 ^ 62 }
     requires image { next_multiple_of (address_after head.now start parts.now) head.now.section_alignment < 2 ^ 32 }
     requires initialized { head.now.initialized_size + sum_by (λ p. p.length) parts.now < 2 ^ 32 }

@@ -6,6 +6,7 @@ ghost use Rattle.pe_reader.specs.Prelude.{ReadFrom, headers_of};
 ghost use Rattle.pe_builder.specs.Layout.{length_after};
 ghost use Rattle.pe_builder.specs.Replaced.{with_sbat_size, MayReplace};
 ghost use Rattle.pe_builder.specs.Refusals.{first_taken, first_refusal, sbat_refusal, size_refusal};
+ghost use Rattle.pe_builder.specs.Sizes.{part_limit};
 
 use crate::extent::{address_after, length_after, sbat_index, stub_end, total, up};
 use crate::fault::LayoutFault;
@@ -31,7 +32,7 @@ pub fn plan_refusal(
     sbat_in_place: Option<u32>,
 ) -> Option<LayoutFault>
     requires read { ReadFrom stub.now stub_length }
-    requires few { length sizes.now ≤ 16777216 }
+    requires few { length sizes.now ≤ part_limit }
     requires total { sum_by (λ p. p.length) sizes.now ≤ 2 ^ 62 }
     requires sbat { MayReplace (headers_of stub.now) sbat_in_place }
     ensures { result ≡ first_refusal (headers_of stub.now) stub_length sizes.now sbat_in_place }
@@ -53,7 +54,7 @@ pub(crate) fn find_refusal(
     sbat_in_place: Option<u32>,
 ) -> Result<Option<LayoutFault>, AllocError>
     requires read { ReadFrom stub.now stub_length }
-    requires few { length sizes.now ≤ 16777216 }
+    requires few { length sizes.now ≤ part_limit }
     requires total { sum_by (λ p. p.length) sizes.now ≤ 2 ^ 62 }
     requires sbat { MayReplace (headers_of stub.now) sbat_in_place }
     ensures { IfOk result (λ found. found ≡ first_refusal (headers_of stub.now) stub_length sizes.now sbat_in_place) }
@@ -72,7 +73,7 @@ fn refusal(
     taken: Option<LayoutFault>,
 ) -> Option<LayoutFault>
     requires read { ReadFrom stub.now stub_length }
-    requires few { length parts.now ≤ 16777216 }
+    requires few { length parts.now ≤ part_limit }
     requires total { sum_by (λ p. p.length) parts.now ≤ 2 ^ 62 }
     requires sbat { MayReplace (headers_of stub.now) sbat_in_place }
     requires taken { taken ≡ first_taken (headers_of stub.now).sections [] parts.now }
@@ -116,7 +117,7 @@ fn size_refusal(
     requires units { (headers_of stub.now).head.file_alignment ≤ (headers_of stub.now).head.section_alignment }
     requires small_unit { (headers_of stub.now).head.section_alignment ≤ 65536 }
     requires table { (headers_of stub.now).head.table_place ≤ file_limit }
-    requires few { length parts.now ≤ 16777216 }
+    requires few { length parts.now ≤ part_limit }
     requires total { sum_by (λ p. p.length) parts.now ≤ 2 ^ 62 }
     requires sbat { MayReplace (headers_of stub.now) sbat_in_place }
     ensures { result ≡ size_refusal (with_sbat_size (headers_of stub.now) sbat_in_place) stub_length parts.now }

@@ -4,7 +4,7 @@ ghost use Rattle.std.specs.Prelude.{◌≡◌, ◌≤◌, ◌^◌, length, map, 
 ghost use Rattle.std.specs.List.{AllByRecursion};
 ghost use Rattle.pe_builder.specs.Layout.{FitsPart};
 ghost use Rattle.pe_builder.specs.Refusals.{wide_size};
-ghost use Rattle.pe_builder.specs.Sizes.{part_flags, size_of};
+ghost use Rattle.pe_builder.specs.Sizes.{part_flags, size_of, part_limit};
 
 use std::alloc::{AllocError, Global};
 use uki_parts::{Part, SectionName};
@@ -111,7 +111,7 @@ fn wide_size(size: PartSize) -> WideSize
 
 /// The same sizes without the bound on their lengths.
 pub fn wide_sizes(alloc: Global, sizes: &[PartSize]) -> Result<Vec<WideSize>, AllocError>
-    requires few { length sizes.now ≤ 16777216 }
+    requires few { length sizes.now ≤ part_limit }
     ensures exact { IfOk result (λ wides. wides.items ≡ map wide_size sizes.now) }
     ensures fit { IfOk result (λ wides. AllByRecursion FitsPart wides.items) }
     ensures total { IfOk result (λ wides. sum_by (λ p. p.length) wides.items ≤ 2 ^ 62) }

@@ -5,7 +5,7 @@ use Rattle.std.specs.Int.{is_power_of_two}
 use Rattle.pe_reader.specs.declared.head.Head.{Head}
 use Rattle.pe_reader.specs.declared.section.Section.{Section}
 use Rattle.pe_reader.specs.Fields.{u16_at, u32_at, part}
-use Rattle.pe_reader.specs.Grammar.{Headers}
+use Rattle.pe_reader.specs.Grammar.{Headers, section_limit}
 use Rattle.pe_reader.specs.LoadedBytes.{section_at_index}
 
 -- where the signature stands
@@ -80,7 +80,7 @@ pub record IsPe (bytes : List ℕ) : Type 0 where
   pub signature_past_start : 64 ≤ signature_place bytes
   pub coff_header_inside : signature_place bytes + 24 ≤ length bytes
   pub signature_is_pe : u32_at bytes (signature_place bytes) ≡ 0x4550
-  pub few_sections : section_count bytes ≤ 96
+  pub few_sections : section_count bytes ≤ section_limit
   pub optional_long_enough : 112 ≤ optional_size bytes
   pub optional_inside : table_place bytes ≤ length bytes
   pub is_not_pe32 : u16_at bytes (optional_place bytes) ≢ 0x10B

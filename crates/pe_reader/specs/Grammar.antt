@@ -15,6 +15,10 @@ use Rattle.pe_reader.specs.Fields.{u16_at, u32_at, part}
 abbrev pub check_before : {A : Type 0} → Bool → PeReason → ℕ → Result A FailedCheck → Result A FailedCheck
 check_before holds reason offset rest = if holds then rest else Err (record { reason = reason; offset = offset })
 
+-- the most sections of a file
+abbrev pub section_limit : ℕ
+section_limit = 96
+
 -- The file's size and its first 64 bytes give the place of the PE header.
 unfoldable pub pe_place_of : ℕ → List ℕ → Result ℕ FailedCheck
 pe_place_of size front =
@@ -28,7 +32,7 @@ unfoldable pub coff_of : ℕ → ℕ → List ℕ → Result Coff FailedCheck
 coff_of size place header =
     check_before (nat_le (place + 24) size) ShortHeaders size (
     check_before (u32_at header 0 == 0x4550) NoSignature place (
-    check_before (nat_le (u16_at header 6) 96) TooManySections (place + 6) (
+    check_before (nat_le (u16_at header 6) section_limit) TooManySections (place + 6) (
     check_before (nat_le 112 (u16_at header 20)) ShortOptional (place + 20) (
     check_before (nat_le (place + 24 + u16_at header 20) size) ShortHeaders size (
     Ok (record { section_count = u16_at header 6; optional_size = u16_at header 20 }))))))

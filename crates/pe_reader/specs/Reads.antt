@@ -9,11 +9,12 @@ use Rattle.pe_reader.specs.declared.fault.HeadFault.{HeadFault}
 use Rattle.pe_reader.specs.declared.fault.HeadFault.TheVariants as heads
 use Rattle.pe_reader.specs.declared.head.Head.{Head}
 use Rattle.pe_reader.specs.declared.pe.Pe.{Pe}
-use Rattle.pe_reader.specs.Grammar.{Headers, head_of, pe_of}
+use Rattle.pe_reader.specs.Grammar.{Headers, head_of, pe_of, section_limit}
 
--- the most bytes that the headers of a file have: its first 64, the COFF header, an optional header and 96 sections
+-- the most bytes that the headers of a file have: its first 64, the COFF header, an optional header and
+-- the headers of all sections
 abbrev pub head_limit : ℕ
-head_limit = 64 + 24 + 65535 + 96 * 40
+head_limit = 64 + 24 + 65535 + section_limit * 40
 
 -- the fault is the first check that fails, or want of memory
 abbrev pub Fails : {Y : Type 0} → PeFault → Result Y FailedCheck → Type 0

@@ -4,6 +4,7 @@ ghost use Rattle.std.specs.Prelude.{◌≡◌, ◌+◌, ◌*◌, ◌≤◌, ◌<
 ghost use Rattle.boot_base.specs.Limits.{file_limit};
 ghost use Rattle.boot_machine.specs.Prelude.{CountsDisk, Looks, TakesAtMost, contents};
 ghost use Rattle.pe_reader.specs.Prelude.{part, head_of, pe_place_of, coff_of, optional_of, sections_of, FromBytes, GivesFrom, CountsHead, HeadFrom};
+ghost use Rattle.pe_reader.specs.Grammar.{section_limit};
 
 use crate::fault::HeadFault;
 use crate::head::{Coff, Head, coff_header, optional_header, pe_place};
@@ -39,7 +40,7 @@ pub fn head_in<M: Machine>(
         → GivesFrom (λ head. head) result (head_of (contents (M.state machine.old).files path.now)) }
     ensures read { IfOk result (λ head. HeadFrom head size) }
     ensures inside { IfOk result (λ head. head.table_place + 40 * head.section_count ≤ size) }
-    ensures few { IfOk result (λ head. head.section_count ≤ 96) }
+    ensures few { IfOk result (λ head. head.section_count ≤ section_limit) }
     ensures looks { Looks M.tells M.time M.state M.counts (CountsHead result) machine.old machine.new }
     ensures taken { IsTrue M.tells → TakesAtMost (64 + 24 + 65535) (M.taken machine.old) (M.taken machine.new) }
 {
@@ -75,7 +76,7 @@ fn coff_in<M: Machine>(
     ensures read { IfOk result (FromBytes 24 (coff_of size place)) }
     ensures long { IfOk result (λ coff. 112 ≤ coff.optional_size) }
     ensures inside { IfOk result (λ coff. place + 24 + coff.optional_size ≤ size) }
-    ensures few { IfOk result (λ coff. coff.section_count ≤ 96) }
+    ensures few { IfOk result (λ coff. coff.section_count ≤ section_limit) }
     ensures looks { Looks M.tells M.time M.state M.counts (CountsHead result) machine.old machine.new }
     ensures taken { IsTrue M.tells → TakesAtMost 24 (M.taken machine.old) (M.taken machine.new) }
 {

@@ -23,13 +23,17 @@ use Rattle.tool_words.specs.declared.fault.UsageReason.TheVariants as reason
 use Rattle.word_grammar.specs.Grammar.{Word, OptionRule, row, commands, is_name_of, is_verbed, is_text_of}
 use Rattle.tool_words.specs.Items.{Item, items, all_values, last_option_value, operands, ◌>>=◌}
 
--- words over their limits: 16,777,216 words, 1,048,576 bytes of one
+-- the most words of a run
+abbrev pub word_limit : ℕ
+word_limit = 16777216
+
+-- a word is longer than 1,048,576 bytes
 abbrev pub is_long : Word → Bool
 is_long word = nat_lt 1048576 (length word)
 
--- there are more than 16,777,216 words, or one of them is too long
+-- there are more words than a run may have, or one of them is too long
 abbrev pub are_too_long : List Word → Bool
-are_too_long words = nat_lt 16777216 (length words) || list_any is_long words
+are_too_long words = nat_lt word_limit (length words) || list_any is_long words
 
 -- the command that the first words name, and the words after them
 abbrev pub found_verb : Option CommandName → Word → List Word → Result (CommandName × List Word) UsageReason
