@@ -1,6 +1,5 @@
 -- The path of a file beside another, in the same folder.
-use Rattle.std.proofs.Common.{◌≡◌, ◌≢◌, inl, inr, ℕ, ◌+◌, ◌-◌, ◌<◌, ◌≤◌, Bool, true, false, not, ◌&&◌, ◌||◌, ◌⊎◌, List, [], ◌∷◌, ◌++◌, Some, None, length, take, drop, get_or, filter, refl, sym, ap, subst, ◌∙◌, arith, zero, suc, length-append, append_assoc, get_or-append-add, drop_at}
-use Rattle.std.specs.Prelude.{◌==◌, bytes_eq}
+use Rattle.std.proofs.Common.{◌≡◌, ◌≢◌, inl, inr, ℕ, ◌+◌, ◌-◌, ◌<◌, ◌≤◌, Bool, true, false, not, ◌&&◌, ◌||◌, ◌⊎◌, List, [], ◌∷◌, ◌++◌, Some, None, length, take, drop, get_or, filter, refl, sym, ap, subst, ◌∙◌, arith, zero, suc, length-append, append_assoc, get_or-append-add, drop_at, ◌==◌, bytes_eq}
 use Rattle.std.specs.List.{join_with_byte, list_any, onto_first, sum_by}
 use Rattle.std.proofs.Math.Seq.{take-append_seam}
 use Rattle.std.proofs.lemmas.Bool.{cases_Bool, and_parts, cond-true, cond-false, eqb-true, eqb-false, le-ltb, ne_eqb, not-true, or_from, or_left, or_parts}

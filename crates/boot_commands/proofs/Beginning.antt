@@ -1,13 +1,10 @@
 -- The machine that a demonstration begins with.
-use Rattle.std.proofs.Common.{rules, ◌≡◌, ℕ, List, [], ◌∷◌, map, false, Some, IfOk, Result, Ok, Err, refl, sym, ap, ◌∙◌, subst}
-use Rattle.std.specs.Prelude.{bytes_eq, codes, is_some}
+use Rattle.std.proofs.Common.{rules, ◌≡◌, ℕ, List, [], ◌∷◌, map, false, Some, IfOk, Result, Ok, Err, refl, sym, ap, ◌∙◌, subst, bytes_eq, codes, is_some}
 use Rattle.std.specs.FinMap as maps
 use Rattle.std.specs.List.{IsDistinct}
 use Rattle.std.specs.Cmp.Lexicographic.{nat_list_cmp_total}
 use Rattle.boot_base.specs.Paths.{Path, intent, is_temp, path_of}
-use Rattle.boot_machine.specs.Disk.{Files, State, has, view}
-use Rattle.boot_machine.specs.Images.{IsSettled}
-use Rattle.boot_machine.specs.Sent.{seen}
+use Rattle.boot_machine.specs.Prelude.{Files, State, has, view, IsSettled, seen}
 use Rattle.memory_machine.specs.Events.{start_state}
 use Rattle.memory_machine.specs.Memory.{mem_state}
 use Rattle.memory_machine.specs.declared.memory.MemMachine.{MemMachine}

@@ -1,6 +1,5 @@
 -- No loader.conf of an EFI system partition stands where an entry of one does.
-use Rattle.std.proofs.Common.{◌≡◌, ◌≢◌, inl, inr, ℕ, ◌<◌, Bool, true, false, List, [], ◌∷◌, ◌++◌, length, Some, None, Result, Ok, Err, refl, sym, ap, ◌∙◌, arith, append_assoc, length-append}
-use Rattle.std.specs.Prelude.{◌==◌, codes, if◌then◌else◌}
+use Rattle.std.proofs.Common.{◌≡◌, ◌≢◌, inl, inr, ℕ, ◌<◌, Bool, true, false, List, [], ◌∷◌, ◌++◌, length, Some, None, Result, Ok, Err, refl, sym, ap, ◌∙◌, arith, append_assoc, length-append, ◌==◌, codes, if◌then◌else◌}
 use Rattle.std.specs.List.{list_any, onto_first}
 use Rattle.std.proofs.lemmas.Bool.{cases_Bool, cond-true, cond-false, ne_eqb}
 use Rattle.std.proofs.lemmas.List.{append_cancel_right, same_from_push}
@@ -10,12 +9,11 @@ use Rattle.boot_base.proofs.Joined.{add_piece, is_kept-long, join_filtered, join
 use Rattle.boot_folder.specs.Entries.{folder_of}
 use Rattle.boot_folder.specs.declared.folders.Folders.{Folders}
 use Rattle.boot_folder.proofs.Places.{file_name_under, name_parts}
-use Rattle.boot_machine.specs.Disk.{Files}
-use Rattle.command_plans.specs.Declining.{◌>>=◌, path_in, path_or, path_under}
+use Rattle.boot_machine.specs.Prelude.{Files}
+use Rattle.command_plans.specs.Prelude.{◌>>=◌, path_in, path_or, path_under, folders_of}
 use Rattle.menu_order.specs.declared.counted.Suffix.{Suffix}
 use Rattle.menu_order.specs.declared.counted.Suffix.TheVariants.{Conf, Efi}
 use Rattle.boot_base.specs.Layout.{entries_below, images_below}
-use Rattle.command_plans.specs.Folders.{folders_of}
 use Rattle.entry_commands.specs.GoodEntries.{HasGoodEntry}
 use Rattle.loader_commands.specs.Places.{conf_below, conf_path}
 

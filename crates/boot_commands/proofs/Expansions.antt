@@ -1,14 +1,9 @@
 -- The actions of a command of several, by what its reads say.
-use Rattle.std.proofs.Common.{◌≡◌, ◌≢◌, ◌||◌, codes, ℕ, Bool, true, false, List, [], ◌∷◌, ◌++◌, map, length, refl, sym, ap, ◌∙◌, subst, arith, Result, Ok, Err}
-use Rattle.std.specs.Prelude.{nat_eq}
-use Rattle.std.proofs.lemmas.Bool.{eqb-true}
+use Rattle.std.proofs.Common.{◌≡◌, ◌≢◌, ◌||◌, codes, ℕ, Bool, true, false, List, [], ◌∷◌, ◌++◌, map, length, refl, sym, ap, ◌∙◌, subst, arith, Result, Ok, Err, nat_eq, eqb-true}
 use Rattle.boot_base.specs.Paths.{Path}
 use Rattle.boot_base.specs.declared.refusal.Refusal.{Refusal}
-use Rattle.boot_machine.specs.Disk.{Files, State}
-use Rattle.boot_machine.specs.Sent.{seen}
-use Rattle.command_plans.specs.Declining.{◌>>=◌}
-use Rattle.command_plans.specs.Files.{bytes_at, each}
-use Rattle.command_plans.specs.Unsaying.{UnsaidFor}
+use Rattle.boot_machine.specs.Prelude.{Files, State, seen}
+use Rattle.command_plans.specs.Prelude.{◌>>=◌, bytes_at, each, UnsaidFor}
 use Rattle.command_plans.specs.declared.unsaid.Unsaid.{Unsaid}
 use Rattle.command_plans.specs.declared.unsaid.Unsaid.TheVariants as unsaid
 use Rattle.tool_words.specs.declared.command.Several.{Several}

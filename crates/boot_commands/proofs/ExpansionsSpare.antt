@@ -1,7 +1,6 @@
 -- What an installation and a cleanup stand for spares every good entry: a payload's name has no suffix, and what is
 -- entered is an entry.
-use Rattle.std.proofs.Common.{◌≡◌, ◌≢◌, inl, inr, ℕ, true, List, [], ◌∷◌, ◌++◌, map, Some, None, refl, sym, ap, ◌∙◌, subst, Result, Ok, Err}
-use Rattle.std.specs.Prelude.{All, bytes_eq, nat_le, not, ◌&&◌, length}
+use Rattle.std.proofs.Common.{◌≡◌, ◌≢◌, inl, inr, ℕ, true, List, [], ◌∷◌, ◌++◌, map, Some, None, refl, sym, ap, ◌∙◌, subst, Result, Ok, Err, All, bytes_eq, nat_le, not, ◌&&◌, length}
 use Rattle.std.specs.List.{list_any}
 use Rattle.std.specs.FinMap as map_of
 use Rattle.std.proofs.lemmas.Bool.{and_from, and_parts, cases_Bool, cond-true, le-leb}
@@ -19,12 +18,8 @@ use Rattle.boot_folder.specs.Records.{type1_item}
 use Rattle.boot_folder.specs.declared.folders.Folders.{Folders}
 use Rattle.boot_folder.proofs.EntryFiles.{one_type}
 use Rattle.boot_folder.proofs.Places.{file_name_under, name_parts}
-use Rattle.boot_machine.specs.Disk.{Files}
-use Rattle.boot_machine.specs.Rows.{contents}
-use Rattle.command_plans.specs.Declining.{◌>>=◌, path_in, path_under}
-use Rattle.command_plans.specs.Files.{bytes_at, each}
-use Rattle.command_plans.specs.Folders.{folders_of}
-use Rattle.command_plans.specs.Menus.{menu_at}
+use Rattle.boot_machine.specs.Prelude.{Files, contents}
+use Rattle.command_plans.specs.Prelude.{◌>>=◌, path_in, path_under, bytes_at, each, folders_of, menu_at}
 use Rattle.tool_words.specs.declared.command.Several.{Several}
 use Rattle.tool_words.specs.declared.command.Several.TheVariants as several
 use Rattle.tool_words.specs.declared.action.Action.{Action}

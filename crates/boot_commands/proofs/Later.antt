@@ -4,12 +4,12 @@ use Rattle.std.proofs.lemmas.Bool.{cases_Bool}
 use Rattle.boot_base.specs.Paths.{Path, under}
 use Rattle.boot_base.specs.declared.refusal.Refusal.{Refusal}
 use Rattle.boot_base.proofs.Temp.{is_temp-behind}
-use Rattle.boot_machine.specs.Disk.{State, has}
+use Rattle.boot_machine.specs.Prelude.{State, has}
 use Rattle.install_steps.specs.Steps.{NoNewTemp}
 use Rattle.tool_words.specs.declared.command.One.{One}
 use Rattle.tool_words.specs.declared.command.One.TheVariants as one
 use Rattle.boot_commands.specs.Commands.{LeavesTidied}
-use Rattle.command_plans.specs.Folders.{folders_of}
+use Rattle.command_plans.specs.Prelude.{folders_of}
 use Rattle.entry_commands.specs.Tidying.{CleanAt, IsClean}
 use Rattle.boot_folder.specs.declared.folders.Folders.{Folders}
 

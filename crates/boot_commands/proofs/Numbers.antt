@@ -1,6 +1,5 @@
 -- Words of 1 to 20 digits, and the numbers that they write.
-use Rattle.std.proofs.Common.{◌≡◌, ◌≢◌, ℕ, ◌<◌, ◌^◌, ◌==◌, ◌&&◌, nat_le, nat_lt, not, Bool, true, false, cond, List, [], ◌∷◌, Some, None, Result, Ok, Err, length, refl, sym, ◌∙◌, ap, arith, inl, inr}
-use Rattle.std.specs.Result.{OkIff}
+use Rattle.std.proofs.Common.{◌≡◌, ◌≢◌, ℕ, ◌<◌, ◌^◌, ◌==◌, ◌&&◌, nat_le, nat_lt, not, Bool, true, false, cond, List, [], ◌∷◌, Some, None, Result, Ok, Err, length, refl, sym, ◌∙◌, ap, arith, inl, inr, OkIff}
 use Rattle.std.specs.Char.{is_ascii_digit, digit_value}
 use Rattle.std.specs.List.{list_all}
 use Rattle.std.specs.Str.Parse.{AllDigits, ParsesUnsigned, digits_value}

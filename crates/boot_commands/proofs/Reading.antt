@@ -1,14 +1,7 @@
 -- A command that is carried out after its reads.
 use Rattle.std.proofs.Common.{◌≡◌, Result, sym, ap, ◌∙◌, subst}
-use Rattle.boot_machine.specs.Disk.{Files, IsIn, State, recovered_view}
-use Rattle.boot_machine.specs.Images.{IsImage, IsFirm}
-use Rattle.boot_machine.specs.Moments.{Timeline}
-use Rattle.boot_machine.specs.Reading.{OnlyReads}
-use Rattle.boot_machine.specs.Sent.{recovered_views, seen}
-use Rattle.command_plans.specs.Answers.{Answer}
-use Rattle.command_plans.specs.Deeds.{deed_of_answer}
-use Rattle.command_plans.specs.Performs.{Performs, end_of}
-use Rattle.command_plans.specs.Plans.{answer_of_plan}
+use Rattle.boot_machine.specs.Prelude.{Files, IsIn, State, recovered_view, IsImage, IsFirm, Timeline, OnlyReads, recovered_views, seen}
+use Rattle.command_plans.specs.Prelude.{Answer, deed_of_answer, Performs, end_of, answer_of_plan}
 use Rattle.command_plans.specs.declared.outcome.Outcome.{Outcome}
 use Rattle.command_plans.specs.declared.outcome.Stop.{Stop}
 use Rattle.command_plans.specs.declared.plan.Plan.{Plan}

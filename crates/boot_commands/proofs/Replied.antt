@@ -1,17 +1,12 @@
 -- What a command leaves on a machine that is ready for it, and its reply there.
-use Rattle.std.proofs.Common.{◌≡◌, ◌≤◌, ◌-◌, ℕ, arith, take, List, [], ◌∷◌, ◌++◌, map, drop, length, refl, sym, ap, ◌∙◌, true, subst}
+use Rattle.std.proofs.Common.{◌≡◌, ◌≤◌, ◌-◌, ℕ, arith, take, List, [], ◌∷◌, ◌++◌, map, drop, length, refl, sym, ap, ◌∙◌, true, subst, length-drop, take_all}
 use Rattle.std.proofs.Math.Seq.{drop-append_seam}
-use Rattle.std.proofs.lemmas.List.{length-drop, take_all}
-use Rattle.boot_machine.specs.Disk.{Files, State}
-use Rattle.boot_machine.specs.Rows.{on_channel}
-use Rattle.boot_machine.specs.Sent.{Sent, latest_view, recovered_views, seen}
+use Rattle.boot_machine.specs.Prelude.{Files, State, on_channel, Sent, latest_view, recovered_views, seen}
 use Rattle.boot_machine.specs.declared.machine.Channel.{Channel}
 use Rattle.boot_machine.specs.declared.machine.Printed.{Printed}
 use Rattle.boot_machine.proofs.Recovering.{recovered_view-calm}
 use Rattle.boot_machine.proofs.Seeing.{latest_view-recovered_views}
-use Rattle.command_plans.specs.Answers.{Answer, channel_of}
-use Rattle.command_plans.specs.Deeds.{deed_of_answer}
-use Rattle.command_plans.specs.Performs.{DoesDeed}
+use Rattle.command_plans.specs.Prelude.{Answer, channel_of, deed_of_answer, DoesDeed}
 use Rattle.command_plans.specs.declared.outcome.Outcome.{Outcome}
 use Rattle.boot_commands.specs.DemoRuns.{IsReady}
 

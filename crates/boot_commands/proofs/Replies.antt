@@ -4,36 +4,29 @@ use Rattle.std.specs.FinMap.{get, insert}
 use Rattle.boot_base.specs.Paths.{Path}
 use Rattle.boot_base.specs.declared.refusal.Refusal.{Refusal}
 use Rattle.boot_base.specs.declared.refusal.Refusal.TheVariants as refusals
-use Rattle.boot_machine.specs.Disk.{Files}
-use Rattle.pcr_values.specs.ValueLines.{heading_of, value_lines}
+use Rattle.boot_machine.specs.Prelude.{Files}
+use Rattle.pcr_values.specs.Prelude.{heading_of, value_lines}
 use Rattle.tool_words.specs.declared.command.One.{One}
 use Rattle.tool_words.specs.declared.command.One.TheVariants as one
 use Rattle.tool_words.specs.declared.action.Action.{Action}
 use Rattle.tool_words.specs.declared.action.Action.TheVariants as action
-use Rattle.command_plans.specs.Answers.{Answer, answer_or_refusal, done_answer}
+use Rattle.command_plans.specs.Prelude.{Answer, answer_or_refusal, done_answer, bytes_at, each, image_at, banks_of, without_repeats, paths_of, folders_of, ◌>>=◌, path_in, printed_path, unless_refused, removal, unlink_answer, menu_at}
 use Rattle.pcr_values.specs.declared.bank.Bank.{Bank}
 use Rattle.pe_reader.specs.declared.fault.FailedCheck.{FailedCheck}
-use Rattle.pe_reader.specs.Grammar.{Headers, pe_of}
+use Rattle.pe_reader.specs.Prelude.{Headers, pe_of}
 use Rattle.image_build.specs.Building.{BuiltImage, build_of, built_answer}
-use Rattle.command_plans.specs.Files.{bytes_at, each, image_at}
 use Rattle.image_commands.specs.Calculating.{calculate_result, part_words, under_name}
 use Rattle.stub_replay.specs.Ordered.{present_parts}
 use Rattle.image_commands.specs.Said.{has_loaded, identify_result, measure_result, inspect_result, inspection_at, kind_at, kind_of, section_facts, values_at}
-use Rattle.command_plans.specs.Choices.{banks_of, without_repeats, paths_of}
 use Rattle.image_commands.specs.Told.{told_sections, told_values}
 use Rattle.list_json.specs.Registers.{values_data}
 use Rattle.list_json.specs.Sections.{SectionFacts, sections_data}
 use Rattle.list_json.proofs.Some.{some_json}
 use Rattle.boot_commands.specs.Replies.{one_reply, action_reply, told_text}
 use Rattle.type1_install.specs.Placing.{payload_text}
-use Rattle.command_plans.specs.Folders.{folders_of}
 use Rattle.entry_commands.proofs.Replies.{HasText, some_boot, some_install, some_line, some_list, some_marked, some_said, text_next}
-use Rattle.command_plans.specs.Declining.{◌>>=◌, path_in, printed_path}
-use Rattle.command_plans.specs.Refusing.{unless_refused}
 use Rattle.entry_commands.specs.Tidying.{tidy_answer}
-use Rattle.command_plans.specs.Changes.{removal, unlink_answer}
 use Rattle.entry_commands.specs.Unlinking.{entry_path}
-use Rattle.command_plans.specs.Menus.{menu_at}
 use Rattle.loader_commands.specs.Places.{conf_bytes, loader_paths}
 use Rattle.loader_commands.specs.Setting.{changed_conf, conf_update}
 use Rattle.loader_commands.specs.Showing.{default_item, menu_shown, show_result, shown_or_empty}

@@ -1,13 +1,10 @@
 -- A good entry stays that a command spares.
-use Rattle.std.proofs.Common.{◌≡◌, ◌≢◌, ℕ, Bool, true, false, List, [], ◌∷◌, refl, ap, ◌∙◌, Result, Ok, Err}
-use Rattle.std.specs.Prelude.{IfOk}
+use Rattle.std.proofs.Common.{◌≡◌, ◌≢◌, ℕ, Bool, true, false, List, [], ◌∷◌, refl, ap, ◌∙◌, Result, Ok, Err, IfOk}
 use Rattle.boot_base.specs.Paths.{Path}
 use Rattle.boot_base.specs.declared.refusal.Refusal.{Refusal}
 use Rattle.boot_folder.specs.declared.folders.Folders.{Folders}
-use Rattle.boot_machine.specs.Disk.{Files}
-use Rattle.command_plans.specs.Answers.{Answer, answer_of_read, answer_or_refusal, done_answer}
-use Rattle.command_plans.specs.Refusing.{unless_refused}
-use Rattle.command_plans.specs.Declining.{◌>>=◌, path_in}
+use Rattle.boot_machine.specs.Prelude.{Files}
+use Rattle.command_plans.specs.Prelude.{Answer, answer_of_read, answer_or_refusal, done_answer, unless_refused, ◌>>=◌, path_in, folders_of, unlink_answer, bytes_at}
 use Rattle.tool_words.specs.declared.command.One.{One}
 use Rattle.tool_words.specs.declared.command.One.TheVariants as one
 use Rattle.tool_words.specs.declared.action.Action.{Action}
@@ -15,11 +12,9 @@ use Rattle.tool_words.specs.declared.action.Action.TheVariants as action
 use Rattle.image_build.specs.Building.{BuiltImage, build_of, built_answer}
 use Rattle.image_commands.specs.Calculating.{calculate_result}
 use Rattle.image_commands.specs.Said.{identify_result, measure_result, inspect_result}
-use Rattle.command_plans.specs.Folders.{folders_of}
 use Rattle.entry_commands.specs.GoodEntries.{HasGoodEntry}
 use Rattle.entry_commands.specs.Listing.{list_result}
 use Rattle.entry_commands.specs.Tidying.{tidy_answer}
-use Rattle.command_plans.specs.Changes.{unlink_answer}
 use Rattle.entry_commands.specs.Unlinking.{entry_path}
 use Rattle.entry_commands.proofs.GoodEntries.{kept_bless, kept_boot, kept_install, kept_unlink, put_apart}
 use Rattle.loader_commands.specs.Places.{conf_path}
@@ -29,7 +24,6 @@ use Rattle.boot_texts.specs.declared.conf_change.ConfKey.{ConfKey}
 use Rattle.boot_texts.specs.declared.conf_change.ConfKey.TheVariants.{Default, Timeout}
 use Rattle.boot_commands.specs.Replies.{one_reply, action_reply}
 use Rattle.std.specs.FinMap.{insert}
-use Rattle.command_plans.specs.Files.{bytes_at}
 use Rattle.type1_install.specs.Placing.{payload_text}
 use Rattle.boot_commands.specs.Sparing.{Spares, ActionSpares}
 use Rattle.image_build.proofs.Outputs.{build_output}

@@ -1,18 +1,13 @@
 -- The temporary files of others, after a plan was made and carried out.
-use Rattle.std.proofs.Common.{◌≡◌, ◌∙◌, inl, inr, ℕ, false, List, [], ◌∷◌, refl, ap, subst}
+use Rattle.std.proofs.Common.{◌≡◌, ◌∙◌, inl, inr, ℕ, false, List, [], ◌∷◌, refl, ap, subst, All, bytes_eq}
 use Rattle.std.proofs.lemmas.Bool.{cases_Bool}
 use Rattle.std.proofs.lemmas.List.Elements.{All-head, All-tail}
 use Rattle.std.specs.FinMap as map
-use Rattle.std.specs.Prelude.{All, bytes_eq}
 use Rattle.boot_base.specs.Paths.{Path}
-use Rattle.boot_machine.specs.Disk.{Files, State}
-use Rattle.boot_machine.specs.Listed.{is_listed}
-use Rattle.boot_machine.specs.Sent.{seen}
+use Rattle.boot_machine.specs.Prelude.{Files, State, is_listed, seen}
 use Rattle.boot_machine.proofs.Listing.{bytes-true}
 use Rattle.install_steps.specs.Steps.{KeepsTempsBut}
-use Rattle.command_plans.specs.Answers.{Answer}
-use Rattle.command_plans.specs.Folders.{folders_of}
-use Rattle.command_plans.specs.Plans.{SparesTemps, answer_of_plan}
+use Rattle.command_plans.specs.Prelude.{Answer, folders_of, SparesTemps, answer_of_plan}
 use Rattle.command_plans.specs.declared.plan.Plan.{Plan}
 use Rattle.entry_commands.specs.Tidying.{StandsAt}
 use Rattle.tool_words.specs.declared.command.One.{One}

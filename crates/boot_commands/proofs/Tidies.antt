@@ -1,10 +1,8 @@
 -- What a command has tidied at each of its exits.
-use Rattle.std.proofs.Common.{◌≡◌, Result, Ok, Err, ap, sym, subst}
-use Rattle.std.specs.Prelude.{IsErr, IsErrAnd}
-use Rattle.boot_machine.specs.Disk.{Files, State}
+use Rattle.std.proofs.Common.{◌≡◌, Result, Ok, Err, ap, sym, subst, IsErr, IsErrAnd}
+use Rattle.boot_machine.specs.Prelude.{Files, State}
 use Rattle.tool_words.specs.declared.command.One.{One}
-use Rattle.command_plans.specs.Performs.{stop_of}
-use Rattle.command_plans.specs.Plans.{Drops, fault_drops}
+use Rattle.command_plans.specs.Prelude.{stop_of, Drops, fault_drops}
 use Rattle.command_plans.specs.declared.outcome.MachineFault.{MachineFault}
 use Rattle.command_plans.specs.declared.outcome.MachineFault.TheVariants as faults
 use Rattle.command_plans.specs.declared.outcome.Stop.{Stop}

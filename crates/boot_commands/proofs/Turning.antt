@@ -1,8 +1,8 @@
 -- The turns of a demonstration, and the counts that they make.
 use Rattle.std.proofs.Common.{◌≡◌, ℕ, zero, suc, ◌+◌, ◌≤◌, Bool, true, false, not, List, ap, ◌∙◌, arith}
-use Rattle.boot_machine.specs.Disk.{Files}
+use Rattle.boot_machine.specs.Prelude.{Files}
 use Rattle.tool_words.specs.declared.command.One.{One}
-use Rattle.command_plans.specs.Answers.{Answer, is_refusal}
+use Rattle.command_plans.specs.Prelude.{Answer, is_refusal}
 use Rattle.boot_commands.specs.Demonstration.{DemoState, after_command, count_if, demo_start, demo_turn, demo_turns, next_command, run_drawn, third_number}
 use Rattle.boot_commands.specs.DemoRuns.{demo_state}
 use Rattle.boot_commands.specs.declared.demo_turns.Demo.{Demo}

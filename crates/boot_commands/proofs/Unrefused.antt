@@ -1,6 +1,5 @@
 -- None of the commands that a command stands for is refused.
-use Rattle.std.proofs.Common.{◌≡◌, inl, inr, ℕ, Bool, true, false, cond, List, [], ◌∷◌, ◌++◌, map, Option, Some, None, is_some, refl, sym, ap, ◌∙◌, subst, Result, Ok, Err}
-use Rattle.std.specs.Prelude.{Contains, bytes_eq, length, nat_lt}
+use Rattle.std.proofs.Common.{◌≡◌, inl, inr, ℕ, Bool, true, false, cond, List, [], ◌∷◌, ◌++◌, map, Option, Some, None, is_some, refl, sym, ap, ◌∙◌, subst, Result, Ok, Err, Contains, bytes_eq, length, nat_lt}
 use Rattle.std.specs.List.{AllByRecursion, IsDistinct}
 use Rattle.std.specs.FinMap as maps
 use Rattle.std.proofs.lemmas.Cmp.{nat_list_eq_equiv}
@@ -19,8 +18,7 @@ use Rattle.boot_folder.proofs.EntryFiles.{distinct_paths, entries_menu, member_i
 use Rattle.boot_folder.proofs.Members.{distinct_passing, passing_from}
 use Rattle.boot_folder.proofs.OncePaths.{own_moved}
 use Rattle.boot_folder.proofs.Removing.{menu_own}
-use Rattle.boot_machine.specs.Disk.{Files, has}
-use Rattle.boot_machine.specs.Rows.{contents}
+use Rattle.boot_machine.specs.Prelude.{Files, has, contents}
 use Rattle.boot_machine.proofs.Listing.{same_bytes}
 use Rattle.boot_machine.specs.proofs.Maps.{cases_same, get-insert_apart, get-insert_here, get-remove_apart}
 use Rattle.menu_order.proofs.Lists.{Contains-head, Contains-later}
@@ -28,12 +26,7 @@ use Rattle.menu_order.specs.declared.item.MenuItem.{MenuItem}
 use Rattle.keep_newest.proofs.Parting.{parts_menu}
 use Rattle.keep_newest.specs.Doomed.{doomed_records, kept_records}
 use Rattle.keep_newest.specs.Laws.{doomed_paths}
-use Rattle.command_plans.specs.Answers.{Answer, answer_or_refusal, done_answer, is_refusal}
-use Rattle.command_plans.specs.Changes.{removal}
-use Rattle.command_plans.specs.Declining.{◌>>=◌, path_in, path_under, printed_path}
-use Rattle.command_plans.specs.Files.{bytes_at, each, readable_bytes}
-use Rattle.command_plans.specs.Folders.{folders_of}
-use Rattle.command_plans.specs.Menus.{menu_at}
+use Rattle.command_plans.specs.Prelude.{Answer, answer_or_refusal, done_answer, is_refusal, removal, ◌>>=◌, path_in, path_under, printed_path, bytes_at, each, readable_bytes, folders_of, menu_at}
 use Rattle.command_plans.proofs.Steps.{done_by, err_ok, ok_is}
 use Rattle.tool_words.specs.declared.command.Several.{Several}
 use Rattle.tool_words.specs.declared.command.Several.TheVariants as several

@@ -1,6 +1,5 @@
 -- The entries of boot files: what is listed is what is an entry, and each once.
-use Rattle.std.proofs.Common.{◌≡◌, ◌↔◌, ◌⊎◌, ℕ, ◌+◌, ◌*◌, ◌≤◌, Bool, true, false, T, ◌&&◌, List, [], ◌∷◌, ◌++◌, map, filter, length, Option, Some, None, is_some, is_lt, is_eq, Less, Equal, Greater, Ordering, Result, Ok, Err, refl, sym, ap, ap₂, ◌∙◌, subst, inl, inr, ⊎_elim, arith}
-use Rattle.std.specs.Prelude.{AllPairs, Contains, bytes_eq, codes, nat_le, option_and_then, if◌then◌else◌}
+use Rattle.std.proofs.Common.{◌≡◌, ◌↔◌, ◌⊎◌, ℕ, ◌+◌, ◌*◌, ◌≤◌, Bool, true, false, T, ◌&&◌, List, [], ◌∷◌, ◌++◌, map, filter, length, Option, Some, None, is_some, is_lt, is_eq, Less, Equal, Greater, Ordering, Result, Ok, Err, refl, sym, ap, ap₂, ◌∙◌, subst, inl, inr, ⊎_elim, arith, AllPairs, Contains, bytes_eq, codes, nat_le, option_and_then, if◌then◌else◌}
 use Rattle.std.specs.List.{IsDistinct, AllByRecursion, list_any}
 use Rattle.std.specs.FinMap as map
 use Rattle.std.specs.FinMap.Entries.{below_all}
@@ -20,14 +19,13 @@ use Rattle.menu_order.specs.declared.counted.Suffix.{Suffix}
 use Rattle.menu_order.specs.declared.counted.Suffix.TheVariants.{Conf, Efi}
 use Rattle.boot_machine.proofs.Listing.{same_bytes}
 use Rattle.boot_machine.proofs.Views.{get-view_shown, has-view}
-use Rattle.boot_machine.specs.Disk.{Files, has, path_cmp, is_same_path, view}
+use Rattle.boot_machine.specs.Prelude.{Files, has, path_cmp, is_same_path, view}
 use Rattle.boot_texts.specs.BootEntries.{boots, type1_of}
 use Rattle.menu_order.proofs.Menus.{menu_of_entries, one_menu}
 use Rattle.menu_order.specs.Menu.{HaveOwnPaths, IsBefore, IsMenu}
 use Rattle.menu_order.specs.declared.item.MenuItem.{MenuItem}
 use Rattle.boot_texts.specs.OsRelease.{os_pairs, title_of}
-use Rattle.pe_reader.specs.Grammar.{Headers, pe_of}
-use Rattle.pe_reader.specs.LoadedBytes.{loaded_in}
+use Rattle.pe_reader.specs.Prelude.{Headers, pe_of, loaded_in}
 use Rattle.pe_reader.specs.declared.fault.FailedCheck.{FailedCheck}
 use Rattle.boot_texts.specs.KeyValues.{Pair}
 use Rattle.boot_folder.specs.Entries.{IsEntry, boot_menu, entries_of, entry_at, entry_count, entry_if, entry_in, entry_of, folder_of, own_path, stands_in, type_count}

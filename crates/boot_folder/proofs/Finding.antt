@@ -1,14 +1,12 @@
 -- The names of entry files, and what is found of each file.
-use Rattle.std.proofs.Common.{◌≡◌, ◌≤◌, ℕ, true, List, [], filter, length, Option, Some, None, refl, sym, ap, ◌∙◌, inl, inr}
-use Rattle.std.specs.Prelude.{bytes_eq, is_some, nat_le, option_and_then, unwrap_or}
+use Rattle.std.proofs.Common.{◌≡◌, ◌≤◌, ℕ, true, List, [], filter, length, Option, Some, None, refl, sym, ap, ◌∙◌, inl, inr, bytes_eq, is_some, nat_le, option_and_then, unwrap_or}
 use Rattle.std.specs.FinMap as map
 use Rattle.std.proofs.lemmas.Bool.{cases_Bool, cond-true, cond-false, leb-true}
 use Rattle.boot_base.specs.Paths.{Path}
 use Rattle.menu_order.specs.Splits.{has_suffix}
 use Rattle.menu_order.specs.declared.counted.Suffix.{Suffix}
 use Rattle.menu_order.specs.declared.counted.Suffix.TheVariants.{Conf, Efi}
-use Rattle.boot_machine.specs.Disk.{Files, has}
-use Rattle.boot_machine.specs.Rows.{IsNamesOf, contents}
+use Rattle.boot_machine.specs.Prelude.{Files, has, IsNamesOf, contents}
 use Rattle.menu_order.specs.declared.item.MenuItem.{MenuItem}
 use Rattle.boot_folder.specs.Entries.{entry_at, entry_of}
 use Rattle.boot_folder.specs.Records.{value_if_ok, type1_entry, uki_of}

@@ -1,12 +1,10 @@
 -- What the parts of reading an entry come to.
-use Rattle.std.proofs.Common.{◌≡◌, List, ℕ, Result, Ok, Err, refl, sym, subst}
-use Rattle.std.specs.Prelude.{IsErrAnd}
+use Rattle.std.proofs.Common.{◌≡◌, List, ℕ, Result, Ok, Err, refl, sym, subst, IsErrAnd}
 use Rattle.boot_folder.specs.Items.{GivesItem}
 use Rattle.boot_base.specs.Paths.{Path}
-use Rattle.boot_machine.specs.Counts.{Counts}
+use Rattle.boot_machine.specs.Prelude.{Counts}
 use Rattle.menu_order.specs.declared.item.MenuItem.{MenuItem}
-use Rattle.pe_reader.specs.Grammar.{Headers}
-use Rattle.pe_reader.specs.Reads.{FailsFrom, head_counts}
+use Rattle.pe_reader.specs.Prelude.{Headers, FailsFrom, head_counts}
 use Rattle.pe_reader.specs.declared.fault.FailedCheck.{FailedCheck}
 use Rattle.pe_reader.specs.declared.fault.HeadFault.{HeadFault}
 use Rattle.pe_reader.specs.declared.fault.HeadFault.TheVariants as heads

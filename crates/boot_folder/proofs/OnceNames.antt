@@ -1,11 +1,9 @@
 -- Names sorted by their bytes, and then each once.
-use Rattle.std.proofs.Common.{◌≡◌, ℕ, Bool, List, Ordering, is_lt, sym, ap, subst}
-use Rattle.std.specs.Prelude.{All, Contains, IsPermutation, bytes_eq}
+use Rattle.std.proofs.Common.{◌≡◌, ℕ, Bool, List, Ordering, is_lt, sym, ap, subst, All, Contains, IsPermutation, bytes_eq, IsSorted, IsSortedBy}
 use Rattle.std.specs.Cmp.{IsStrictWeakOrder}
 use Rattle.std.specs.Cmp.Lexicographic.{nat_list_cmp_total}
 use Rattle.std.specs.Fn.{Called, ComparesAs}
 use Rattle.std.specs.List.{IsDistinct, dedup}
-use Rattle.std.specs.List.Sorted.{IsSorted, IsSortedBy}
 use Rattle.std.specs.Ordering.{eq_by_cmp}
 use Rattle.std.proofs.lemmas.Cmp.{nat_list_eq_equiv}
 use Rattle.std.proofs.lemmas.List.Elements.{All-contains, All-contains_itself, All-weaker}
@@ -15,7 +13,7 @@ use Rattle.std.proofs.lemmas.Map.Keys.{IsDistinct-from_sorted}
 use denote.Param.Members.{Mut}
 use denote.Ref.{Bor}
 use Rattle.boot_base.specs.Paths.{Path}
-use Rattle.boot_machine.specs.Disk.{Files, path_cmp}
+use Rattle.boot_machine.specs.Prelude.{Files, path_cmp}
 use Rattle.boot_machine.proofs.Listing.{same_bytes, bytes-true}
 use Rattle.menu_order.specs.declared.counted.Suffix.{Suffix}
 use Rattle.boot_folder.specs.Scanning.{AreEntryNames}

@@ -1,11 +1,9 @@
 -- Entries sorted by their paths, and then one of each path.
-use Rattle.std.proofs.Common.{◌≡◌, Bool, false, List, map, sym, ap, ◌∙◌, subst, is_lt, Ordering, [], ◌∷◌}
-use Rattle.std.specs.Prelude.{Contains, IsPermutation, bytes_eq}
+use Rattle.std.proofs.Common.{◌≡◌, Bool, false, List, map, sym, ap, ◌∙◌, subst, is_lt, Ordering, [], ◌∷◌, Contains, IsPermutation, bytes_eq, IsSorted, IsSortedBy}
 use Rattle.std.specs.Cmp.{IsStrictWeakOrder, IsTotalOrder, IsEquivalence}
 use Rattle.std.specs.Cmp.Lexicographic.{nat_list_cmp_total}
 use Rattle.std.specs.Fn.{Called, ComparesAs}
 use Rattle.std.specs.List.{IsDistinct, AllByRecursion, dedup}
-use Rattle.std.specs.List.Sorted.{IsSorted, IsSortedBy}
 use Rattle.std.specs.Ordering.{eq_by_cmp}
 use Rattle.std.proofs.lemmas.Cmp.{nat_list_eq_equiv, on_total}
 use Rattle.std.proofs.lemmas.List.Kept.{Any-dedup, Contains-from_dedup, IsStrictlySortedBy-dedup}

@@ -1,9 +1,7 @@
 -- The loaded bytes of a section, by the range of the file that they stand in.
-use Rattle.std.proofs.Common.{◌≡◌, ◌<◌, ◌+◌, ℕ, List, length, Ok, None, Some, sym, ap, subst, ◌∙◌, arith}
-use Rattle.std.specs.Prelude.{position}
+use Rattle.std.proofs.Common.{◌≡◌, ◌<◌, ◌+◌, ℕ, List, length, Ok, None, Some, sym, ap, subst, ◌∙◌, arith, position}
 use Rattle.pe_reader.specs.declared.section.LoadedRange.{LoadedRange}
-use Rattle.pe_reader.specs.Grammar.{Headers, pe_of}
-use Rattle.pe_reader.specs.LoadedBytes.{is_named, section_at_index, range_of, loaded_bytes}
+use Rattle.pe_reader.specs.Prelude.{Headers, pe_of, is_named, section_at_index, range_of, loaded_bytes}
 use Rattle.pe_reader.proofs.Finding.{loaded_bytes-found, loaded_bytes-none}
 use Rattle.pe_reader.proofs.Ranges.{length-bytes_in, range_inside}
 use Rattle.boot_folder.specs.Ranges.{IsRange}

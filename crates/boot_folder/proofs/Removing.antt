@@ -1,6 +1,5 @@
 -- The menu when files go.
-use Rattle.std.proofs.Common.{◌≡◌, ◌≤◌, Bool, true, false, not, cond, ◌||◌, List, [], ◌∷◌, length, Option, Some, None, is_some, refl, sym, ap, ◌∙◌, subst, arith}
-use Rattle.std.specs.Prelude.{Contains, bytes_eq}
+use Rattle.std.proofs.Common.{◌≡◌, ◌≤◌, Bool, true, false, not, cond, ◌||◌, List, [], ◌∷◌, length, Option, Some, None, is_some, refl, sym, ap, ◌∙◌, subst, arith, Contains, bytes_eq}
 use Rattle.std.specs.List.{list_any}
 use Rattle.std.specs.FinMap as maps
 use Rattle.std.proofs.lemmas.Bool.{and_parts, and_from, cond-false, not-true}
@@ -9,7 +8,7 @@ use Rattle.std.proofs.lemmas.List.Kept.{AllPairs-filter}
 use Rattle.std.proofs.lemmas.Map.Made.{length-le_from_is_member}
 use Rattle.boot_base.specs.Paths.{Path}
 use Rattle.boot_machine.proofs.Listing.{same_bytes}
-use Rattle.boot_machine.specs.Disk.{Files, has}
+use Rattle.boot_machine.specs.Prelude.{Files, has}
 use Rattle.boot_machine.specs.proofs.Maps.{get-remove}
 use Rattle.menu_order.proofs.Menus.{menu_of-IsPermutation}
 use Rattle.menu_order.specs.Menu.{IsBefore}

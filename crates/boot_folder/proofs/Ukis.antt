@@ -1,10 +1,8 @@
 -- What the ranges of an image say of its entry.
-use Rattle.std.proofs.Common.{◌≡◌, ◌≢◌, ◌≤◌, ◌<◌, ◌+◌, ℕ, true, false, not, List, length, Ok, Err, refl, ap, arith}
-use Rattle.std.specs.Prelude.{codes, ◌==◌}
+use Rattle.std.proofs.Common.{◌≡◌, ◌≢◌, ◌≤◌, ◌<◌, ◌+◌, ℕ, true, false, not, List, length, Ok, Err, refl, ap, arith, codes, ◌==◌}
 use Rattle.std.proofs.lemmas.Bool.Decides.{nat_tests}
 use Rattle.boot_base.specs.Paths.{Path}
-use Rattle.pe_reader.specs.Grammar.{Headers, pe_of}
-use Rattle.pe_reader.specs.LoadedBytes.{bytes_in, loaded_bytes}
+use Rattle.pe_reader.specs.Prelude.{Headers, pe_of, bytes_in, loaded_bytes}
 use Rattle.pe_reader.specs.declared.section.LoadedRange.{LoadedRange}
 use Rattle.boot_texts.specs.OsRelease.{os_pairs}
 use Rattle.boot_folder.specs.Records.{NotUki, is_os_length, titled_item, uki_from, uki_of, unless_missing}

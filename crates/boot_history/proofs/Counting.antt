@@ -1,11 +1,9 @@
 -- Each view at the end of a history is due to whole commands of its runs.
 use Rattle.std.proofs.Common.{◌≡◌, ◌≢◌, ◌⊎◌, inl, inr, ⊎_elim, ℕ, ◌+◌, ◌≤◌, List, [], ◌∷◌, length, take, refl, sym, ap, ◌∙◌, subst, arith, Result, Ok, Err}
 use Rattle.tool_words.specs.declared.fault.UsageReason.{UsageReason}
-use Rattle.boot_machine.specs.Disk.{Files, IsIn}
-use Rattle.boot_machine.specs.Rows.{on_channel}
-use Rattle.boot_machine.specs.Sent.{Sent, IsPrefix, latest_view}
+use Rattle.boot_machine.specs.Prelude.{Files, IsIn, on_channel, Sent, IsPrefix, latest_view}
 use Rattle.boot_machine.specs.declared.machine.Channel.TheVariants.{Err as ErrChannel}
-use Rattle.command_plans.specs.Deeds.{End, Stopped, Finished, NoMemory, DiskFails, PipeFails}
+use Rattle.command_plans.specs.Prelude.{End, Stopped, Finished, NoMemory, DiskFails, PipeFails}
 use Rattle.boot_run.specs.AskedLines.{usage_line}
 use Rattle.boot_run.specs.Step.{Acknowledges, AllUnread, IsEarly, KeepsViews, IsLate, Step, StepBy, join_replies, replies, view_after}
 use Rattle.boot_run.specs.declared.line.Line.{Line}

@@ -1,9 +1,8 @@
 -- What each run keeps stays along a history.
 use Rattle.std.proofs.Common.{◌≢◌, ⊎_elim, ◌+◌, List, [], ◌∷◌, ◌++◌, sym, subst, Result, Ok, Err}
 use Rattle.tool_words.specs.declared.fault.UsageReason.{UsageReason}
-use Rattle.boot_machine.specs.Disk.{Files}
-use Rattle.boot_machine.specs.Sent.{Sent, latest_view}
-use Rattle.command_plans.specs.Deeds.{End}
+use Rattle.boot_machine.specs.Prelude.{Files, Sent, latest_view}
+use Rattle.command_plans.specs.Prelude.{End}
 use Rattle.boot_run.specs.Step.{IsEarly, IsLate, StepBy}
 use Rattle.boot_run.specs.declared.line.Line.{Line}
 use Rattle.boot_history.specs.Histories.{Run, IsHistory, IsStart, AllAlong, AllViews, asked_at, state_after}

@@ -1,9 +1,7 @@
 -- A cleanup keeps the payloads that count, after each of its actions.
-use Rattle.std.proofs.Common.{◌≡◌, inl, inr, ⊎_elim, ℕ, Bool, true, false, not, List, [], ◌∷◌, ◌++◌, Option, Some, None, Ok, refl, sym, ap, ◌∙◌, subst}
-use Rattle.std.specs.Prelude.{All, Contains, bytes_eq, codes, nat_lt}
+use Rattle.std.proofs.Common.{◌≡◌, inl, inr, ⊎_elim, ℕ, Bool, true, false, not, List, [], ◌∷◌, ◌++◌, Option, Some, None, Ok, refl, sym, ap, ◌∙◌, subst, All, Contains, bytes_eq, codes, nat_lt, option_to_list}
 use Rattle.std.specs.FinMap as map_of
 use Rattle.std.specs.List.{list_any}
-use Rattle.std.specs.Option.{option_to_list}
 use Rattle.std.proofs.lemmas.Bool.{and_parts, not-true, or_parts}
 use Rattle.std.proofs.lemmas.List.{append_cancel_right}
 use Rattle.std.proofs.lemmas.List.Elements.{All-cons, All-contains, All-nil, All-weaker, Contains-append_cases, Contains-append_left, Contains-append_right}
@@ -14,13 +12,10 @@ use Rattle.boot_folder.specs.Entries.{IsEntry, boot_menu, entry_count}
 use Rattle.boot_folder.specs.declared.folders.Folders.{Folders}
 use Rattle.boot_folder.proofs.EntryFiles.{entries_menu}
 use Rattle.boot_folder.proofs.Places.{file_name_under}
-use Rattle.boot_machine.specs.Disk.{Files}
+use Rattle.boot_machine.specs.Prelude.{Files}
 use Rattle.boot_machine.specs.proofs.Maps.{cases_same, get-remove_apart, get-remove_here, same_apart}
 use Rattle.menu_order.specs.declared.item.MenuItem.{MenuItem}
-use Rattle.command_plans.specs.Declining.{path_in}
-use Rattle.command_plans.specs.Folders.{folders_of}
-use Rattle.command_plans.specs.Menus.{menu_at}
-use Rattle.command_plans.specs.Changes.{removal, unlink_answer}
+use Rattle.command_plans.specs.Prelude.{path_in, folders_of, menu_at, removal, unlink_answer}
 use Rattle.boot_texts.specs.EntryText.{is_payload_name}
 use Rattle.type1_install.specs.Cleaning.{is_unnamed, unnamed_payloads}
 use Rattle.type1_install.specs.Payloads.{folders_at, is_payload_path, item_names, named_values, path_of_value, names_path, payload_folder}

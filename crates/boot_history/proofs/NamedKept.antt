@@ -1,8 +1,6 @@
 -- What changes of the boot files keep the payloads that count.
-use Rattle.std.proofs.Common.{◌≡◌, ◌⊎◌, ◌&&◌, inl, inr, ℕ, Bool, true, List, [], ◌++◌, Option, Some, None, is_some, length, refl, sym, ap, ◌∙◌, subst, arith}
-use Rattle.std.specs.Prelude.{Contains, nat_le, unwrap_or}
+use Rattle.std.proofs.Common.{◌≡◌, ◌⊎◌, ◌&&◌, inl, inr, ℕ, Bool, true, List, [], ◌++◌, Option, Some, None, is_some, length, refl, sym, ap, ◌∙◌, subst, arith, Contains, nat_le, unwrap_or, option_to_list}
 use Rattle.std.specs.FinMap as map
-use Rattle.std.specs.Option.{option_to_list}
 use Rattle.std.proofs.lemmas.Bool.{cond-true}
 use Rattle.boot_base.specs.Paths.{Path, is_file_name, path_of, under}
 use Rattle.menu_order.specs.Splits.{has_suffix}
@@ -12,9 +10,8 @@ use Rattle.menu_order.specs.declared.item.MenuItem.{MenuItem}
 use Rattle.boot_folder.specs.Entries.{entry_of, folder_of}
 use Rattle.boot_folder.proofs.EntryFiles.{image_pairs}
 use Rattle.boot_folder.specs.Records.{type1_entry, type1_item}
-use Rattle.boot_machine.specs.Disk.{Files, has}
+use Rattle.boot_machine.specs.Prelude.{Files, has, contents, move_in}
 use Rattle.boot_machine.specs.proofs.Maps.{cases_same, get-insert_apart, get-insert_here, get-remove_apart, get-remove_here, same_apart}
-use Rattle.boot_machine.specs.Rows.{contents, move_in}
 use Rattle.boot_texts.specs.BootEntries.{boots, type1_of}
 use Rattle.boot_texts.specs.EntryText.{is_payload_name}
 use Rattle.type1_install.specs.Payloads.{HasPayload, folders_at, path_of_value, payload_folder, payload_path}

@@ -1,24 +1,20 @@
 -- An installation keeps the payloads that count, after each of its actions.
-use Rattle.std.proofs.Common.{◌≡◌, ℕ, Bool, true, false, eqb, List, [], ◌∷◌, ◌++◌, Some, Ok, length, map, refl, sym, ap, ◌∙◌, subst, arith}
-use Rattle.std.specs.Prelude.{All, Contains, codes}
+use Rattle.std.proofs.Common.{◌≡◌, ℕ, Bool, true, false, eqb, List, [], ◌∷◌, ◌++◌, Some, Ok, length, map, refl, sym, ap, ◌∙◌, subst, arith, All, Contains, codes, option_to_list}
 use Rattle.std.specs.FinMap as map_of
 use Rattle.std.specs.List.{list_any}
-use Rattle.std.specs.Option.{option_to_list}
 use Rattle.std.proofs.lemmas.Bool.{and_parts, eqb-true}
 use Rattle.std.proofs.lemmas.List.{append_cancel_right}
 use Rattle.std.proofs.lemmas.List.Elements.{All-cons, All-contains, All-head, All-nil, All-push, All-tail, All-weaker}
 use Rattle.boot_base.specs.Layout.{entries_below}
 use Rattle.boot_base.specs.Paths.{Path, file_name_of, is_kept, is_slash, under}
-use Rattle.boot_machine.specs.Disk.{Files}
+use Rattle.boot_machine.specs.Prelude.{Files, contents}
 use Rattle.boot_machine.specs.proofs.Maps.{get-insert_apart, get-insert_here, same_apart}
-use Rattle.boot_machine.specs.Rows.{contents}
 use Rattle.boot_folder.proofs.Places.{file_name_under}
 use Rattle.boot_texts.specs.BootEntries.{type1_of}
 use Rattle.boot_texts.specs.declared.entry.Type1.{Type1}
 use Rattle.menu_order.specs.Splits.{has_suffix}
 use Rattle.menu_order.specs.declared.counted.Suffix.TheVariants.{Conf}
-use Rattle.command_plans.specs.Declining.{path_under}
-use Rattle.command_plans.specs.Files.{bytes_at, readable_bytes}
+use Rattle.command_plans.specs.Prelude.{path_under, bytes_at, readable_bytes}
 use Rattle.boot_base.proofs.Beside.{kept_from_long}
 use Rattle.boot_texts.specs.EntryText.{entry_text, is_payload_name, payload_value}
 use Rattle.type1_install.specs.Installing.{Type1Plan, fields_of, value_of_file}

@@ -1,6 +1,5 @@
 -- A run of `keep` removes what is doomed, in order.
-use Rattle.std.proofs.Common.{◌≡◌, ◌≢◌, ℕ, zero, suc, ◌+◌, ◌≤◌, Bool, true, false, not, cond, ◌||◌, List, [], ◌∷◌, map, take, length, Option, Some, None, inl, inr, ⊎_elim, refl, sym, ap, ◌∙◌, subst, arith, Result, Ok, Err}
-use Rattle.std.specs.Prelude.{Contains, bytes_eq}
+use Rattle.std.proofs.Common.{◌≡◌, ◌≢◌, ℕ, zero, suc, ◌+◌, ◌≤◌, Bool, true, false, not, cond, ◌||◌, List, [], ◌∷◌, map, take, length, Option, Some, None, inl, inr, ⊎_elim, refl, sym, ap, ◌∙◌, subst, arith, Result, Ok, Err, Contains, bytes_eq}
 use Rattle.std.specs.List.{IsDistinct, list_any}
 use Rattle.std.specs.FinMap as maps
 use Rattle.std.proofs.lemmas.Bool.{cases_Bool, le-ltb, not-true, or_parts}
@@ -13,12 +12,9 @@ use Rattle.boot_folder.specs.declared.folders.Folders.{Folders}
 use Rattle.boot_folder.proofs.EntryFiles.{bytes_self}
 use Rattle.boot_folder.proofs.Members.{passing, passing_from}
 use Rattle.boot_folder.proofs.Removing.{count_removed, menu_own, menu_removed}
-use Rattle.boot_machine.specs.Disk.{Files, is_same_path}
+use Rattle.boot_machine.specs.Prelude.{Files, is_same_path, latest_view}
 use Rattle.boot_machine.specs.proofs.Maps.{get-remove, is_same_path-true, same_files}
-use Rattle.boot_machine.specs.Sent.{latest_view}
-use Rattle.command_plans.specs.Changes.{removal, unlink_answer}
-use Rattle.command_plans.specs.Declining.{◌>>=◌}
-use Rattle.command_plans.specs.Menus.{menu_at}
+use Rattle.command_plans.specs.Prelude.{removal, unlink_answer, ◌>>=◌, menu_at}
 use Rattle.keep_newest.specs.Doomed.{doomed_records, kept_records}
 use Rattle.keep_newest.specs.Laws.{doomed_paths}
 use Rattle.keep_newest.proofs.Again.{keeps_on}

@@ -1,7 +1,5 @@
 -- A boot keeps the payloads of entries, and so does each change of a name in a folder that leaves the suffix.
-use Rattle.std.proofs.Common.{◌≡◌, inl, inr, ℕ, zero, suc, ◌+◌, ◌<◌, ◌≤◌, ◌-◌, Bool, true, false, List, [], ◌∷◌, ◌++◌, length, take, Option, Some, None, Ok, min, refl, sym, ap, ◌∙◌, subst, arith, append_assoc, length-append, lit<}
-use Rattle.std.specs.Prelude.{◌==◌, codes, option_and_then, if◌then◌else◌}
-use Rattle.std.specs.Fmt.{decimal}
+use Rattle.std.proofs.Common.{◌≡◌, inl, inr, ℕ, zero, suc, ◌+◌, ◌<◌, ◌≤◌, ◌-◌, Bool, true, false, List, [], ◌∷◌, ◌++◌, length, take, Option, Some, None, Ok, min, refl, sym, ap, ◌∙◌, subst, arith, append_assoc, length-append, lit<, ◌==◌, codes, option_and_then, if◌then◌else◌, decimal}
 use Rattle.std.specs.List.{list_any}
 use Rattle.std.proofs.lemmas.Bool.{cases_Bool, or_from, or_parts}
 use Rattle.std.proofs.lemmas.List.{append_cancel_right}
@@ -18,9 +16,8 @@ use Rattle.menu_order.proofs.Splitting.{split_none, split_some, suffix_cut}
 use Rattle.boot_folder.specs.Entries.{folder_of}
 use Rattle.boot_folder.proofs.EntryFiles.{one_type}
 use Rattle.boot_folder.proofs.Places.{file_name_under, name_parts}
-use Rattle.boot_machine.specs.Disk.{Files, has}
-use Rattle.boot_machine.specs.Rows.{move_in}
-use Rattle.command_plans.specs.Declining.{path_under}
+use Rattle.boot_machine.specs.Prelude.{Files, has, move_in}
+use Rattle.command_plans.specs.Prelude.{path_under}
 use Rattle.entry_commands.proofs.Renamed.{AreSiblings, long_suffix, some_same, split_suffix, written_ends}
 use Rattle.entry_commands.proofs.Siblings.{decimal_lacks}
 use Rattle.boot_base.proofs.Beside.{kept_from_long}

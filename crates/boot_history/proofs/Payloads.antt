@@ -1,14 +1,11 @@
 -- An installation keeps the payloads of entries.
-use Rattle.std.proofs.Common.{◌≡◌, ℕ, zero, suc, Bool, List, [], ◌∷◌, ◌++◌, map, take, refl, sym, ◌∙◌, subst, append_assoc, append-nil, Result, Ok, Err}
-use Rattle.std.specs.Prelude.{All}
+use Rattle.std.proofs.Common.{◌≡◌, ℕ, zero, suc, Bool, List, [], ◌∷◌, ◌++◌, map, take, refl, sym, ◌∙◌, subst, append_assoc, append-nil, Result, Ok, Err, All}
 use Rattle.std.proofs.lemmas.List.Elements.{All-head, All-tail, All-weaker}
 use Rattle.std.specs.FinMap.{insert}
 use Rattle.boot_base.specs.Paths.{Path}
 use Rattle.boot_base.specs.declared.refusal.Refusal.{Refusal}
-use Rattle.boot_machine.specs.Disk.{Files}
-use Rattle.boot_machine.specs.Rows.{contents}
-use Rattle.command_plans.specs.Declining.{◌>>=◌, path_in, path_under}
-use Rattle.command_plans.specs.Files.{bytes_at, each}
+use Rattle.boot_machine.specs.Prelude.{Files, contents}
+use Rattle.command_plans.specs.Prelude.{◌>>=◌, path_in, path_under, bytes_at, each, folders_of, menu_at, unlink_answer}
 use Rattle.tool_words.specs.declared.command.Several.TheVariants as several
 use Rattle.tool_words.specs.declared.action.Action.{Action}
 use Rattle.tool_words.specs.declared.action.Action.TheVariants as action
@@ -22,9 +19,6 @@ use Rattle.type1_install.specs.Cleaning.{unnamed_payloads}
 use Rattle.type1_install.specs.Placing.{put_answer}
 use Rattle.type1_install.specs.Payloads.{payload_path}
 use Rattle.type1_install.proofs.Installing.{IsSource}
-use Rattle.command_plans.specs.Folders.{folders_of}
-use Rattle.command_plans.specs.Menus.{menu_at}
-use Rattle.command_plans.specs.Changes.{unlink_answer}
 use Rattle.boot_folder.specs.declared.folders.Folders.{Folders}
 use Rattle.menu_order.specs.declared.item.MenuItem.{MenuItem}
 use Rattle.type1_install.proofs.Planned.{IsPlanned, planned}

@@ -1,6 +1,5 @@
 -- A `keep` removes no payload.
-use Rattle.std.proofs.Common.{◌≡◌, ℕ, zero, suc, Bool, true, false, List, [], ◌∷◌, map, take, Result, Ok, Err, refl, sym, ap, ◌∙◌, subst}
-use Rattle.std.specs.Prelude.{Contains, nat_lt}
+use Rattle.std.proofs.Common.{◌≡◌, ℕ, zero, suc, Bool, true, false, List, [], ◌∷◌, map, take, Result, Ok, Err, refl, sym, ap, ◌∙◌, subst, Contains, nat_lt}
 use Rattle.std.specs.List.{AllByRecursion}
 use Rattle.boot_base.specs.Paths.{Path, file_name_of}
 use Rattle.boot_base.specs.declared.refusal.Refusal.{Refusal}
@@ -8,10 +7,9 @@ use Rattle.boot_folder.specs.Entries.{IsEntry, boot_menu, entry_count, folder_of
 use Rattle.boot_folder.specs.declared.folders.Folders.{Folders}
 use Rattle.boot_folder.proofs.EntryFiles.{entries_menu}
 use Rattle.boot_folder.proofs.Places.{file_name_under, name_parts}
-use Rattle.boot_machine.specs.Disk.{Files}
+use Rattle.boot_machine.specs.Prelude.{Files}
 use Rattle.command_plans.proofs.Steps.{done_by}
-use Rattle.command_plans.specs.Folders.{folders_of}
-use Rattle.command_plans.specs.Menus.{menu_at}
+use Rattle.command_plans.specs.Prelude.{folders_of, menu_at}
 use Rattle.keep_newest.specs.Doomed.{doomed_records}
 use Rattle.menu_order.proofs.Lists.{Contains-head, Contains-later}
 use Rattle.menu_order.specs.Splits.{has_suffix}

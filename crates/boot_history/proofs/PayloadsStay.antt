@@ -1,7 +1,6 @@
 -- The payloads of entries stay along a history.
-use Rattle.std.proofs.Common.{◌≡◌, ◌≢◌, inl, inr, ℕ, zero, suc, Bool, true, false, List, [], ◌∷◌, ◌++◌, length, map, take, Option, Some, None, Result, Ok, Err, refl, sym, ap, ◌∙◌, subst, arith, append_assoc}
+use Rattle.std.proofs.Common.{◌≡◌, ◌≢◌, inl, inr, ℕ, zero, suc, Bool, true, false, List, [], ◌∷◌, ◌++◌, length, map, take, Option, Some, None, Result, Ok, Err, refl, sym, ap, ◌∙◌, subst, arith, append_assoc, All, IfOk, Contains, codes, is_some, nat_le, nat_lt, ◌&&◌, ◌||◌, if◌then◌else◌}
 use Rattle.std.proofs.lemmas.List.Elements.{All-cons, All-head, All-nil, All-tail}
-use Rattle.std.specs.Prelude.{All, IfOk, Contains, codes, is_some, nat_le, nat_lt, ◌&&◌, ◌||◌, if◌then◌else◌}
 use Rattle.std.specs.FinMap as map_of
 use Rattle.std.specs.List.{list_any}
 use Rattle.std.proofs.lemmas.Bool.{and_parts, or_cases}
@@ -23,14 +22,8 @@ use Rattle.boot_folder.specs.Records.{type1_item}
 use Rattle.boot_folder.specs.declared.folders.Folders.{Folders}
 use Rattle.boot_folder.proofs.EntryFiles.{entries_menu, image_pairs, one_type}
 use Rattle.boot_folder.proofs.Places.{file_name_under, name_parts}
-use Rattle.boot_machine.specs.Disk.{Files, has}
-use Rattle.boot_machine.specs.Rows.{move_in}
-use Rattle.boot_machine.specs.Sent.{latest_view}
-use Rattle.command_plans.specs.Answers.{Answer, answer_of_read, done_answer}
-use Rattle.command_plans.specs.Declining.{path_in, path_under, printed_path}
-use Rattle.command_plans.specs.Folders.{folders_of}
-use Rattle.command_plans.specs.Menus.{menu_at}
-use Rattle.command_plans.specs.Refusing.{unless_refused}
+use Rattle.boot_machine.specs.Prelude.{Files, has, move_in, latest_view}
+use Rattle.command_plans.specs.Prelude.{Answer, answer_of_read, done_answer, path_in, path_under, printed_path, folders_of, menu_at, unless_refused, removal, unlink_answer}
 use Rattle.tool_words.specs.Meaning.{meaning}
 use Rattle.tool_words.specs.declared.command.Command.{Command}
 use Rattle.tool_words.specs.declared.command.Command.TheVariants as command
@@ -47,7 +40,6 @@ use Rattle.entry_commands.specs.Installing.{install_answer, install_result, inst
 use Rattle.entry_commands.specs.Listing.{list_result}
 use Rattle.entry_commands.specs.Tidying.{tidy_answer}
 use Rattle.entry_commands.specs.Unlinking.{entry_below, entry_path, is_entry_name, is_type1_name}
-use Rattle.command_plans.specs.Changes.{removal, unlink_answer}
 use Rattle.entry_commands.proofs.ImageNames.{read_last}
 use Rattle.entry_commands.proofs.InstalledEntry.{target_of_type}
 use Rattle.entry_commands.proofs.Renamed.{AreSiblings, blessed}

@@ -7,11 +7,9 @@ use Rattle.word_grammar.specs.Grammar.{Word}
 use Rattle.tool_words.specs.Meaning.{meaning}
 use Rattle.tool_words.specs.declared.command.Command.{Command}
 use Rattle.tool_words.specs.declared.fault.UsageReason.{UsageReason}
-use Rattle.boot_machine.specs.Counts.{Counts}
-use Rattle.boot_machine.specs.Disk.{Files, State}
-use Rattle.boot_machine.specs.Sent.{Sent, Adds, latest_view, recovered_now, recovered_views}
+use Rattle.boot_machine.specs.Prelude.{Counts, Files, State, Sent, Adds, latest_view, recovered_now, recovered_views}
 use Rattle.boot_machine.proofs.Seeing.{latest_view-recovered_views}
-use Rattle.command_plans.specs.Deeds.{Finished}
+use Rattle.command_plans.specs.Prelude.{Finished}
 use Rattle.boot_run.specs.AskedLines.{asked_lines_of, lines_for, lines_to_run, taken_by}
 use Rattle.boot_run.specs.Endings.{AnswersRefusals, FitsWords, HasCause, TakesInput, end_at, ended_of, status_of}
 use Rattle.boot_run.specs.Step.{Leads, join_replies, some_refused}

@@ -1,7 +1,5 @@
 -- A good entry stays that no command is told to take away, and is listed.
-use Rattle.std.proofs.Common.{◌≡◌, ℕ, false, zero, suc, List, [], ◌∷◌, map, take, refl, Result, Ok, Err}
-use Rattle.std.specs.Prelude.{All, Contains}
-use Rattle.std.proofs.lemmas.Bool.{le-ltb}
+use Rattle.std.proofs.Common.{◌≡◌, ℕ, false, zero, suc, List, [], ◌∷◌, map, take, refl, Result, Ok, Err, All, Contains, le-ltb}
 use Rattle.std.proofs.lemmas.List.Elements.{All-head, All-tail}
 use Rattle.boot_base.specs.Paths.{Path}
 use Rattle.boot_folder.specs.Entries.{boot_menu, entry_count}
@@ -9,8 +7,7 @@ use Rattle.boot_folder.specs.Listing.{list_text}
 use Rattle.boot_folder.specs.declared.folders.Folders.{Folders}
 use Rattle.boot_folder.proofs.EntryFiles.{entries_menu}
 use Rattle.boot_folder.proofs.Members.{none_in}
-use Rattle.boot_machine.specs.Disk.{Files}
-use Rattle.boot_machine.specs.Sent.{latest_view}
+use Rattle.boot_machine.specs.Prelude.{Files, latest_view}
 use Rattle.menu_order.specs.declared.item.MenuItem.{MenuItem}
 use Rattle.tool_words.specs.Meaning.{meaning}
 use Rattle.tool_words.specs.declared.command.Command.{Command}
@@ -18,7 +15,7 @@ use Rattle.tool_words.specs.declared.command.Command.TheVariants as command
 use Rattle.tool_words.specs.declared.command.Several.TheVariants as several
 use Rattle.tool_words.specs.declared.action.Action.{Action}
 use Rattle.tool_words.specs.declared.fault.UsageReason.{UsageReason}
-use Rattle.command_plans.specs.Folders.{folders_of}
+use Rattle.command_plans.specs.Prelude.{folders_of}
 use Rattle.entry_commands.specs.GoodEntries.{HasGoodEntry}
 use Rattle.entry_commands.specs.Listing.{menu_result}
 use Rattle.boot_commands.specs.Expansions.{expansion}

@@ -1,7 +1,6 @@
 -- A history begins on a settled machine.
 use Rattle.std.proofs.Common.{sym, ◌∙◌, subst}
-use Rattle.boot_machine.specs.Disk.{IsIn, candidates}
-use Rattle.boot_machine.specs.Sent.{recovered_now}
+use Rattle.boot_machine.specs.Prelude.{IsIn, candidates, recovered_now}
 use Rattle.boot_machine.proofs.Seeing.{candidate_image, from_views, latest_view-recovered_views, recovered_now_in}
 use Rattle.boot_history.specs.Histories.{StartLaw}
 

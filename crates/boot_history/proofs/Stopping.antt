@@ -1,11 +1,7 @@
 -- A stop behind a run over a fuse leaves what a stop at the last moment of the run would.
-use Rattle.std.proofs.Common.{◌≡◌, List, [], ◌∷◌, Result, Ok, Err, sym, ap, ◌∙◌, subst}
-use Rattle.std.specs.Prelude.{IfOk}
+use Rattle.std.proofs.Common.{◌≡◌, List, [], ◌∷◌, Result, Ok, Err, sym, ap, ◌∙◌, subst, IfOk}
 use Rattle.word_grammar.specs.Grammar.{Word}
-use Rattle.boot_machine.specs.Disk.{Files, State, recovered_view}
-use Rattle.boot_machine.specs.Images.{IsImage}
-use Rattle.boot_machine.specs.Moments.{EachSince}
-use Rattle.boot_machine.specs.Sent.{Adds, IsPrefix, recovered_now, recovered_views}
+use Rattle.boot_machine.specs.Prelude.{Files, State, recovered_view, IsImage, EachSince, Adds, IsPrefix, recovered_now, recovered_views}
 use Rattle.boot_machine.specs.declared.machine.Printed.{Printed}
 use Rattle.boot_machine.proofs.Seeing.{latest_view-recovered_views}
 use Rattle.machine_fuse.specs.Fuse.{fuse_time, inner_of}
@@ -14,7 +10,7 @@ use Rattle.memory_machine.specs.proofs.EventLaws.{image_input, now_counts}
 use Rattle.memory_machine.specs.Events.{after_stop}
 use Rattle.memory_machine.specs.Memory.{mem_clock, mem_events, mem_input, mem_start, mem_state, mem_time}
 use Rattle.memory_machine.specs.declared.memory.MemMachine.{MemMachine}
-use Rattle.command_plans.specs.Deeds.{Stopped}
+use Rattle.command_plans.specs.Prelude.{Stopped}
 use Rattle.boot_run.specs.AskedLines.{asked_lines_of}
 use Rattle.boot_run.specs.Step.{StepBy, join_replies, replies}
 use Rattle.boot_run.specs.declared.line.Line.{Line}

@@ -1,16 +1,12 @@
 -- How a run of calls goes on that changes boot files.
-use Rattle.std.proofs.Common.{◌≡◌, inl, inr, ⊎_elim, ℕ, true, false, List, refl, sym, ◌∙◌, subst, arith}
-use Rattle.std.specs.Prelude.{Result}
+use Rattle.std.proofs.Common.{◌≡◌, inl, inr, ⊎_elim, ℕ, true, false, List, refl, sym, ◌∙◌, subst, arith, Result}
 use Rattle.std.specs.FinMap as maps
 use Rattle.std.specs.FinSet as set
 use Rattle.boot_base.specs.Paths.{Path, is_temp}
-use Rattle.boot_machine.specs.Disk.{Files, State, IsCandidate, recovered_view}
-use Rattle.boot_machine.specs.Images.{IsImage}
-use Rattle.boot_machine.specs.Moments.{IsMoment, Timeline, Elapses, EachSince}
+use Rattle.boot_machine.specs.Prelude.{Files, State, IsCandidate, recovered_view, IsImage, IsMoment, Timeline, Elapses, EachSince, contents, move_in, after_create, after_unlink, CreateRow, AppendRow, SyncFileRow, RenameRow, UnlinkRow, SyncNamesRow}
 use Rattle.boot_machine.specs.declared.machine.Printed.{Printed}
 use Rattle.boot_machine.proofs.Printing.{not_printed}
 use Rattle.boot_machine.proofs.Recovering.{recovered_view_of_image}
-use Rattle.boot_machine.specs.Rows.{contents, move_in, after_create, after_unlink, CreateRow, AppendRow, SyncFileRow, RenameRow, UnlinkRow, SyncNamesRow}
 use Rattle.boot_machine.proofs.Soft.{AreTemp, Stands, by_done_or_not, by_rename, by_append, by_sync_file, by_sync_names, stands-created, stands-half_renamed, stands-appended, stands-file_synced, stands-after_rename, stands-unlinked, stands-names_synced}
 
 pub image_sees : (old : State) (P : Files → Type 0) (s : State) → Stands old P s → (m : Files) → IsImage s m → P (recovered_view m)

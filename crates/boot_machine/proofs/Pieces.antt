@@ -1,8 +1,6 @@
 -- A range of a file, piece by piece.
-use Rattle.std.proofs.Common.{◌≡◌, ◌+◌, ℕ, List, [], ◌++◌, drop, sym, ap, ◌∙◌, arith}
-use Rattle.std.specs.Prelude.{Result, Ok, Err, OnErr}
-use Rattle.std.proofs.lemmas.List.{drop-drop}
-use Rattle.boot_machine.specs.Reading.{fill_with_zeros}
+use Rattle.std.proofs.Common.{◌≡◌, ◌+◌, ℕ, List, [], ◌++◌, drop, sym, ap, ◌∙◌, arith, Result, Ok, Err, OnErr, drop-drop}
+use Rattle.boot_machine.specs.Prelude.{fill_with_zeros}
 use Rattle.boot_machine.proofs.Filling.{fill_with_zeros-inside}
 use Rattle.boot_machine.proofs.Ranges.{fill_with_zeros-add}
 

@@ -1,10 +1,9 @@
 -- The bytes from a place up to another, piece by piece.
-use Rattle.std.proofs.Common.{◌≡◌, inl, inr, ◌<◌, ◌≤◌, ◌+◌, ◌-◌, ℕ, List, [], ◌++◌, length, take, drop, sym, ap, ◌∙◌, arith, append_assoc, length-drop}
-use Rattle.std.specs.Prelude.{replicate}
+use Rattle.std.proofs.Common.{◌≡◌, inl, inr, ◌<◌, ◌≤◌, ◌+◌, ◌-◌, ℕ, List, [], ◌++◌, length, take, drop, sym, ap, ◌∙◌, arith, append_assoc, length-drop, replicate}
 use Rattle.std.proofs.Math.Seq.{take-add}
 use Rattle.std.proofs.lemmas.Bool.{cases_lt}
 use Rattle.std.proofs.lemmas.List.{take_all, drop_all, drop-drop, replicate-append-replicate}
-use Rattle.boot_machine.specs.Reading.{bytes_between, fill_with_zeros}
+use Rattle.boot_machine.specs.Prelude.{bytes_between, fill_with_zeros}
 use Rattle.boot_machine.proofs.Filling.{fill_with_zeros-inside}
 
 inside_add : (xs : List ℕ) (a b : ℕ) → a ≤ length xs → fill_with_zeros xs (a + b) ≡ fill_with_zeros xs a ++ fill_with_zeros (drop a xs) b

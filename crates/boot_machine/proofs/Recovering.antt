@@ -1,16 +1,13 @@
 -- The recovered view of changed files.
-use Rattle.std.proofs.Common.{◌≡◌, inl, inr, ℕ, Bool, true, false, not, ◌&&◌, cond, List, Option, Some, None, is_some, refl, sym, ap, ◌∙◌}
+use Rattle.std.proofs.Common.{◌≡◌, inl, inr, ℕ, Bool, true, false, not, ◌&&◌, cond, List, Option, Some, None, is_some, refl, sym, ap, ◌∙◌, bytes_eq, option_and_then, if◌then◌else◌}
 use Rattle.std.proofs.lemmas.Bool.{cases_Bool, and_parts, not-true}
-use Rattle.std.specs.Prelude.{bytes_eq, option_and_then, if◌then◌else◌}
 use Rattle.std.specs.FinMap as map
 use Rattle.std.specs.FinSet as set
 use Rattle.std.specs.Str.{is_utf8}
 use Rattle.std.proofs.lemmas.Map.Text.{is_eq-slice_cmp}
 use Rattle.boot_base.specs.Paths.{Path, is_temp, is_normal, is_nameable, intent, read_intent, at_nul, second_path, may_stand}
 use Rattle.boot_base.proofs.Normal.{normal-temp}
-use Rattle.boot_machine.specs.Disk.{Files, Paths, has, view, is_recovered, is_left, intent_names, of_intent, recovered_view, is_same_path, HasNoHalfRename}
-use Rattle.boot_machine.specs.Images.{IsImageOf}
-use Rattle.boot_machine.specs.Rows.{append_to, contents, move_in}
+use Rattle.boot_machine.specs.Prelude.{Files, Paths, has, view, is_recovered, is_left, intent_names, of_intent, recovered_view, is_same_path, HasNoHalfRename, IsImageOf, append_to, contents, move_in}
 use Rattle.boot_machine.specs.proofs.Maps.{cases_same, get-none, same_self, same_files, get-insert, get-insert_here, get-insert_apart, get-remove, get-remove_here, get-remove_apart, get-retain}
 use Rattle.boot_machine.proofs.Views.{get-view, shown_if_not_temp, temp_apart, get-append_to, get-view_shown, view-insert, view-remove, view-move_in}
 

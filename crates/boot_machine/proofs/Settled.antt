@@ -1,8 +1,7 @@
 -- A machine whose every file is synced is settled.
 use Rattle.std.proofs.Common.{◌≡◌, inl, inr, Bool, true, false, List, [], ◌∷◌, ◌++◌, ap, ◌∙◌, subst}
 use Rattle.std.specs.FinSet as set
-use Rattle.boot_machine.specs.Disk.{Files, Paths, State, IsIn, IsCandidate, path_cmp, recovered_view}
-use Rattle.boot_machine.specs.Images.{IsImageOf, IsFirm, IsSettled}
+use Rattle.boot_machine.specs.Prelude.{Files, Paths, State, IsIn, IsCandidate, path_cmp, recovered_view, IsImageOf, IsFirm, IsSettled}
 use Rattle.boot_machine.specs.proofs.Maps.{same_files}
 use Rattle.boot_machine.proofs.Soft.{firm_of_soft}
 

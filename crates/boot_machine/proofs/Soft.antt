@@ -1,13 +1,10 @@
 -- How candidates and soft paths go on from call to call.
-use Rattle.std.proofs.Common.{Some, None, cond, is_some, ◌||◌, ◌≡◌, ◌⊎◌, inl, inr, ⊎_elim, ℕ, true, false, not, ◌&&◌, List, [], ◌∷◌, ◌++◌, map, take, refl, sym, ap, ◌∙◌, subst, Option, Bool}
+use Rattle.std.proofs.Common.{Some, None, cond, is_some, ◌||◌, ◌≡◌, ◌⊎◌, inl, inr, ⊎_elim, ℕ, true, false, not, ◌&&◌, List, [], ◌∷◌, ◌++◌, map, take, refl, sym, ap, ◌∙◌, subst, Option, Bool, Result, Ok, Err}
 use Rattle.std.proofs.lemmas.Bool.{or_cases, and_parts, and_left, or_left}
-use Rattle.std.specs.Prelude.{Result, Ok, Err}
 use Rattle.std.specs.FinMap as maps
 use Rattle.std.specs.FinSet as set
 use Rattle.boot_base.specs.Paths.{Path, is_temp, intent}
-use Rattle.boot_machine.specs.Disk.{of_intent, intent_names, is_left, is_intended, is_recovered, Files, Paths, State, has, recovered_view, candidates, IsIn, IsCandidate, IsSound, is_same_path}
-use Rattle.boot_machine.specs.Images.{IsImage, IsFirm}
-use Rattle.boot_machine.specs.Rows.{after_half_rename, RenameRow, contents, append_to, move_in, with_files, after_create, after_append, after_sync_file, after_rename, after_unlink, after_sync_names, DoneOrNot, AppendRow, SyncFileRow, SyncNamesRow}
+use Rattle.boot_machine.specs.Prelude.{of_intent, intent_names, is_left, is_intended, is_recovered, Files, Paths, State, has, recovered_view, candidates, IsIn, IsCandidate, IsSound, is_same_path, IsImage, IsFirm, after_half_rename, RenameRow, contents, append_to, move_in, with_files, after_create, after_append, after_sync_file, after_rename, after_unlink, after_sync_names, DoneOrNot, AppendRow, SyncFileRow, SyncNamesRow}
 use Rattle.boot_machine.specs.proofs.Maps.{is_same_path-true, contains-insert, contains-remove, contains-retain}
 use Rattle.boot_machine.proofs.Recovering.{AreShown, get-recovered_view, temp_not_recovered, shown_names, intent_shown, off_temp, recovered_view-insert_temp, recovered_view-append_to}
 

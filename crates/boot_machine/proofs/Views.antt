@@ -4,9 +4,7 @@ use Rattle.std.proofs.lemmas.Bool.{cases_Bool}
 use Rattle.std.specs.FinMap as map
 use Rattle.std.specs.FinSet as set
 use Rattle.boot_base.specs.Paths.{Path, is_temp}
-use Rattle.boot_machine.specs.Disk.{Files, Paths, has, is_shown, view, is_same_path}
-use Rattle.boot_machine.specs.Images.{IsImageOf}
-use Rattle.boot_machine.specs.Rows.{contents, append_to, move_in}
+use Rattle.boot_machine.specs.Prelude.{Files, Paths, has, is_shown, view, is_same_path, IsImageOf, contents, append_to, move_in}
 use Rattle.boot_machine.specs.proofs.Maps.{cases_same, same_files, get-insert, get-insert_here, get-insert_apart, get-remove, get-remove_here, get-remove_apart, get-retain}
 
 pub get-view : (m : Files) (q : Path) → map.get (view m) q ≡ cond (is_shown m q) (map.get m q) None

@@ -1,15 +1,10 @@
 -- What is left behind the lines that were acknowledged.
-use Rattle.std.proofs.Common.{◌≡◌, ◌≢◌, inl, inr, ℕ, zero, suc, ◌+◌, ◌≤◌, ◌<◌, Bool, true, false, ◌||◌, not, List, [], ◌∷◌, ◌++◌, length, take, get_or, refl, sym, ap, ◌∙◌, subst, arith, Result, Ok, Err}
-use Rattle.std.proofs.lemmas.List.{length-append, take-take}
+use Rattle.std.proofs.Common.{◌≡◌, ◌≢◌, inl, inr, ℕ, zero, suc, ◌+◌, ◌≤◌, ◌<◌, Bool, true, false, ◌||◌, not, List, [], ◌∷◌, ◌++◌, length, take, get_or, refl, sym, ap, ◌∙◌, subst, arith, Result, Ok, Err, length-append, take-take, IsErr, IsErrAnd}
 use Rattle.std.proofs.lemmas.List.Elements.{All-nil, All-take}
-use Rattle.boot_machine.specs.Disk.{Files, IsRested, State}
-use Rattle.boot_machine.specs.Moments.{Timeline}
-use Rattle.boot_machine.specs.Sent.{Sent, Adds, SameButInput, latest_view, recovered_now, recovered_views}
+use Rattle.boot_machine.specs.Prelude.{Files, IsRested, State, Timeline, Sent, Adds, SameButInput, latest_view, recovered_now, recovered_views}
 use Rattle.boot_machine.proofs.Seeing.{latest_view-recovered_views}
-use Rattle.command_plans.specs.Deeds.{Deed, NoMemory}
-use Rattle.command_plans.specs.Performs.{end_of, stop_rests, stop_temps}
+use Rattle.command_plans.specs.Prelude.{Deed, NoMemory, end_of, stop_rests, stop_temps}
 use Rattle.install_steps.specs.Steps.{NoNewTemp}
-use Rattle.std.specs.Prelude.{IsErr, IsErrAnd}
 use Rattle.command_plans.specs.declared.outcome.Stop.{Stop}
 use Rattle.command_plans.specs.declared.outcome.Stop.TheVariants.{Disk as DiskStop, Pipe as PipeStop, Memory as MemoryStop}
 use Rattle.boot_run.specs.Endings.{ended_by}

@@ -1,17 +1,11 @@
 -- A reply and the line behind it.
-use Rattle.std.proofs.Common.{◌≡◌, inl, inr, ℕ, List, [], ◌∷◌, ◌++◌, take, refl, sym, ap, ◌∙◌, subst, append_assoc, Result, Ok, Err}
-use Rattle.std.specs.Prelude.{IsErr, IsErrAnd}
-use Rattle.std.proofs.lemmas.List.{append-nil}
-use Rattle.boot_machine.specs.Disk.{Files, State, IsIn, recovered_view}
-use Rattle.boot_machine.specs.Images.{IsImage, IsFirm}
-use Rattle.boot_machine.specs.Moments.{Timeline, EachSince}
-use Rattle.boot_machine.specs.Rows.{on_channel, with_printed}
-use Rattle.boot_machine.specs.Sent.{Sent, Adds, PrintsPart, recovered_views, recovered_now}
+use Rattle.std.proofs.Common.{◌≡◌, inl, inr, ℕ, List, [], ◌∷◌, ◌++◌, take, refl, sym, ap, ◌∙◌, subst, append_assoc, Result, Ok, Err, IsErr, IsErrAnd, append-nil}
+use Rattle.boot_machine.specs.Prelude.{Files, State, IsIn, recovered_view, IsImage, IsFirm, Timeline, EachSince, on_channel, with_printed, Sent, Adds, PrintsPart, recovered_views, recovered_now}
 use Rattle.boot_machine.specs.declared.machine.Channel.TheVariants.{Out, Err as ErrChannel}
 use Rattle.boot_machine.proofs.Elapsing.{weaken, joined, at_once}
 use Rattle.boot_machine.proofs.Printing.{prefix_more, prefix_behind, tagged_part}
 use Rattle.command_plans.specs.Deeds.{Deed, End, Stopped, Finished, NoMemory as WithoutMemory, DiskFails, PipeFails, Breaks}
-use Rattle.command_plans.specs.Performs.{Performs, end_of}
+use Rattle.command_plans.specs.Prelude.{Performs, end_of}
 use Rattle.command_plans.specs.declared.outcome.Outcome.{Outcome}
 use Rattle.command_plans.specs.declared.outcome.Outcome.TheVariants.{Refused}
 use Rattle.command_plans.specs.declared.outcome.Stop.{Stop}

@@ -1,17 +1,10 @@
 -- A run over lines that were found behind a recovery.
-use Rattle.std.proofs.Common.{◌≡◌, inl, inr, ⊎_elim, ℕ, zero, suc, Bool, false, List, [], ◌∷◌, ◌++◌, take, drop, refl, sym, ap, ◌∙◌, subst, arith, Result, Ok, Err}
-use Rattle.std.specs.Prelude.{IsErr, IsErrAnd}
-use Rattle.std.proofs.lemmas.List.{append-nil}
-use Rattle.boot_machine.specs.Disk.{Files, State, HasOneCandidate, IsIn, IsSound, recovered_view}
-use Rattle.boot_machine.specs.Images.{IsFirm, IsSettled}
-use Rattle.boot_machine.specs.Moments.{Timeline, EachSince}
-use Rattle.boot_machine.specs.Reading.{IsIdleMoment, OnlyReads}
-use Rattle.boot_machine.specs.Sent.{Sent, Adds, latest_view, recovered_now, recovered_views}
+use Rattle.std.proofs.Common.{◌≡◌, inl, inr, ⊎_elim, ℕ, zero, suc, Bool, false, List, [], ◌∷◌, ◌++◌, take, drop, refl, sym, ap, ◌∙◌, subst, arith, Result, Ok, Err, IsErr, IsErrAnd, append-nil}
+use Rattle.boot_machine.specs.Prelude.{Files, State, HasOneCandidate, IsIn, IsSound, recovered_view, IsFirm, IsSettled, Timeline, EachSince, IsIdleMoment, OnlyReads, Sent, Adds, latest_view, recovered_now, recovered_views}
 use Rattle.boot_machine.proofs.Elapsing.{weaken, joined}
 use Rattle.boot_machine.proofs.Seeing.{latest_view-recovered_views, one_view, only_view, recovered_now_in, sees}
 use Rattle.install_steps.specs.Recovery.{RecoversTo, SameFrom, SeesSame, StaysOrSame}
-use Rattle.command_plans.specs.Deeds.{End, Stopped, Finished, NoMemory, DiskFails, PipeFails, left_by}
-use Rattle.command_plans.specs.Performs.{end_of}
+use Rattle.command_plans.specs.Prelude.{End, Stopped, Finished, NoMemory, DiskFails, PipeFails, left_by, end_of}
 use Rattle.command_plans.specs.declared.outcome.Stop.{Stop}
 use Rattle.command_plans.proofs.Exits.{if_ok, if_err}
 use Rattle.boot_run.specs.History.{BreaksBehind, EndsBefore, Recovers, Runs, any_refused, printed_by, states}

@@ -1,9 +1,7 @@
 -- The lines of a command of several actions.
-use Rattle.std.proofs.Common.{◌≡◌, ◌≢◌, ℕ, Bool, true, false, List, [], ◌∷◌, map, take, refl, sym, ap, ◌∙◌, Result, Ok, Err}
-use Rattle.std.specs.Prelude.{All, OnOk}
+use Rattle.std.proofs.Common.{◌≡◌, ◌≢◌, ℕ, Bool, true, false, List, [], ◌∷◌, map, take, refl, sym, ap, ◌∙◌, Result, Ok, Err, All, OnOk}
 use Rattle.std.proofs.lemmas.List.Elements.{All-cons, All-nil, All-take}
-use Rattle.boot_machine.specs.Disk.{Files, IsRested, State}
-use Rattle.boot_machine.specs.Sent.{latest_view, recovered_now, recovered_views, seen}
+use Rattle.boot_machine.specs.Prelude.{Files, IsRested, State, latest_view, recovered_now, recovered_views, seen}
 use Rattle.boot_machine.proofs.Recovering.{recovered_view-calm}
 use Rattle.boot_machine.proofs.Seeing.{latest_view-recovered_views}
 use Rattle.tool_words.specs.declared.command.Command.TheVariants as command
@@ -12,7 +10,7 @@ use Rattle.tool_words.specs.declared.action.Action.{Action}
 use Rattle.boot_commands.proofs.Expansions.{expansion_some}
 use Rattle.boot_commands.specs.Expanding.{StandsFor}
 use Rattle.boot_commands.specs.Expansions.{expansion}
-use Rattle.command_plans.specs.Performs.{LeavesRested}
+use Rattle.command_plans.specs.Prelude.{LeavesRested}
 use Rattle.command_plans.specs.declared.outcome.Stop.{Stop}
 use Rattle.command_plans.specs.declared.outcome.Stop.TheVariants as stops
 use Rattle.boot_run.specs.AskedLines.{lines_at}

@@ -1,18 +1,11 @@
 -- A recovery before a command.
-use Rattle.std.proofs.Common.{◌≡◌, ◌⊎◌, inl, inr, ⊎_elim, true, List, [], ◌∷◌, ◌++◌, refl, sym, ap, ◌∙◌, subst, Result, Ok, Err}
-use Rattle.std.proofs.lemmas.List.{append-nil}
-use Rattle.std.specs.Prelude.{IsErr}
-use Rattle.boot_machine.specs.Disk.{Files, State, HasOneCandidate, IsIn, IsRested, IsSound, candidates, recovered_view}
-use Rattle.boot_machine.specs.Images.{IsFirm, IsSettled}
-use Rattle.boot_machine.specs.Moments.{Timeline, EachSince}
-use Rattle.boot_machine.specs.Reading.{OnlyReads}
-use Rattle.boot_machine.specs.Sent.{Sent, Adds, latest_view, recovered_now, recovered_views, seen}
+use Rattle.std.proofs.Common.{◌≡◌, ◌⊎◌, inl, inr, ⊎_elim, true, List, [], ◌∷◌, ◌++◌, refl, sym, ap, ◌∙◌, subst, Result, Ok, Err, append-nil, IsErr}
+use Rattle.boot_machine.specs.Prelude.{Files, State, HasOneCandidate, IsIn, IsRested, IsSound, candidates, recovered_view, IsFirm, IsSettled, Timeline, EachSince, OnlyReads, Sent, Adds, latest_view, recovered_now, recovered_views, seen}
 use Rattle.boot_machine.proofs.Elapsing.{weaken, joined}
 use Rattle.boot_machine.proofs.Seeing.{candidate_image, from_views, latest_view-recovered_views, one_view, recovered_now_in, sees}
 use Rattle.boot_machine.proofs.Recovering.{recovered_view-calm}
 use Rattle.install_steps.specs.Recovery.{RecoversTo, SameFrom, SeesSame, StaysOrSame}
-use Rattle.command_plans.specs.Deeds.{Deed, End, Stopped, Finished, NoMemory, DiskFails, PipeFails, left_by, Stays, Acts, Breaks}
-use Rattle.command_plans.specs.Performs.{Performs, end_of}
+use Rattle.command_plans.specs.Prelude.{Deed, End, Stopped, Finished, NoMemory, DiskFails, PipeFails, left_by, Stays, Acts, Breaks, Performs, end_of}
 use Rattle.command_plans.specs.declared.outcome.Outcome.{Outcome}
 use Rattle.command_plans.specs.declared.outcome.Stop.{Stop}
 use Rattle.command_plans.specs.declared.outcome.Stop.TheVariants.{Disk, Pipe, Memory}

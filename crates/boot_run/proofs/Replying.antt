@@ -1,11 +1,9 @@
 -- No reply is empty.
 use Rattle.std.proofs.Common.{◌≢◌, ℕ, ◌<◌, List, [], ◌∷◌, ◌++◌, length, refl, arith}
-use Rattle.boot_machine.specs.Disk.{Files}
-use Rattle.boot_machine.specs.Rows.{on_channel}
-use Rattle.boot_machine.specs.Sent.{Sent}
+use Rattle.boot_machine.specs.Prelude.{Files, on_channel, Sent}
 use Rattle.boot_machine.specs.declared.machine.Channel.{Channel}
 use Rattle.boot_machine.specs.declared.machine.Channel.TheVariants.{Out, Err as ErrChannel}
-use Rattle.command_plans.specs.Answers.{channel_of}
+use Rattle.command_plans.specs.Prelude.{channel_of}
 use Rattle.boot_commands.specs.Commands.{one_deed}
 use Rattle.boot_commands.specs.Replies.{action_reply, one_reply}
 use Rattle.boot_commands.proofs.Replies.{some_action, some_text}

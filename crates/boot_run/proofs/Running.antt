@@ -1,16 +1,10 @@
 -- How a run over lines goes on.
-use Rattle.std.proofs.Common.{inl, inr, ◌≡◌, ℕ, ◌+◌, ◌≤◌, ◌<◌, Bool, true, false, ◌||◌, List, [], ◌∷◌, ◌++◌, length, take, drop, get_or, refl, sym, ap, ◌∙◌, subst, arith, append_assoc, Result, Ok, Err}
-use Rattle.std.specs.Prelude.{IsErr, IsErrAnd}
+use Rattle.std.proofs.Common.{inl, inr, ◌≡◌, ℕ, ◌+◌, ◌≤◌, ◌<◌, Bool, true, false, ◌||◌, List, [], ◌∷◌, ◌++◌, length, take, drop, get_or, refl, sym, ap, ◌∙◌, subst, arith, append_assoc, Result, Ok, Err, IsErr, IsErrAnd}
 use Rattle.std.proofs.lemmas.List.{append-nil, take_more, drop_more, take_all}
-use Rattle.boot_machine.specs.Disk.{Files, State, IsIn, recovered_view}
-use Rattle.boot_machine.specs.Images.{IsFirm}
-use Rattle.boot_machine.specs.Moments.{Timeline, EachSince}
-use Rattle.boot_machine.specs.Sent.{Sent, Adds, latest_view, recovered_views, recovered_now}
+use Rattle.boot_machine.specs.Prelude.{Files, State, IsIn, recovered_view, IsFirm, Timeline, EachSince, Sent, Adds, latest_view, recovered_views, recovered_now}
 use Rattle.boot_machine.proofs.Elapsing.{weaken, joined, at_once}
 use Rattle.boot_machine.proofs.Seeing.{latest_view-recovered_views}
-use Rattle.command_plans.specs.Answers.{is_refusal}
-use Rattle.command_plans.specs.Deeds.{Deed, End, Stopped, left_by, Breaks}
-use Rattle.command_plans.specs.Performs.{end_of}
+use Rattle.command_plans.specs.Prelude.{is_refusal, Deed, End, Stopped, left_by, Breaks, end_of}
 use Rattle.command_plans.specs.declared.outcome.Outcome.{Outcome}
 use Rattle.command_plans.specs.declared.outcome.Stop.{Stop}
 use Rattle.command_plans.proofs.Exits.{if_ok, if_err}

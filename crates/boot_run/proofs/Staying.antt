@@ -1,14 +1,11 @@
 -- What stays while lines are printed and commands are carried out.
-use Rattle.std.proofs.Common.{◌≡◌, ℕ, Bool, true, false, List, take, refl, sym, ap, ◌∙◌, subst, Result, Ok, Err}
+use Rattle.std.proofs.Common.{◌≡◌, ℕ, Bool, true, false, List, take, refl, sym, ap, ◌∙◌, subst, Result, Ok, Err, OnOk, OnErr, IsErr, IsErrAnd}
 use Rattle.std.proofs.lemmas.List.Elements.{All-weaker}
-use Rattle.std.specs.Prelude.{OnOk, OnErr, IsErr, IsErrAnd}
-use Rattle.boot_machine.specs.Disk.{Files, IsRested, State, has}
-use Rattle.boot_machine.specs.Images.{IsImage}
+use Rattle.boot_machine.specs.Prelude.{Files, IsRested, State, has, IsImage, with_printed}
 use Rattle.boot_base.specs.Paths.{intent}
-use Rattle.boot_machine.specs.Rows.{with_printed}
 use Rattle.boot_machine.specs.declared.machine.Channel.{Channel}
 use Rattle.install_steps.specs.Steps.{NoNewTemp}
-use Rattle.command_plans.specs.Performs.{LeavesNoTemp, LeavesRested, stop_rests, stop_temps}
+use Rattle.command_plans.specs.Prelude.{LeavesNoTemp, LeavesRested, stop_rests, stop_temps}
 use Rattle.boot_commands.proofs.Later.{tidied_later}
 use Rattle.command_plans.specs.declared.outcome.Stop.{Stop}
 use Rattle.command_plans.specs.declared.outcome.Stop.TheVariants as stops

@@ -1,10 +1,9 @@
 -- What a run over lines comes to is a step of the reference.
 use Rattle.std.proofs.Common.{◌≡◌, ◌≢◌, ◌⊎◌, inl, inr, ⊎_elim, ℕ, zero, suc, ◌+◌, ◌≤◌, ◌<◌, true, List, [], ◌∷◌, ◌++◌, length, take, drop, refl, sym, ap, ◌∙◌, subst, arith, append_assoc, length-append}
 use Rattle.std.proofs.lemmas.List.{append-nil, append_cancel_left}
-use Rattle.boot_machine.specs.Disk.{Files, IsIn}
-use Rattle.boot_machine.specs.Sent.{Sent, IsPrefix, latest_view}
+use Rattle.boot_machine.specs.Prelude.{Files, IsIn, Sent, IsPrefix, latest_view}
 use Rattle.boot_machine.proofs.Printing.{prefix_behind}
-use Rattle.command_plans.specs.Deeds.{End, Stopped, Finished, NoMemory, DiskFails, PipeFails, left_by, Stays, Breaks}
+use Rattle.command_plans.specs.Prelude.{End, Stopped, Finished, NoMemory, DiskFails, PipeFails, left_by, Stays, Breaks}
 use Rattle.boot_run.specs.History.{AllAre, states, printed_by, EndsBefore, Recovers, Runs}
 use Rattle.boot_run.specs.Lines.{line_deed, is_unread}
 use Rattle.boot_run.specs.Step.{replies, view_after, join_replies, Acknowledges, AllUnread, KeepsViews, IsEarly, IsLate, Step, NoneEmpty, IsOneView, SeesBegun, Leaves}

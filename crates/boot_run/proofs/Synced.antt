@@ -1,15 +1,11 @@
 -- The moments of a run before its names are synced, and those from then on.
 use Rattle.std.proofs.Common.{◌⊎◌, inl, inr, ◌≡◌, ℕ, ◌+◌, ◌<◌, Bool, true, false, not, ◌||◌, List, [], ◌∷◌, ◌++◌, length, take, get_or, refl, sym, ap, ◌∙◌, subst, append_assoc}
 use Rattle.std.proofs.lemmas.List.{append-nil, take_more}
-use Rattle.boot_machine.specs.Disk.{Files, State, recovered_view}
-use Rattle.boot_machine.specs.Images.{IsImage}
-use Rattle.boot_machine.specs.Moments.{Timeline, EachSince}
-use Rattle.boot_machine.specs.Reading.{IsIdleMoment, OnlyReads}
-use Rattle.boot_machine.specs.Sent.{Sent, Adds, IsPrefix, PrintsPart, latest_view, recovered_views, recovered_now}
+use Rattle.boot_machine.specs.Prelude.{Files, State, recovered_view, IsImage, Timeline, EachSince, IsIdleMoment, OnlyReads, Sent, Adds, IsPrefix, PrintsPart, latest_view, recovered_views, recovered_now}
 use Rattle.boot_machine.proofs.Elapsing.{weaken, joined}
 use Rattle.boot_machine.proofs.Printing.{prefix_behind}
 use Rattle.boot_machine.proofs.Seeing.{latest_view-recovered_views}
-use Rattle.command_plans.specs.Deeds.{Deed, Stopped, left_by, Breaks}
+use Rattle.command_plans.specs.Prelude.{Deed, Stopped, left_by, Breaks}
 use Rattle.boot_run.specs.History.{states, printed_by}
 use Rattle.boot_run.specs.Lines.{Prints, has_command, is_unread, line_deed}
 use Rattle.boot_run.specs.RunsTo.{FromSync, IsSyncedBy, IsUnsynced, OnlyPrints, RunsAfresh, SyncsBefore}

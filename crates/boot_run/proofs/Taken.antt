@@ -1,7 +1,6 @@
 -- How much of the input a run takes, and what its ends say.
-use Rattle.std.proofs.Common.{◌≡◌, ◌≢◌, ◌≤◌, ℕ, Bool, true, false, List, [], drop, refl, sym, ap, ◌∙◌, arith, Result, Ok, Err}
-use Rattle.std.specs.Prelude.{OnOk}
-use Rattle.boot_machine.specs.Disk.{Files}
+use Rattle.std.proofs.Common.{◌≡◌, ◌≢◌, ◌≤◌, ℕ, Bool, true, false, List, [], drop, refl, sym, ap, ◌∙◌, arith, Result, Ok, Err, OnOk}
+use Rattle.boot_machine.specs.Prelude.{Files}
 use Rattle.tool_words.specs.declared.command.Command.{Command}
 use Rattle.tool_words.specs.declared.command.Command.TheVariants as command
 use Rattle.tool_words.specs.declared.fault.UsageReason.{UsageReason}

@@ -1,21 +1,14 @@
 -- The clauses of the top call.
-use Rattle.std.proofs.Common.{◌≡◌, ◌≢◌, inl, ℕ, Bool, true, false, List, [], ◌∷◌, ◌++◌, length, take, refl, sym, ap, ◌∙◌, subst, arith, Result, Ok, Err, inr, ⊎_elim}
-use Rattle.std.specs.Prelude.{IfOk, IfErr, IsErr, IsErrAnd, ◌||◌}
+use Rattle.std.proofs.Common.{◌≡◌, ◌≢◌, inl, ℕ, Bool, true, false, List, [], ◌∷◌, ◌++◌, length, take, refl, sym, ap, ◌∙◌, subst, arith, Result, Ok, Err, inr, ⊎_elim, IfOk, IfErr, IsErr, IsErrAnd, ◌||◌}
 use Rattle.std.proofs.lemmas.List.{append-nil, take_all, drop_all}
-use Rattle.boot_machine.specs.Disk.{Files, State, IsIn, IsSound, candidates, recovered_view}
-use Rattle.boot_machine.specs.Images.{IsImage, IsFirm, IsSettled}
-use Rattle.boot_machine.specs.Moments.{Timeline, EachSince}
-use Rattle.boot_machine.specs.Rows.{on_channel, with_printed}
-use Rattle.boot_machine.specs.Sent.{Sent, Adds, PrintsPart, SameButInput, latest_view, recovered_views, recovered_now}
+use Rattle.boot_machine.specs.Prelude.{Files, State, IsIn, IsSound, candidates, recovered_view, IsImage, IsFirm, IsSettled, Timeline, EachSince, on_channel, with_printed, Sent, Adds, PrintsPart, SameButInput, latest_view, recovered_views, recovered_now}
 use Rattle.boot_machine.specs.declared.machine.Channel.TheVariants.{Err as ErrChannel}
 use Rattle.boot_machine.proofs.Elapsing.{at_once, weaken, joined}
 use Rattle.boot_machine.proofs.Printing.{tagged_part}
 use Rattle.boot_machine.proofs.Settled.{firm_of_settled}
 use Rattle.boot_machine.proofs.Seeing.{sees, recovered_now_in, latest_view-recovered_views, from_views, candidate_image}
 use Rattle.tool_words.specs.declared.fault.UsageReason.{UsageReason}
-use Rattle.command_plans.specs.Answers.{is_refusal}
-use Rattle.command_plans.specs.Deeds.{End, left_by, Stopped, Finished, NoMemory, DiskFails, PipeFails, Stays}
-use Rattle.command_plans.specs.Performs.{end_of}
+use Rattle.command_plans.specs.Prelude.{is_refusal, End, left_by, Stopped, Finished, NoMemory, DiskFails, PipeFails, Stays, end_of}
 use Rattle.command_plans.specs.declared.outcome.Stop.{Stop}
 use Rattle.command_plans.specs.declared.outcome.Stop.TheVariants.{Disk as DiskStop, Pipe as PipeStop, Memory as MemoryStop}
 use Rattle.command_plans.proofs.Exits.{if_ok, if_err, if_ok_by}

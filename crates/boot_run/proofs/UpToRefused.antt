@@ -1,19 +1,13 @@
 -- A run that ends at the first refused line.
-use Rattle.std.proofs.Common.{◌≡◌, ◌⊎◌, inl, inr, ℕ, zero, suc, ◌+◌, ◌≤◌, ◌<◌, Bool, true, false, cond, ◌||◌, List, [], ◌∷◌, length, map, drop, get_or, refl, sym, ap, ◌∙◌, subst, arith, Result, Ok, Err}
-use Rattle.std.specs.Prelude.{IsErr, IsErrAnd, if◌then◌else◌}
+use Rattle.std.proofs.Common.{◌≡◌, ◌⊎◌, inl, inr, ℕ, zero, suc, ◌+◌, ◌≤◌, ◌<◌, Bool, true, false, cond, ◌||◌, List, [], ◌∷◌, length, map, drop, get_or, refl, sym, ap, ◌∙◌, subst, arith, Result, Ok, Err, IsErr, IsErrAnd, if◌then◌else◌}
 use Rattle.std.proofs.lemmas.Bool.{cond-true, cond-false}
 use Rattle.std.proofs.lemmas.List.{drop_all, drop_more}
 use Rattle.boot_base.specs.declared.refusal.Refusal.{Refusal}
-use Rattle.boot_machine.specs.Disk.{Files, IsIn, State, recovered_view}
-use Rattle.boot_machine.specs.Images.{IsFirm}
-use Rattle.boot_machine.specs.Moments.{Timeline}
-use Rattle.boot_machine.specs.Sent.{Sent, latest_view, recovered_now, recovered_views}
+use Rattle.boot_machine.specs.Prelude.{Files, IsIn, State, recovered_view, IsFirm, Timeline, Sent, latest_view, recovered_now, recovered_views}
 use Rattle.boot_machine.proofs.Seeing.{latest_view-recovered_views}
 use Rattle.tool_words.specs.declared.action.Action.{Action}
 use Rattle.tool_words.specs.declared.action.Action.TheVariants as action
-use Rattle.command_plans.specs.Answers.{is_refusal}
-use Rattle.command_plans.specs.Deeds.{Deed, left_by}
-use Rattle.command_plans.specs.Performs.{Performs, end_of}
+use Rattle.command_plans.specs.Prelude.{is_refusal, Deed, left_by, Performs, end_of}
 use Rattle.command_plans.specs.declared.outcome.Outcome.{Outcome}
 use Rattle.command_plans.specs.declared.outcome.Stop.{Stop}
 use Rattle.boot_commands.specs.Replies.{action_reply}

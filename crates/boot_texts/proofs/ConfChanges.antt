@@ -1,8 +1,7 @@
 -- What a change of one key writes, and what it says afterwards.
-use Rattle.std.proofs.Common.{◌≡◌, ◌≢◌, ◌≤◌, ◌-◌, ℕ, Bool, true, false, not, ◌||◌, eqb, List, [], ◌∷◌, ◌++◌, Some, None, Option, length, take, reverse, filter, subst, sym, ap, ◌∙◌, refl, cond, arith, append_assoc, append-nil, ltb, ◌⊎◌, inl, inr}
+use Rattle.std.proofs.Common.{◌≡◌, ◌≢◌, ◌≤◌, ◌-◌, ℕ, Bool, true, false, not, ◌||◌, eqb, List, [], ◌∷◌, ◌++◌, Some, None, Option, length, take, reverse, filter, subst, sym, ap, ◌∙◌, refl, cond, arith, append_assoc, append-nil, ltb, ◌⊎◌, inl, inr, bytes_eq, codes, nat_le}
 use Rattle.std.specs.List.{cons_option, filter_map, last_or, list_all, prefix_len, suffix_len}
 use Rattle.std.specs.Option.{is_some, option_or}
-use Rattle.std.specs.Prelude.{bytes_eq, codes, nat_le}
 use Rattle.std.specs.Char.{is_ascii_digit, is_ascii_graphic}
 use Rattle.std.proofs.lemmas.Bool.{and_from, and_parts, le-leb, leb-true, ne_eqb, not_from_false, or_cases, or_parts}
 use Rattle.std.proofs.lemmas.List.{reverse-append, take_all}

@@ -1,6 +1,5 @@
 -- The place that the function finds is that of the default entry.
-use Rattle.std.proofs.Common.{◌≡◌, ◌≤◌, ◌<◌, ℕ, Bool, true, false, List, [], ◌∷◌, Some, None, Option, length, refl, arith, inl, inr, get_or, ltb, cond}
-use Rattle.std.specs.Prelude.{MatchOption, position}
+use Rattle.std.proofs.Common.{◌≡◌, ◌≤◌, ◌<◌, ℕ, Bool, true, false, List, [], ◌∷◌, Some, None, Option, length, refl, arith, inl, inr, get_or, ltb, cond, MatchOption, position}
 use Rattle.std.specs.Option.{option_or}
 use Rattle.std.specs.List.{position_or_len}
 use Rattle.std.proofs.lemmas.List.Quantifiers.{position-Some}

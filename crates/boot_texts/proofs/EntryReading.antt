@@ -1,7 +1,6 @@
 -- A line is read as what the grammar has it mean, in both directions.
-use Rattle.std.proofs.Common.{◌≡◌, ◌≢◌, ℕ, suc, Bool, true, false, not, ◌||◌, eqb, List, [], ◌∷◌, ◌++◌, Some, None, Option, length, take, drop, subst, sym, ap, ◌∙◌, refl, cond, arith, ◌⊎◌, inl, inr}
+use Rattle.std.proofs.Common.{◌≡◌, ◌≢◌, ℕ, suc, Bool, true, false, not, ◌||◌, eqb, List, [], ◌∷◌, ◌++◌, Some, None, Option, length, take, drop, subst, sym, ap, ◌∙◌, refl, cond, arith, ◌⊎◌, inl, inr, take-append-drop, take_at, drop_at}
 use Rattle.std.specs.List.{list_all, prefix_len}
-use Rattle.std.proofs.lemmas.List.{take-append-drop, take_at, drop_at}
 use Rattle.std.proofs.lemmas.Bool.{not-true, and_parts, both_ways, eqb-false, ne_eqb, or_parts}
 use Rattle.std.proofs.lemmas.Option.{none-some, same_Some}
 use Rattle.boot_texts.specs.TextRuns.{BeginsWith}

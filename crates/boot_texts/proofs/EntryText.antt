@@ -1,8 +1,6 @@
 -- What is written of an entry is read again, and is an entry.
-use Rattle.std.proofs.Common.{◌≡◌, ◌≢◌, ◌≤◌, ◌+◌, ◌*◌, inl, inr, ℕ, suc, Bool, true, false, not, ◌&&◌, ◌||◌, eqb, List, [], ◌∷◌, ◌++◌, Some, None, Option, length, take, map, filter, subst, sym, ap, ◌∙◌, refl, cond, arith, append_assoc, append-nil, length-append}
+use Rattle.std.proofs.Common.{◌≡◌, ◌≢◌, ◌≤◌, ◌+◌, ◌*◌, inl, inr, ℕ, suc, Bool, true, false, not, ◌&&◌, ◌||◌, eqb, List, [], ◌∷◌, ◌++◌, Some, None, Option, length, take, map, filter, subst, sym, ap, ◌∙◌, refl, cond, arith, append_assoc, append-nil, length-append, bytes_eq, codes, nat_le, is_some, option_to_list}
 use Rattle.std.specs.List.{All, cons_option, filter_map, last_or, list_all}
-use Rattle.std.specs.Prelude.{bytes_eq, codes, nat_le, is_some}
-use Rattle.std.specs.Option.{option_to_list}
 use Rattle.std.proofs.lemmas.Bool.{and_from, and_parts, eqb-true, le-leb, leb-true, ne_eqb, not_from_false, not-true, or_parts, or_cases}
 use Rattle.std.proofs.lemmas.List.Elements.{All-head, All-tail, All-weaker, filter_map-append}
 use Rattle.std.proofs.lemmas.Grind.{flat_map-append}

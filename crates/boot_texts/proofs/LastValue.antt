@@ -1,6 +1,5 @@
 -- The last value of a key, where a reading finds in each line what a grammar gives there.
-use Rattle.std.proofs.Common.{◌≡◌, ◌↔◌, ℕ, Bool, true, false, List, [], ◌∷◌, ◌++◌, Some, None, Option, map, filter, subst, sym, ap, ◌∙◌, refl, cond, append-nil, Bor, ◌<◌, ◌+◌, length, take, get_or, inl, inr}
-use Rattle.std.specs.Prelude.{MatchOption, bytes_eq}
+use Rattle.std.proofs.Common.{◌≡◌, ◌↔◌, ℕ, Bool, true, false, List, [], ◌∷◌, ◌++◌, Some, None, Option, map, filter, subst, sym, ap, ◌∙◌, refl, cond, append-nil, Bor, ◌<◌, ◌+◌, length, take, get_or, inl, inr, MatchOption, bytes_eq}
 use Rattle.std.specs.List.{cons_option, filter_map, last_or}
 use Rattle.std.proofs.lemmas.List.{map-append, take_more}
 use Rattle.std.proofs.lemmas.List.Elements.{All-cons, All-head, All-nil, All-tail, filter-append, filter_map-append}

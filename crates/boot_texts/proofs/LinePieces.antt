@@ -1,11 +1,10 @@
 -- The first piece of a text, and what is left.
-use Rattle.std.proofs.Common.{◌≡◌, ◌≤◌, ◌+◌, ◌-◌, ℕ, Bool, true, false, List, [], ◌∷◌, Some, None, length, take, drop, subst, sym, ap, ◌∙◌, refl, arith, ltb, cond}
+use Rattle.std.proofs.Common.{◌≡◌, ◌≤◌, ◌+◌, ◌-◌, ℕ, Bool, true, false, List, [], ◌∷◌, Some, None, length, take, drop, subst, sym, ap, ◌∙◌, refl, arith, ltb, cond, ltb-true, ltb-false}
 use Rattle.std.specs.List.{slice_split, position, position_or_len}
 use Rattle.std.proofs.lemmas.List.{take_rest}
 use Rattle.std.proofs.lemmas.List.Splits.{slice_split_first, slice_split_none}
 use Rattle.std.proofs.lemmas.List.Sums.{fails_before_first}
 use Rattle.std.proofs.lemmas.Option.{cond_some}
-use Rattle.std.proofs.lemmas.Bool.{ltb-true, ltb-false}
 use Rattle.boot_texts.specs.TextLines.{is_newline}
 
 pub pieces_at : (text : List ℕ) (end : ℕ) → Some end ≡ position is_newline text

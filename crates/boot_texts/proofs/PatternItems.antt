@@ -1,7 +1,6 @@
 -- The first item of a pattern is read as what it is written as, in both directions.
-use Rattle.std.proofs.Common.{◌≡◌, ◌+◌, ℕ, suc, Bool, true, false, not, ◌||◌, ◌&&◌, eqb, List, [], ◌∷◌, ◌++◌, Some, None, Option, length, take, drop, subst, sym, ap, ◌∙◌, refl, cond, arith, ◌⊎◌, inl, inr, append_assoc, length-append}
+use Rattle.std.proofs.Common.{◌≡◌, ◌+◌, ℕ, suc, Bool, true, false, not, ◌||◌, ◌&&◌, eqb, List, [], ◌∷◌, ◌++◌, Some, None, Option, length, take, drop, subst, sym, ap, ◌∙◌, refl, cond, arith, ◌⊎◌, inl, inr, append_assoc, length-append, take_at, drop_at}
 use Rattle.std.specs.List.{list_all, prefix_len}
-use Rattle.std.proofs.lemmas.List.{take_at, drop_at}
 use Rattle.std.proofs.lemmas.Bool.{not-true, and_from, and_parts, eqb-false, eqb-true, ne_eqb, or_parts, not_from_false}
 use Rattle.std.proofs.lemmas.Option.{none-some, some_pair_parts}
 use Rattle.boot_texts.proofs.LineFronts.{prefix_len-front}

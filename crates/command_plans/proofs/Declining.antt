@@ -1,8 +1,7 @@
 -- Words that are declined, step by step.
-use Rattle.std.proofs.Common.{◌≡◌, Result, Ok, Err, ap, sym, subst}
+use Rattle.std.proofs.Common.{◌≡◌, Result, Ok, Err, ap, sym, subst, IsErr, IsErrAnd}
 use Rattle.boot_base.specs.declared.refusal.Refusal.{Refusal}
-use Rattle.std.specs.Prelude.{IsErr, IsErrAnd}
-use Rattle.command_plans.specs.Declining.{◌>>=◌, DeclinedFor, Means}
+use Rattle.command_plans.specs.Prelude.{◌>>=◌, DeclinedFor, Means}
 use Rattle.command_plans.specs.declared.declined.Declined.{Declined}
 use Rattle.command_plans.specs.declared.declined.Declined.TheVariants.{Memory, Refused}
 

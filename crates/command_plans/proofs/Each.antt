@@ -2,10 +2,9 @@
 use Rattle.std.proofs.Common.{◌≡◌, ◌<◌, ◌+◌, ℕ, List, [], ◌∷◌, ◌++◌, Result, Ok, Err, refl, sym, ap, ◌∙◌, subst, length, suc, map, take, drop, get_or}
 use Rattle.std.proofs.lemmas.List.{append_assoc, drop_more, length-append, take-append-drop, take_more}
 use Rattle.boot_base.specs.declared.refusal.Refusal.{Refusal}
-use Rattle.command_plans.specs.Declining.{◌>>=◌, DeclinedFor}
+use Rattle.command_plans.specs.Prelude.{◌>>=◌, DeclinedFor, each}
 use Rattle.command_plans.specs.declared.declined.Declined.{Declined}
 use Rattle.command_plans.specs.declared.declined.Declined.TheVariants.{Memory, Refused}
-use Rattle.command_plans.specs.Files.{each}
 
 pub bind_ok : {B C : Type 0} (r : Result B Refusal) (g : B → Result C Refusal) (c : C) → (r >>= g) ≡ Ok c → (b : B) × (r ≡ Ok b) × (g b ≡ Ok c)
 bind_ok (Ok b) g c is = (b, refl, is)

@@ -3,16 +3,14 @@ use Rattle.std.proofs.Common.{◌≡◌, ◌≤◌, ℕ, List, true, false, leng
 use Rattle.std.specs.FinMap.{insert, remove}
 use Rattle.boot_base.specs.Paths.{Path}
 use Rattle.install_steps.specs.declared.moves.Intent.{Intent}
-use Rattle.boot_machine.specs.Disk.{Files, State, IsRested, has, recovered_view}
-use Rattle.boot_machine.specs.Rows.{contents}
-use Rattle.boot_machine.specs.Sent.{seen}
+use Rattle.boot_machine.specs.Prelude.{Files, State, IsRested, has, recovered_view, contents, seen}
 use Rattle.boot_machine.proofs.Recovering.{recovered_view-calm}
 use Rattle.image_writer.specs.Sourced.{planned_image}
 use Rattle.image_writer.specs.declared.sources.Sources.{Sources}
 use Rattle.pe_builder.specs.declared.plan.ImageLayout.{ImageLayout}
 use Rattle.install_steps.specs.Steps.{after_copy, after_move}
 use Rattle.install_steps.proofs.RefusedLemmas.{moved_there}
-use Rattle.command_plans.specs.Plans.{CanMake, with_copy, effect, view_with_image}
+use Rattle.command_plans.specs.Prelude.{CanMake, with_copy, effect, view_with_image}
 use Rattle.command_plans.specs.declared.plan.Change.{Change}
 use Rattle.command_plans.specs.declared.plan.Change.TheVariants.{Leftovers, Move, Remove}
 use Rattle.command_plans.specs.declared.plan.RefusalLine.{RefusalLine}

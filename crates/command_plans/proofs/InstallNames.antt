@@ -1,6 +1,5 @@
 -- A name that is taken for an entry.
-use Rattle.std.proofs.Common.{◌≡◌, ℕ, Bool, true, false, List, Ok, Err, refl}
-use Rattle.std.specs.Prelude.{if◌then◌else◌}
+use Rattle.std.proofs.Common.{◌≡◌, ℕ, Bool, true, false, List, Ok, Err, refl, if◌then◌else◌}
 use Rattle.std.specs.List.{list_all, list_any}
 use Rattle.std.proofs.lemmas.Bool.{and_parts}
 use Rattle.boot_base.specs.Paths.{is_slash}
@@ -8,7 +7,7 @@ use Rattle.boot_base.specs.declared.refusal.Refusal.TheVariants as refusals
 use Rattle.menu_order.specs.InstallNames.{is_entry_name_byte, is_install_name, is_name_text}
 use Rattle.menu_order.specs.declared.counted.Suffix.{Suffix}
 use Rattle.menu_order.proofs.InstallNames.{name_slash}
-use Rattle.command_plans.specs.Declining.{install_name}
+use Rattle.command_plans.specs.Prelude.{install_name}
 use Rattle.command_plans.proofs.Steps.{err_ok, ok_is}
 
 taken_by : (name taken : List ℕ) (fits : Bool) → (if fits then Ok name else Err (refusals.BadName name)) ≡ Ok taken

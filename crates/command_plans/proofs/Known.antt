@@ -1,17 +1,13 @@
 -- What a length tells of a file that is read.
-use Rattle.std.proofs.Common.{◌≡◌, ◌≤◌, ℕ, true, false, List, length, Some, Ok, is_some, refl, sym, ap, ◌∙◌, arith}
+use Rattle.std.proofs.Common.{◌≡◌, ◌≤◌, ℕ, true, false, List, length, Some, Ok, is_some, refl, sym, ap, ◌∙◌, arith, nat_lt, option_map}
 use Rattle.std.proofs.lemmas.Bool.Decides.{nat_tests}
-use Rattle.std.specs.Prelude.{nat_lt}
-use Rattle.std.specs.Option.{option_map}
 use Rattle.std.specs.FinMap.{get}
 use Rattle.boot_base.specs.Paths.{Path, is_temp}
-use Rattle.boot_machine.specs.Disk.{State, has}
-use Rattle.boot_machine.specs.Rows.{contents}
-use Rattle.boot_machine.specs.Sent.{seen}
+use Rattle.boot_machine.specs.Prelude.{State, has, contents, seen}
 use Rattle.boot_machine.proofs.Views.{get-view_shown}
 use Rattle.command_plans.proofs.Sizes.{some_of, contents_seen}
 use Rattle.boot_base.specs.Limits.{file_limit}
-use Rattle.command_plans.specs.Files.{bytes_at, readable_bytes}
+use Rattle.command_plans.specs.Prelude.{bytes_at, readable_bytes}
 
 pub record IsKnown (s : State) (path : Path) : Type 0 where
   pub bytes : bytes_at (seen s) path ≡ Ok (contents s.files path)

@@ -1,12 +1,11 @@
 -- Paths in order, each once.
-use Rattle.std.proofs.Common.{◌≡◌, Bool, true, List, [], refl, sym, subst}
+use Rattle.std.proofs.Common.{◌≡◌, Bool, true, List, [], refl, sym, subst, Contains, bytes_eq}
 use Rattle.std.proofs.lemmas.Cmp.{nat_list_cmp_total, eq_by_cmp_equiv}
 use Rattle.std.proofs.lemmas.List.Filters.{dedup_is}
 use Rattle.std.proofs.lemmas.List.Kept.{Contains-dedup, Contains-from_dedup, IsStrictlySortedBy-dedup}
 use Rattle.std.proofs.lemmas.List.Sorted.{Contains-permutation, IsPermutation-sym}
 use Rattle.std.proofs.lemmas.Map.Keys.{IsDistinct-from_sorted}
 use Rattle.std.proofs.lemmas.Map.Text.{is_eq-slice_cmp}
-use Rattle.std.specs.Prelude.{Contains, bytes_eq}
 use Rattle.std.specs.List.{IsDistinct, dedup}
 use Rattle.std.specs.List.Retain.{IsFiltered, DiffersFromLast}
 use Rattle.std.specs.List.Sorted.{IsPermutation, IsSorted, IsStrictlySortedBy}

@@ -1,20 +1,12 @@
 -- The clause of a command at each of its exits.
-use Rattle.std.proofs.Common.{◌≡◌, ◌⊎◌, inl, inr, ⊎_elim, ℕ, true, List, [], ◌∷◌, ◌++◌, take, refl, sym, ap, ◌∙◌, subst, Result, Ok, Err}
-use Rattle.std.specs.Prelude.{IsErr, IsErrAnd, IfOk, IfErr}
-use Rattle.std.proofs.lemmas.List.{append-nil}
-use Rattle.boot_machine.specs.Disk.{Files, State, IsIn, candidates, recovered_view}
-use Rattle.boot_machine.specs.Images.{IsImage, IsFirm}
-use Rattle.boot_machine.specs.Moments.{Timeline, EachSince}
-use Rattle.boot_machine.specs.Rows.{on_channel, with_printed}
-use Rattle.boot_machine.specs.Sent.{Sent, Adds, PrintsPart, latest_view, recovered_views}
+use Rattle.std.proofs.Common.{◌≡◌, ◌⊎◌, inl, inr, ⊎_elim, ℕ, true, List, [], ◌∷◌, ◌++◌, take, refl, sym, ap, ◌∙◌, subst, Result, Ok, Err, IsErr, IsErrAnd, IfOk, IfErr, append-nil}
+use Rattle.boot_machine.specs.Prelude.{Files, State, IsIn, candidates, recovered_view, IsImage, IsFirm, Timeline, EachSince, on_channel, with_printed, Sent, Adds, PrintsPart, latest_view, recovered_views, OnlyReads}
 use Rattle.boot_machine.specs.declared.machine.Channel.{Channel}
 use Rattle.boot_machine.proofs.Elapsing.{weaken, joined}
 use Rattle.boot_machine.proofs.Printing.{tagged_part}
 use Rattle.boot_machine.proofs.Seeing.{latest_view-recovered_views, one_view, recovered_now_in, from_views, candidate_image}
 use Rattle.install_steps.specs.Steps.{Keeps, Sees, IsDone as IsInstalled}
-use Rattle.command_plans.specs.Deeds.{Deed, Stopped, Stays, Breaks}
-use Rattle.boot_machine.specs.Reading.{OnlyReads}
-use Rattle.command_plans.specs.Performs.{Performs, DoesDeed, end_by, end_of, stop_of}
+use Rattle.command_plans.specs.Prelude.{Deed, Stopped, Stays, Breaks, Performs, DoesDeed, end_by, end_of, stop_of}
 use Rattle.command_plans.specs.declared.outcome.Outcome.{Outcome}
 use Rattle.command_plans.specs.declared.outcome.Stop.{Stop}
 use Rattle.command_plans.specs.declared.outcome.Stop.TheVariants as stops

@@ -1,11 +1,10 @@
 -- Paths that are read.
-use Rattle.std.proofs.Common.{◌≡◌, ℕ, Bool, true, false, not, List, Option, Some, None, Ok, subst}
-use Rattle.std.specs.Prelude.{◌==◌, bytes_eq, if◌then◌else◌}
+use Rattle.std.proofs.Common.{◌≡◌, ℕ, Bool, true, false, not, List, Option, Some, None, Ok, subst, ◌==◌, bytes_eq, if◌then◌else◌}
 use Rattle.std.specs.List.{list_any}
 use Rattle.std.proofs.lemmas.Bool.{and_parts, not-true, or_parts}
 use Rattle.boot_base.specs.Paths.{Path, components, intent, is_form, is_normal, is_path, is_path_text, is_refused, normal_of, path_of}
 use Rattle.boot_base.proofs.Normal.{normal_from, path-some}
-use Rattle.command_plans.specs.Declining.{path_or}
+use Rattle.command_plans.specs.Prelude.{path_or}
 
 pub read_of : (text : List ℕ) (read : Option Path) (path : Path) → path_or text read ≡ Ok path → read ≡ Some path
 read_of text None path is = cc

@@ -1,12 +1,9 @@
 -- What the printing of a reply leaves.
-use Rattle.std.proofs.Common.{◌≡◌, ℕ, List, take, sym, ap, subst, Result, Ok, Err}
-use Rattle.std.specs.Prelude.{MatchResult}
-use Rattle.boot_machine.specs.Disk.{State, IsRested}
-use Rattle.boot_machine.specs.Rows.{with_printed}
+use Rattle.std.proofs.Common.{◌≡◌, ℕ, List, take, sym, ap, subst, Result, Ok, Err, MatchResult}
+use Rattle.boot_machine.specs.Prelude.{State, IsRested, with_printed}
 use Rattle.boot_machine.specs.declared.machine.Channel.{Channel}
 use Rattle.install_steps.specs.Steps.{NoNewTemp}
-use Rattle.command_plans.specs.Performs.{LeavesNoTempBy, LeavesRestedBy}
-use Rattle.command_plans.specs.Plans.{Drops, DropsBy}
+use Rattle.command_plans.specs.Prelude.{LeavesNoTempBy, LeavesRestedBy, Drops, DropsBy}
 use Rattle.command_plans.specs.declared.outcome.Outcome.{Outcome}
 use Rattle.command_plans.specs.declared.outcome.MachineFault.{MachineFault}
 use Rattle.command_plans.specs.declared.outcome.MachineFault.TheVariants.{Disk, Pipe}

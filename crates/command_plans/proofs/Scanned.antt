@@ -1,9 +1,8 @@
 -- What a scan of two folders comes to.
-use Rattle.std.proofs.Common.{◌≡◌, ◌≤◌, ◌<◌, arith, ℕ, List, true, false, Ok, Err, ap, refl, sym}
-use Rattle.std.specs.Prelude.{nat_lt}
+use Rattle.std.proofs.Common.{◌≡◌, ◌≤◌, ◌<◌, arith, ℕ, List, true, false, Ok, Err, ap, refl, sym, nat_lt}
 use Rattle.std.proofs.lemmas.Bool.Decides.{nat_tests}
 use Rattle.boot_base.specs.declared.refusal.Refusal.TheVariants as refusals
-use Rattle.boot_machine.specs.Disk.{Files, view}
+use Rattle.boot_machine.specs.Prelude.{Files, view}
 use Rattle.menu_order.specs.declared.item.MenuItem.{MenuItem}
 use Rattle.boot_folder.specs.Entries.{boot_menu, entry_count}
 use Rattle.boot_folder.specs.Scanning.{fault_many}
@@ -11,8 +10,7 @@ use Rattle.boot_folder.specs.declared.fault.ScanFault.{ScanFault}
 use Rattle.boot_folder.specs.declared.fault.ScanFault.TheVariants as scans
 use Rattle.boot_folder.specs.declared.folders.Folders.{Folders}
 use Rattle.boot_folder.proofs.EntryFiles.{view_count}
-use Rattle.command_plans.specs.Unsaying.{UnsaidFor}
-use Rattle.command_plans.specs.Menus.{menu_at, scan_unsaid}
+use Rattle.command_plans.specs.Prelude.{UnsaidFor, menu_at, scan_unsaid}
 
 not_many : (n : ℕ) → n ≤ 4096 → nat_lt 4096 n ≡ false
 not_many n few = grind (arith, nat_tests)

@@ -1,12 +1,8 @@
 -- What a length tells of a boot file.
-use Rattle.std.proofs.Common.{◌≡◌, ℕ, false, List, [], length, Option, Some, None, unwrap_or, Result, Ok, Err, refl, sym, ap, ◌∙◌}
-use Rattle.std.specs.Prelude.{IfOk}
-use Rattle.std.specs.Option.{option_map}
+use Rattle.std.proofs.Common.{◌≡◌, ℕ, false, List, [], length, Option, Some, None, unwrap_or, Result, Ok, Err, refl, sym, ap, ◌∙◌, IfOk, option_map}
 use Rattle.std.specs.FinMap.{get}
 use Rattle.boot_base.specs.Paths.{Path, is_temp}
-use Rattle.boot_machine.specs.Disk.{State}
-use Rattle.boot_machine.specs.Rows.{SizeRow, contents}
-use Rattle.boot_machine.specs.Sent.{seen}
+use Rattle.boot_machine.specs.Prelude.{State, SizeRow, contents, seen}
 use Rattle.boot_machine.proofs.Views.{get-view_shown}
 
 pub none_of : (o : Option (List ℕ)) → option_map length o ≡ None → o ≡ None

@@ -1,16 +1,13 @@
 -- A plan leaves the temporary files of others as they are.
-use Rattle.std.proofs.Common.{◌≡◌, ◌∙◌, inl, inr, ℕ, Bool, true, false, List, [], ◌∷◌, ◌++◌, sym, refl, ap, is_some}
+use Rattle.std.proofs.Common.{◌≡◌, ◌∙◌, inl, inr, ℕ, Bool, true, false, List, [], ◌∷◌, ◌++◌, sym, refl, ap, is_some, ◌≢◌, bytes_eq}
 use Rattle.std.proofs.lemmas.Bool.{cases_Bool}
 use Rattle.std.specs.FinMap as map
-use Rattle.std.specs.Prelude.{◌≢◌, bytes_eq}
 use Rattle.boot_base.specs.Paths.{Path, intent, temp_end}
-use Rattle.boot_machine.specs.Disk.{Files, has}
-use Rattle.boot_machine.specs.Listed.{is_listed}
+use Rattle.boot_machine.specs.Prelude.{Files, has, is_listed}
 use Rattle.boot_machine.specs.proofs.Maps.{get-insert_here}
 use Rattle.boot_machine.proofs.Listing.{bytes-true}
 use Rattle.install_steps.specs.Steps.{KeepsTempsBut}
-use Rattle.command_plans.specs.Makeable.{IsMakeable, SaysCleaned, cleaned_text}
-use Rattle.command_plans.specs.Plans.{SparesTemps, answer_of_plan, effect, own_temps}
+use Rattle.command_plans.specs.Prelude.{IsMakeable, SaysCleaned, cleaned_text, SparesTemps, answer_of_plan, effect, own_temps}
 use Rattle.command_plans.specs.declared.plan.Change.{Change}
 use Rattle.command_plans.specs.declared.plan.Change.TheVariants.{Nothing, Remove, Leftovers, Write, Put, Copy, Move}
 use Rattle.command_plans.specs.declared.plan.Plan.{Plan}

@@ -1,9 +1,8 @@
 -- Steps that are done, and what a command leaves that may be refused.
 use Rattle.std.proofs.Common.{◌≡◌, ℕ, Bool, true, false, List, Some, None, Result, Ok, Err, refl}
 use Rattle.boot_base.specs.declared.refusal.Refusal.{Refusal}
-use Rattle.boot_machine.specs.Disk.{Files}
-use Rattle.command_plans.specs.Answers.{Answer, answer_of_read, answer_or_refusal}
-use Rattle.command_plans.specs.Declining.{◌>>=◌}
+use Rattle.boot_machine.specs.Prelude.{Files}
+use Rattle.command_plans.specs.Prelude.{Answer, answer_of_read, answer_or_refusal, ◌>>=◌}
 
 -- what a step that is done went through
 pub done_by : {A B : Type 0} (first : Result A Refusal) (next : A → Result B Refusal) (b : B) → (first >>= next) ≡ Ok b

@@ -1,6 +1,5 @@
 -- Lists without repetitions.
-use Rattle.std.proofs.Common.{◌≡◌, ◌≢◌, ◌+◌, ◌<◌, inl, inr, ℕ, Bool, true, false, not, cond, List, [], ◌∷◌, ◌++◌, get_or, length, map, take, refl, sym, ap, ◌∙◌, arith}
-use Rattle.std.specs.Prelude.{◌||◌, filter}
+use Rattle.std.proofs.Common.{◌≡◌, ◌≢◌, ◌+◌, ◌<◌, inl, inr, ℕ, Bool, true, false, not, cond, List, [], ◌∷◌, ◌++◌, get_or, length, map, take, refl, sym, ap, ◌∙◌, arith, ◌||◌, filter}
 use Rattle.std.specs.List.{All, AllPairs, list_any}
 use Rattle.std.specs.Cmp.{IsEquivalence}
 use Rattle.std.proofs.lemmas.Bool.{cases_Bool}
@@ -9,7 +8,7 @@ use Rattle.std.proofs.lemmas.List.Elements.{All-cons, All-nil, filter-append}
 use Rattle.std.proofs.lemmas.List.Folds.{list_any-append}
 use Rattle.std.proofs.lemmas.List.Kept.{AllPairs-cons, AllPairs-filter}
 use Rattle.std.proofs.lemmas.Map.Views.{any-filter_same}
-use Rattle.command_plans.specs.Choices.{without_repeats}
+use Rattle.command_plans.specs.Prelude.{without_repeats}
 
 kept_apart : {X : Type 0} (same : X → X → Bool) (x : X) (ys : List X) → All (λ y. same y x ≡ false) (filter (λ y. not (same y x)) ys)
 kept_apart same x [] = All-nil (λ y. same y x ≡ false)

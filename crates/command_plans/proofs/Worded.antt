@@ -1,18 +1,12 @@
 -- What words that are refused come to as a plan.
-use Rattle.std.proofs.Common.{◌≡◌, ℕ, List, Result, Ok, Err, refl, sym, ◌∙◌, subst}
-use Rattle.std.specs.Prelude.{IfOk}
+use Rattle.std.proofs.Common.{◌≡◌, ℕ, List, Result, Ok, Err, refl, sym, ◌∙◌, subst, IfOk}
 use Rattle.boot_base.specs.declared.refusal.Refusal.{Refusal}
-use Rattle.boot_machine.specs.Disk.{State}
-use Rattle.boot_machine.specs.Sent.{seen}
-use Rattle.command_plans.specs.Declining.{DeclinedFor}
-use Rattle.command_plans.specs.Unsaying.{Says, UnsaidFor}
+use Rattle.boot_machine.specs.Prelude.{State, seen}
+use Rattle.command_plans.specs.Prelude.{DeclinedFor, Says, UnsaidFor, Answer, answer_of_read, answer_or_refusal, refusal, Plans, PlansAs, DeclinesWords, PlansDeclined, PlansUnsaid, RefusesWords}
 use Rattle.command_plans.specs.declared.declined.Declined.{Declined}
 use Rattle.command_plans.specs.declared.declined.Declined.TheVariants as declines
 use Rattle.command_plans.specs.declared.unsaid.Unsaid.{Unsaid}
 use Rattle.command_plans.specs.declared.unsaid.Unsaid.TheVariants as unsaid
-use Rattle.command_plans.specs.Answers.{Answer, answer_of_read, answer_or_refusal, refusal}
-use Rattle.command_plans.specs.Plans.{Plans, PlansAs}
-use Rattle.command_plans.specs.Refusing.{DeclinesWords, PlansDeclined, PlansUnsaid, RefusesWords}
 use Rattle.command_plans.specs.declared.outcome.Stop.{Stop}
 use Rattle.command_plans.specs.declared.plan.Plan.{Plan}
 

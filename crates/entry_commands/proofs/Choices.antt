@@ -1,12 +1,11 @@
 -- What a blessing renames is there, and its target isn't.
-use Rattle.std.proofs.Common.{◌≡◌, inl, inr, Bool, true, false, List, [], ◌∷◌, Option, Some, None, refl, sym, ◌∙◌}
-use Rattle.std.specs.Prelude.{find}
+use Rattle.std.proofs.Common.{◌≡◌, inl, inr, Bool, true, false, List, [], ◌∷◌, Option, Some, None, refl, sym, ◌∙◌, find}
 use Rattle.std.proofs.lemmas.Bool.{cases_Bool, cond-false, cond-true}
 use Rattle.menu_order.specs.Bless.{Name, GoodName, CountedName, BadName, choice_from, choice_of, is_there, bless_sources, target_of}
 use Rattle.menu_order.specs.declared.bless.BlessVerb.{BlessVerb}
 use Rattle.menu_order.specs.declared.bless.BlessChoice.TheVariants.{Nothing}
 use Rattle.menu_order.specs.declared.bless.Present.{Present}
-use Rattle.boot_machine.specs.Disk.{Files, has}
+use Rattle.boot_machine.specs.Prelude.{Files, has}
 use Rattle.entry_commands.specs.Blessing.{path_at, present_at}
 use Rattle.entry_commands.specs.declared.bless.EntryPaths.{EntryPaths}
 

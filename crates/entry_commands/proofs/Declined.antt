@@ -1,20 +1,13 @@
 -- What words that are declined at once come to.
-use Rattle.std.proofs.Common.{◌≡◌, true, [], Result, Ok, Err, refl, sym, ap, subst}
+use Rattle.std.proofs.Common.{◌≡◌, true, [], Result, Ok, Err, refl, sym, ap, subst, All, IfOk}
 use Rattle.std.proofs.lemmas.List.Elements.{All-nil}
-use Rattle.std.specs.Prelude.{All, IfOk}
 use Rattle.boot_base.specs.declared.refusal.Refusal.{Refusal}
-use Rattle.boot_machine.specs.Disk.{Files, State}
-use Rattle.boot_machine.specs.Sent.{seen}
+use Rattle.boot_machine.specs.Prelude.{Files, State, seen}
 use Rattle.boot_folder.specs.declared.folders.Folders.{Folders}
-use Rattle.command_plans.specs.Declining.{DeclinedFor}
-use Rattle.command_plans.specs.Unsaying.{unsaid_of}
+use Rattle.command_plans.specs.Prelude.{DeclinedFor, unsaid_of, Answer, is_refusal, changes_nothing, Drops, Plans, own_temps, PlansDeclined, PlansUnsaid, RefusesWords, unless_refused}
 use Rattle.command_plans.specs.declared.declined.Declined.{Declined}
 use Rattle.command_plans.specs.declared.declined.Declined.TheVariants as declines
 use Rattle.command_plans.specs.declared.unsaid.Unsaid.{Unsaid}
-use Rattle.command_plans.specs.Answers.{Answer, is_refusal}
-use Rattle.command_plans.specs.Makeable.{changes_nothing}
-use Rattle.command_plans.specs.Plans.{Drops, Plans, own_temps}
-use Rattle.command_plans.specs.Refusing.{PlansDeclined, PlansUnsaid, RefusesWords, unless_refused}
 use Rattle.command_plans.specs.declared.outcome.Stop.{Stop}
 use Rattle.command_plans.specs.declared.plan.Change.{Change}
 use Rattle.command_plans.specs.declared.plan.Change.TheVariants.{Nothing, Remove, Leftovers, Write, Put, Copy, Move}

@@ -1,10 +1,9 @@
 -- The first entry of a menu.
-use Rattle.std.proofs.Common.{◌≡◌, arith, List, [], ◌∷◌, true, Some, Ok, ap, ◌∙◌, is_some}
-use Rattle.std.specs.Prelude.{Contains, slice_get}
+use Rattle.std.proofs.Common.{◌≡◌, arith, List, [], ◌∷◌, true, Some, Ok, ap, ◌∙◌, is_some, Contains, slice_get}
 use Rattle.boot_folder.specs.Entries.{IsEntry}
 use Rattle.boot_folder.specs.declared.folders.Folders.{Folders}
 use Rattle.boot_folder.proofs.Places.{path_shown}
-use Rattle.boot_machine.specs.Disk.{Files, has, view}
+use Rattle.boot_machine.specs.Prelude.{Files, has, view}
 use Rattle.boot_machine.proofs.Views.{has-view}
 use Rattle.menu_order.specs.Menu.{IsMenu}
 use Rattle.menu_order.specs.declared.item.MenuItem.{MenuItem}

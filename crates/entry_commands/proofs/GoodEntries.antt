@@ -1,6 +1,5 @@
 -- What each command on the boot folder keeps of its good entries.
-use Rattle.std.proofs.Common.{◌≡◌, ◌≢◌, inl, inr, ℕ, Bool, true, false, List, Option, Some, None, Result, Ok, Err, is_some, refl, sym, ap, ◌∙◌, subst}
-use Rattle.std.specs.Prelude.{IfOk, bytes_eq, option_and_then, if◌then◌else◌}
+use Rattle.std.proofs.Common.{◌≡◌, ◌≢◌, inl, inr, ℕ, Bool, true, false, List, Option, Some, None, Result, Ok, Err, is_some, refl, sym, ap, ◌∙◌, subst, IfOk, bytes_eq, option_and_then, if◌then◌else◌}
 use Rattle.std.specs.FinMap as map
 use Rattle.std.proofs.lemmas.Bool.{and_from}
 use Rattle.boot_base.specs.Paths.{Path, file_name_of, is_file_name, path_of, under}
@@ -20,21 +19,16 @@ use Rattle.boot_folder.specs.Entries.{entry_at, entry_of, folder_of, stands_in}
 use Rattle.boot_folder.specs.declared.folders.Folders.{Folders}
 use Rattle.boot_folder.proofs.EntryFiles.{built, bytes_self, one_type}
 use Rattle.boot_folder.proofs.Places.{file_name_under, name_parts, own_some}
-use Rattle.boot_machine.specs.Disk.{Files, has}
+use Rattle.boot_machine.specs.Prelude.{Files, has, contents, move_in}
 use Rattle.boot_machine.specs.proofs.Maps.{cases_same, get-insert_apart, get-insert_here, get-remove_apart}
-use Rattle.boot_machine.specs.Rows.{contents, move_in}
-use Rattle.command_plans.specs.Answers.{Answer, answer_or_refusal, done_answer}
-use Rattle.command_plans.specs.Declining.{path_under, printed_path}
+use Rattle.command_plans.specs.Prelude.{Answer, answer_or_refusal, done_answer, path_under, printed_path, folders_of, menu_at, removal, unlink_answer}
 use Rattle.menu_order.specs.declared.item.MenuItem.{MenuItem}
 use Rattle.tool_words.specs.declared.command.BlessWord.{BlessWord}
 use Rattle.tool_words.specs.declared.command.BlessWord.TheVariants as words
 use Rattle.entry_commands.specs.Blessing.{bless_answer, bless_entry, bless_result, blessed_by, path_at, present_at, reported_paths, status_result}
 use Rattle.entry_commands.specs.Booting.{boot_answer, boot_result, booted_entry, booted_text, first_of, renamed_entry}
-use Rattle.command_plans.specs.Folders.{folders_of}
 use Rattle.entry_commands.specs.GoodEntries.{HasGoodEntry, SparesGoodName}
 use Rattle.entry_commands.specs.Installing.{install_answer, install_result, installation_of, installed_image}
-use Rattle.command_plans.specs.Menus.{menu_at}
-use Rattle.command_plans.specs.Changes.{removal, unlink_answer}
 use Rattle.entry_commands.specs.declared.bless.EntryPaths.{EntryPaths}
 use Rattle.entry_commands.proofs.Choices.{can_bless}
 use Rattle.command_plans.proofs.Steps.{after_answered, after_said, clash, done_by, err_ok, none_some, ok_is}

@@ -1,7 +1,5 @@
 -- The name of an installed image's file is the last component of its path.
-use Rattle.std.proofs.Common.{◌≡◌, inl, inr, ℕ, ◌≤◌, Bool, true, false, List, ◌∷◌, ◌++◌, Option, Some, None, Result, Ok, Err, length, refl, sym, ap, ◌∙◌, arith, lit<, length-append, append_assoc}
-use Rattle.std.specs.Prelude.{IfSome, ◌==◌, if◌then◌else◌}
-use Rattle.std.specs.Fmt.{decimal}
+use Rattle.std.proofs.Common.{◌≡◌, inl, inr, ℕ, ◌≤◌, Bool, true, false, List, ◌∷◌, ◌++◌, Option, Some, None, Result, Ok, Err, length, refl, sym, ap, ◌∙◌, arith, lit<, length-append, append_assoc, IfSome, ◌==◌, if◌then◌else◌, decimal}
 use Rattle.std.specs.List.{list_any}
 use Rattle.std.proofs.lemmas.Bool.{cases_Bool, cond-false, cond-true}
 use Rattle.boot_base.specs.Layout.{images_below}
@@ -13,7 +11,7 @@ use Rattle.menu_order.specs.declared.counted.Suffix.TheVariants.{Efi}
 use Rattle.menu_order.specs.Counter.{suffix_text}
 use Rattle.menu_order.specs.Splits.{has_suffix}
 use Rattle.menu_order.proofs.Splitting.{suffix_there}
-use Rattle.command_plans.specs.Declining.{◌>>=◌, path_in, path_or, path_under}
+use Rattle.command_plans.specs.Prelude.{◌>>=◌, path_in, path_or, path_under}
 use Rattle.entry_commands.specs.Installing.{IsImageName, image_name, image_path}
 use Rattle.boot_base.proofs.Beside.{file_name_under, file_name_whole, kept_from_long, none-append, one_more}
 use Rattle.entry_commands.proofs.Siblings.{decimal_lacks}

@@ -1,6 +1,5 @@
 -- What is installed is an image, and an entry where it comes to stand.
-use Rattle.std.proofs.Common.{◌≡◌, ℕ, ◌≤◌, ◌<◌, ◌^◌, Bool, true, false, not, ◌&&◌, List, [], ◌∷◌, Option, Some, None, Result, Ok, Err, length, refl, sym, ap, ◌∙◌, subst, arith, lit<}
-use Rattle.std.specs.Prelude.{IfSome, nat_le, nat_lt, ◌==◌, if◌then◌else◌}
+use Rattle.std.proofs.Common.{◌≡◌, ℕ, ◌≤◌, ◌<◌, ◌^◌, Bool, true, false, not, ◌&&◌, List, [], ◌∷◌, Option, Some, None, Result, Ok, Err, length, refl, sym, ap, ◌∙◌, subst, arith, lit<, IfSome, nat_le, nat_lt, ◌==◌, if◌then◌else◌}
 use Rattle.std.specs.Char.{is_ascii_digit, digit_value}
 use Rattle.std.specs.FinMap as map
 use Rattle.std.specs.List.{list_all}
@@ -17,9 +16,8 @@ use Rattle.menu_order.specs.Splits.{has_suffix, number_in}
 use Rattle.menu_order.specs.declared.counted.Suffix.TheVariants.{Efi}
 use Rattle.boot_folder.specs.Entries.{entry_of}
 use Rattle.boot_folder.specs.Records.{Unfit, NotPe, NotUki, uki_of}
-use Rattle.boot_machine.specs.Disk.{Files}
-use Rattle.command_plans.specs.Files.{bytes_at, if_given, readable_bytes}
-use Rattle.command_plans.specs.Declining.{install_name, path_in, printed_path}
+use Rattle.boot_machine.specs.Prelude.{Files}
+use Rattle.command_plans.specs.Prelude.{bytes_at, if_given, readable_bytes, install_name, path_in, printed_path}
 use Rattle.menu_order.specs.declared.item.MenuItem.{MenuItem}
 use Rattle.entry_commands.specs.Installing.{entry_or, image_name, image_name_in, image_path, installation_of, installed_image}
 use Rattle.entry_commands.specs.Counts.{count_in, count_or}

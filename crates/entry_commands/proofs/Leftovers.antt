@@ -1,13 +1,10 @@
 -- Temporary files that are found, and that are gone.
-use Rattle.std.proofs.Common.{◌≡◌, inl, inr, ℕ, true, false, List, [], ◌∷◌, arith, refl, sym, ap, ◌∙◌, subst, is_some}
+use Rattle.std.proofs.Common.{◌≡◌, inl, inr, ℕ, true, false, List, [], ◌∷◌, arith, refl, sym, ap, ◌∙◌, subst, is_some, All, Contains, bytes_eq}
 use Rattle.std.proofs.lemmas.Bool.{cases_Bool}
 use Rattle.std.proofs.lemmas.Cmp.{nat_list_eq_equiv}
 use Rattle.std.proofs.lemmas.List.Elements.{All-contains, All-weaker, All-contains_itself, All-cons, All-nil, All-tail, All-head, Contains-append_right}
-use Rattle.std.specs.Prelude.{All, Contains, bytes_eq}
 use Rattle.boot_base.specs.Paths.{Path, is_temp, under}
-use Rattle.boot_machine.specs.Disk.{Files, has}
-use Rattle.boot_machine.specs.Listed.{is_listed}
-use Rattle.boot_machine.specs.Rows.{IsNamesOf}
+use Rattle.boot_machine.specs.Prelude.{Files, has, is_listed, IsNamesOf}
 use Rattle.install_steps.specs.Steps.{Lacks}
 use Rattle.entry_commands.specs.Tidying.{HasLeftovers, IsClean, IsDirectlyIn, leftovers_among}
 

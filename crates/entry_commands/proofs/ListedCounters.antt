@@ -1,6 +1,5 @@
 -- The numbers of the counters of a menu have at most nine digits.
-use Rattle.std.proofs.Common.{◌≡◌, ℕ, ◌<◌, ◌≤◌, ◌^◌, Bool, true, false, ◌==◌, ◌&&◌, not, nat_le, cond, List, [], ◌∷◌, length, Option, Some, None, Result, Ok, Err, arith, leb-true}
-use Rattle.std.specs.Prelude.{All, codes, IfSome, IfOk, is_some, option_and_then, option_map}
+use Rattle.std.proofs.Common.{◌≡◌, ℕ, ◌<◌, ◌≤◌, ◌^◌, Bool, true, false, ◌==◌, ◌&&◌, not, nat_le, cond, List, [], ◌∷◌, length, Option, Some, None, Result, Ok, Err, arith, leb-true, All, codes, IfSome, IfOk, is_some, option_and_then, option_map}
 use Rattle.std.specs.Char.{is_ascii_digit, digit_value}
 use Rattle.std.specs.FinMap as map
 use Rattle.std.specs.List.{AllByRecursion, cons_option, filter_map, list_all}
@@ -12,7 +11,7 @@ use Rattle.std.proofs.lemmas.List.Sorted.{All-permutation}
 use Rattle.std.proofs.lemmas.Str.Parse.{digits_value_short}
 use Rattle.boot_base.specs.Limits.{file_limit}
 use Rattle.boot_base.specs.Paths.{Path, file_name_of}
-use Rattle.boot_machine.specs.Disk.{Files}
+use Rattle.boot_machine.specs.Prelude.{Files}
 use Rattle.boot_folder.specs.Entries.{boot_menu, entries_of, entry_at, entry_if, entry_in, entry_of, own_path, stands_in}
 use Rattle.boot_folder.specs.Names.{named_by, parts_of_name}
 use Rattle.boot_folder.specs.Records.{Unfit, is_os_length, titled_item, type2_item, uki_from, uki_of, unless_missing, value_if_ok}
@@ -28,8 +27,7 @@ use Rattle.menu_order.specs.declared.counted.Counted.{Counted}
 use Rattle.menu_order.specs.declared.counted.Suffix.{Suffix}
 use Rattle.menu_order.specs.declared.counted.Suffix.TheVariants.{Conf, Efi}
 use Rattle.menu_order.specs.declared.item.MenuItem.{MenuItem}
-use Rattle.pe_reader.specs.Grammar.{Headers, pe_of}
-use Rattle.pe_reader.specs.LoadedBytes.{loaded_in}
+use Rattle.pe_reader.specs.Prelude.{Headers, pe_of, loaded_in}
 use Rattle.pe_reader.specs.declared.fault.FailedCheck.{FailedCheck}
 use Rattle.list_json.specs.Laws.{FitsReaders}
 

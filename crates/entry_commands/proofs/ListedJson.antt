@@ -1,6 +1,5 @@
 -- What `bootctl list --json` prints is read as the menu.
-use Rattle.std.proofs.Common.{◌≡◌, ℕ, Bool, true, false, cond, List, [], ◌∷◌, Option, Some, None, Ok, Err, refl, sym, ap, ◌∙◌, subst}
-use Rattle.std.specs.Prelude.{find, nat_lt}
+use Rattle.std.proofs.Common.{◌≡◌, ℕ, Bool, true, false, cond, List, [], ◌∷◌, Option, Some, None, Ok, Err, refl, sym, ap, ◌∙◌, subst, find, nat_lt}
 use Rattle.boot_base.specs.declared.refusal.Refusal.{Refusal}
 use Rattle.boot_folder.specs.Entries.{boot_menu, entry_count}
 use Rattle.menu_order.specs.declared.item.MenuItem.{MenuItem}
@@ -9,8 +8,7 @@ use Rattle.list_json.specs.Lines.{ReadsAs, json_line}
 use Rattle.list_json.specs.Menus.{is_untold, menu_data}
 use Rattle.command_plans.proofs.Declining.{done_next}
 use Rattle.command_plans.proofs.Steps.{done_by}
-use Rattle.command_plans.specs.Folders.{folders_of}
-use Rattle.command_plans.specs.Menus.{menu_at}
+use Rattle.command_plans.specs.Prelude.{folders_of, menu_at}
 use Rattle.entry_commands.specs.Laws.{ListReadsBack}
 use Rattle.entry_commands.specs.Listing.{menu_result, unless_untold}
 use Rattle.entry_commands.proofs.ListedCounters.{menu_fits}

@@ -1,15 +1,12 @@
 -- What a blessing does with files: one gets another name in its folder, with the same suffix.
-use Rattle.std.proofs.Common.{◌≡◌, inl, inr, ℕ, ◌<◌, ◌≤◌, ◌-◌, Bool, true, false, not, List, [], ◌∷◌, ◌++◌, length, take, Option, Some, None, Ok, Err, is_some, refl, sym, ap, ◌∙◌, subst, arith, append_assoc, length-append, lit<}
-use Rattle.std.specs.Prelude.{◌==◌, bytes_eq, nat_le, nat_lt, option_map, if◌then◌else◌}
-use Rattle.std.specs.Fmt.{decimal}
+use Rattle.std.proofs.Common.{◌≡◌, inl, inr, ℕ, ◌<◌, ◌≤◌, ◌-◌, Bool, true, false, not, List, [], ◌∷◌, ◌++◌, length, take, Option, Some, None, Ok, Err, is_some, refl, sym, ap, ◌∙◌, subst, arith, append_assoc, length-append, lit<, ◌==◌, bytes_eq, nat_le, nat_lt, option_map, if◌then◌else◌, decimal}
 use Rattle.std.specs.List.{list_any}
 use Rattle.std.proofs.lemmas.Bool.{and_from, and_parts, cond-true, le-leb, ltb-false, not-true, not_from_false, or_parts}
 use Rattle.std.proofs.lemmas.Slice.Eq.{bytes_eq-Decides}
 use Rattle.boot_base.specs.Paths.{Path, beside, components, file_name_of, is_component, is_file_name, is_form, is_kept, is_normal, is_path, is_path_text, is_slash, normal_of, path_below, path_of, sibling_of, under}
 use Rattle.boot_base.specs.declared.refusal.Refusal.TheVariants as refusals
 use Rattle.boot_base.proofs.Normal.{path-some}
-use Rattle.boot_machine.specs.Disk.{Files, has}
-use Rattle.boot_machine.specs.Rows.{move_in}
+use Rattle.boot_machine.specs.Prelude.{Files, has, move_in}
 use Rattle.menu_order.specs.Bless.{Name, GoodName, CountedName, BadName, choice_of, target_of}
 use Rattle.menu_order.specs.Counter.{counted_of, done_text_of, suffix_text, written_name}
 use Rattle.menu_order.specs.Renames.{bad_name_of, base_of, good_name_of, with_counter}
@@ -22,8 +19,7 @@ use Rattle.menu_order.specs.declared.counted.Counted.{Counted}
 use Rattle.menu_order.specs.declared.counted.Suffix.{Suffix}
 use Rattle.menu_order.specs.declared.counted.Suffix.TheVariants.{Conf, Efi}
 use Rattle.menu_order.proofs.Splitting.{suffix_cut, suffix_there}
-use Rattle.command_plans.specs.Answers.{Answer, answer_or_refusal}
-use Rattle.command_plans.specs.Declining.{path_in, path_under, printed_path}
+use Rattle.command_plans.specs.Prelude.{Answer, answer_or_refusal, path_in, path_under, printed_path}
 use Rattle.tool_words.specs.declared.command.BlessWord.{BlessWord}
 use Rattle.tool_words.specs.declared.command.BlessWord.TheVariants as words
 use Rattle.entry_commands.specs.Blessing.{bad_name_in, bless_answer, bless_entry, bless_result, blessed_by, entry_paths, good_name_in, name_or, path_at, present_at, reported_paths, status_result}

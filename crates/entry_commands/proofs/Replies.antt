@@ -1,7 +1,5 @@
 -- No reply of the commands on boot entries is empty.
-use Rattle.std.proofs.Common.{ℕ, ◌<◌, ◌∷◌, [], codes, Bool, true, false, cond, List, length, arith, Option, Some, None, Result, Ok, Err}
-use Rattle.std.specs.List.{flat_map}
-use Rattle.std.specs.Prelude.{◌++◌}
+use Rattle.std.proofs.Common.{ℕ, ◌<◌, ◌∷◌, [], codes, Bool, true, false, cond, List, length, arith, Option, Some, None, Result, Ok, Err, flat_map, ◌++◌, find}
 use Rattle.boot_base.specs.Paths.{Path, file_name_of}
 use Rattle.boot_base.specs.Refusals.{line_of}
 use Rattle.boot_base.specs.declared.refusal.Refusal.{Refusal}
@@ -14,19 +12,14 @@ use Rattle.menu_order.specs.declared.bless.BlessChoice.TheVariants as choices
 use Rattle.menu_order.specs.declared.bless.Present.{Present}
 use Rattle.boot_folder.specs.Entries.{folder_of}
 use Rattle.boot_folder.specs.Listing.{behind_newline, boot_lines, counter_lines, file_lines, item_text, key_lines, title_lines}
-use Rattle.boot_machine.specs.Disk.{Files, has}
-use Rattle.boot_machine.specs.Rows.{move_in}
-use Rattle.command_plans.specs.Answers.{Answer, answer_of_read, answer_or_refusal, done_answer}
-use Rattle.command_plans.specs.Declining.{◌>>=◌, path_under, printed_path}
+use Rattle.boot_machine.specs.Prelude.{Files, has, move_in}
+use Rattle.command_plans.specs.Prelude.{Answer, answer_of_read, answer_or_refusal, done_answer, ◌>>=◌, path_under, printed_path, folders_of, menu_at}
 use Rattle.entry_commands.specs.Blessing.{bless_answer, bless_entry, bless_result, blessed_by, blessed_text, present_at, reported_paths, status_by, status_result, verb_text}
 use Rattle.entry_commands.specs.Booting.{boot_answer, boot_entry, boot_result, booted_entry, booted_text, first_of, renamed_entry}
-use Rattle.command_plans.specs.Folders.{folders_of}
 use Rattle.entry_commands.specs.Installing.{install_answer, install_result, installation_of, installed_image}
-use Rattle.command_plans.specs.Menus.{menu_at}
 use Rattle.entry_commands.specs.Listing.{list_result, menu_result, unless_untold}
 use Rattle.list_json.specs.Menus.{is_untold, menu_data}
 use Rattle.list_json.proofs.Some.{some_json}
-use Rattle.std.specs.List.{find}
 use Rattle.entry_commands.specs.declared.bless.EntryPaths.{EntryPaths}
 use Rattle.menu_order.specs.declared.item.MenuItem.{MenuItem}
 use Rattle.tool_words.specs.declared.command.BlessWord.{BlessWord}

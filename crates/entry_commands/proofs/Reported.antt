@@ -5,7 +5,7 @@ use Rattle.boot_base.specs.Paths.{Path, beside, components, file_name_of, is_kep
 use Rattle.boot_base.specs.declared.refusal.Refusal.TheVariants as refusals
 use Rattle.menu_order.specs.Renames.{bad_name_of}
 use Rattle.menu_order.specs.Splits.{split_of}
-use Rattle.command_plans.specs.Declining.{path_in, path_under, printed_path}
+use Rattle.command_plans.specs.Prelude.{path_in, path_under, printed_path}
 use Rattle.entry_commands.specs.Blessing.{bad_name_in, entry_paths, good_name_in, name_or, reported_paths}
 use Rattle.entry_commands.specs.declared.bless.EntryPaths.{EntryPaths}
 use Rattle.entry_commands.proofs.Siblings.{bad_counted}

@@ -1,13 +1,12 @@
 -- A menu as JSON, or its first entry that JSON can't hold.
-use Rattle.std.proofs.Common.{◌≡◌, ℕ, ◌<◌, List, length, get_or, Option, Some, None, Ok, Err, ap, sym, ◌∙◌}
-use Rattle.std.specs.List.{slice_get}
+use Rattle.std.proofs.Common.{◌≡◌, ℕ, ◌<◌, List, length, get_or, Option, Some, None, Ok, Err, ap, sym, ◌∙◌, slice_get}
 use Rattle.std.proofs.lemmas.Option.{slice_get-get_or}
 use Rattle.boot_base.specs.declared.refusal.Refusal.{Refusal}
 use Rattle.boot_base.specs.declared.refusal.Refusal.TheVariants as refusals
 use Rattle.menu_order.specs.declared.item.MenuItem.{MenuItem}
 use Rattle.list_json.specs.Lines.{json_line}
 use Rattle.list_json.specs.Menus.{menu_data}
-use Rattle.command_plans.specs.Declining.{printed_path}
+use Rattle.command_plans.specs.Prelude.{printed_path}
 use Rattle.entry_commands.specs.Listing.{unless_untold}
 
 pub told_line : (found : Option MenuItem) (menu : List MenuItem) (line : List ℕ) → found ≡ None → line ≡ json_line (menu_data menu) → unless_untold found menu ≡ Ok line

@@ -1,6 +1,5 @@
 -- The names of a folder, gone through in their order.
-use Rattle.std.proofs.Common.{◌≡◌, ℕ, ◌<◌, Bool, true, false, ◌||◌, List, ◌∷◌, [], length, map, get_or, refl, sym, ap, ◌∙◌, String, Global, string_bytes}
-use Rattle.std.specs.Prelude.{◌↔◌, Any, IsTrue, bytes_eq}
+use Rattle.std.proofs.Common.{◌≡◌, ℕ, ◌<◌, Bool, true, false, ◌||◌, List, ◌∷◌, [], length, map, get_or, refl, sym, ap, ◌∙◌, String, Global, string_bytes, ◌↔◌, Any, IsTrue, bytes_eq}
 use Rattle.std.specs.List.{list_any}
 use Rattle.std.proofs.lemmas.List.{get_or-map, length-map}
 use Rattle.name_syncs.specs.Paths.{has_path}

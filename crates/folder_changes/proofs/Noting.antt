@@ -1,6 +1,5 @@
 -- A note, and the change behind it.
-use Rattle.std.proofs.Common.{◌≡◌, inl, ℕ, Bool, false, List, sym, ◌∙◌, subst}
-use Rattle.std.specs.Prelude.{Result, Ok, Err, IfOk, OnOk}
+use Rattle.std.proofs.Common.{◌≡◌, inl, ℕ, Bool, false, List, sym, ◌∙◌, subst, Result, Ok, Err, IfOk, OnOk}
 use Rattle.std.specs.declared.alloc.AllocError.{AllocError}
 use Rattle.name_syncs.specs.Named.{Covers, NameWaits, RenameWaits}
 use Rattle.name_syncs.specs.Waiting.{Waiting}

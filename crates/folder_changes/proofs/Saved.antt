@@ -1,7 +1,5 @@
 -- A file whose rename was cut, by the step that is taken for it.
-use Rattle.std.proofs.Common.{◌≡◌, ℕ, Bool, true, false, List, [], ◌∷◌, ◌++◌, map, refl, sym, ap, ◌∙◌, subst, String, Global, string_bytes}
-use Rattle.std.specs.Prelude.{◌&&◌, ◌||◌, All, Err, IfOk, IsSomeAnd, Ok, Option, Result, Some, None, is_none, is_some, nat_lt, position, if◌then◌else◌, slice_get}
-use Rattle.std.specs.Option.{option_map}
+use Rattle.std.proofs.Common.{◌≡◌, ℕ, Bool, true, false, List, [], ◌∷◌, ◌++◌, map, refl, sym, ap, ◌∙◌, subst, String, Global, string_bytes, ◌&&◌, ◌||◌, All, Err, IfOk, IsSomeAnd, Ok, Option, Result, Some, None, is_none, is_some, nat_lt, position, if◌then◌else◌, slice_get, option_map}
 use Rattle.std.specs.declared.io.Error.{Error}
 use Rattle.std.proofs.lemmas.List.{map-append}
 use Rattle.std.proofs.lemmas.List.Elements.{All-push}

@@ -1,10 +1,7 @@
 -- The parts that words of a build name can be counted.
-use Rattle.std.proofs.Common.{◌≡◌, ◌≤◌, ◌+◌, ℕ, List, [], ◌∷◌, length, refl, sym, ap, ◌∙◌, subst, true, false, arith, Result, Ok, Err}
-use Rattle.std.specs.Prelude.{Bool, Option, Some, None, map, sum_by, option_map, codes, is_some, if◌then◌else◌, ◌||◌, ◌==◌, nat_lt}
+use Rattle.std.proofs.Common.{◌≡◌, ◌≤◌, ◌+◌, ℕ, List, [], ◌∷◌, length, refl, sym, ap, ◌∙◌, subst, true, false, arith, Result, Ok, Err, Bool, Option, Some, None, map, sum_by, option_map, codes, is_some, if◌then◌else◌, ◌||◌, ◌==◌, nat_lt, ltb-false}
 use Rattle.std.specs.List.{AllByRecursion, last_or, list_any}
-use Rattle.std.proofs.lemmas.Bool.{ltb-false}
-use Rattle.command_plans.specs.Files.{each, if_given}
-use Rattle.command_plans.specs.Declining.{path_in}
+use Rattle.command_plans.specs.Prelude.{each, if_given, path_in}
 use Rattle.command_plans.proofs.Each.{bind_ok, each_length}
 use Rattle.tool_words.specs.declared.command.BuildWords.{BuildWords}
 use Rattle.tool_words.specs.declared.command.Command.{Command}

@@ -1,17 +1,15 @@
 -- What a build reads, one by one.
-use Rattle.std.proofs.Common.{◌≡◌, ◌<◌, ◌≤◌, ◌+◌, ◌*◌, ◌^◌, ℕ, List, [], ◌∷◌, ◌++◌, length, map, Result, Ok, Err, sym, ap, ◌∙◌, subst, arith}
+use Rattle.std.proofs.Common.{◌≡◌, ◌<◌, ◌≤◌, ◌+◌, ◌*◌, ◌^◌, ℕ, List, [], ◌∷◌, ◌++◌, length, map, Result, Ok, Err, sym, ap, ◌∙◌, subst, arith, All, IsErr, IsErrAnd, sum_by}
 use Rattle.std.specs.List.{AllZip}
-use Rattle.std.specs.Prelude.{All, IsErr, IsErrAnd, sum_by}
 use Rattle.std.proofs.lemmas.List.{map-append}
 use Rattle.std.proofs.lemmas.List.Elements.{All-append, All-cons, All-head, All-nil, All-tail}
 use Rattle.std.proofs.lemmas.List.Sums.{sum_by-cons, sum_by_push}
 use Rattle.boot_base.specs.declared.refusal.Refusal.{Refusal}
-use Rattle.boot_machine.specs.Disk.{State}
+use Rattle.boot_machine.specs.Prelude.{State}
 use Rattle.uki_parts.specs.Pieces.{total_length}
 use Rattle.uki_parts.specs.declared.part.Part.{Part}
-use Rattle.command_plans.specs.Files.{each}
+use Rattle.command_plans.specs.Prelude.{each, Says, UnsaidFor}
 use Rattle.image_build.specs.Reads.{PartFrom, source_limit, sources_limit}
-use Rattle.command_plans.specs.Unsaying.{Says, UnsaidFor}
 use Rattle.image_build.specs.declared.source.PartSources.{PartSources}
 use Rattle.image_build.specs.declared.source.Source.{Source}
 use Rattle.command_plans.specs.declared.unsaid.Unsaid.{Unsaid}

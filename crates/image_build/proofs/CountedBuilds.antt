@@ -1,21 +1,15 @@
 -- An image that words of a build mean can be counted.
-use Rattle.std.proofs.Common.{◌≡◌, ◌≤◌, ◌<◌, ◌+◌, ◌^◌, ℕ, List, [], length, drop, refl, ap, ◌∙◌, subst, true, false, arith, Result, Ok, Err}
-use Rattle.std.specs.Prelude.{Bool, Option, Some, None, sum_by, find, nat_lt, ◌==◌, if◌then◌else◌}
+use Rattle.std.proofs.Common.{◌≡◌, ◌≤◌, ◌<◌, ◌+◌, ◌^◌, ℕ, List, [], length, drop, refl, ap, ◌∙◌, subst, true, false, arith, Result, Ok, Err, Bool, Option, Some, None, sum_by, find, nat_lt, ◌==◌, if◌then◌else◌, ltb-false, length-drop, length-take}
 use Rattle.std.specs.List.{position_or_len}
 use Rattle.std.specs.FinMap.{get}
-use Rattle.std.proofs.lemmas.Bool.{ltb-false}
-use Rattle.std.proofs.lemmas.List.{length-drop, length-take}
 use Rattle.boot_base.specs.Limits.{file_limit}
 use Rattle.boot_base.specs.Paths.{Path}
 use Rattle.boot_base.specs.declared.refusal.Refusal.{Refusal}
-use Rattle.boot_machine.specs.Disk.{Files}
-use Rattle.boot_machine.specs.Rows.{contents}
-use Rattle.command_plans.specs.Files.{bytes_at, each, headers_or, readable_bytes}
+use Rattle.boot_machine.specs.Prelude.{Files, contents}
+use Rattle.command_plans.specs.Prelude.{bytes_at, each, headers_or, readable_bytes}
 use Rattle.command_plans.proofs.Each.{bind_ok}
 use Rattle.pe_builder.specs.Replaced.{sbat_name}
-use Rattle.pe_reader.specs.Fields.{part}
-use Rattle.pe_reader.specs.Grammar.{Headers, pe_of}
-use Rattle.pe_reader.specs.LoadedBytes.{loaded_bytes, loaded_in, loaded_of, range_of, is_named}
+use Rattle.pe_reader.specs.Prelude.{part, Headers, pe_of, loaded_bytes, loaded_in, loaded_of, range_of, is_named}
 use Rattle.pe_reader.specs.declared.fault.FailedCheck.{FailedCheck}
 use Rattle.pe_reader.specs.declared.section.Section.{Section}
 use Rattle.uki_parts.specs.Sbat.{sbat_entries}

@@ -1,13 +1,12 @@
 -- The entries of a `.sbat` whose zeros aren't made.
-use Rattle.std.proofs.Common.{◌≡◌, ◌≤◌, ◌+◌, ℕ, zero, suc, Bool, cond, not, List, ◌++◌, length, take, replicate, Result, Ok, Err, nat_eq, refl, sym, ap, ◌∙◌, arith}
-use Rattle.std.specs.Prelude.{◌==◌}
+use Rattle.std.proofs.Common.{◌≡◌, ◌≤◌, ◌+◌, ℕ, zero, suc, Bool, cond, not, List, ◌++◌, length, take, replicate, Result, Ok, Err, nat_eq, refl, sym, ap, ◌∙◌, arith, ◌==◌}
 use Rattle.std.specs.List.{before_first, position_or_len, slice_split}
 use Rattle.std.proofs.lemmas.Bool.Decides.{nat_tests}
 use Rattle.std.proofs.lemmas.List.{take-append-le}
 use Rattle.std.proofs.lemmas.List.Folds.{prefix_len-append}
 use Rattle.std.proofs.lemmas.List.Sums.{prefix_len-le-length}
 use Rattle.uki_parts.specs.Sbat.{entries_among, is_sbat_newline, sbat_entries}
-use Rattle.command_plans.specs.Unsaying.{Says}
+use Rattle.command_plans.specs.Prelude.{Says}
 use Rattle.command_plans.specs.declared.unsaid.Unsaid.{Unsaid}
 use Rattle.command_plans.proofs.Unsaying.{unrefused}
 

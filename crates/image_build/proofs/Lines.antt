@@ -1,8 +1,6 @@
 -- How many bytes the pieces of a text have.
-use Rattle.std.proofs.Common.{◌≡◌, ◌≤◌, ◌<◌, ◌+◌, ℕ, List, [], ◌∷◌, ◌++◌, length, suc, zero, refl, true, false, arith, cond, length-append}
-use Rattle.std.specs.Prelude.{Bool, not, codes, filter, replicate, sum_by, nat_eq, if◌then◌else◌, ◌==◌}
+use Rattle.std.proofs.Common.{◌≡◌, ◌≤◌, ◌<◌, ◌+◌, ℕ, List, [], ◌∷◌, ◌++◌, length, suc, zero, refl, true, false, arith, cond, length-append, Bool, not, codes, filter, replicate, sum_by, nat_eq, if◌then◌else◌, ◌==◌, length-take}
 use Rattle.std.specs.List.{before_first, join_with_byte, onto_first, position_or_len, slice_split, starts_with}
-use Rattle.std.proofs.lemmas.List.{length-take}
 use Rattle.std.proofs.lemmas.List.Sums.{sum_by-append, sum_by-cons}
 use Rattle.uki_parts.specs.Cmdlines.{clean_cmdline, is_whitespace, words_of}
 use Rattle.uki_parts.specs.Sbat.{entries_among, is_sbat_newline, lines_text, merged_sbat, sbat_entries, sbat_lines, sbat_text}

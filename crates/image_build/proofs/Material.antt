@@ -1,14 +1,11 @@
 -- What an image is made of, by what each step read.
 use Rattle.std.proofs.Common.{◌≡◌, ℕ, List, Result, Ok, sym, ap, ◌∙◌, subst}
 use Rattle.boot_base.specs.declared.refusal.Refusal.{Refusal}
-use Rattle.boot_machine.specs.Disk.{Files, State}
-use Rattle.boot_machine.specs.Rows.{contents}
-use Rattle.boot_machine.specs.Sent.{seen}
-use Rattle.pe_reader.specs.Grammar.{Headers, pe_of}
-use Rattle.command_plans.specs.Declining.{◌>>=◌}
+use Rattle.boot_machine.specs.Prelude.{Files, State, contents, seen}
+use Rattle.pe_reader.specs.Prelude.{Headers, pe_of}
+use Rattle.command_plans.specs.Prelude.{◌>>=◌, headers_or}
 use Rattle.image_build.specs.declared.build_reads.BuildFiles.{BuildFiles}
 use Rattle.image_build.specs.Building.{Contents, Material, NamedFiles, contents_of, material, material_of, sbat_of}
-use Rattle.command_plans.specs.Files.{headers_or}
 use Rattle.image_build.specs.Reads.{contents_as}
 
 abbrev made_of : Contents → Headers → List ℕ → List ℕ → Material

@@ -1,6 +1,5 @@
 -- How many values of options the items of a command have, and how long they are.
-use Rattle.std.proofs.Common.{◌≡◌, ◌≤◌, ◌+◌, ℕ, List, [], ◌∷◌, length, refl, sym, subst, true, false, arith}
-use Rattle.std.specs.Prelude.{Bool, Option, Some, None, map, sum_by, bytes_eq, if◌then◌else◌, ◌==◌, ◌||◌}
+use Rattle.std.proofs.Common.{◌≡◌, ◌≤◌, ◌+◌, ℕ, List, [], ◌∷◌, length, refl, sym, subst, true, false, arith, Bool, Option, Some, None, map, sum_by, bytes_eq, if◌then◌else◌, ◌==◌, ◌||◌}
 use Rattle.std.specs.List.{list_any, AllByRecursion, last_or, cons_option}
 use Rattle.std.proofs.lemmas.List.Sums.{sum_by-cons}
 use Rattle.boot_machine.proofs.Listing.{bytes-true}

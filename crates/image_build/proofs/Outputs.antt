@@ -1,18 +1,15 @@
 -- What `ukify build` builds stands where its words say.
-use Rattle.std.proofs.Common.{◌≡◌, ℕ, Bool, true, false, List, [], ◌∷◌, ◌++◌, length, Option, Some, None, refl, sym, ap, ◌∙◌, subst, Result, Ok, Err}
-use Rattle.std.specs.Prelude.{IfOk, codes, filter, map, option_and_then, if◌then◌else◌}
-use Rattle.std.specs.Option.{option_map}
+use Rattle.std.proofs.Common.{◌≡◌, ℕ, Bool, true, false, List, [], ◌∷◌, ◌++◌, length, Option, Some, None, refl, sym, ap, ◌∙◌, subst, Result, Ok, Err, IfOk, codes, filter, map, option_and_then, if◌then◌else◌, option_map}
 use Rattle.boot_base.specs.Paths.{Path}
 use Rattle.boot_base.specs.declared.refusal.Refusal.{Refusal}
-use Rattle.boot_machine.specs.Disk.{Files}
-use Rattle.pe_reader.specs.Grammar.{Headers}
+use Rattle.boot_machine.specs.Prelude.{Files}
+use Rattle.pe_reader.specs.Prelude.{Headers}
 use Rattle.uki_parts.specs.Names.{padded_name}
 use Rattle.uki_parts.specs.declared.name.SectionName.{SectionName}
 use Rattle.pe_builder.specs.Refusals.{first_refusal}
 use Rattle.pe_builder.specs.Replaced.{sbat_name}
 use Rattle.tool_words.specs.declared.command.BuildWords.{BuildWords}
-use Rattle.command_plans.specs.Files.{each, if_given}
-use Rattle.command_plans.specs.Declining.{◌>>=◌, path_in}
+use Rattle.command_plans.specs.Prelude.{each, if_given, ◌>>=◌, path_in}
 use Rattle.image_build.specs.Building.{BuiltImage, NamedFiles, build_of, builder_refusal, has_bytes, has_sbat, image_of, image_of_parts, image_or, material_of, named_files, section_of, size_of_part, source_of, sources_of, wanted_parts, with_sbat_text}
 
 -- what is so of each outcome of the next step is so of both together

@@ -1,10 +1,8 @@
 -- The pieces of a part, by those of its sources.
-use Rattle.std.proofs.Common.{◌≡◌, ℕ, Bool, true, false, cond, List, [], ◌∷◌, length, map, Ok, sym, ap, ◌∙◌, subst}
-use Rattle.std.specs.Prelude.{◌==◌}
-use Rattle.std.specs.List.{flat_map}
+use Rattle.std.proofs.Common.{◌≡◌, ℕ, Bool, true, false, cond, List, [], ◌∷◌, length, map, Ok, sym, ap, ◌∙◌, subst, ◌==◌, flat_map}
 use Rattle.std.proofs.lemmas.List.{length-replicate}
 use Rattle.std.proofs.lemmas.List.Elements.{All-append, All-cons, All-head, All-nil, All-tail}
-use Rattle.boot_machine.specs.Disk.{Files}
+use Rattle.boot_machine.specs.Prelude.{Files}
 use Rattle.uki_parts.specs.declared.kind.PartKind.{PartKind}
 use Rattle.uki_parts.specs.declared.name.SectionName.{SectionName}
 use Rattle.uki_parts.specs.declared.piece.Piece.{Piece}
@@ -13,8 +11,7 @@ use Rattle.uki_parts.specs.Initrds.{joined_bytes, joined_initrds, padded_piece, 
 use Rattle.uki_parts.specs.Pieces.{HasSizes, Reading, bytes_of, piece_bytes, piece_length}
 use Rattle.image_build.specs.declared.source.Source.{Source}
 use Rattle.image_build.specs.Building.{named_part, part_bytes, source_bytes}
-use Rattle.command_plans.specs.Files.{each}
-use Rattle.command_plans.specs.Declining.{◌>>=◌}
+use Rattle.command_plans.specs.Prelude.{each, ◌>>=◌}
 
 abbrev HasSize : Reading → Piece → Type 0
 HasSize files piece = length (piece_bytes files piece) ≡ piece_length piece

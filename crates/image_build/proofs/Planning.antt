@@ -1,24 +1,18 @@
 -- The plan of what a build reads, and how many bytes its image has.
-use Rattle.std.proofs.Common.{◌≡◌, ◌≤◌, ◌^◌, ℕ, List, [], ◌∷◌, Result, Ok, Err, append-nil, length, refl, sym, true, false, ◌++◌, ap, subst, ◌∙◌, arith}
+use Rattle.std.proofs.Common.{◌≡◌, ◌≤◌, ◌^◌, ℕ, List, [], ◌∷◌, Result, Ok, Err, append-nil, length, refl, sym, true, false, ◌++◌, ap, subst, ◌∙◌, arith, All, Bool, IfOk, Option, map, option_map, sum_by}
 use Rattle.std.specs.List.{AllZip}
-use Rattle.std.specs.Prelude.{All, Bool, IfOk, Option, map, option_map, sum_by}
 use Rattle.std.proofs.lemmas.List.Elements.{All-cons, All-head, All-nil, All-tail}
 use Rattle.std.proofs.lemmas.List.Sums.{sum_by-cons}
 use Rattle.boot_base.specs.Paths.{Path}
 use Rattle.boot_base.specs.declared.refusal.Refusal.{Refusal}
 use Rattle.boot_base.specs.declared.temp_path.Target.{Target}
-use Rattle.boot_machine.specs.Disk.{Files, State}
-use Rattle.boot_machine.specs.Sent.{seen}
+use Rattle.boot_machine.specs.Prelude.{Files, State, seen, contents}
 use Rattle.std.specs.FinMap.{insert}
-use Rattle.command_plans.specs.Answers.{done_answer}
-use Rattle.command_plans.specs.Makeable.{IsIdleIfRefused, IsMakeable, SaysCleaned}
-use Rattle.command_plans.specs.Plans.{Plans}
+use Rattle.command_plans.specs.Prelude.{done_answer, IsIdleIfRefused, IsMakeable, SaysCleaned, Plans, headers_or, PlansDeclined, PlansUnsaid, ◌>>=◌, DeclinedFor, UnsaidFor}
 use Rattle.command_plans.specs.declared.plan.Plan.{Plan as CommandPlan}
 use Rattle.command_plans.specs.declared.plan.Change.TheVariants as changes
 use Rattle.command_plans.specs.declared.outcome.Outcome.TheVariants as outcomes
-use Rattle.boot_machine.specs.Rows.{contents}
 use Rattle.command_plans.proofs.Each.{bind_ok}
-use Rattle.command_plans.specs.Files.{headers_or}
 use Rattle.image_writer.specs.Sourced.{IsPieced, IsSourced, new_sbat, part_list, parts_bytes, planned_image, stub_path}
 use Rattle.image_writer.specs.declared.sources.Sources.{Sources}
 use Rattle.image_writer.proofs.PlannedImages.{planned_image-is}
@@ -26,8 +20,7 @@ use Rattle.pe_builder.specs.declared.plan.ImageLayout.{ImageLayout}
 use Rattle.pe_builder.specs.Planned.{PlansImage, planned_length, sbat_if_in_place}
 use Rattle.pe_builder.specs.Refusals.{IsBuildable}
 use Rattle.pe_builder.proofs.ByPlace.{by_place}
-use Rattle.pe_reader.specs.Grammar.{Headers, pe_of}
-use Rattle.pe_reader.specs.Reads.{headers_of}
+use Rattle.pe_reader.specs.Prelude.{Headers, pe_of, headers_of}
 use Rattle.pe_reader.specs.declared.fault.FailedCheck.{FailedCheck}
 use Rattle.tool_words.specs.declared.command.BuildWords.{BuildWords}
 use Rattle.uki_parts.specs.Kinds.{append_place}
@@ -41,15 +34,10 @@ use Rattle.image_build.specs.Imaged.{AreFound, AreOrdered, Images, IsCountable, 
 use Rattle.image_build.proofs.Imaged.{AreRead}
 use Rattle.image_build.specs.Planning.{HasItsLength, IsPlannable, IsPlannedOn, built_as}
 use Rattle.image_build.specs.declared.planned.PlannedBuild.{PlannedBuild}
-use Rattle.pcr_values.specs.Phases.{default_phase_paths}
+use Rattle.pcr_values.specs.Prelude.{default_phase_paths, value_lines, all_banks}
 use Rattle.stub_replay.specs.Measured.{stub_pcr}
-use Rattle.command_plans.specs.Refusing.{PlansDeclined, PlansUnsaid}
-use Rattle.command_plans.specs.Declining.{◌>>=◌, DeclinedFor}
 use Rattle.command_plans.specs.declared.declined.Declined.{Declined}
 use Rattle.command_plans.specs.declared.declined.Declined.TheVariants as declines
-use Rattle.command_plans.specs.Unsaying.{UnsaidFor}
-use Rattle.pcr_values.specs.ValueLines.{value_lines}
-use Rattle.pcr_values.specs.Banks.{all_banks}
 use Rattle.command_plans.specs.declared.unsaid.Unsaid.{Unsaid}
 use Rattle.command_plans.specs.declared.unsaid.Unsaid.TheVariants as unsaid
 use Rattle.image_build.specs.Reads.{BuiltFrom, BuiltHasSizes, PartFrom, PartHasSizes, material_as}

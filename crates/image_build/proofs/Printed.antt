@@ -3,12 +3,9 @@ use Rattle.std.proofs.Common.{◌≡◌, ◌++◌, ℕ, List, [], Bool, Option, 
 use Rattle.std.specs.FinMap.{insert}
 use Rattle.boot_base.specs.Paths.{Path}
 use Rattle.boot_base.specs.declared.refusal.Refusal.{Refusal}
-use Rattle.boot_machine.specs.Disk.{Files}
+use Rattle.boot_machine.specs.Prelude.{Files, contents}
 use Rattle.boot_machine.specs.proofs.Maps.{get-insert_here}
-use Rattle.boot_machine.specs.Rows.{contents}
-use Rattle.pcr_values.specs.Phases.{default_phase_paths}
-use Rattle.pcr_values.specs.ValueLines.{value_lines}
-use Rattle.pcr_values.specs.Banks.{all_banks}
+use Rattle.pcr_values.specs.Prelude.{default_phase_paths, value_lines, all_banks}
 use Rattle.stub_replay.specs.Measured.{stub_pcr}
 use Rattle.tool_words.specs.declared.command.BuildWords.{BuildWords}
 use Rattle.image_build.specs.Building.{BuiltImage, build_answer, build_of, built_answer, built_line}

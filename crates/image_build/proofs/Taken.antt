@@ -1,13 +1,10 @@
 -- How many bytes of files the planning of a build reads.
-use Rattle.std.proofs.Common.{◌≡◌, ◌≤◌, ℕ, ◌+◌, List, [], ◌∷◌, ◌++◌, Bool, Option, None, Some, Ok, Bor, length, take, get_or, refl, sym, ap, subst, ◌∙◌, arith}
-use Rattle.std.specs.Prelude.{IfSome, sum_by}
+use Rattle.std.proofs.Common.{◌≡◌, ◌≤◌, ℕ, ◌+◌, List, [], ◌∷◌, ◌++◌, Bool, Option, None, Some, Ok, Bor, length, take, get_or, refl, sym, ap, subst, ◌∙◌, arith, IfSome, sum_by}
 use Rattle.std.specs.List.{AllByRecursion}
 use Rattle.std.proofs.lemmas.List.{take_more}
 use Rattle.std.proofs.lemmas.List.Sums.{sum_by-append, sum_by-cons}
-use Rattle.boot_machine.specs.Disk.{Files, State}
-use Rattle.boot_machine.specs.Rows.{contents}
-use Rattle.boot_machine.specs.Sent.{seen}
-use Rattle.command_plans.specs.Plans.{making_length}
+use Rattle.boot_machine.specs.Prelude.{Files, State, contents, seen, TakesAtMost}
+use Rattle.command_plans.specs.Prelude.{making_length}
 use Rattle.command_plans.specs.declared.plan.Change.{Change}
 use Rattle.command_plans.specs.declared.plan.Change.TheVariants as changes
 use Rattle.image_writer.specs.Sourced.{IsSourced, planned_image}
@@ -18,7 +15,6 @@ use Rattle.stub_replay.specs.Measured.{measured_names}
 use Rattle.stub_replay.specs.Parts.{IsWhole, content_or, files_length, given_part, read_length}
 use Rattle.stub_replay.specs.declared.measurable.Content.{Content}
 use Rattle.stub_replay.specs.declared.measurable.Measurable.{Measurable}
-use Rattle.boot_machine.specs.Reading.{TakesAtMost}
 use Rattle.uki_parts.specs.Pieces.{Reading}
 use Rattle.image_build.specs.Building.{build_named, build_of, named_as}
 use Rattle.image_build.specs.Planning.{IsPlannedOn, built_as, built_length, built_measuring, measuring_length, planning_length}

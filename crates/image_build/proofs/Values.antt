@@ -1,17 +1,11 @@
 -- What the sections of a planned image are going to hold.
-use Rattle.std.proofs.Common.{Result, ◌≡◌, ◌<◌, ◌+◌, ℕ, Bool, true, false, cond, List, [], ◌∷◌, ◌++◌, Option, Some, None, Ok, Bor, length, map, take, position, refl, sym, ap, subst, ◌∙◌}
-use Rattle.std.specs.List.{find, flat_map}
-use Rattle.std.specs.Option.{option_map}
-use Rattle.std.specs.Prelude.{All, bytes_eq, is_some, sum_by}
+use Rattle.std.proofs.Common.{Result, ◌≡◌, ◌<◌, ◌+◌, ℕ, Bool, true, false, cond, List, [], ◌∷◌, ◌++◌, Option, Some, None, Ok, Bor, length, map, take, position, refl, sym, ap, subst, ◌∙◌, find, flat_map, option_map, All, bytes_eq, is_some, sum_by}
 use Rattle.std.proofs.lemmas.List.Elements.{All-head, All-tail}
 use Rattle.boot_base.specs.Paths.{Path}
 use Rattle.boot_base.specs.declared.refusal.Refusal.{Refusal}
-use Rattle.boot_machine.specs.Disk.{Files}
-use Rattle.pcr_values.specs.ValueLines.{value_lines}
-use Rattle.pcr_values.specs.Phases.{default_phase_paths}
+use Rattle.boot_machine.specs.Prelude.{Files, contents}
+use Rattle.pcr_values.specs.Prelude.{value_lines, default_phase_paths, all_banks, fold_of, fold_pcr, pcr_value}
 use Rattle.command_plans.proofs.Registers.{AreSaid}
-use Rattle.pcr_values.specs.Banks.{all_banks, fold_of, fold_pcr}
-use Rattle.pcr_values.specs.Values.{pcr_value}
 use Rattle.pcr_values.specs.declared.pcr.Pcr.{Pcr}
 use Rattle.pcr_values.specs.declared.bank.Bank.{Bank}
 use Rattle.stub_replay.specs.Parts.{content_or, given_part, items_of, named_bytes}
@@ -19,7 +13,6 @@ use Rattle.stub_replay.specs.declared.measurable.Content.{Content}
 use Rattle.stub_replay.proofs.Pushed.{items_pushed}
 use Rattle.stub_replay.proofs.Turns.{IsName, items_more}
 use Rattle.stub_replay.specs.declared.measurable.Measurable.{Measurable}
-use Rattle.boot_machine.specs.Rows.{contents}
 use Rattle.image_writer.specs.Sourced.{IsPieced, new_sbat, part_list, parts_bytes, planned_image}
 use Rattle.image_writer.proofs.PlannedImages.{planned_image-is}
 use Rattle.stub_replay.specs.declared.measurable.Content.TheVariants as content
@@ -29,9 +22,7 @@ use Rattle.pe_builder.specs.Planned.{sbat_if_in_place, sbat_place}
 use Rattle.pe_builder.specs.Refusals.{IsBuildable}
 use Rattle.pe_builder.specs.Replaced.{sbat_name}
 use Rattle.pe_builder.specs.declared.plan.SbatPlace.{SbatPlace}
-use Rattle.pe_reader.specs.Grammar.{Headers, pe_of}
-use Rattle.pe_reader.specs.LoadedBytes.{is_named, loaded_bytes, range_of, section_at_index}
-use Rattle.pe_reader.specs.Reads.{headers_of}
+use Rattle.pe_reader.specs.Prelude.{Headers, pe_of, is_named, loaded_bytes, range_of, section_at_index, headers_of}
 use Rattle.pe_reader.specs.declared.section.LoadedRange.{LoadedRange}
 use Rattle.pe_reader.proofs.Finding.{loaded_bytes-none}
 use Rattle.stub_replay.specs.Laws.{find_content, kept_of, or_kept}

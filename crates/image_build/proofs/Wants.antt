@@ -1,9 +1,8 @@
 -- Parts that are wanted, put behind others.
-use Rattle.std.proofs.Common.{◌≡◌, ℕ, List, [], ◌∷◌, ◌++◌, Option, Some, None, is_some, unwrap_or, IsTrue, Result, Ok, Err, refl, sym, ap, ◌∙◌, ◌<◌, ◌+◌, subst, arith, append_assoc, append-nil, drop, get_or, length, map, take}
-use Rattle.std.specs.Option.{option_map}
+use Rattle.std.proofs.Common.{◌≡◌, ℕ, List, [], ◌∷◌, ◌++◌, Option, Some, None, is_some, unwrap_or, IsTrue, Result, Ok, Err, refl, sym, ap, ◌∙◌, ◌<◌, ◌+◌, subst, arith, append_assoc, append-nil, drop, get_or, length, map, take, option_map}
 use Rattle.std.proofs.lemmas.List.{drop_more, map-append, take-append-drop, take_more}
 use Rattle.boot_base.specs.declared.refusal.Refusal.{Refusal}
-use Rattle.command_plans.specs.Declining.{◌>>=◌, DeclinedFor}
+use Rattle.command_plans.specs.Prelude.{◌>>=◌, DeclinedFor, each}
 use Rattle.command_plans.specs.declared.declined.Declined.{Declined}
 use Rattle.command_plans.specs.declared.declined.Declined.TheVariants.{Memory, Refused}
 use Rattle.tool_words.specs.declared.command.Given.{Given}
@@ -15,7 +14,6 @@ use Rattle.image_build.specs.declared.source.Source.{Source}
 use Rattle.image_build.specs.Building.{NamedPart, WantedPart, extra_part, given_list, named_part, part_named, source_of, sources_of, optional_part, with_parts}
 use Rattle.image_build.specs.Offers.{offered_part, offered_parts}
 use Rattle.image_build.specs.declared.build_words.Offer.{Offer}
-use Rattle.command_plans.specs.Files.{each}
 use Rattle.command_plans.proofs.Each.{each_append, each_length, each_none, each_one, each_one_declined}
 
 abbrev Found : Type 0

@@ -1,8 +1,6 @@
 -- How many values the words of a command give, and how long they are.
-use Rattle.std.proofs.Common.{◌≡◌, ◌≤◌, ◌+◌, ℕ, List, [], ◌∷◌, length, refl, subst, true, false, arith, Result, Ok, Err}
-use Rattle.std.specs.Prelude.{Bool, map, if◌then◌else◌}
+use Rattle.std.proofs.Common.{◌≡◌, ◌≤◌, ◌+◌, ℕ, List, [], ◌∷◌, length, refl, subst, true, false, arith, Result, Ok, Err, Bool, map, if◌then◌else◌, length-drop}
 use Rattle.std.specs.List.{AllByRecursion, after_first, position_or_len}
-use Rattle.std.proofs.lemmas.List.{length-drop}
 use Rattle.word_grammar.specs.declared.grammar.CommandName.{CommandName}
 use Rattle.word_grammar.specs.Grammar.{Word, OptionRule}
 use Rattle.tool_words.specs.declared.fault.UsageReason.{UsageReason}

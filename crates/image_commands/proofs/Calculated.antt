@@ -1,22 +1,17 @@
 -- What is found of files on the machine as it is.
-use Rattle.std.proofs.Common.{◌≡◌, ◌≤◌, ◌+◌, ℕ, List, [], Bor, length, map, Ok, arith, ap, refl, sym, ◌∙◌, subst}
-use Rattle.std.specs.Prelude.{All, sum_by}
+use Rattle.std.proofs.Common.{◌≡◌, ◌≤◌, ◌+◌, ℕ, List, [], Bor, length, map, Ok, arith, ap, refl, sym, ◌∙◌, subst, All, sum_by}
 use Rattle.boot_base.specs.Paths.{Path}
-use Rattle.boot_machine.specs.Disk.{State}
-use Rattle.boot_machine.specs.Rows.{contents}
-use Rattle.boot_machine.specs.Sent.{seen}
+use Rattle.boot_machine.specs.Prelude.{State, contents, seen}
 use Rattle.pcr_values.specs.declared.bank.Bank.{Bank}
 use Rattle.pcr_values.specs.declared.pcr.Pcr.{Pcr}
-use Rattle.pcr_values.specs.Banks.{fold_pcr}
-use Rattle.pcr_values.specs.Values.{pcr_value}
+use Rattle.pcr_values.specs.Prelude.{fold_pcr, pcr_value}
 use Rattle.stub_replay.specs.Ordered.{present_parts}
 use Rattle.stub_replay.specs.Parts.{HaveSizes, files_length, items_of, named_bytes}
 use Rattle.stub_replay.specs.declared.measurable.Measurable.{Measurable}
 use Rattle.tool_words.specs.declared.command.CalculateWords.{CalculateWords}
 use Rattle.uki_parts.specs.Pieces.{Reading}
 use Rattle.uki_parts.specs.declared.piece.Piece.{Piece}
-use Rattle.command_plans.specs.Files.{bytes_at, each}
-use Rattle.command_plans.specs.Declining.{path_in}
+use Rattle.command_plans.specs.Prelude.{bytes_at, each, path_in}
 use Rattle.image_commands.specs.Calculating.{part_words, under_name}
 use Rattle.image_commands.specs.Parts.{HasItsSize, named_file}
 use Rattle.image_commands.specs.Taking.{named_length}

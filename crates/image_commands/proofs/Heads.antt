@@ -1,9 +1,7 @@
 -- Whether a section of a name has loaded bytes, by its range.
-use Rattle.std.proofs.Common.{◌≡◌, ◌<◌, ◌+◌, ℕ, false, not, List, length, Some, None, Ok, position, sym, ap, ◌∙◌}
-use Rattle.std.specs.Prelude.{◌==◌}
+use Rattle.std.proofs.Common.{◌≡◌, ◌<◌, ◌+◌, ℕ, false, not, List, length, Some, None, Ok, position, sym, ap, ◌∙◌, ◌==◌}
 use Rattle.pe_reader.specs.declared.section.LoadedRange.{LoadedRange}
-use Rattle.pe_reader.specs.Grammar.{Headers, pe_of}
-use Rattle.pe_reader.specs.LoadedBytes.{is_named, section_at_index, range_of}
+use Rattle.pe_reader.specs.Prelude.{Headers, pe_of, is_named, section_at_index, range_of}
 use Rattle.pe_reader.proofs.Finding.{loaded_bytes-none}
 use Rattle.pe_reader.proofs.Ranges.{length-bytes_in}
 use Rattle.stub_replay.proofs.Ranges.{found_range}

@@ -1,23 +1,20 @@
 -- What is told of sections, one after the other.
-use Rattle.std.proofs.Common.{◌≡◌, ◌<◌, ◌≤◌, ◌+◌, ℕ, Bool, List, [], ◌∷◌, ◌++◌, length, map, take, drop, get_or, Ok, sym, ap, ◌∙◌, subst, arith}
-use Rattle.std.specs.List.{All}
+use Rattle.std.proofs.Common.{◌≡◌, ◌<◌, ◌≤◌, ◌+◌, ℕ, Bool, List, [], ◌∷◌, ◌++◌, length, map, take, drop, get_or, Ok, sym, ap, ◌∙◌, subst, arith, All, Result}
 use Rattle.std.proofs.lemmas.List.{get_or_default, map-append, take_more}
 use Rattle.std.proofs.lemmas.List.Elements.{All-append, All-cons, All-nil}
 use Rattle.boot_base.specs.Paths.{Path}
 use Rattle.boot_base.specs.declared.refusal.Refusal.{Refusal}
-use Rattle.boot_machine.specs.Disk.{Files}
-use Rattle.std.specs.Prelude.{Result}
+use Rattle.boot_machine.specs.Prelude.{Files}
 use Rattle.pcr_values.specs.declared.bank.Bank.TheVariants as banks
-use Rattle.pcr_values.specs.Banks.{digest_of}
+use Rattle.pcr_values.specs.Prelude.{digest_of}
 use Rattle.pe_reader.specs.declared.section.Section.{Section}
 use Rattle.pe_reader.specs.declared.section.LoadedRange.{LoadedRange}
-use Rattle.pe_reader.specs.Grammar.{Headers, pe_of}
+use Rattle.pe_reader.specs.Prelude.{Headers, pe_of, bytes_in, no_section, range_of}
 use Rattle.boot_base.specs.Names.{short_name}
-use Rattle.pe_reader.specs.LoadedBytes.{bytes_in, no_section, range_of}
 use Rattle.pe_reader.proofs.Ranges.{length-bytes_in, range_inside}
 use Rattle.list_json.specs.Sections.{SectionFacts, facts_of}
 use Rattle.list_json.specs.declared.inspection.Inspected.{Inspected}
-use Rattle.command_plans.specs.Files.{image_at}
+use Rattle.command_plans.specs.Prelude.{image_at}
 use Rattle.command_plans.proofs.Declining.{done_next}
 use Rattle.image_commands.specs.Told.{told_sections}
 use Rattle.image_commands.specs.Said.{inspection, inspection_at, section_facts}

@@ -1,11 +1,10 @@
 -- What is printed as JSON is read as it is meant.
-use Rattle.std.proofs.Common.{◌≡◌, ℕ, true, List, Result, Ok, Err, ap, sym, ◌∙◌, subst, map}
-use Rattle.std.specs.Prelude.{All, IsUtf8}
+use Rattle.std.proofs.Common.{◌≡◌, ℕ, true, List, Result, Ok, Err, ap, sym, ◌∙◌, subst, map, All, IsUtf8}
 use Rattle.boot_base.specs.Paths.{Path}
 use Rattle.boot_base.specs.declared.refusal.Refusal.{Refusal}
-use Rattle.boot_machine.specs.Disk.{Files}
+use Rattle.boot_machine.specs.Prelude.{Files}
 use Rattle.pcr_values.specs.declared.bank.Bank.{Bank}
-use Rattle.pe_reader.specs.Grammar.{Headers, pe_of}
+use Rattle.pe_reader.specs.Prelude.{Headers, pe_of}
 use Rattle.pe_reader.specs.declared.fault.FailedCheck.{FailedCheck}
 use Rattle.list_json.proofs.HeldAnswers.{sections_read_back, values_read_back}
 use Rattle.list_json.specs.Lines.{ReadsAs}
@@ -15,9 +14,7 @@ use Rattle.stub_replay.specs.Measured.{predicted_pcr, stub_pcr}
 use Rattle.stub_replay.specs.Ordered.{part_of}
 use Rattle.command_plans.proofs.Declining.{done_next}
 use Rattle.command_plans.proofs.Steps.{done_by, ok_is}
-use Rattle.command_plans.specs.Choices.{banks_of, paths_of}
-use Rattle.command_plans.specs.Declining.{path_in}
-use Rattle.command_plans.specs.Files.{bytes_at, each, headers_or, image_at}
+use Rattle.command_plans.specs.Prelude.{banks_of, paths_of, path_in, bytes_at, each, headers_or, image_at}
 use Rattle.image_commands.specs.Calculating.{given_words, under_name}
 use Rattle.image_commands.specs.Laws.{CalculationsReadBack, InspectionsReadBack, MeasurementsReadBack}
 use Rattle.image_commands.specs.Said.{inspection, inspection_at, section_facts, values_at}

@@ -1,16 +1,11 @@
 -- The parts of a calculation, one by one.
-use Rattle.std.proofs.Common.{◌≡◌, ◌<◌, ◌≤◌, ◌+◌, ℕ, List, [], ◌∷◌, ◌++◌, Bor, get_or, take, drop, length, map, Option, None, Some, Result, Ok, Err, refl, sym, ap, ◌∙◌, subst}
-use Rattle.std.specs.List.{zip}
-use Rattle.std.specs.Option.{option_copied}
-use Rattle.std.specs.Prelude.{All, IsErr, IsErrAnd}
+use Rattle.std.proofs.Common.{◌≡◌, ◌<◌, ◌≤◌, ◌+◌, ℕ, List, [], ◌∷◌, ◌++◌, Bor, get_or, take, drop, length, map, Option, None, Some, Result, Ok, Err, refl, sym, ap, ◌∙◌, subst, zip, option_copied, All, IsErr, IsErrAnd}
 use Rattle.std.proofs.lemmas.Grind.{flat_map-append}
 use Rattle.std.proofs.lemmas.List.{append-nil, drop_more, map-append, take_all, take_more, take-append-drop}
 use Rattle.std.proofs.lemmas.List.Elements.{All-append, All-cons, All-nil}
 use Rattle.boot_base.specs.Paths.{Path}
 use Rattle.boot_base.specs.declared.refusal.Refusal.{Refusal}
-use Rattle.boot_machine.specs.Disk.{State}
-use Rattle.boot_machine.specs.Rows.{contents}
-use Rattle.boot_machine.specs.Sent.{seen}
+use Rattle.boot_machine.specs.Prelude.{State, contents, seen}
 use Rattle.stub_replay.specs.Measured.{measured_names}
 use Rattle.stub_replay.specs.Ordered.{InMeasuredOrder, as_part, present_parts}
 use Rattle.stub_replay.specs.Parts.{HaveSizes, IsPlaced, IsWhole, named_bytes}
@@ -22,9 +17,7 @@ use Rattle.uki_parts.specs.declared.piece.Piece.{Piece}
 use Rattle.command_plans.proofs.Declining.{done_next, means_declined}
 use Rattle.command_plans.proofs.Each.{bind_ok, each_cut, each_more, each_refused, none_made}
 use Rattle.command_plans.proofs.Unsaying.{says_unsaid}
-use Rattle.command_plans.specs.Files.{bytes_at, each}
-use Rattle.command_plans.specs.Declining.{◌>>=◌, DeclinedFor, Means, path_in}
-use Rattle.command_plans.specs.Unsaying.{Says, UnsaidFor}
+use Rattle.command_plans.specs.Prelude.{bytes_at, each, ◌>>=◌, DeclinedFor, Means, path_in, Says, UnsaidFor}
 use Rattle.command_plans.specs.declared.declined.Declined.{Declined}
 use Rattle.command_plans.specs.declared.declined.Declined.TheVariants.{Memory, Refused}
 use Rattle.command_plans.specs.declared.unsaid.Unsaid.{Unsaid}

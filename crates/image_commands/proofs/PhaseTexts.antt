@@ -1,17 +1,15 @@
 -- The words of phases that are given in UTF-8 are UTF-8.
-use Rattle.std.proofs.Common.{◌≡◌, ℕ, zero, suc, ◌+◌, ◌<◌, ◌≤◌, Bool, true, ◌==◌, not, List, [], ◌∷◌, length, get_or, map, refl, sym, subst, arith, inl, inr, ltb-true, nat_lt}
-use Rattle.std.specs.Prelude.{All, IsUtf8, bytes_eq}
+use Rattle.std.proofs.Common.{◌≡◌, ℕ, zero, suc, ◌+◌, ◌<◌, ◌≤◌, Bool, true, ◌==◌, not, List, [], ◌∷◌, length, get_or, map, refl, sym, subst, arith, inl, inr, ltb-true, nat_lt, All, IsUtf8, bytes_eq, length-drop}
 use Rattle.std.specs.List.{after_first, before_first, filter, list_all, position_or_len, slice_split}
 use Rattle.std.specs.Cmp.Lexicographic.{pointwise}
 use Rattle.std.proofs.lemmas.Bool.{cases_lt, eqb-true}
-use Rattle.std.proofs.lemmas.List.{length-drop}
 use Rattle.std.proofs.lemmas.List.Elements.{All-cons, All-filter, All-head, All-map, All-nil, All-tail}
 use Rattle.std.proofs.lemmas.List.Splits.{slice_split_first, slice_split_none}
 use Rattle.std.proofs.lemmas.List.Sums.{AllPass-from_list_all, fails_before_first, passes_at_first}
 use Rattle.std.proofs.lemmas.Str.{IsCharBoundary-after_ascii, IsCharBoundary-before_ascii, IsUtf8-drop, IsUtf8-from_ascii, IsUtf8-take}
 use Rattle.std.proofs.lemmas.Str.Ascii.{IsAscii-from_all}
-use Rattle.pcr_values.specs.Phases.{colon, default_phase_paths, is_phase_word, phase_words}
-use Rattle.command_plans.specs.Choices.{paths_of, without_repeats}
+use Rattle.pcr_values.specs.Prelude.{colon, default_phase_paths, is_phase_word, phase_words}
+use Rattle.command_plans.specs.Prelude.{paths_of, without_repeats}
 
 abbrev is_colon : ℕ → Bool
 is_colon byte = byte == colon

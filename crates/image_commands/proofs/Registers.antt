@@ -2,23 +2,20 @@
 use Rattle.std.proofs.Common.{◌≡◌, ◌++◌, ℕ, Bool, List, [], map, Result, Ok, sym, ap, ◌∙◌, subst}
 use Rattle.boot_base.specs.Paths.{Path}
 use Rattle.boot_base.specs.declared.refusal.Refusal.{Refusal}
-use Rattle.boot_machine.specs.Disk.{Files}
+use Rattle.boot_machine.specs.Prelude.{Files}
 use Rattle.image_commands.specs.Told.{told_values}
 use Rattle.pcr_values.specs.declared.bank.Bank.{Bank}
 use Rattle.pcr_values.specs.declared.bank.Bank.TheVariants as bank_names
 use Rattle.pcr_values.specs.declared.pcr.Pcr.{Pcr}
-use Rattle.pcr_values.specs.Banks.{fold_of, fold_pcr}
-use Rattle.pcr_values.specs.Values.{pcr_value}
-use Rattle.pe_reader.specs.Grammar.{Headers}
+use Rattle.pcr_values.specs.Prelude.{fold_of, fold_pcr, pcr_value}
+use Rattle.pe_reader.specs.Prelude.{Headers}
 use Rattle.stub_replay.specs.Measured.{measured_list, stub_pcr}
 use Rattle.stub_replay.specs.Ordered.{present_parts}
 use Rattle.stub_replay.specs.Parts.{items_of}
 use Rattle.stub_replay.proofs.Ordered.{predicted_in_order}
 use Rattle.tool_words.specs.declared.command.CalculateWords.{CalculateWords}
 use Rattle.command_plans.proofs.Declining.{done_next}
-use Rattle.command_plans.specs.Files.{bytes_at, each, image_at}
-use Rattle.command_plans.specs.Declining.{path_in}
-use Rattle.command_plans.specs.Choices.{banks_of, paths_of}
+use Rattle.command_plans.specs.Prelude.{bytes_at, each, image_at, path_in, banks_of, paths_of}
 use Rattle.image_commands.proofs.Parts.{parts_in_order, words_in_order}
 use Rattle.image_commands.specs.Calculating.{calculate_result, part_words, under_name}
 use Rattle.image_commands.specs.Said.{values_at}

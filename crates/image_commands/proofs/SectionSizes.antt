@@ -1,12 +1,9 @@
 -- The loaded bytes of a section are at most 268,435,456.
-use Rattle.std.proofs.Common.{◌≡◌, ℕ, zero, suc, ◌+◌, ◌*◌, ◌-◌, ◌<◌, ◌≤◌, ◌^◌, min, List, [], ◌∷◌, ◌++◌, length, drop, get_or, map, replicate, Ok, arith, subst, length-append}
-use Rattle.std.specs.Prelude.{All}
+use Rattle.std.proofs.Common.{◌≡◌, ℕ, zero, suc, ◌+◌, ◌*◌, ◌-◌, ◌<◌, ◌≤◌, ◌^◌, min, List, [], ◌∷◌, ◌++◌, length, drop, get_or, map, replicate, Ok, arith, subst, length-append, All}
 use Rattle.std.proofs.lemmas.Bool.Decides.{nat_tests}
 use Rattle.std.proofs.lemmas.List.{length-replicate, length-take}
 use Rattle.std.proofs.lemmas.List.Elements.{All-map, All-nil, All-push}
-use Rattle.pe_reader.specs.Fields.{part}
-use Rattle.pe_reader.specs.Grammar.{Headers, check_section, pe_of, section_at, sections_of}
-use Rattle.pe_reader.specs.LoadedBytes.{loaded_by}
+use Rattle.pe_reader.specs.Prelude.{part, Headers, check_section, pe_of, section_at, sections_of, loaded_by}
 use Rattle.pe_reader.specs.declared.section.Section.{Section}
 use Rattle.pe_reader.proofs.Checks.{bind_ok}
 use Rattle.pe_reader.proofs.Shape.{pe_of-stages}

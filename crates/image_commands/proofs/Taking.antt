@@ -1,12 +1,11 @@
 -- How many bytes reads give.
-use Rattle.std.proofs.Common.{◌≡◌, ◌<◌, ◌≤◌, ◌+◌, ℕ, List, [], ◌∷◌, length, map, take, get_or, Result, Ok, Err, arith, refl, sym, ap, ◌∙◌}
-use Rattle.std.specs.Prelude.{sum_by}
+use Rattle.std.proofs.Common.{◌≡◌, ◌<◌, ◌≤◌, ◌+◌, ℕ, List, [], ◌∷◌, length, map, take, get_or, Result, Ok, Err, arith, refl, sym, ap, ◌∙◌, sum_by}
 use Rattle.std.proofs.lemmas.List.Elements.{All-head, All-tail}
 use Rattle.std.proofs.lemmas.List.Sums.{sum_by-cons, sum_by-take-le, sum_by_more}
 use Rattle.boot_base.specs.Paths.{Path}
 use Rattle.boot_base.specs.declared.refusal.Refusal.{Refusal}
-use Rattle.boot_machine.specs.Disk.{Files}
-use Rattle.pe_reader.specs.Grammar.{Headers, pe_of}
+use Rattle.boot_machine.specs.Prelude.{Files}
+use Rattle.pe_reader.specs.Prelude.{Headers, pe_of}
 use Rattle.pe_reader.specs.declared.fault.FailedCheck.{FailedCheck}
 use Rattle.pe_reader.specs.declared.section.Section.{Section}
 use Rattle.stub_replay.specs.Measured.{measured_raw_length, raw_length}
@@ -15,8 +14,7 @@ use Rattle.stub_replay.specs.declared.measurable.Measurable.{Measurable}
 use Rattle.stub_replay.proofs.Fitting.{content_fits}
 use Rattle.uki_parts.specs.Pieces.{Reading}
 use Rattle.command_plans.proofs.Each.{bind_ok, each_cut, none_made}
-use Rattle.command_plans.specs.Files.{bytes_at, each, headers_or, image_at}
-use Rattle.command_plans.specs.Declining.{◌>>=◌, path_in}
+use Rattle.command_plans.specs.Prelude.{bytes_at, each, headers_or, image_at, ◌>>=◌, path_in}
 use Rattle.image_commands.specs.Calculating.{under_name}
 use Rattle.image_commands.specs.Taking.{all_raw_length, found_bytes, named_content}
 

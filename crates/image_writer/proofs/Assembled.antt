@@ -1,13 +1,10 @@
 -- The chunks of an image are the image.
-use Rattle.std.proofs.Common.{◌≡◌, ◌<◌, ◌≤◌, ◌+◌, ◌-◌, ◌*◌, ℕ, List, [], ◌∷◌, ◌++◌, length, replicate, Ok, refl, sym, ap, subst, ◌∙◌, arith, append_assoc, append-nil, length-append}
-use Rattle.std.specs.Prelude.{Option, Some, None, option_map}
-use Rattle.std.specs.List.{All, flat_map}
+use Rattle.std.proofs.Common.{◌≡◌, ◌<◌, ◌≤◌, ◌+◌, ◌-◌, ◌*◌, ℕ, List, [], ◌∷◌, ◌++◌, length, replicate, Ok, refl, sym, ap, subst, ◌∙◌, arith, append_assoc, append-nil, length-append, Option, Some, None, option_map, All, flat_map}
 use Rattle.std.proofs.lemmas.List.{length-replicate}
 use Rattle.byteorder.specs.Endian.{little_bytes}
 use Rattle.pe_reader.specs.declared.head.Head.{Head}
 use Rattle.pe_reader.specs.declared.section.Section.{Section}
-use Rattle.pe_reader.specs.Grammar.{Headers, pe_of, is_in_file}
-use Rattle.pe_reader.specs.LoadedBytes.{section_at_index, no_section}
+use Rattle.pe_reader.specs.Prelude.{Headers, pe_of, is_in_file, section_at_index, no_section}
 use Rattle.pe_reader.proofs.Shape.{Shape, stages-shape, pe_of-stages}
 use Rattle.pe_reader.proofs.Tables.{at_list_all}
 use Rattle.uki_parts.specs.declared.part.Part.{Part}
@@ -28,7 +25,7 @@ use Rattle.pe_builder.specs.Known.{planned_before, planned_stub_length}
 use Rattle.pe_builder.proofs.PlannedIs.{fitting, image_by-is}
 use Rattle.pe_builder.proofs.Replacing.{raw_inside}
 use Rattle.pe_builder.proofs.Totals.{buildable_image, buildable_sbat}
-use Rattle.boot_machine.specs.Reading.{bytes_between}
+use Rattle.boot_machine.specs.Prelude.{bytes_between}
 use Rattle.image_writer.specs.Chunks.{chunks_bytes, number_chunks, table_end, table_chunks, section_chunks, rest_chunks, headers_bytes, new_stub_bytes, behind_stub}
 use Rattle.image_writer.specs.Sourced.{parts_bytes, IsPieced}
 use Rattle.image_writer.specs.Taken.{chunks_length, kept_length}

@@ -1,12 +1,8 @@
 -- Writing an image reads at most as many bytes as it has.
-use Rattle.std.proofs.Common.{◌≡◌, ◌≤◌, ◌-◌, ℕ, List, [], ◌∷◌, ◌++◌, length, take, ap, arith, length-append}
-use Rattle.std.specs.Prelude.{replicate, sum_by}
-use Rattle.std.specs.List.{flat_map}
+use Rattle.std.proofs.Common.{◌≡◌, ◌≤◌, ◌-◌, ℕ, List, [], ◌∷◌, ◌++◌, length, take, ap, arith, length-append, replicate, sum_by, flat_map}
 use Rattle.std.proofs.lemmas.List.{length-replicate, length-take}
 use Rattle.std.proofs.lemmas.List.Sums.{sum_by-cons}
-use Rattle.boot_machine.specs.Disk.{Files}
-use Rattle.boot_machine.specs.Reading.{fill_with_zeros}
-use Rattle.boot_machine.specs.Rows.{contents}
+use Rattle.boot_machine.specs.Prelude.{Files, fill_with_zeros, contents}
 use Rattle.uki_parts.specs.declared.part.Part.{Part}
 use Rattle.uki_parts.specs.declared.piece.Piece.{Piece}
 use Rattle.uki_parts.specs.declared.piece.Piece.TheVariants as pieces

@@ -1,7 +1,6 @@
 -- The finished image by a plan.
 use Rattle.std.proofs.Common.{◌≡◌, ℕ, List}
-use Rattle.boot_machine.specs.Disk.{Files}
-use Rattle.boot_machine.specs.Rows.{contents}
+use Rattle.boot_machine.specs.Prelude.{Files, contents}
 use Rattle.pe_builder.specs.declared.plan.ImageLayout.{ImageLayout}
 use Rattle.pe_builder.proofs.PlannedIs.{image_by-is}
 use Rattle.image_writer.specs.declared.sources.Sources.{Sources}

@@ -2,11 +2,11 @@
 use Rattle.std.proofs.Common.{◌≡◌, ◌≤◌, ◌+◌, ◌-◌, ℕ, List, [], ◌∷◌, ◌++◌, length, take, drop, refl, sym, ap, ◌∙◌, arith, append_assoc, length-append, length-drop}
 use Rattle.std.proofs.Math.Seq.{take-append-add}
 use Rattle.std.proofs.lemmas.List.{take_all, drop-take, drop-append-le, length-take-le}
-use Rattle.pe_reader.specs.Fields.{part}
+use Rattle.pe_reader.specs.Prelude.{part}
 use Rattle.pe_builder.specs.Puts.{put}
 use Rattle.pe_builder.proofs.Putting.{length-put, take-put, drop-put, part-put_before}
 use Rattle.boot_machine.proofs.Filling.{fill_with_zeros-inside}
-use Rattle.boot_machine.specs.Reading.{bytes_between}
+use Rattle.boot_machine.specs.Prelude.{bytes_between}
 
 -- bytes from a place up to an end
 pub record Patch : Type 0 where

@@ -2,11 +2,8 @@
 use Rattle.std.proofs.Common.{◌≡◌, inl, inr, ℕ, true, false, List, [], ◌++◌, length, Option, unwrap_or, sym, ap, ◌∙◌, subst}
 use Rattle.std.specs.FinMap as map
 use Rattle.boot_base.specs.Paths.{Path, intent, is_temp}
-use Rattle.boot_machine.specs.Disk.{Files, State, has, is_same_path, recovered_view}
+use Rattle.boot_machine.specs.Prelude.{Files, State, has, is_same_path, recovered_view, Timeline, IsIdleMoment, bytes_between, contents, append_to, move_in}
 use Rattle.boot_machine.specs.proofs.Maps.{get-insert_here}
-use Rattle.boot_machine.specs.Moments.{Timeline}
-use Rattle.boot_machine.specs.Reading.{IsIdleMoment, bytes_between}
-use Rattle.boot_machine.specs.Rows.{contents, append_to, move_in}
 use Rattle.boot_machine.proofs.Elapsing.{joined, weaken}
 use Rattle.boot_machine.proofs.Going.{During, SeesSilently, image_sees}
 use Rattle.boot_machine.proofs.Ranges.{between_whole}

@@ -1,13 +1,7 @@
 -- Laws of calls that append to one file.
-use Rattle.std.proofs.Common.{◌≡◌, Bool, true, false, IsTrue, List, ℕ, subst}
-use Rattle.std.specs.Prelude.{Result, Ok, Err, IsErr}
+use Rattle.std.proofs.Common.{◌≡◌, Bool, true, false, IsTrue, List, ℕ, subst, Result, Ok, Err, IsErr}
 use Rattle.boot_base.specs.Paths.{Path, is_temp}
-use Rattle.boot_machine.specs.Counts.{Counts, CountsDisk, DiskFailed}
-use Rattle.boot_machine.specs.Disk.{Files, State, has}
-use Rattle.boot_machine.specs.Moments.{Timeline, Elapses}
-use Rattle.boot_machine.specs.Reading.{IsIdleMoment}
-use Rattle.boot_machine.specs.Rows.{AppendRow, contents}
-use Rattle.boot_machine.specs.Sent.{Sent}
+use Rattle.boot_machine.specs.Prelude.{Counts, CountsDisk, DiskFailed, Files, State, has, Timeline, Elapses, IsIdleMoment, AppendRow, contents, Sent}
 use Rattle.install_steps.specs.Appends.{Appends}
 use Rattle.install_steps.specs.proofs.AppendLaws.{only_none, only_once, only_on, only-there, only-source}
 

@@ -1,10 +1,8 @@
 -- A file that is copied in pieces, under a temporary name and then in its place.
-use Rattle.std.proofs.Common.{◌≡◌, ◌≤◌, inl, inr, ℕ, true, false, List, [], length, Option, Some, None, is_some, unwrap_or, refl, sym, ap, ◌∙◌, arith}
-use Rattle.std.specs.Option.{option_map}
+use Rattle.std.proofs.Common.{◌≡◌, ◌≤◌, inl, inr, ℕ, true, false, List, [], length, Option, Some, None, is_some, unwrap_or, refl, sym, ap, ◌∙◌, arith, option_map}
 use Rattle.std.specs.FinMap as map
 use Rattle.boot_base.specs.Paths.{Path, is_temp}
-use Rattle.boot_machine.specs.Disk.{Files, has, recovered_view, is_same_path}
-use Rattle.boot_machine.specs.Rows.{contents, append_to, move_in}
+use Rattle.boot_machine.specs.Prelude.{Files, has, recovered_view, is_same_path, contents, append_to, move_in}
 use Rattle.boot_machine.specs.proofs.Maps.{cases_same, same_self, same_files, get-insert_here, get-insert_apart}
 use Rattle.boot_machine.proofs.Views.{get-append_to}
 use Rattle.boot_machine.proofs.Recovering.{IsCalm, get-recovered_view_there, has-recovered_view}

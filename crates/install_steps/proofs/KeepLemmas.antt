@@ -2,10 +2,7 @@
 use Rattle.std.proofs.Common.{◌≡◌, ◌⊎◌, inl, inr, ℕ, ◌-◌, ◌≤◌, true, false, List, [], ◌∷◌, ⊎_elim, refl, sym, ap, ◌∙◌, arith}
 use Rattle.std.specs.FinMap as map
 use Rattle.boot_base.specs.Paths.{Path, is_temp}
-use Rattle.boot_machine.specs.Disk.{State, Files, has, is_same_path}
-use Rattle.boot_machine.specs.Listed.{is_listed}
-use Rattle.boot_machine.specs.Reading.{TakesAtMost}
-use Rattle.boot_machine.specs.Rows.{append_to, contents, move_in}
+use Rattle.boot_machine.specs.Prelude.{State, Files, has, is_same_path, is_listed, TakesAtMost, append_to, contents, move_in}
 use Rattle.boot_machine.specs.proofs.Maps.{cases_same, get-insert_apart, get-remove_apart, same_self}
 use Rattle.boot_machine.proofs.Listing.{same_bytes}
 use Rattle.boot_machine.proofs.Views.{get-append_to}

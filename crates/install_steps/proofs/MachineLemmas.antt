@@ -8,8 +8,7 @@ use seplogic.Ra.Ura.{Ura}
 use types.Logic.{Logic}
 use Rattle.std.proofs.Common.{◌≡◌, IsTrue, List}
 use Rattle.boot_base.specs.Paths.{Path}
-use Rattle.boot_machine.specs.Disk.{Files, HasOneCandidate}
-use Rattle.boot_machine.specs.Images.{IsFirm, IsImage, IsSettled}
+use Rattle.boot_machine.specs.Prelude.{Files, HasOneCandidate, IsFirm, IsImage, IsSettled}
 use Rattle.boot_machine.specs.contracts.machine.Machine.TheBound as bound
 use Rattle.boot_machine.specs.declared.machine.Machine.{Ghosts}
 use Rattle.boot_machine.specs.declared.machine.Printed.{Printed}

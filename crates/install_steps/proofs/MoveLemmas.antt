@@ -1,10 +1,8 @@
 -- A move under an intent.
-use Rattle.std.proofs.Common.{◌≡◌, ◌≢◌, inl, inr, ℕ, true, false, List, [], Option, Some, None, is_some, unwrap_or, refl, sym, ap, ◌∙◌}
-use Rattle.std.specs.Prelude.{option_and_then}
+use Rattle.std.proofs.Common.{◌≡◌, ◌≢◌, inl, inr, ℕ, true, false, List, [], Option, Some, None, is_some, unwrap_or, refl, sym, ap, ◌∙◌, option_and_then}
 use Rattle.std.specs.FinMap as map
 use Rattle.boot_base.specs.Paths.{Path, intent, is_temp, read_intent}
-use Rattle.boot_machine.specs.Disk.{Files, HasNoHalfRename, has, intent_names, recovered_view}
-use Rattle.boot_machine.specs.Rows.{contents, move_in}
+use Rattle.boot_machine.specs.Prelude.{Files, HasNoHalfRename, has, intent_names, recovered_view, contents, move_in}
 use Rattle.boot_machine.specs.proofs.Maps.{cases_same, get-none, get-insert_here, get-insert_apart, get-remove_here, get-remove_apart}
 use Rattle.boot_machine.proofs.Recovering.{AreNames, IsCalm, names_of, turn, recovered_view_from, recovered_view-drop_intent, recovered_view-move_in, whole-first, whole-second, get-move_in_apart}
 use Rattle.install_steps.specs.Steps.{Intends}

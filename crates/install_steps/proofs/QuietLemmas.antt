@@ -1,13 +1,7 @@
 -- Steps that print nothing.
-use Rattle.std.proofs.Common.{◌≡◌, inl, ⊎_elim, ℕ, Bool, false, IsTrue, List, [], refl, sym, ap, ◌∙◌, subst}
-use Rattle.std.specs.Prelude.{Result, Ok, Err}
+use Rattle.std.proofs.Common.{◌≡◌, inl, ⊎_elim, ℕ, Bool, false, IsTrue, List, [], refl, sym, ap, ◌∙◌, subst, Result, Ok, Err}
 use Rattle.boot_base.specs.Paths.{Path, is_temp}
-use Rattle.boot_machine.specs.Counts.{Counts}
-use Rattle.boot_machine.specs.Disk.{Files, State}
-use Rattle.boot_machine.specs.Images.{IsImage}
-use Rattle.boot_machine.specs.Moments.{Timeline, Elapses}
-use Rattle.boot_machine.specs.Reading.{IsIdleMoment, OnlyReads}
-use Rattle.boot_machine.specs.Rows.{CreateRow, AppendRow, SyncFileRow, RenameRow, UnlinkRow, SyncNamesRow, after_create, contents}
+use Rattle.boot_machine.specs.Prelude.{Counts, Files, State, IsImage, Timeline, Elapses, IsIdleMoment, OnlyReads, CreateRow, AppendRow, SyncFileRow, RenameRow, UnlinkRow, SyncNamesRow, after_create, contents}
 use Rattle.boot_machine.specs.declared.machine.Printed.{Printed}
 use Rattle.boot_machine.proofs.Elapsing.{joined, weaken, one_call, at_once}
 use Rattle.boot_machine.proofs.Printing.{not_printed}

@@ -1,16 +1,9 @@
 -- A recovery: what is read of an intent, and how its parts come to a whole.
-use Rattle.std.proofs.Common.{◌≡◌, ◌⊎◌, inl, inr, ⊎_elim, ℕ, ◌<◌, ◌≤◌, true, List, [], length, drop, Option, Some, None, is_some, unwrap_or, refl, sym, ap, ◌∙◌, subst, arith}
-use Rattle.std.proofs.lemmas.List.{take_all}
-use Rattle.std.specs.Prelude.{option_and_then}
-use Rattle.std.specs.Option.{option_map}
+use Rattle.std.proofs.Common.{◌≡◌, ◌⊎◌, inl, inr, ⊎_elim, ℕ, ◌<◌, ◌≤◌, true, List, [], length, drop, Option, Some, None, is_some, unwrap_or, refl, sym, ap, ◌∙◌, subst, arith, take_all, option_and_then, option_map}
 use Rattle.std.specs.FinMap as map
 use Rattle.boot_base.specs.Paths.{Path, intent, read_intent}
 use Rattle.boot_base.proofs.IntentForm.{read-long}
-use Rattle.boot_machine.specs.Disk.{Files, State, HasOneCandidate, has, intent_names, recovered_view}
-use Rattle.boot_machine.specs.Images.{IsImage, IsFirm, IsSettled}
-use Rattle.boot_machine.specs.Moments.{Timeline, EachSince}
-use Rattle.boot_machine.specs.Reading.{fill_with_zeros}
-use Rattle.boot_machine.specs.Rows.{contents}
+use Rattle.boot_machine.specs.Prelude.{Files, State, HasOneCandidate, has, intent_names, recovered_view, IsImage, IsFirm, IsSettled, Timeline, EachSince, fill_with_zeros, contents}
 use Rattle.boot_machine.specs.declared.machine.Printed.{Printed}
 use Rattle.boot_machine.proofs.Elapsing.{joined, weaken}
 use Rattle.boot_machine.proofs.Filling.{fill_with_zeros-inside}

@@ -1,10 +1,8 @@
 -- What a step leads to where it refuses, and where it doesn't.
-use Rattle.std.proofs.Common.{◌≡◌, ℕ, true, false, List, length, Option, Some, None, is_some, refl, sym, subst, ap, ◌∙◌}
-use Rattle.std.specs.Option.{option_map}
+use Rattle.std.proofs.Common.{◌≡◌, ℕ, true, false, List, length, Option, Some, None, is_some, refl, sym, subst, ap, ◌∙◌, option_map}
 use Rattle.std.specs.FinMap as map
 use Rattle.boot_base.specs.Paths.{Path}
-use Rattle.boot_machine.specs.Disk.{Files, has}
-use Rattle.boot_machine.specs.Rows.{contents, move_in}
+use Rattle.boot_machine.specs.Prelude.{Files, has, contents, move_in}
 use Rattle.install_steps.specs.Steps.{after_copy, after_move}
 
 pub copied_there : (from to : Path) (files : Files) → has files from ≡ true → after_copy from to files ≡ map.insert files to (contents files from)

@@ -1,14 +1,12 @@
 -- An intent that is written under its temporary name and put in its place.
-use Rattle.std.proofs.Common.{◌≡◌, ◌≢◌, ℕ, true, List, [], ◌++◌, Option, Some, unwrap_or, refl, sym, ap, ◌∙◌, subst}
-use Rattle.std.specs.Prelude.{bytes_eq, option_and_then}
+use Rattle.std.proofs.Common.{◌≡◌, ◌≢◌, ℕ, true, List, [], ◌++◌, Option, Some, unwrap_or, refl, sym, ap, ◌∙◌, subst, bytes_eq, option_and_then}
 use Rattle.std.specs.FinMap as map
 use Rattle.std.specs.Str.{is_utf8}
 use Rattle.std.proofs.lemmas.Bool.{false_from_ne_true}
 use Rattle.std.proofs.lemmas.Slice.Eq.{bytes_eq-Decides}
 use Rattle.boot_base.specs.Paths.{Path, IsFree, intent, intent_bytes, is_normal, is_temp, may_stand, read_intent}
 use Rattle.boot_base.proofs.IntentForm.{read-intent_bytes}
-use Rattle.boot_machine.specs.Disk.{Files, State, has}
-use Rattle.boot_machine.specs.Rows.{contents, move_in}
+use Rattle.boot_machine.specs.Prelude.{Files, State, has, contents, move_in}
 use Rattle.boot_machine.specs.proofs.Maps.{get-insert_here, get-insert_apart, get-remove_apart}
 use Rattle.boot_machine.proofs.Views.{temp_apart}
 use Rattle.boot_machine.proofs.Written.{temps-written}

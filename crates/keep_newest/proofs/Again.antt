@@ -1,6 +1,5 @@
 -- If some of the doomed records are gone, from the last upwards, the others are doomed still, and no more.
-use Rattle.std.proofs.Common.{◌≡◌, ◌⊎◌, ℕ, zero, suc, ◌≤◌, Bool, true, false, not, cond, List, [], ◌∷◌, ◌++◌, take, drop, length, reverse, inl, inr, refl, sym, ap, ◌∙◌, subst, arith, append_assoc, drop_at}
-use Rattle.std.specs.Prelude.{bytes_eq, filter, nat_le, if◌then◌else◌}
+use Rattle.std.proofs.Common.{◌≡◌, ◌⊎◌, ℕ, zero, suc, ◌≤◌, Bool, true, false, not, cond, List, [], ◌∷◌, ◌++◌, take, drop, length, reverse, inl, inr, refl, sym, ap, ◌∙◌, subst, arith, append_assoc, drop_at, bytes_eq, filter, nat_le, if◌then◌else◌}
 use Rattle.std.specs.List.{AllByRecursion, IsDistinct}
 use Rattle.std.proofs.lemmas.Bool.{cases_Bool, leb-true, leb-false}
 use Rattle.std.proofs.lemmas.List.{append-nil, length-map, length-reverse, map-append, reverse-append, take-map, take_all, take_at}

@@ -1,9 +1,6 @@
 -- What is kept of one group: its first records, and its first good one.
-use Rattle.std.proofs.Common.{◌≡◌, ℕ, zero, suc, ◌+◌, ◌≤◌, Bool, true, false, not, cond, ◌&&◌, ◌||◌, List, [], ◌∷◌, ◌++◌, find, take, drop, Option, Some, None, refl, sym, ap, ◌∙◌, arith}
-use Rattle.std.specs.Prelude.{filter, nat_lt, if◌then◌else◌}
+use Rattle.std.proofs.Common.{◌≡◌, ℕ, zero, suc, ◌+◌, ◌≤◌, Bool, true, false, not, cond, ◌&&◌, ◌||◌, List, [], ◌∷◌, ◌++◌, find, take, drop, Option, Some, None, refl, sym, ap, ◌∙◌, arith, filter, nat_lt, if◌then◌else◌, option_to_list, le-ltb, lt-ltb}
 use Rattle.std.specs.List.{list_any}
-use Rattle.std.specs.Option.{option_to_list}
-use Rattle.std.proofs.lemmas.Bool.{le-ltb, lt-ltb}
 use Rattle.std.proofs.lemmas.List.Elements.{filter-append}
 use Rattle.menu_order.specs.declared.item.MenuItem.{MenuItem}
 use Rattle.keep_newest.specs.Doomed.{group_of, group_size, has_good, is_good, is_in, is_kept_record, kept_behind, kept_records}

@@ -1,9 +1,6 @@
 -- Of what is kept nothing is doomed.
-use Rattle.std.proofs.Common.{◌≡◌, ℕ, ◌+◌, ◌≤◌, ◌<◌, Bool, true, false, not, cond, ◌&&◌, ◌||◌, List, [], ◌∷◌, ◌++◌, Option, Some, None, reverse, refl, sym, ap, ◌∙◌, subst, ⊎_elim, arith, append_assoc}
-use Rattle.std.specs.Prelude.{nat_lt, if◌then◌else◌}
-use Rattle.std.proofs.lemmas.Bool.{lt-ltb}
+use Rattle.std.proofs.Common.{◌≡◌, ℕ, ◌+◌, ◌≤◌, ◌<◌, Bool, true, false, not, cond, ◌&&◌, ◌||◌, List, [], ◌∷◌, ◌++◌, Option, Some, None, reverse, refl, sym, ap, ◌∙◌, subst, ⊎_elim, arith, append_assoc, nat_lt, if◌then◌else◌, lt-ltb, append-nil}
 use Rattle.std.proofs.lemmas.Cmp.{nat_list_eq_equiv}
-use Rattle.std.proofs.lemmas.List.{append-nil}
 use Rattle.menu_order.specs.declared.item.MenuItem.{MenuItem}
 use Rattle.keep_newest.specs.Doomed.{doomed_behind, doomed_records, group_of, group_size, has_good, is_good, is_in, is_kept_record, kept_behind, kept_records, same_group}
 use Rattle.keep_newest.specs.Laws.{KeepsOnce}

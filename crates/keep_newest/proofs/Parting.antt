@@ -1,6 +1,5 @@
 -- What is kept and what is doomed are the menu.
-use Rattle.std.proofs.Common.{ℕ, Bool, true, false, List, [], ◌∷◌, ◌++◌, reverse}
-use Rattle.std.specs.Prelude.{IsPermutation, if◌then◌else◌}
+use Rattle.std.proofs.Common.{ℕ, Bool, true, false, List, [], ◌∷◌, ◌++◌, reverse, IsPermutation, if◌then◌else◌}
 use Rattle.std.proofs.lemmas.List.Sorted.{IsPermutation-append_right, IsPermutation-cons, IsPermutation-middle, IsPermutation-refl, IsPermutation-reverse, IsPermutation-sym, IsPermutation-trans}
 use Rattle.menu_order.specs.declared.item.MenuItem.{MenuItem}
 use Rattle.keep_newest.specs.Doomed.{doomed_behind, doomed_records, is_kept_record, kept_behind, kept_records}

@@ -1,8 +1,6 @@
 -- The values of the three answers are plain.
-use Rattle.std.proofs.Common.{ℕ, List, [], ◌∷◌, ◌++◌, map, Option}
-use Rattle.std.specs.Prelude.{option_map}
-use Rattle.pcr_values.specs.Banks.{bank_name, extend_all}
-use Rattle.pcr_values.specs.Values.{pcr_bank, pcr_bytes}
+use Rattle.std.proofs.Common.{ℕ, List, [], ◌∷◌, ◌++◌, map, Option, option_map}
+use Rattle.pcr_values.specs.Prelude.{bank_name, extend_all, pcr_bank, pcr_bytes}
 use Rattle.pcr_values.specs.declared.pcr.Pcr.{Pcr}
 use Rattle.menu_order.specs.declared.item.Counter.{Counter}
 use Rattle.menu_order.specs.declared.item.MenuItem.{MenuItem}

@@ -3,8 +3,7 @@ use Rattle.std.proofs.Common.{◌≡◌, ℕ, List, [], ◌∷◌, ◌++◌, map
 use Rattle.std.proofs.lemmas.List.Sums.{fold-append}
 use Rattle.pcr_values.specs.declared.bank.Bank.{Bank}
 use Rattle.pcr_values.specs.declared.pcr.Pcr.{Pcr}
-use Rattle.pcr_values.specs.Banks.{bank_name, extend_data, extend_all, fold_of, fold_pcr, zero_of}
-use Rattle.pcr_values.specs.Values.{pcr_value}
+use Rattle.pcr_values.specs.Prelude.{bank_name, extend_data, extend_all, fold_of, fold_pcr, zero_of, pcr_value}
 use Rattle.serde_json.specs.Data.{Data, array}
 use Rattle.serde_json.specs.View.{items_of}
 use Rattle.list_json.specs.Objects.{MaybeMember, object_of}

@@ -19,8 +19,7 @@ use Rattle.menu_order.specs.declared.item.Counter.{Counter}
 use Rattle.menu_order.specs.declared.item.MenuItem.{MenuItem}
 use Rattle.pcr_values.specs.declared.bank.Bank.{Bank}
 use Rattle.pcr_values.specs.declared.bank.Bank.TheVariants as banks
-use Rattle.pcr_values.specs.Banks.{bank_name}
-use Rattle.pcr_values.specs.Phases.{colon, path_text}
+use Rattle.pcr_values.specs.Prelude.{bank_name, colon, path_text}
 use Rattle.list_json.specs.Laws.{FitsReaders, MenusReadBack, SectionsReadBack, ValuesReadBack}
 use Rattle.list_json.specs.Menus.{entry_data, entry_members, is_told, is_untold, joined_texts, menu_data, name_members, key_members, counter_members, boot_members, texts_array}
 use Rattle.list_json.specs.Objects.{MaybeMember, are_text, is_text, items_are_text, member_is_text}

@@ -1,6 +1,5 @@
 -- Whether the texts of a record are UTF-8.
-use Rattle.std.proofs.Common.{◌≡◌, ℕ, zero, suc, cond, arith, ◌<◌, List, [], ◌∷◌, length, get_or, map, take, Some, None, Bool, true, false, ◌&&◌, ◌==◌, not, Result, Ok, Err, subst, refl, sym, ap, ◌∙◌}
-use Rattle.std.specs.Prelude.{IsErr, IsErrAnd, nat_lt}
+use Rattle.std.proofs.Common.{◌≡◌, ℕ, zero, suc, cond, arith, ◌<◌, List, [], ◌∷◌, length, get_or, map, take, Some, None, Bool, true, false, ◌&&◌, ◌==◌, not, Result, Ok, Err, subst, refl, sym, ap, ◌∙◌, IsErr, IsErrAnd, nat_lt}
 use Rattle.std.specs.List.{find, list_all, position, prefix_len, slice_get}
 use Rattle.std.specs.Option.{option_map_or}
 use Rattle.std.specs.Str.{is_utf8}

@@ -1,16 +1,11 @@
 -- What a length tells of a loader.conf.
-use Rattle.std.proofs.Common.{◌≡◌, ◌≤◌, ℕ, false, unwrap_or, List, [], drop, length, Option, Some, Result, Ok, refl, sym, ap, ◌∙◌, arith}
+use Rattle.std.proofs.Common.{◌≡◌, ◌≤◌, ℕ, false, unwrap_or, List, [], drop, length, Option, Some, Result, Ok, refl, sym, ap, ◌∙◌, arith, take_all, nat_lt, option_map}
 use Rattle.std.proofs.lemmas.Bool.Decides.{nat_tests}
-use Rattle.std.proofs.lemmas.List.{take_all}
-use Rattle.std.specs.Prelude.{nat_lt}
 use Rattle.std.specs.FinMap.{get}
-use Rattle.std.specs.Option.{option_map}
 use Rattle.boot_base.specs.Limits.{text_limit}
 use Rattle.boot_base.specs.Paths.{Path}
 use Rattle.boot_base.specs.declared.refusal.Refusal.{Refusal}
-use Rattle.boot_machine.specs.Disk.{Files}
-use Rattle.boot_machine.specs.Reading.{fill_with_zeros}
-use Rattle.boot_machine.specs.Rows.{contents}
+use Rattle.boot_machine.specs.Prelude.{Files, fill_with_zeros, contents}
 use Rattle.boot_machine.proofs.Filling.{fill_with_zeros-inside}
 use Rattle.command_plans.proofs.Sizes.{some_of}
 use Rattle.loader_commands.specs.Places.{conf_bytes, conf_or_empty, within_limit}

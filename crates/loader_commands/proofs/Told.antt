@@ -1,16 +1,13 @@
 -- What `loader show` tells, and what a change leaves.
-use Rattle.std.proofs.Common.{◌≡◌, ℕ, Bool, true, false, List, map, Option, Some, None, Result, Ok, Err, subst, sym, ap, ◌∙◌, refl, length}
-use Rattle.std.specs.Prelude.{MatchOption, if◌then◌else◌, nat_lt, option_and_then, slice_get}
+use Rattle.std.proofs.Common.{◌≡◌, ℕ, Bool, true, false, List, map, Option, Some, None, Result, Ok, Err, subst, sym, ap, ◌∙◌, refl, length, MatchOption, if◌then◌else◌, nat_lt, option_and_then, slice_get}
 use Rattle.boot_base.specs.Limits.{text_limit}
 use Rattle.boot_base.specs.Paths.{Path}
 use Rattle.boot_base.specs.declared.refusal.Refusal.{Refusal}
 use Rattle.boot_base.specs.declared.refusal.Refusal.TheVariants as refusals
 use Rattle.boot_folder.specs.Entries.{boot_menu, entry_count}
 use Rattle.boot_folder.specs.declared.folders.Folders.{Folders}
-use Rattle.boot_machine.specs.Disk.{Files}
-use Rattle.command_plans.specs.Declining.{◌>>=◌, printed_path}
-use Rattle.command_plans.specs.Menus.{menu_at}
-use Rattle.command_plans.specs.Unsaying.{Says}
+use Rattle.boot_machine.specs.Prelude.{Files}
+use Rattle.command_plans.specs.Prelude.{◌>>=◌, printed_path, menu_at, Says}
 use Rattle.command_plans.specs.declared.unsaid.Unsaid.{Unsaid}
 use Rattle.command_plans.proofs.Declining.{done_next}
 use Rattle.loader_commands.specs.Laws.{ChangesOneKey, ShowsDefaultEntry}

@@ -1,7 +1,5 @@
 -- What stands at a path after an entry was added there.
-use Rattle.std.proofs.Common.{◌≡◌, ℕ, Bool, true, false, List, [], ◌∷◌, ◌++◌, refl}
-use Rattle.std.specs.Prelude.{bytes_eq, Some, None, if◌then◌else◌}
-use Rattle.std.specs.Option.{option_map}
+use Rattle.std.proofs.Common.{◌≡◌, ℕ, Bool, true, false, List, [], ◌∷◌, ◌++◌, refl, bytes_eq, Some, None, if◌then◌else◌, option_map}
 use Rattle.std.proofs.lemmas.Slice.Eq.{bytes_eq-Decides}
 use Rattle.memory_folder.specs.Entries.{first_entry_at, found_at, found_of_entry}
 use Rattle.memory_folder.specs.declared.entry.Entry.{Entry}

@@ -1,7 +1,5 @@
 -- The number of what stands in a folder in memory.
-use Rattle.std.proofs.Common.{◌≡◌, ℕ, List, [], ◌∷◌, refl}
-use Rattle.std.specs.Prelude.{Option, Some, None}
-use Rattle.std.specs.Option.{option_map}
+use Rattle.std.proofs.Common.{◌≡◌, ℕ, List, [], ◌∷◌, refl, Option, Some, None, option_map}
 use Rattle.folder_calls.specs.Calls.{inode_of}
 use Rattle.memory_folder.specs.Entries.{first_entry_at, found_at, found_of_entry}
 use Rattle.memory_folder.specs.declared.entry.Entry.{Entry}

@@ -1,18 +1,15 @@
 -- Names and counts of a list of files.
-use Rattle.std.proofs.Common.{◌≡◌, ◌≢◌, ◌⊎◌, inl, inr, ⊎_elim, ℕ, ◌+◌, ◌-◌, ◌<◌, ◌≤◌, Bool, true, false, not, ◌||◌, cond, List, [], ◌∷◌, ◌++◌, length, length-drop, take, drop, get_or, refl, sym, ap, ◌∙◌, subst, arith, is_some, Option, None}
+use Rattle.std.proofs.Common.{◌≡◌, ◌≢◌, ◌⊎◌, inl, inr, ⊎_elim, ℕ, ◌+◌, ◌-◌, ◌<◌, ◌≤◌, Bool, true, false, not, ◌||◌, cond, List, [], ◌∷◌, ◌++◌, length, length-drop, take, drop, get_or, refl, sym, ap, ◌∙◌, subst, arith, is_some, Option, None, bytes_eq, Contains}
 use Rattle.std.proofs.lemmas.Bool.{cases_Bool, or_cases, or_right}
 use Rattle.std.proofs.lemmas.List.{drop_more, drop_all, take_all, append_cancel_left}
 use Rattle.std.proofs.lemmas.List.Elements.{Contains-push, Contains-push_cases, Contains-append_left, Contains-append_right}
-use Rattle.std.specs.Prelude.{bytes_eq, Contains}
 use Rattle.std.specs.List.{IsDistinct, AllByRecursion}
 use Rattle.std.specs.FinMap as maps
 use Rattle.std.specs.Cmp.Lexicographic.{nat_list_cmp_total}
 use Rattle.boot_base.specs.Paths.{Path, is_temp, is_file_name, under}
-use Rattle.boot_machine.specs.Disk.{has, view, path_cmp, is_same_path}
+use Rattle.boot_machine.specs.Prelude.{has, view, path_cmp, is_same_path, IsNamesOf, is_listed}
 use Rattle.memory_machine.specs.Entries.{files_of, counts_once}
 use Rattle.boot_machine.specs.proofs.Maps.{is_same_path-true, same_self, same_files}
-use Rattle.boot_machine.specs.Rows.{IsNamesOf}
-use Rattle.boot_machine.specs.Listed.{is_listed}
 use Rattle.memory_machine.specs.declared.files.Entry.{Entry}
 use Rattle.memory_machine.proofs.EntryLemmas.{find, get-files_of}
 use Rattle.boot_machine.proofs.Listing.{bytes-true}

@@ -1,6 +1,5 @@
 -- A name has one reading.
-use Rattle.std.proofs.Common.{◌≡◌, ℕ, ◌<◌, List, ◌∷◌, ◌++◌, ap, sym, ◌∙◌, subst, inl, inr, lit<}
-use Rattle.std.proofs.lemmas.List.{append_assoc, append-nil}
+use Rattle.std.proofs.Common.{◌≡◌, ℕ, ◌<◌, List, ◌∷◌, ◌++◌, ap, sym, ◌∙◌, subst, inl, inr, lit<, append_assoc, append-nil}
 use Rattle.menu_order.specs.declared.counted.Suffix.{Suffix}
 use Rattle.menu_order.specs.Counter.{suffix_text, IsNumber, IsDoneText, IsCounter, IsCounted}
 use Rattle.menu_order.specs.CounterLaws.{OneReading}

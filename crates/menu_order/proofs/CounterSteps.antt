@@ -1,8 +1,7 @@
 -- What each step of reading a name says.
-use Rattle.std.proofs.Common.{◌≡◌, ◌≢◌, ℕ, ◌<◌, ◌^◌, ◌==◌, ◌&&◌, nat_le, not, true, false, List, [], ◌∷◌, ◌++◌, None, Result, Ok, length, take, drop, refl, ap, sym, ◌∙◌, subst, inr, arith, lit<, ⊎_elim}
+use Rattle.std.proofs.Common.{◌≡◌, ◌≢◌, ℕ, ◌<◌, ◌^◌, ◌==◌, ◌&&◌, nat_le, not, true, false, List, [], ◌∷◌, ◌++◌, None, Result, Ok, length, take, drop, refl, ap, sym, ◌∙◌, subst, inr, arith, lit<, ⊎_elim, append-nil, append_assoc, take-append-drop}
 use Rattle.std.proofs.lemmas.Bool.{and_parts, and_from, leb-true, le-leb, eqb-false, ne_eqb, not-true}
 use Rattle.std.proofs.lemmas.Bool.Decides.{nat_tests}
-use Rattle.std.proofs.lemmas.List.{append-nil, append_assoc, take-append-drop}
 use Rattle.std.proofs.lemmas.Str.Parse.{digit_from_value, parse_gives}
 use Rattle.std.proofs.lemmas.Str.Pattern.{NoCharPasses-char, drop_at_char}
 use Rattle.std.specs.Char.{is_ascii_digit, digit_value}

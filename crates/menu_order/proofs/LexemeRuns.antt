@@ -1,13 +1,11 @@
 -- The tokens of a text, from its front.
-use Rattle.std.proofs.Common.{◌≡◌, ℕ, ◌+◌, ◌<◌, Bool, true, false, not, ◌||◌, List, [], ◌∷◌, Option, Some, None, length, take, drop, get_or, refl, ap, sym, ◌∙◌, ⊎_elim, arith, suc, ◌-◌, ◌≢◌}
+use Rattle.std.proofs.Common.{◌≡◌, ℕ, ◌+◌, ◌<◌, Bool, true, false, not, ◌||◌, List, [], ◌∷◌, Option, Some, None, length, take, drop, get_or, refl, ap, sym, ◌∙◌, ⊎_elim, arith, suc, ◌-◌, ◌≢◌, is_some, length-drop, get_or-drop}
 use Rattle.std.proofs.lemmas.Bool.{cases_Bool, cond-true, cond-false, ne_eqb}
 use Rattle.std.proofs.lemmas.Bool.Decides.{nat_tests}
 use Rattle.menu_order.proofs.LexemeFronts.{skip, take_while-yes, take_while-no, skip-yes, skip-no}
 use Rattle.std.specs.Char.{is_ascii_alphabetic, is_ascii_digit, digit_value}
 use Rattle.std.specs.List.{filter_map, cons_option, prefix_len, position_or_len, take_while}
-use Rattle.std.specs.Option.{is_some}
 use Rattle.std.specs.Str.Parse.{AllDigits, digits_value}
-use Rattle.std.proofs.lemmas.List.{length-drop, get_or-drop}
 use Rattle.std.proofs.lemmas.List.Sums.{passes_at_first}
 use Rattle.menu_order.specs.VersionTokens.{Token, Letters, Number, is_one_run, join_run, runs_of, run_token, tokens_of}
 use Rattle.menu_order.specs.Lexemes.{is_of_token}

@@ -1,6 +1,5 @@
 -- Names that are written of what a name was read as.
-use Rattle.std.proofs.Common.{◌≡◌, ◌≤◌, inl, inr, ℕ, List, ◌++◌, Option, Some, None, true, take, length, refl, sym, ap, ◌∙◌}
-use Rattle.std.specs.Prelude.{IfSome, MatchOption}
+use Rattle.std.proofs.Common.{◌≡◌, ◌≤◌, inl, inr, ℕ, List, ◌++◌, Option, Some, None, true, take, length, refl, sym, ap, ◌∙◌, IfSome, MatchOption}
 use Rattle.std.proofs.lemmas.Bool.{cases_Bool}
 use Rattle.std.proofs.Math.Seq.{take-append_seam}
 use Rattle.menu_order.specs.declared.counted.Suffix.{Suffix}

@@ -1,11 +1,9 @@
 -- What is equal in the order of versions, and what decides it.
-use Rattle.std.proofs.Common.{◌≡◌, ◌≢◌, ◌↔◌, ℕ, cond, ◌==◌, List, [], ◌∷◌, ◌++◌, refl, ap, sym, ◌∙◌}
+use Rattle.std.proofs.Common.{◌≡◌, ◌≢◌, ◌↔◌, ℕ, cond, ◌==◌, List, [], ◌∷◌, ◌++◌, refl, ap, sym, ◌∙◌, Ordering, Less, Equal, Greater}
 use Rattle.std.proofs.lemmas.Cmp.{tied_itself, ranked}
 use Rattle.std.proofs.lemmas.List.{append_cancel_right}
 use Rattle.std.specs.Cmp.Lexicographic.{slice_cmp}
 use Rattle.std.specs.Ordering.{nat_cmp, ordering_then}
-use Rattle.std.specs.declared.cmp.Ordering.{Ordering}
-use Rattle.std.specs.declared.cmp.Ordering.TheVariants.{Less, Equal, Greater}
 use Rattle.menu_order.specs.VersionTokens.{Token, Tilde, End, Hyphen, Caret, Dot, Letters, Number, tokens_of}
 use Rattle.menu_order.specs.VersionOrder.{rank_of, letters_of, token_number, token_cmp, to_end, tokens_cmp}
 use Rattle.menu_order.specs.VersionLaws.{EqualTokens, FirstDifference}

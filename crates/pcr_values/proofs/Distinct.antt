@@ -1,14 +1,11 @@
 -- Paths that differ, and registers of banks that differ.
-use Rattle.std.proofs.Common.{◌≡◌, ◌≢◌, ℕ, List, [], ◌∷◌, map, length, suc, refl, sym, ap, ◌∙◌, subst, arith}
-use Rattle.std.specs.List.{AllPairs}
+use Rattle.std.proofs.Common.{◌≡◌, ◌≢◌, ℕ, List, [], ◌∷◌, map, length, suc, refl, sym, ap, ◌∙◌, subst, arith, AllPairs}
 use Rattle.std.proofs.lemmas.List.Elements.{All-cons, All-nil}
 use Rattle.std.proofs.lemmas.List.Kept.{AllPairs-cons}
 use Rattle.std.proofs.Math.ListN.{get_or-map}
 use Rattle.pcr_values.specs.declared.bank.Bank.{Bank}
 use Rattle.pcr_values.specs.declared.pcr.Pcr.{Pcr}
-use Rattle.pcr_values.specs.Values.{pcr_bank}
-use Rattle.pcr_values.specs.ValueLines.{HasDistinctBanks}
-use Rattle.pcr_values.specs.Phases.{HasDistinctPaths, default_phase_paths}
+use Rattle.pcr_values.specs.Prelude.{pcr_bank, HasDistinctBanks, HasDistinctPaths, default_phase_paths}
 
 AllPairs-nil : {A : Type 0} (R : A → A → Type 0) → AllPairs R []
 AllPairs-nil R i j d before inside = absurd (omega arith)

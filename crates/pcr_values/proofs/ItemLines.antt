@@ -1,12 +1,9 @@
 -- The lines of registers, after the words of each path.
-use Rattle.std.proofs.Common.{◌≡◌, ℕ, List, [], ◌∷◌, ◌++◌, map, refl, sym, ap, ◌∙◌}
-use Rattle.std.specs.List.{flat_map}
+use Rattle.std.proofs.Common.{◌≡◌, ℕ, List, [], ◌∷◌, ◌++◌, map, refl, sym, ap, ◌∙◌, flat_map}
 use Rattle.std.proofs.lemmas.List.Sums.{fold-append}
 use Rattle.pcr_values.specs.declared.bank.Bank.{Bank}
 use Rattle.pcr_values.specs.declared.pcr.Pcr.{Pcr}
-use Rattle.pcr_values.specs.Banks.{extend_data, extend_all, fold_of, fold_pcr, zero_of}
-use Rattle.pcr_values.specs.Values.{pcr_value}
-use Rattle.pcr_values.specs.ValueLines.{heading_of, line_after, value_line, value_lines}
+use Rattle.pcr_values.specs.Prelude.{extend_data, extend_all, fold_of, fold_pcr, zero_of, pcr_value, heading_of, line_after, value_line, value_lines}
 
 -- the heading of a path, and the lines of registers after the path's words
 abbrev pub lines_of : List Pcr → List (List ℕ) → List ℕ

@@ -1,8 +1,7 @@
 -- The words of a path, one at a time.
-use Rattle.std.proofs.Common.{◌≡◌, ◌≤◌, ℕ, List, [], ◌∷◌, ◌++◌, length, map, take, ap, sym, ◌∙◌, append-nil}
+use Rattle.std.proofs.Common.{◌≡◌, ◌≤◌, ℕ, List, [], ◌∷◌, ◌++◌, length, map, take, ap, sym, ◌∙◌, append-nil, take_all}
 use Rattle.std.specs.List.{flat_map, join_with_byte}
-use Rattle.std.proofs.lemmas.List.{take_all}
-use Rattle.pcr_values.specs.Phases.{colon, path_text}
+use Rattle.pcr_values.specs.Prelude.{colon, path_text}
 
 -- a word behind the colon before it
 abbrev pub behind_colon : List ℕ → List ℕ

@@ -1,10 +1,9 @@
 -- A printed path reads back as the path that was printed.
-use Rattle.std.proofs.Common.{◌≡◌, ℕ, Bool, true, false, cond, List, [], ◌∷◌, filter, refl, ap, ◌∙◌}
-use Rattle.std.specs.Prelude.{◌==◌}
+use Rattle.std.proofs.Common.{◌≡◌, ℕ, Bool, true, false, cond, List, [], ◌∷◌, filter, refl, ap, ◌∙◌, ◌==◌}
 use Rattle.std.specs.List.{All, AllByRecursion, join_with_byte, onto_first, slice_split}
 use Rattle.std.proofs.lemmas.List.Elements.{All-cons, All-nil}
 use Rattle.std.proofs.lemmas.List.Splits.{slice_split_at, slice_split_none}
-use Rattle.pcr_values.specs.Phases.{colon, is_phase_word, path_text, phase_words}
+use Rattle.pcr_values.specs.Prelude.{colon, is_phase_word, path_text, phase_words}
 
 -- whether a byte is a colon
 abbrev pub is_colon : ℕ → Bool

@@ -1,14 +1,13 @@
 -- The new sections of an image, and the bytes behind the stub.
-use Rattle.std.proofs.Common.{◌≡◌, ◌<◌, ◌≤◌, ◌+◌, ◌-◌, ◌*◌, ◌%◌, ℕ, suc, Bool, true, List, [], ◌∷◌, ◌++◌, length, drop, replicate, map, max, Ok, refl, sym, ap, subst, ◌∙◌, arith, length-append, append_assoc}
+use Rattle.std.proofs.Common.{◌≡◌, ◌<◌, ◌≤◌, ◌+◌, ◌-◌, ◌*◌, ◌%◌, ℕ, suc, Bool, true, List, [], ◌∷◌, ◌++◌, length, drop, replicate, map, max, Ok, refl, sym, ap, subst, ◌∙◌, arith, length-append, append_assoc, append-nil, drop_at}
 use Rattle.std.specs.Int.{next_multiple_of}
 use Rattle.std.specs.List.{list_all, flat_map, AllByRecursion}
-use Rattle.std.proofs.lemmas.List.{append-nil, drop_at}
 use Rattle.std.proofs.lemmas.List.Folds.{list_all-append}
 use Rattle.std.proofs.lemmas.Bool.{and_from, and_parts, le-leb}
 use Rattle.std.proofs.lemmas.Bool.Decides.{nat_tests}
 use Rattle.pe_reader.specs.declared.head.Head.{Head}
 use Rattle.pe_reader.specs.declared.section.Section.{Section}
-use Rattle.pe_reader.specs.Grammar.{check_section, is_in_file, is_apart, section_at, sections_of}
+use Rattle.pe_reader.specs.Prelude.{check_section, is_in_file, is_apart, section_at, sections_of}
 use Rattle.pe_builder.specs.declared.size.WideSize.{WideSize}
 use Rattle.pe_builder.specs.Puts.{pad_to}
 use Rattle.pe_builder.proofs.Rounding.{length-pad_to}

@@ -1,8 +1,6 @@
 -- What the finished image has loaded, by name.
-use Rattle.std.proofs.Common.{◌≡◌, ◌≢◌, ◌<◌, ◌⊎◌, inl, inr, ℕ, Bool, true, false, List, length, set, position, Ok, refl, sym, ap, subst, ◌∙◌, arith}
-use Rattle.std.specs.Prelude.{Option, Some, None, unwrap_or, not, if◌then◌else◌}
+use Rattle.std.proofs.Common.{◌≡◌, ◌≢◌, ◌<◌, ◌⊎◌, inl, inr, ℕ, Bool, true, false, List, length, set, position, Ok, refl, sym, ap, subst, ◌∙◌, arith, Option, Some, None, unwrap_or, not, if◌then◌else◌, bytes_eq}
 use Rattle.std.specs.List.{find, position_or_len}
-use Rattle.std.specs.Str.{bytes_eq}
 use Rattle.std.proofs.lemmas.Bool.{cases_lt, cases_Bool, false≢true}
 use Rattle.std.proofs.lemmas.Bool.Decides.{nat_tests}
 use Rattle.std.proofs.lemmas.Option.{slice_get_past, slice_get-get_or}
@@ -10,9 +8,8 @@ use Rattle.std.proofs.lemmas.List.Folds.{find_at, find-set, find_past}
 use Rattle.std.proofs.lemmas.List.Sums.{passes_at_first, prefix_len-le-length}
 use Rattle.std.proofs.lemmas.Slice.Eq.{bytes_eq-Decides}
 use Rattle.pe_reader.specs.declared.section.Section.{Section}
-use Rattle.pe_reader.specs.Grammar.{Headers, pe_of}
+use Rattle.pe_reader.specs.Prelude.{Headers, pe_of, is_named, section_at_index, no_section, loaded_bytes}
 use Rattle.boot_base.specs.Names.{short_name}
-use Rattle.pe_reader.specs.LoadedBytes.{is_named, section_at_index, no_section, loaded_bytes}
 use Rattle.pe_reader.proofs.Shape.{stages-shape, pe_of-stages}
 use Rattle.pe_builder.proofs.Fits.{FitsSection, HasImage}
 use Rattle.pe_builder.specs.declared.size.WideSize.{WideSize}

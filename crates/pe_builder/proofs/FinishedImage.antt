@@ -1,8 +1,7 @@
 -- The finished image reads as PE.
-use Rattle.std.proofs.Common.{◌≡◌, ◌<◌, ◌≤◌, ℕ, zero, suc, List, [], ◌∷◌, length, set, max, Ok, sym, ap, subst, ◌∙◌, arith}
-use Rattle.std.specs.Prelude.{Option, Some, None, option_map}
+use Rattle.std.proofs.Common.{◌≡◌, ◌<◌, ◌≤◌, ℕ, zero, suc, List, [], ◌∷◌, length, set, max, Ok, sym, ap, subst, ◌∙◌, arith, Option, Some, None, option_map}
 use Rattle.pe_reader.specs.declared.section.Section.{Section}
-use Rattle.pe_reader.specs.Grammar.{Headers, pe_of}
+use Rattle.pe_reader.specs.Prelude.{Headers, pe_of}
 use Rattle.pe_reader.proofs.Shape.{stages-shape, pe_of-stages}
 use Rattle.pe_builder.proofs.Fits.{FitsSection, HasImage}
 use Rattle.pe_builder.specs.declared.size.WideSize.{WideSize}

@@ -1,8 +1,7 @@
 -- What it takes for a stub to have an image, in numbers.
-use Rattle.std.specs.Prelude.{ℕ, ◌+◌, ◌*◌, ◌^◌, ◌<◌, ◌≤◌, List, length, Option, Some, None}
+use Rattle.std.proofs.Common.{ℕ, ◌+◌, ◌*◌, ◌^◌, ◌<◌, ◌≤◌, List, length, Option, Some, None}
 use Rattle.std.specs.List.{AllByRecursion}
-use Rattle.pe_reader.specs.Grammar.{Headers}
-use Rattle.pe_reader.specs.LoadedBytes.{section_at_index}
+use Rattle.pe_reader.specs.Prelude.{Headers, section_at_index}
 use Rattle.pe_builder.specs.declared.size.WideSize.{WideSize}
 use Rattle.pe_builder.specs.Layout.{new_sections, head_with, length_after, FitsPart}
 use Rattle.pe_builder.specs.Replaced.{sbat_index}

@@ -1,13 +1,11 @@
 -- The image reads as PE, with the sections of the stub and the new ones.
-use Rattle.std.proofs.Common.{◌≡◌, ◌<◌, ◌≤◌, ◌+◌, ◌-◌, ◌*◌, ◌^◌, ◌⊎◌, inl, inr, ℕ, List, [], ◌++◌, length, take, drop, map, Ok, refl, sym, ap, subst, ◌∙◌, arith}
-use Rattle.std.specs.List.{flat_map}
+use Rattle.std.proofs.Common.{◌≡◌, ◌<◌, ◌≤◌, ◌+◌, ◌-◌, ◌*◌, ◌^◌, ◌⊎◌, inl, inr, ℕ, List, [], ◌++◌, length, take, drop, map, Ok, refl, sym, ap, subst, ◌∙◌, arith, flat_map}
 use Rattle.std.proofs.lemmas.List.{drop-append-le, take-append-le, length-drop, length-take-le}
 use Rattle.byteorder.specs.Endian.{little_bytes}
 use Rattle.pe_reader.specs.declared.head.Head.{Head}
 use Rattle.pe_reader.specs.declared.head.Coff.{Coff}
-use Rattle.pe_reader.specs.Fields.{u16_at, u32_at, part}
+use Rattle.pe_reader.specs.Prelude.{u16_at, u32_at, part, Headers, pe_of, pe_place_of, sections_of}
 use Rattle.pe_reader.proofs.Places.{u32_at-part, u16_at-part, u32_at-append, u16_at-append}
-use Rattle.pe_reader.specs.Grammar.{Headers, pe_of, pe_place_of, sections_of}
 use Rattle.pe_reader.proofs.Checks.{pe_place_of-more, coff_of-more, optional_of-more, SameButSizes}
 use Rattle.pe_reader.proofs.Tables.{sections_of-more}
 use Rattle.pe_reader.proofs.Shape.{optional_of_is, Stages, Shape, pe_of-stages, pe_of-from_stages, stages-shape}

@@ -1,10 +1,8 @@
 -- A section header reads as the section that it was written from.
-use Rattle.std.proofs.Common.{◌≡◌, ◌<◌, ◌+◌, ◌^◌, ℕ, List, ◌++◌, length, take, replicate, ap, ◌∙◌, arith, length-append, append_assoc}
-use Rattle.std.proofs.lemmas.List.{take_at}
+use Rattle.std.proofs.Common.{◌≡◌, ◌<◌, ◌+◌, ◌^◌, ℕ, List, ◌++◌, length, take, replicate, ap, ◌∙◌, arith, length-append, append_assoc, take_at}
 use Rattle.byteorder.specs.Endian.{little_bytes}
 use Rattle.pe_reader.specs.declared.section.Section.{Section}
-use Rattle.pe_reader.specs.Fields.{u32_at}
-use Rattle.pe_reader.specs.Grammar.{section_at}
+use Rattle.pe_reader.specs.Prelude.{u32_at, section_at}
 use Rattle.pe_reader.proofs.Places.{u32_at-skip, u32_at-bytes}
 use Rattle.pe_builder.specs.Image.{section_header}
 

@@ -1,16 +1,13 @@
 -- What an image has loaded.
-use Rattle.std.proofs.Common.{◌≡◌, ◌≤◌, ◌+◌, ◌-◌, ◌⊎◌, inl, inr, ℕ, Bool, true, false, List, [], ◌∷◌, ◌++◌, length, take, drop, replicate, map, min, cond, Option, Some, Ok, refl, sym, ap, ◌∙◌, arith, length-append, append_assoc}
+use Rattle.std.proofs.Common.{◌≡◌, ◌≤◌, ◌+◌, ◌-◌, ◌⊎◌, inl, inr, ℕ, Bool, true, false, List, [], ◌∷◌, ◌++◌, length, take, drop, replicate, map, min, cond, Option, Some, Ok, refl, sym, ap, ◌∙◌, arith, length-append, append_assoc, bytes_eq}
 use Rattle.std.specs.Int.{next_multiple_of}
 use Rattle.std.specs.List.{list_all, find}
-use Rattle.std.specs.Str.{bytes_eq}
 use Rattle.std.proofs.lemmas.List.{append-nil, drop_at, take_at, take-append-le, drop-append-le, length-drop}
 use Rattle.std.proofs.lemmas.Bool.{and_parts, cases_Bool}
 use Rattle.std.proofs.lemmas.Bool.Decides.{nat_tests}
 use Rattle.pe_reader.specs.declared.head.Head.{Head}
 use Rattle.pe_reader.specs.declared.section.Section.{Section}
-use Rattle.pe_reader.specs.Fields.{part}
-use Rattle.pe_reader.specs.Grammar.{Headers, pe_of, is_in_file}
-use Rattle.pe_reader.specs.LoadedBytes.{is_named, loaded_by, loaded_of, loaded_in, loaded_bytes}
+use Rattle.pe_reader.specs.Prelude.{part, Headers, pe_of, is_in_file, is_named, loaded_by, loaded_of, loaded_in, loaded_bytes}
 use Rattle.pe_reader.proofs.Shape.{Shape, pe_of-stages, stages-shape}
 use Rattle.uki_parts.specs.Names.{name_bytes}
 use Rattle.pe_builder.proofs.Fits.{HasImage}

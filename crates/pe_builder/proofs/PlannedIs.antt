@@ -1,14 +1,12 @@
 -- A plan that was made is that of the image.
-use Rattle.std.proofs.Common.{◌≡◌, ◌<◌, ◌≤◌, ◌+◌, ◌-◌, ◌*◌, ℕ, List, ◌++◌, length, map, replicate, Ok, refl, sym, ap, subst, ◌∙◌, arith, length-append}
-use Rattle.std.specs.Prelude.{Option, Some, None, option_map, Result, Err, IfOk}
+use Rattle.std.proofs.Common.{◌≡◌, ◌<◌, ◌≤◌, ◌+◌, ◌-◌, ◌*◌, ℕ, List, ◌++◌, length, map, replicate, Ok, refl, sym, ap, subst, ◌∙◌, arith, length-append, Option, Some, None, option_map, Result, Err, IfOk}
 use Rattle.std.specs.List.{AllByRecursion, flat_map}
 use Rattle.std.specs.Int.{next_multiple_of}
 use Rattle.std.proofs.lemmas.List.{length-replicate}
 use Rattle.byteorder.specs.Endian.{little_bytes}
 use Rattle.pe_reader.specs.declared.head.Head.{Head}
 use Rattle.pe_reader.specs.declared.section.Section.{Section}
-use Rattle.pe_reader.specs.Grammar.{Headers, pe_of, is_in_file}
-use Rattle.pe_reader.specs.LoadedBytes.{section_at_index, no_section}
+use Rattle.pe_reader.specs.Prelude.{Headers, pe_of, is_in_file, section_at_index, no_section}
 use Rattle.pe_reader.proofs.Shape.{Shape, stages-shape, pe_of-stages}
 use Rattle.pe_reader.proofs.Tables.{at_list_all}
 use Rattle.pe_builder.proofs.Fits.{FitsSbat}

@@ -2,7 +2,7 @@
 use Rattle.std.proofs.Common.{◌≡◌, ◌<◌, ◌≤◌, ◌+◌, ◌-◌, ◌^◌, ℕ, List, ◌++◌, length, take, drop, refl, sym, ap, ◌∙◌, arith, length-append, length-drop, length-take, append_assoc}
 use Rattle.std.proofs.lemmas.List.{take-append-le, drop_at, drop-drop, drop-take, take-take, length-take-le}
 use Rattle.byteorder.specs.Endian.{little_bytes}
-use Rattle.pe_reader.specs.Fields.{u16_at, u32_at, part}
+use Rattle.pe_reader.specs.Prelude.{u16_at, u32_at, part}
 use Rattle.pe_reader.proofs.Places.{u32_at-skip, u16_at-skip, u32_at-bytes, u16_at-bytes, u32_at-append, u16_at-append, u32_at-take, u16_at-take}
 use Rattle.pe_builder.specs.Puts.{put}
 

@@ -5,9 +5,7 @@ use Rattle.std.proofs.lemmas.Bool.{cases_lt}
 use Rattle.std.proofs.lemmas.Bool.Decides.{nat_tests}
 use Rattle.byteorder.specs.Endian.{little_bytes}
 use Rattle.pe_reader.specs.declared.section.Section.{Section}
-use Rattle.pe_reader.specs.Fields.{part}
-use Rattle.pe_reader.specs.Grammar.{Headers, pe_of, is_in_file, is_apart}
-use Rattle.pe_reader.specs.LoadedBytes.{section_at_index, no_section, loaded_by}
+use Rattle.pe_reader.specs.Prelude.{part, Headers, pe_of, is_in_file, is_apart, section_at_index, no_section, loaded_by}
 use Rattle.pe_reader.proofs.Tables.{AllApart, sections_of-apart, at_list_all}
 use Rattle.pe_reader.proofs.Shape.{pe_of-stages, stages-shape}
 use Rattle.pe_builder.proofs.Fits.{FitsSection}

@@ -9,9 +9,7 @@ use Rattle.std.proofs.lemmas.Bool.{and_parts}
 use Rattle.std.proofs.lemmas.Bool.Decides.{nat_tests}
 use Rattle.byteorder.specs.Endian.{little_bytes}
 use Rattle.pe_reader.specs.declared.section.Section.{Section}
-use Rattle.pe_reader.specs.Fields.{u32_at, part}
-use Rattle.pe_reader.specs.Grammar.{◌>>=◌, Headers, pe_of, pe_place_of, coff_of, optional_of, check_section, is_in_file, is_apart, section_at, sections_of}
-use Rattle.pe_reader.specs.LoadedBytes.{section_at_index, no_section}
+use Rattle.pe_reader.specs.Prelude.{u32_at, part, ◌>>=◌, Headers, pe_of, pe_place_of, coff_of, optional_of, check_section, is_in_file, is_apart, section_at, sections_of, section_at_index, no_section}
 use Rattle.pe_reader.proofs.Checks.{bind_ok}
 use Rattle.pe_reader.proofs.Tables.{sections_of-more, sections_of-split, sections_of-rest, section_at-append, checked_is}
 use Rattle.pe_reader.proofs.Shape.{optional_of_is, Shape, pe_of-stages, pe_of-from_stages, stages-shape}

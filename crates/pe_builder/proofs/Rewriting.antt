@@ -1,7 +1,7 @@
 -- Where rewritten headers agree with the stub's.
 use Rattle.std.proofs.Common.{◌≡◌, ◌≤◌, ◌+◌, ◌-◌, ◌⊎◌, inl, inr, ℕ, List, ◌++◌, length, take, drop, refl, sym, ap, ◌∙◌, arith, length-append, length-drop, append_assoc}
 use Rattle.std.proofs.lemmas.List.{drop-append-le, drop-drop, drop-take, take_at, length-take-le}
-use Rattle.pe_reader.specs.Fields.{u16_at, u32_at, part}
+use Rattle.pe_reader.specs.Prelude.{u16_at, u32_at, part}
 use Rattle.pe_reader.proofs.Places.{u32_at-part, u16_at-part}
 use Rattle.pe_builder.specs.Puts.{put}
 use Rattle.pe_builder.proofs.Putting.{part-put_before, part-put_behind}

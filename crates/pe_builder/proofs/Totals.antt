@@ -1,6 +1,5 @@
 -- The sums behind the new sections.
-use Rattle.std.proofs.Common.{◌≡◌, ◌<◌, ◌≤◌, ◌+◌, ◌*◌, ℕ, zero, suc, max, List, [], ◌∷◌, ◌++◌, length, take, drop, set, refl, sym, ap, subst, ◌∙◌, arith}
-use Rattle.std.specs.Prelude.{Bool, true, false, Option, Some, None, sum_by}
+use Rattle.std.proofs.Common.{◌≡◌, ◌<◌, ◌≤◌, ◌+◌, ◌*◌, ℕ, zero, suc, max, List, [], ◌∷◌, ◌++◌, length, take, drop, set, refl, sym, ap, subst, ◌∙◌, arith, Bool, true, false, Option, Some, None, sum_by}
 use Rattle.pe_builder.proofs.Fits.{FitsSbat, HasImage}
 use Rattle.pe_builder.specs.declared.fault.LayoutFault.{LayoutFault}
 use Rattle.pe_builder.specs.declared.fault.LayoutFault.TheVariants.{SignedStub}
@@ -8,9 +7,8 @@ use Rattle.std.specs.List.{AllByRecursion}
 use Rattle.std.proofs.lemmas.Bool.Decides.{nat_tests}
 use Rattle.std.proofs.lemmas.List.Sums.{sum_by-cons}
 use Rattle.std.specs.Int.{next_multiple_of}
-use Rattle.pe_reader.specs.Grammar.{Headers}
+use Rattle.pe_reader.specs.Prelude.{Headers, ReadFrom, headers_of}
 use Rattle.pe_reader.specs.declared.pe.Pe.{Pe}
-use Rattle.pe_reader.specs.Reads.{ReadFrom, headers_of}
 use Rattle.pe_reader.proofs.Shape.{stages-shape, pe_of-stages}
 use Rattle.pe_reader.specs.declared.head.Head.{Head}
 use Rattle.pe_reader.specs.declared.section.Section.{Section}

@@ -6,7 +6,7 @@ use Rattle.std.specs.Int.{is_power_of_two}
 use lib.Count.{ones, ones_in}
 use Rattle.pe_reader.specs.declared.head.Head.{Head}
 use Rattle.pe_reader.specs.declared.head.Coff.{Coff}
-use Rattle.pe_reader.specs.Grammar.{Headers, pe_of, optional_of, is_alignment}
+use Rattle.pe_reader.specs.Prelude.{Headers, pe_of, optional_of, is_alignment}
 use Rattle.pe_reader.proofs.Shape.{pe_of-stages}
 
 -- no bit of 0 is set

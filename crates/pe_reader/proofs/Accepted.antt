@@ -1,14 +1,11 @@
 -- The grammar and the nineteen facts, each from the other.
-use Rattle.std.proofs.Common.{◌≡◌, ◌≤◌, ◌+◌, ◌*◌, ℕ, nat_le, List, [], length, Ok, Err, Result, subst, refl, sym, ap, ◌∙◌, arith}
-use Rattle.std.specs.Prelude.{IsOk, ◌↔◌, if◌then◌else◌}
+use Rattle.std.proofs.Common.{◌≡◌, ◌≤◌, ◌+◌, ◌*◌, ℕ, nat_le, List, [], length, Ok, Err, Result, subst, refl, sym, ap, ◌∙◌, arith, IsOk, ◌↔◌, if◌then◌else◌}
 use Rattle.std.proofs.lemmas.Bool.Decides.{nat_tests}
 use Rattle.pe_reader.specs.declared.fault.FailedCheck.{FailedCheck}
 use Rattle.pe_reader.specs.declared.head.Head.{Head}
 use Rattle.pe_reader.specs.declared.head.Coff.{Coff}
 use Rattle.pe_reader.specs.declared.section.Section.{Section}
-use Rattle.pe_reader.specs.Fields.{u16_at, u32_at, part}
-use Rattle.pe_reader.specs.Grammar.{Headers, pe_of, pe_place_of, coff_of, optional_of, sections_of}
-use Rattle.pe_reader.specs.Facts.{IsPe, Describes, signature_place, optional_place, section_count, optional_size, table_place, section_alignment, file_alignment, header_size, directory_count, section_in}
+use Rattle.pe_reader.specs.Prelude.{u16_at, u32_at, part, Headers, pe_of, pe_place_of, coff_of, optional_of, sections_of, IsPe, Describes, signature_place, optional_place, section_count, optional_size, table_place, section_alignment, file_alignment, header_size, directory_count, section_in}
 use Rattle.pe_reader.proofs.Places.{u16_at-part, u32_at-part}
 use Rattle.pe_reader.proofs.Shape.{Stages, pe_of-stages, pe_of-from_stages}
 use Rattle.pe_reader.proofs.TableFacts.{table_sections}

@@ -7,8 +7,7 @@ use Rattle.std.proofs.lemmas.Bool.Decides.{nat_tests}
 use Rattle.pe_reader.specs.declared.head.Head.{Head}
 use Rattle.pe_reader.specs.declared.head.Coff.{Coff}
 use Rattle.pe_reader.specs.declared.pe.Pe.{Pe}
-use Rattle.pe_reader.specs.Grammar.{Headers, optional_of, is_alignment}
-use Rattle.pe_reader.specs.Reads.{ReadFrom, headers_of}
+use Rattle.pe_reader.specs.Prelude.{Headers, optional_of, is_alignment, ReadFrom, headers_of}
 use Rattle.pe_reader.proofs.Shape.{pe_of-stages, stages-shape}
 
 pub record Bounds (h : Headers) (size : ℕ) : Type 0 where

@@ -5,8 +5,7 @@ use Rattle.pe_reader.specs.declared.reason.PeReason.{PeReason}
 use Rattle.pe_reader.specs.declared.fault.FailedCheck.{FailedCheck}
 use Rattle.pe_reader.specs.declared.head.Head.{Head}
 use Rattle.pe_reader.specs.declared.head.Coff.{Coff}
-use Rattle.pe_reader.specs.Fields.{u16_at, u32_at}
-use Rattle.pe_reader.specs.Grammar.{check_before, ◌>>=◌, pe_place_of, coff_of, optional_of}
+use Rattle.pe_reader.specs.Prelude.{u16_at, u32_at, check_before, ◌>>=◌, pe_place_of, coff_of, optional_of}
 
 -- a check that was passed
 pub demand_ok : {A : Type 0} (b : Bool) (r : PeReason) (o : ℕ) (rest : Result A FailedCheck) (x : A)

@@ -3,10 +3,7 @@ use Rattle.std.proofs.Common.{◌≡◌, ◌<◌, ◌≤◌, ◌+◌, ◌*◌, �
 use Rattle.std.proofs.lemmas.Bool.{cases_lt}
 use Rattle.std.proofs.lemmas.Bool.Decides.{nat_tests}
 use Rattle.pe_reader.specs.declared.section.Section.{Section}
-use Rattle.pe_reader.specs.Fields.{part}
-use Rattle.pe_reader.specs.Grammar.{sections_of, is_in_file, is_apart}
-use Rattle.pe_reader.specs.LoadedBytes.{no_section}
-use Rattle.pe_reader.specs.Facts.{IsInside, AreApart, section_from}
+use Rattle.pe_reader.specs.Prelude.{part, sections_of, is_in_file, is_apart, no_section, IsInside, AreApart, section_from}
 use Rattle.pe_reader.proofs.Tables.{AllApart, at_list_all, sections_of-apart}
 use Rattle.pe_reader.proofs.TableFacts.{passes, table_sections, length-table_sections, get_or-table_sections, list_all-from, sections_of-table, sections_of-from}
 use Rattle.pe_reader.proofs.FieldPlaces.{section_at-table}

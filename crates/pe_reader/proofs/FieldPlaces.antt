@@ -1,14 +1,11 @@
 -- The stages of the reading, by the numbers that stand at the fields' places.
-use Rattle.std.proofs.Common.{◌≡◌, ◌<◌, ◌≤◌, ◌+◌, ◌-◌, ◌*◌, ℕ, true, nat_le, List, take, drop, Ok, refl, ap, ◌∙◌, arith}
-use Rattle.std.specs.Prelude.{if◌then◌else◌}
+use Rattle.std.proofs.Common.{◌≡◌, ◌<◌, ◌≤◌, ◌+◌, ◌-◌, ◌*◌, ℕ, true, nat_le, List, take, drop, Ok, refl, ap, ◌∙◌, arith, if◌then◌else◌}
 use Rattle.std.specs.Int.{is_power_of_two}
 use Rattle.std.proofs.lemmas.Bool.Decides.{nat_tests}
 use Rattle.std.proofs.lemmas.List.{drop-drop, drop-take, take-take}
 use Rattle.pe_reader.specs.declared.head.Head.{Head}
 use Rattle.pe_reader.specs.declared.head.Coff.{Coff}
-use Rattle.pe_reader.specs.Fields.{u16_at, u32_at, part}
-use Rattle.pe_reader.specs.Grammar.{pe_place_of, coff_of, optional_of, section_at}
-use Rattle.pe_reader.specs.Facts.{section_from}
+use Rattle.pe_reader.specs.Prelude.{u16_at, u32_at, part, pe_place_of, coff_of, optional_of, section_at, section_from}
 use Rattle.pe_reader.proofs.Places.{u32_at-part}
 
 -- the place of the PE header, by the two numbers that are looked at

@@ -4,8 +4,7 @@ use Rattle.std.specs.List.{find, position_or_len, slice_get}
 use Rattle.std.proofs.lemmas.List.Folds.{find_at}
 use Rattle.std.proofs.lemmas.Bool.Decides.{nat_tests}
 use Rattle.pe_reader.specs.declared.section.Section.{Section}
-use Rattle.pe_reader.specs.Grammar.{Headers, pe_of}
-use Rattle.pe_reader.specs.LoadedBytes.{is_named, section_at_index, no_section, loaded_bytes, loaded_by, loaded_in, loaded_of}
+use Rattle.pe_reader.specs.Prelude.{Headers, pe_of, is_named, section_at_index, no_section, loaded_bytes, loaded_by, loaded_in, loaded_of}
 
 at_slice_get : (xs : List Section) (i : ℕ) → i < length xs → slice_get xs i ≡ Some (get_or xs i no_section)
 at_slice_get [] i h = absurd (omega arith)

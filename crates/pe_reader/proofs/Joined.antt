@@ -5,9 +5,7 @@ use Rattle.std.proofs.Math.Seq.{take-length}
 use Rattle.pe_reader.specs.declared.head.Head.{Head}
 use Rattle.pe_reader.specs.declared.head.Coff.{Coff}
 use Rattle.pe_reader.specs.declared.pe.Pe.{Pe}
-use Rattle.pe_reader.specs.Fields.{part}
-use Rattle.pe_reader.specs.Grammar.{Headers, pe_place_of, coff_of, optional_of, sections_of, head_of, pe_of}
-use Rattle.pe_reader.specs.Reads.{FromBytes, HeadFrom, ReadFrom, headers_of}
+use Rattle.pe_reader.specs.Prelude.{part, Headers, pe_place_of, coff_of, optional_of, sections_of, head_of, pe_of, FromBytes, HeadFrom, ReadFrom, headers_of}
 use Rattle.pe_reader.proofs.Shape.{pe_place_of_is, optional_of_is}
 
 -- the part that stands between two others

@@ -1,9 +1,8 @@
 -- The stages of a file that is read in parts.
 use Rattle.std.proofs.Common.{◌≡◌, ◌≤◌, ◌+◌, ℕ, List, length, drop, sym, ◌∙◌, arith, length-drop}
-use Rattle.boot_machine.specs.Reading.{fill_with_zeros}
+use Rattle.boot_machine.specs.Prelude.{fill_with_zeros}
 use Rattle.boot_machine.proofs.Filling.{fill_with_zeros-inside}
-use Rattle.pe_reader.specs.Fields.{part}
-use Rattle.pe_reader.specs.Grammar.{pe_place_of, coff_of}
+use Rattle.pe_reader.specs.Prelude.{part, pe_place_of, coff_of}
 use Rattle.pe_reader.proofs.Checks.{pe_place_of-same, coff_of-same}
 
 -- no zero stands in a part that is whole

@@ -3,7 +3,7 @@ use Rattle.std.proofs.Common.{◌≡◌, ◌<◌, ◌≤◌, ◌+◌, ◌-◌, �
 use Rattle.std.proofs.lemmas.List.{drop-append-le, drop_at, drop-drop, drop-take}
 use Rattle.byteorder.specs.Endian.{little_number, little_bytes}
 use Rattle.byteorder.specs.Numbers.{little_number-reads_back, little_from-append, little_from-take}
-use Rattle.pe_reader.specs.Fields.{u16_at, u32_at, part}
+use Rattle.pe_reader.specs.Prelude.{u16_at, u32_at, part}
 
 -- a number within the first of two lists
 pub u32_at-append : (xs ys : List ℕ) (i : ℕ) → i + 4 ≤ length xs → u32_at (xs ++ ys) i ≡ u32_at xs i

@@ -1,15 +1,12 @@
 -- The range of a file that a section's loaded bytes stand in.
-use Rattle.std.proofs.Common.{◌≡◌, ◌<◌, ◌≤◌, ◌+◌, ℕ, zero, suc, Bool, true, List, [], ◌∷◌, length, drop, Ok, ap, ◌∙◌, arith, length-append, length-drop}
-use Rattle.std.specs.Prelude.{replicate}
+use Rattle.std.proofs.Common.{◌≡◌, ◌<◌, ◌≤◌, ◌+◌, ℕ, zero, suc, Bool, true, List, [], ◌∷◌, length, drop, Ok, ap, ◌∙◌, arith, length-append, length-drop, replicate}
 use Rattle.std.specs.List.{list_all}
 use Rattle.std.proofs.lemmas.Bool.{and_parts}
 use Rattle.std.proofs.lemmas.Bool.Decides.{nat_tests}
 use Rattle.std.proofs.lemmas.List.{length-take-le, length-replicate}
 use Rattle.pe_reader.specs.declared.section.Section.{Section}
 use Rattle.pe_reader.specs.declared.section.LoadedRange.{LoadedRange}
-use Rattle.pe_reader.specs.Fields.{part}
-use Rattle.pe_reader.specs.Grammar.{Headers, pe_of, is_in_file}
-use Rattle.pe_reader.specs.LoadedBytes.{section_at_index, range_of, bytes_in}
+use Rattle.pe_reader.specs.Prelude.{part, Headers, pe_of, is_in_file, section_at_index, range_of, bytes_in}
 use Rattle.pe_reader.proofs.Shape.{pe_of-stages, stages-shape}
 
 pub length-bytes_in : (file : List ℕ) (r : LoadedRange) → r.length ≤ length (drop r.place file) → length (bytes_in file r) ≡ r.length + r.zeros

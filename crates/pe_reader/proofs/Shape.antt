@@ -5,8 +5,7 @@ use Rattle.std.proofs.lemmas.Bool.Decides.{nat_tests}
 use Rattle.pe_reader.specs.declared.head.Head.{Head}
 use Rattle.pe_reader.specs.declared.head.Coff.{Coff}
 use Rattle.pe_reader.specs.declared.section.Section.{Section}
-use Rattle.pe_reader.specs.Fields.{part}
-use Rattle.pe_reader.specs.Grammar.{Headers, pe_place_of, coff_of, optional_of, sections_of, head_of, pe_of, is_in_file}
+use Rattle.pe_reader.specs.Prelude.{part, Headers, pe_place_of, coff_of, optional_of, sections_of, head_of, pe_of, is_in_file}
 use Rattle.pe_reader.proofs.Checks.{bind_ok}
 use Rattle.pe_reader.proofs.Tables.{sections_of-in_file, sections_of-length}
 

@@ -2,7 +2,7 @@
 use Rattle.std.proofs.Common.{◌≡◌, ◌<◌, ◌+◌, ◌*◌, ◌-◌, ℕ, zero, suc, List, [], ◌∷◌, ◌++◌, drop, Ok, Err, refl, arith}
 use Rattle.pe_reader.specs.declared.section.Section.{Section}
 use Rattle.pe_reader.specs.declared.fault.FailedCheck.{FailedCheck}
-use Rattle.pe_reader.specs.Grammar.{sections_of, check_section, section_at}
+use Rattle.pe_reader.specs.Prelude.{sections_of, check_section, section_at}
 
 -- one header more
 pub sections_of-step : (size header_size left place : ℕ) (earlier : List Section) (table : List ℕ) (s : Section)

@@ -8,8 +8,7 @@ use Rattle.stub_replay.specs.Measured.{section_items}
 use Rattle.stub_replay.proofs.Ranges.{items_none, items_some}
 use Rattle.pcr_values.specs.declared.bank.Bank.{Bank}
 use Rattle.pcr_values.specs.declared.pcr.Pcr.{Pcr}
-use Rattle.pcr_values.specs.Banks.{fold_pcr}
-use Rattle.pcr_values.specs.Values.{pcr_bank, pcr_value}
+use Rattle.pcr_values.specs.Prelude.{fold_pcr, pcr_bank, pcr_value}
 use Rattle.stub_replay.specs.declared.measurable.Content.{Content}
 use Rattle.stub_replay.specs.declared.measurable.Measurable.{Measurable}
 use Rattle.stub_replay.specs.declared.register.Register.{Register}

@@ -1,13 +1,11 @@
 -- Parts in an order of distinct names.
-use Rattle.std.proofs.Common.{◌≡◌, inl, inr, ℕ, Bool, false, List, [], ◌∷◌, ◌++◌, refl, sym, ap, ◌∙◌, rules}
-use Rattle.std.specs.Prelude.{Option, Some, None, if◌then◌else◌}
+use Rattle.std.proofs.Common.{◌≡◌, inl, inr, ℕ, Bool, false, List, [], ◌∷◌, ◌++◌, refl, sym, ap, ◌∙◌, rules, Option, Some, None, if◌then◌else◌, bytes_eq}
 use Rattle.std.specs.List.{flat_map, zip, AllByRecursion, IsDistinct}
-use Rattle.std.specs.Str.{bytes_eq}
 use Rattle.std.proofs.lemmas.Bool.{cases_Bool, false≢true}
 use Rattle.std.proofs.lemmas.Slice.Eq.{bytes_eq-Decides}
 use Rattle.std.proofs.lemmas.Map.Keys.{IsDistinct-head, IsDistinct-tail}
 use Rattle.pcr_values.specs.declared.bank.Bank.{Bank}
-use Rattle.pcr_values.specs.Banks.{fold_of}
+use Rattle.pcr_values.specs.Prelude.{fold_of}
 use Rattle.stub_replay.specs.Measured.{measured_names, measured_by, section_items, predicted_pcr}
 use Rattle.stub_replay.proofs.Predicting.{same_items}
 use Rattle.stub_replay.specs.Parts.{items_of}

@@ -1,11 +1,9 @@
 -- What is predicted from parts is what a stub measures of an image that shows them.
-use Rattle.std.proofs.Common.{◌≡◌, ℕ, List, [], ◌∷◌, ◌++◌, refl, sym, ap, ◌∙◌}
-use Rattle.std.specs.Prelude.{Option}
+use Rattle.std.proofs.Common.{◌≡◌, ℕ, List, [], ◌∷◌, ◌++◌, refl, sym, ap, ◌∙◌, Option}
 use Rattle.std.specs.List.{flat_map, AllByRecursion}
-use Rattle.pe_reader.specs.Grammar.{Headers}
-use Rattle.pe_reader.specs.LoadedBytes.{loaded_bytes}
+use Rattle.pe_reader.specs.Prelude.{Headers, loaded_bytes}
 use Rattle.pcr_values.specs.declared.bank.Bank.{Bank}
-use Rattle.pcr_values.specs.Banks.{fold_of}
+use Rattle.pcr_values.specs.Prelude.{fold_of}
 use Rattle.pe_builder.specs.declared.size.WideSize.{WideSize}
 use Rattle.pe_builder.specs.Image.{finished_image}
 use Rattle.pe_builder.specs.Laws.{HasFinished}

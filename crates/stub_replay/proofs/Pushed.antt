@@ -1,7 +1,5 @@
 -- Parts behind which the part of one more name is put, if its content is given.
-use Rattle.std.proofs.Common.{◌≡◌, ℕ, List, [], ◌++◌, Bor, map, refl, ap, ◌∙◌, append-nil}
-use Rattle.std.specs.Prelude.{All, IfSome, Option, Some, None}
-use Rattle.std.specs.Option.{option_map}
+use Rattle.std.proofs.Common.{◌≡◌, ℕ, List, [], ◌++◌, Bor, map, refl, ap, ◌∙◌, append-nil, All, IfSome, Option, Some, None, option_map}
 use Rattle.std.proofs.lemmas.Grind.{flat_map-append}
 use Rattle.std.proofs.lemmas.List.{map-append}
 use Rattle.std.proofs.lemmas.List.Elements.{All-append, All-cons, All-nil}

@@ -1,13 +1,11 @@
 -- The loaded bytes of a section, by the range of the file that they stand in, and what is measured of them.
-use Rattle.std.proofs.Common.{◌≡◌, ◌<◌, ◌≤◌, ℕ, List, [], ◌∷◌, ◌++◌, length, drop, Ok, refl, sym, ap, subst, ◌∙◌, arith}
-use Rattle.std.specs.Prelude.{Some, position}
+use Rattle.std.proofs.Common.{◌≡◌, ◌<◌, ◌≤◌, ℕ, List, [], ◌∷◌, ◌++◌, length, drop, Ok, refl, sym, ap, subst, ◌∙◌, arith, Some, position}
 use Rattle.pe_reader.specs.declared.section.LoadedRange.{LoadedRange}
-use Rattle.pe_reader.specs.Grammar.{Headers, pe_of}
-use Rattle.pe_reader.specs.LoadedBytes.{is_named, section_at_index, range_of, bytes_in, loaded_bytes}
+use Rattle.pe_reader.specs.Prelude.{Headers, pe_of, is_named, section_at_index, range_of, bytes_in, loaded_bytes}
 use Rattle.pe_reader.proofs.Finding.{loaded_bytes-found}
 use Rattle.pe_reader.proofs.Ranges.{length-bytes_in, range_inside}
 use Rattle.pcr_values.specs.declared.bank.Bank.{Bank}
-use Rattle.pcr_values.specs.Banks.{digest_of, extend_data, extend_digest, extend_all}
+use Rattle.pcr_values.specs.Prelude.{digest_of, extend_data, extend_digest, extend_all}
 use Rattle.stub_replay.specs.Measured.{section_items}
 
 pub items_none : (name bytes : List ℕ) → length bytes ≡ 0 → section_items name bytes ≡ []

@@ -1,14 +1,10 @@
 -- The sections of an image that registers measure.
-use Rattle.std.proofs.Common.{◌≡◌, ◌<◌, ◌≤◌, ◌+◌, ℕ, List, [], ◌∷◌, ◌++◌, length, drop, slice_index_or, Ok, sym, ap, subst, ◌∙◌, arith}
-use Rattle.std.specs.Prelude.{Some, None, position}
+use Rattle.std.proofs.Common.{◌≡◌, ◌<◌, ◌≤◌, ◌+◌, ℕ, List, [], ◌∷◌, ◌++◌, length, drop, slice_index_or, Ok, sym, ap, subst, ◌∙◌, arith, Some, None, position}
 use Rattle.std.specs.List.{AllZip}
 use Rattle.pe_reader.specs.declared.section.LoadedRange.{LoadedRange}
-use Rattle.pe_reader.specs.Grammar.{Headers, pe_of}
-use Rattle.pe_reader.specs.LoadedBytes.{is_named, section_at_index, range_of, bytes_in, loaded_bytes}
+use Rattle.pe_reader.specs.Prelude.{Headers, pe_of, is_named, section_at_index, range_of, bytes_in, loaded_bytes}
 use Rattle.pcr_values.specs.declared.bank.Bank.{Bank}
-use Rattle.pcr_values.specs.Banks.{fold_of}
-use Rattle.pcr_values.specs.Hashes.{HoldsData}
-use Rattle.pcr_values.specs.Values.{pcr_bank, pcr_bytes}
+use Rattle.pcr_values.specs.Prelude.{fold_of, HoldsData, pcr_bank, pcr_bytes}
 use Rattle.stub_replay.specs.declared.register.Register.{Register}
 use Rattle.stub_replay.specs.Measured.{found_raw_length, named_raw_length, section_items, measured_names, measured_by, measured_list}
 use Rattle.stub_replay.specs.Registers.{AllHold, Holds, Takes, Extends}

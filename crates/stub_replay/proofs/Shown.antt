@@ -1,9 +1,7 @@
 -- What boot sees of a file.
 use Rattle.std.proofs.Common.{◌≡◌, ℕ, List, [], false, Option, unwrap_or, ap}
 use Rattle.boot_base.specs.Paths.{Path, is_temp}
-use Rattle.boot_machine.specs.Disk.{State}
-use Rattle.boot_machine.specs.Rows.{contents}
-use Rattle.boot_machine.specs.Sent.{seen}
+use Rattle.boot_machine.specs.Prelude.{State, contents, seen}
 use Rattle.boot_machine.proofs.Views.{get-view_shown}
 
 -- what boot sees of a file that isn't temporary is what stands there

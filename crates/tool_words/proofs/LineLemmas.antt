@@ -1,7 +1,5 @@
 -- The words of a line, one character after another.
-use Rattle.std.proofs.Common.{◌≡◌, ℕ, ◌+◌, ◌<◌, Bool, false, cond, not, List, [], ◌∷◌, ◌++◌, length, drop, get_or, Option, Some, None, unwrap_or, string_bytes, String, refl, ap, sym, ◌∙◌, inl, inr, append_assoc}
-use Rattle.std.specs.Option.{option_map}
-use Rattle.std.specs.Prelude.{encode_utf8}
+use Rattle.std.proofs.Common.{◌≡◌, ℕ, ◌+◌, ◌<◌, Bool, false, cond, not, List, [], ◌∷◌, ◌++◌, length, drop, get_or, Option, Some, None, unwrap_or, string_bytes, String, refl, ap, sym, ◌∙◌, inl, inr, append_assoc, option_map, encode_utf8}
 use Rattle.std.specs.List.{slice_split, onto_first}
 use Rattle.std.specs.declared.alloc.Global.{Global}
 use Rattle.std.proofs.lemmas.Bool.{cases_Bool}

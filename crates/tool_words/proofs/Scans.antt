@@ -1,8 +1,6 @@
 -- Reading the items of words from the left: what is read so far, and what is still to come.
-use Rattle.std.proofs.Common.{arith, length, String, ◌≡◌, List, [], ◌∷◌, ◌++◌, map, Bool, Ok, refl, ap, ◌∙◌}
-use Rattle.std.specs.Prelude.{◌||◌}
+use Rattle.std.proofs.Common.{arith, length, String, ◌≡◌, List, [], ◌∷◌, ◌++◌, map, Bool, Ok, refl, ap, ◌∙◌, ◌||◌, append-nil}
 use Rattle.std.specs.List.{list_any}
-use Rattle.std.proofs.lemmas.List.{append-nil}
 use Rattle.std.specs.declared.alloc.Global.{Global}
 use Rattle.word_grammar.specs.declared.grammar.CommandName.{CommandName}
 use Rattle.word_grammar.specs.Grammar.{Word}

@@ -1,6 +1,5 @@
 -- A cleanup keeps the payloads of entries, after each of its commands.
-use Rattle.std.proofs.Common.{◌≡◌, ℕ, Bool, true, false, List, [], ◌∷◌, ◌++◌, Ok, Err, filter, refl, sym, ap, ◌∙◌, cond, append_assoc}
-use Rattle.std.specs.Prelude.{All, codes, if◌then◌else◌}
+use Rattle.std.proofs.Common.{◌≡◌, ℕ, Bool, true, false, List, [], ◌∷◌, ◌++◌, Ok, Err, filter, refl, sym, ap, ◌∙◌, cond, append_assoc, All, codes, if◌then◌else◌}
 use Rattle.std.specs.FinMap as map_of
 use Rattle.std.specs.List.{list_any}
 use Rattle.std.proofs.lemmas.List.Elements.{All-cons, All-nil}
@@ -9,10 +8,9 @@ use Rattle.boot_base.specs.Paths.{Path, is_kept, is_slash, normal_of, under}
 use Rattle.boot_base.specs.declared.refusal.Refusal.TheVariants as refusals
 use Rattle.boot_folder.specs.Entries.{boot_menu, entry_count}
 use Rattle.boot_folder.specs.declared.folders.Folders.{Folders}
-use Rattle.boot_machine.specs.Disk.{Files}
+use Rattle.boot_machine.specs.Prelude.{Files}
 use Rattle.menu_order.specs.declared.item.MenuItem.{MenuItem}
-use Rattle.command_plans.specs.Declining.{path_in, path_under}
-use Rattle.command_plans.specs.Folders.{folders_of}
+use Rattle.command_plans.specs.Prelude.{path_in, path_under, folders_of}
 use Rattle.command_plans.proofs.Steps.{done_by, err_ok, ok_is}
 use Rattle.type1_install.specs.Payloads.{folders_at}
 use Rattle.type1_install.proofs.Installing.{IsNormal, child_normal, under_is, under_normal}

@@ -2,15 +2,13 @@
 use Rattle.std.proofs.Common.{◌≡◌, ℕ, List, [], ◌∷◌, ◌++◌, Result, Ok, Err, map, refl, sym, ap, ◌∙◌, subst}
 use Rattle.boot_base.specs.Paths.{Path}
 use Rattle.boot_base.specs.declared.refusal.Refusal.{Refusal}
-use Rattle.boot_machine.specs.Disk.{Files}
+use Rattle.boot_machine.specs.Prelude.{Files}
 use Rattle.boot_texts.specs.EntryText.{entry_text}
 use Rattle.boot_texts.specs.declared.entry.Type1.{Type1}
 use Rattle.tool_words.specs.declared.action.Action.{Action}
 use Rattle.tool_words.specs.declared.action.Action.TheVariants as action
 use Rattle.tool_words.specs.declared.command.Type1Words.{Type1Words}
-use Rattle.command_plans.specs.Declining.{◌>>=◌}
-use Rattle.command_plans.specs.Files.{bytes_at, each}
-use Rattle.command_plans.specs.Unsaying.{UnsaidFor}
+use Rattle.command_plans.specs.Prelude.{◌>>=◌, bytes_at, each, UnsaidFor}
 use Rattle.command_plans.specs.declared.unsaid.Unsaid.{Unsaid}
 use Rattle.command_plans.specs.declared.unsaid.Unsaid.TheVariants as unsaid
 use Rattle.command_plans.proofs.Declining.{done_next}

@@ -1,6 +1,5 @@
 -- What an entry of texts and payloads may say.
-use Rattle.std.proofs.Common.{◌≤◌, List, [], ◌∷◌, length, map, refl, sym, subst}
-use Rattle.std.specs.Prelude.{All}
+use Rattle.std.proofs.Common.{◌≤◌, List, [], ◌∷◌, length, map, refl, sym, subst, All}
 use Rattle.std.proofs.lemmas.List.{length-map}
 use Rattle.std.proofs.lemmas.List.Elements.{All-cons, All-head, All-nil, All-tail}
 use Rattle.boot_texts.specs.EntryText.{AreEntryFields, IsPayloadValue}

@@ -1,6 +1,5 @@
 -- An installation keeps the payloads of entries, after each of its commands.
-use Rattle.std.proofs.Common.{◌≡◌, ◌≢◌, ℕ, suc, Bool, true, false, eqb, List, [], ◌∷◌, ◌++◌, Option, Some, None, Ok, Err, length, refl, sym, ap, ◌∙◌, arith, append_assoc}
-use Rattle.std.specs.Prelude.{All, bytes_eq, codes, if◌then◌else◌, nat_lt}
+use Rattle.std.proofs.Common.{◌≡◌, ◌≢◌, ℕ, suc, Bool, true, false, eqb, List, [], ◌∷◌, ◌++◌, Option, Some, None, Ok, Err, length, refl, sym, ap, ◌∙◌, arith, append_assoc, All, bytes_eq, codes, if◌then◌else◌, nat_lt}
 use Rattle.std.specs.FinMap as map_of
 use Rattle.std.specs.List.{list_any}
 use Rattle.std.proofs.lemmas.Bool.{cond-false, cond-true, ne_eqb}
@@ -12,11 +11,9 @@ use Rattle.boot_base.specs.Layout.{entries_below}
 use Rattle.boot_base.specs.Paths.{Path, components, file_name_of, is_kept, is_path, is_slash, normal_of, path_below, path_of, under}
 use Rattle.boot_base.specs.declared.refusal.Refusal.TheVariants as refusals
 use Rattle.boot_base.proofs.Normal.{path-some}
-use Rattle.boot_machine.specs.Disk.{Files}
-use Rattle.boot_machine.specs.Rows.{contents}
+use Rattle.boot_machine.specs.Prelude.{Files, contents}
 use Rattle.boot_folder.proofs.Places.{file_name_under}
-use Rattle.command_plans.specs.Declining.{path_under, printed_path}
-use Rattle.command_plans.specs.Files.{bytes_at, each, readable_bytes}
+use Rattle.command_plans.specs.Prelude.{path_under, printed_path, bytes_at, each, readable_bytes}
 use Rattle.command_plans.proofs.ReadPaths.{read_if, read_of}
 use Rattle.boot_base.proofs.Beside.{file_name_whole, normal_more}
 use Rattle.command_plans.proofs.Steps.{done_by, err_ok, ok_is}

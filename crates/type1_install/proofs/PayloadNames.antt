@@ -1,13 +1,12 @@
 -- The name of a payload has 64 digits.
-use Rattle.std.proofs.Common.{◌≡◌, ◌<◌, ◌/◌, ◌%◌, ◌*◌, ◌&&◌, ℕ, zero, suc, true, List, [], ◌∷◌, ◌++◌, eqb, length, refl, arith}
-use Rattle.std.specs.Prelude.{slice_index}
+use Rattle.std.proofs.Common.{◌≡◌, ◌<◌, ◌/◌, ◌%◌, ◌*◌, ◌&&◌, ℕ, zero, suc, true, List, [], ◌∷◌, ◌++◌, eqb, length, refl, arith, slice_index}
 use Rattle.std.specs.Int.{to_be_bytes, w32}
 use Rattle.std.specs.List.{list_all}
 use Rattle.std.proofs.lemmas.Bool.{and_from}
 use Rattle.hex.specs.Hex.{encode_lower, encode_with, lower_digits}
 use Rattle.sha2.specs.Sha256.{digest_bytes, final_hash, initial_hash_256, sha256}
 use Rattle.sha2.proofs.Facts256.{length-sha256}
-use Rattle.pcr_values.specs.Banks.{digest_of}
+use Rattle.pcr_values.specs.Prelude.{digest_of}
 use Rattle.boot_texts.specs.EntryText.{is_hex_lower, is_payload_name}
 use Rattle.type1_install.specs.Payloads.{payload_name}
 

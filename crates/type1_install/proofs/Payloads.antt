@@ -5,14 +5,11 @@ use Rattle.std.proofs.lemmas.Bool.{and_from}
 use Rattle.hex.specs.Hex.{encode_lower}
 use Rattle.boot_base.specs.Paths.{Path}
 use Rattle.boot_base.specs.declared.refusal.Refusal.{Refusal}
-use Rattle.boot_machine.specs.Disk.{Files}
-use Rattle.boot_machine.specs.Rows.{contents}
+use Rattle.boot_machine.specs.Prelude.{Files, contents}
 use Rattle.boot_texts.specs.EntryText.{is_hex_lower, is_payload_name}
-use Rattle.pcr_values.specs.Banks.{digest_of}
+use Rattle.pcr_values.specs.Prelude.{digest_of}
 use Rattle.pcr_values.specs.declared.bank.Bank.TheVariants.{Sha256}
-use Rattle.command_plans.specs.Declining.{◌>>=◌}
-use Rattle.command_plans.specs.Files.{bytes_at, each}
-use Rattle.command_plans.specs.Unsaying.{UnsaidFor}
+use Rattle.command_plans.specs.Prelude.{◌>>=◌, bytes_at, each, UnsaidFor}
 use Rattle.command_plans.specs.declared.unsaid.Unsaid.{Unsaid}
 use Rattle.command_plans.specs.declared.unsaid.Unsaid.TheVariants as unsaid
 use Rattle.command_plans.proofs.Declining.{done_next}

@@ -1,9 +1,7 @@
 -- What changes of the boot files keep the payloads of entries.
-use Rattle.std.proofs.Common.{◌≡◌, ◌≢◌, ◌&&◌, inl, inr, ℕ, Bool, true, false, eqb, List, [], ◌∷◌, ◌++◌, Some, None, length, refl, sym, ap, ◌∙◌, arith}
-use Rattle.std.specs.Prelude.{Contains, if◌then◌else◌, nat_le}
+use Rattle.std.proofs.Common.{◌≡◌, ◌≢◌, ◌&&◌, inl, inr, ℕ, Bool, true, false, eqb, List, [], ◌∷◌, ◌++◌, Some, None, length, refl, sym, ap, ◌∙◌, arith, Contains, if◌then◌else◌, nat_le, option_to_list}
 use Rattle.std.specs.FinMap as map
 use Rattle.std.specs.List.{list_all, list_any}
-use Rattle.std.specs.Option.{option_to_list}
 use Rattle.std.proofs.lemmas.Bool.{and_parts, leb-true, ne_eqb, or_cases}
 use Rattle.boot_base.specs.Paths.{Path, file_name_of, is_file_name, is_slash, path_of, under}
 use Rattle.menu_order.specs.Counter.{suffix_text}
@@ -12,7 +10,7 @@ use Rattle.menu_order.proofs.Splitting.{suffix_cut}
 use Rattle.menu_order.specs.declared.counted.Suffix.{Suffix}
 use Rattle.menu_order.specs.declared.counted.Suffix.TheVariants.{Conf, Efi}
 use Rattle.boot_folder.proofs.Places.{file_name_under, name_parts}
-use Rattle.boot_machine.specs.Disk.{Files, has}
+use Rattle.boot_machine.specs.Prelude.{Files, has}
 use Rattle.boot_machine.specs.proofs.Maps.{cases_same, get-insert_apart, get-insert_here}
 use Rattle.boot_texts.specs.BootEntries.{type1_of}
 use Rattle.boot_texts.specs.EntryText.{is_hex_lower, is_payload_name}

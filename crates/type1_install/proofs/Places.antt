@@ -1,6 +1,5 @@
 -- Payloads have paths where the longest of them has one.
-use Rattle.std.proofs.Common.{◌≡◌, ◌≢◌, ◌≤◌, ◌<◌, ◌+◌, ℕ, zero, suc, true, false, not, ◌&&◌, ◌||◌, inl, inr, List, [], ◌∷◌, ◌++◌, Option, Some, None, Ok, eqb, length, refl, sym, ap, ◌∙◌, arith, append_assoc, length-append}
-use Rattle.std.specs.Prelude.{bytes_eq, codes, nat_le, nat_lt, replicate}
+use Rattle.std.proofs.Common.{◌≡◌, ◌≢◌, ◌≤◌, ◌<◌, ◌+◌, ℕ, zero, suc, true, false, not, ◌&&◌, ◌||◌, inl, inr, List, [], ◌∷◌, ◌++◌, Option, Some, None, Ok, eqb, length, refl, sym, ap, ◌∙◌, arith, append_assoc, length-append, bytes_eq, codes, nat_le, nat_lt, replicate}
 use Rattle.std.specs.List.{list_all, list_any}
 use Rattle.std.proofs.lemmas.Bool.{and_from, and_parts, eqb-true, le-leb, le-ltb, leb-true, ne_eqb, not-true, or_cases, or_from, or_parts}
 use Rattle.boot_base.specs.Layout.{payloads_below}
@@ -8,7 +7,7 @@ use Rattle.boot_base.specs.Paths.{IsFree, Path, components, intent, is_component
 use Rattle.boot_base.proofs.Beside.{MayEnd, end_free, end_shown, kept_from_long, path_of_child, unlike_short}
 use Rattle.boot_base.proofs.Normal.{normal-short}
 use Rattle.boot_texts.specs.EntryText.{is_hex_lower, is_payload_name}
-use Rattle.command_plans.specs.Declining.{path_under}
+use Rattle.command_plans.specs.Prelude.{path_under}
 use Rattle.command_plans.proofs.ReadPaths.{read_if, read_normal, read_of}
 use Rattle.type1_install.specs.Installing.{payload_probe}
 use Rattle.type1_install.specs.Payloads.{payload_folder}

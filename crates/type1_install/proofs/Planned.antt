@@ -1,8 +1,6 @@
 -- What the words of an installation say, where it isn't refused.
-use Rattle.std.proofs.Common.{◌≡◌, ◌≤◌, ℕ, Bool, true, false, ◌||◌, List, [], ◌∷◌, ◌++◌, Option, Some, None, Ok, Err, eqb, length, map, refl, sym, ap, ◌∙◌, subst, arith, length-append}
-use Rattle.std.specs.Prelude.{All, codes, if◌then◌else◌, nat_lt}
+use Rattle.std.proofs.Common.{◌≡◌, ◌≤◌, ℕ, Bool, true, false, ◌||◌, List, [], ◌∷◌, ◌++◌, Option, Some, None, Ok, Err, eqb, length, map, refl, sym, ap, ◌∙◌, subst, arith, length-append, All, codes, if◌then◌else◌, nat_lt, option_to_list}
 use Rattle.std.specs.List.{list_any}
-use Rattle.std.specs.Option.{option_to_list}
 use Rattle.std.proofs.lemmas.Bool.{and_parts, ltb-false, not-true, or_parts}
 use Rattle.std.proofs.lemmas.List.{length-map}
 use Rattle.std.proofs.lemmas.List.Elements.{All-cons, All-nil}
@@ -10,15 +8,13 @@ use Rattle.std.proofs.lemmas.Slice.Eq.{bytes_eq-Decides}
 use Rattle.boot_base.specs.Layout.{entries_below}
 use Rattle.boot_base.specs.Paths.{Path, is_form, is_kept, is_normal, is_slash, is_temp, normal_of, path_of, under}
 use Rattle.boot_base.specs.declared.refusal.Refusal.TheVariants as refusals
-use Rattle.boot_machine.specs.Disk.{Files}
-use Rattle.boot_machine.specs.Rows.{contents}
+use Rattle.boot_machine.specs.Prelude.{Files, contents}
 use Rattle.menu_order.specs.Counter.{suffix_text}
 use Rattle.menu_order.specs.Splits.{has_suffix}
 use Rattle.menu_order.proofs.Splitting.{suffix_there}
 use Rattle.menu_order.specs.declared.counted.Suffix.TheVariants.{Conf}
 use Rattle.tool_words.specs.declared.command.Type1Words.{Type1Words}
-use Rattle.command_plans.specs.Declining.{install_name, path_in, path_under}
-use Rattle.command_plans.specs.Files.{bytes_at, each, if_given}
+use Rattle.command_plans.specs.Prelude.{install_name, path_in, path_under, bytes_at, each, if_given}
 use Rattle.command_plans.proofs.Each.{each_length}
 use Rattle.command_plans.proofs.InstallNames.{taken_is, taken_slash}
 use Rattle.command_plans.proofs.ReadPaths.{read_normal, read_of}

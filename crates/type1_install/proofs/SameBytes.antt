@@ -1,18 +1,15 @@
 -- Two files with the same bytes, piece by piece, and a copy over a file that has these bytes already.
-use Rattle.std.proofs.Common.{◌≡◌, ◌+◌, ℕ, Bool, true, false, List, ◌++◌, Option, Some, None, Result, Ok, Err, drop, inl, inr, sym, ap, ◌∙◌}
-use Rattle.std.specs.Prelude.{length, nat_lt, if◌then◌else◌}
+use Rattle.std.proofs.Common.{◌≡◌, ◌+◌, ℕ, Bool, true, false, List, ◌++◌, Option, Some, None, Result, Ok, Err, drop, inl, inr, sym, ap, ◌∙◌, length, nat_lt, if◌then◌else◌}
 use Rattle.std.specs.FinMap as map
 use Rattle.std.specs.Cmp.Lexicographic.{nat_list_cmp_total}
 use Rattle.boot_base.specs.Limits.{file_limit}
 use Rattle.boot_base.specs.Paths.{Path}
-use Rattle.boot_machine.specs.Disk.{Files}
+use Rattle.boot_machine.specs.Prelude.{Files, fill_with_zeros}
 use Rattle.boot_machine.specs.proofs.Maps.{cases_same, get-insert_apart, get-insert_here}
-use Rattle.boot_machine.specs.Reading.{fill_with_zeros}
 use Rattle.boot_machine.proofs.Ranges.{fill_with_zeros-add}
 use Rattle.boot_base.specs.declared.refusal.Refusal.{Refusal}
 use Rattle.boot_base.specs.declared.refusal.Refusal.TheVariants as refusals
-use Rattle.command_plans.specs.Declining.{printed_path}
-use Rattle.command_plans.specs.Files.{bytes_at, readable_bytes}
+use Rattle.command_plans.specs.Prelude.{printed_path, bytes_at, readable_bytes}
 
 -- the first bytes are the same, and those behind them
 pub alike_more : (first second : List ℕ) (done count : ℕ) → fill_with_zeros first done ≡ fill_with_zeros second done

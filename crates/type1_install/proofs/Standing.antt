@@ -1,22 +1,17 @@
 -- The unnamed payloads of a view are those among the names of the folder.
-use Rattle.std.proofs.Common.{◌≡◌, inl, inr, ⊎_elim, ℕ, Bool, true, false, T, not, ◌&&◌, ◌||◌, cond, List, [], ◌∷◌, None, is_some, filter, map, refl, sym, ap, ◌∙◌, subst, arith}
-use Rattle.std.specs.Prelude.{Contains, bytes_eq}
+use Rattle.std.proofs.Common.{◌≡◌, inl, inr, ⊎_elim, ℕ, Bool, true, false, T, not, ◌&&◌, ◌||◌, cond, List, [], ◌∷◌, None, is_some, filter, map, refl, sym, ap, ◌∙◌, subst, arith, Contains, bytes_eq, is_lt, Ordering, Less, Equal, Greater}
 use Rattle.std.specs.FinMap as map_of
 use Rattle.std.specs.List.{AllByRecursion, list_any}
 use Rattle.std.specs.List.Sorted.{IsStrictlySortedBy}
 use Rattle.std.specs.Cmp.{both_ways}
-use Rattle.std.specs.Ordering.{is_lt}
 use Rattle.std.specs.FinMap.Entries.{below_all}
-use Rattle.std.specs.declared.cmp.Ordering.{Ordering}
-use Rattle.std.specs.declared.cmp.Ordering.TheVariants.{Less, Equal, Greater}
 use Rattle.std.proofs.lemmas.Bool.{and_from, and_parts, cond-true, or_right}
 use Rattle.menu_order.proofs.Lists.{Contains-cases, Contains-head, Contains-later}
 use Rattle.std.proofs.lemmas.Slice.Eq.{bytes_eq-Decides}
 use Rattle.boot_base.specs.Paths.{Path, file_name_of, is_temp, under}
 use Rattle.boot_base.proofs.Beside.{file_name_under}
-use Rattle.boot_machine.specs.Disk.{Files, has, is_same_path, is_shown, path_cmp, view}
+use Rattle.boot_machine.specs.Prelude.{Files, has, is_same_path, is_shown, path_cmp, view, IsNamesOf}
 use Rattle.boot_machine.specs.proofs.Maps.{cases_same, get-retain, same_self}
-use Rattle.boot_machine.specs.Rows.{IsNamesOf}
 use Rattle.boot_texts.specs.EntryText.{is_payload_name}
 use Rattle.menu_order.specs.declared.item.MenuItem.{MenuItem}
 use Rattle.type1_install.specs.Cleaning.{is_unnamed, unnamed_payloads}

@@ -1,12 +1,10 @@
 -- How many bytes of files are read.
-use Rattle.std.proofs.Common.{◌≡◌, ◌<◌, ◌+◌, ℕ, List, Result, Ok, length, take, get_or, ap, arith}
-use Rattle.std.specs.Prelude.{sum_by}
+use Rattle.std.proofs.Common.{◌≡◌, ◌<◌, ◌+◌, ℕ, List, Result, Ok, length, take, get_or, ap, arith, sum_by}
 use Rattle.std.proofs.lemmas.List.Sums.{sum_by-cons, sum_by-take-le, sum_by_more}
 use Rattle.boot_base.specs.Paths.{Path}
 use Rattle.boot_base.specs.declared.refusal.Refusal.{Refusal}
-use Rattle.boot_machine.specs.Disk.{Files}
-use Rattle.boot_machine.specs.Reading.{TakesAtMost}
-use Rattle.command_plans.specs.Files.{bytes_at}
+use Rattle.boot_machine.specs.Prelude.{Files, TakesAtMost}
+use Rattle.command_plans.specs.Prelude.{bytes_at}
 use Rattle.type1_install.specs.Installing.{Type1Plan, digesting_length, installing_length}
 
 -- a file is read for its digest

@@ -1,6 +1,5 @@
 -- A part that is put at its place.
-use Rattle.std.proofs.Common.{◌≡◌, ℕ, false, cond, List, ◌∷◌, ◌++◌, filter, drop, sym, ◌∙◌, ap, subst, arith}
-use Rattle.std.specs.Prelude.{◌==◌}
+use Rattle.std.proofs.Common.{◌≡◌, ℕ, false, cond, List, ◌∷◌, ◌++◌, filter, drop, sym, ◌∙◌, ap, subst, arith, ◌==◌}
 use Rattle.std.specs.List.{All, position_or_len, insert}
 use Rattle.std.specs.List.Sorted.{IsNonDecreasingBy}
 use Rattle.std.proofs.lemmas.Bool.Decides.{nat_tests}

@@ -1,6 +1,5 @@
 -- The entries of SBAT metadata, as its first line is cut off, and as they are written.
-use Rattle.std.proofs.Common.{◌≡◌, ℕ, ◌<◌, ◌≤◌, inl, inr, Bool, cond, List, [], ◌∷◌, ◌++◌, length, nat_eq, codes, refl, sym, ◌∙◌, ap, subst, arith, append_assoc, length-append}
-use Rattle.std.specs.Prelude.{◌==◌}
+use Rattle.std.proofs.Common.{◌≡◌, ℕ, ◌<◌, ◌≤◌, inl, inr, Bool, cond, List, [], ◌∷◌, ◌++◌, length, nat_eq, codes, refl, sym, ◌∙◌, ap, subst, arith, append_assoc, length-append, ◌==◌}
 use Rattle.std.specs.List.{slice_split, before_first, after_first, starts_with, position_or_len}
 use Rattle.std.proofs.lemmas.Grind.{common_steps, flat_map-append}
 use Rattle.std.proofs.lemmas.List.Sums.{fails_before_first}

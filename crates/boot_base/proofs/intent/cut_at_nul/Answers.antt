@@ -1,6 +1,4 @@
-use Rattle.std.proofs.Common.{◌≡◌, ◌+◌, ◌-◌, Some, sym, ap, ◌∙◌, take, drop, length, length-drop, arith}
-use Rattle.std.proofs.lemmas.List.{take_all}
-use Rattle.std.specs.Option.{option_map}
+use Rattle.std.proofs.Common.{◌≡◌, ◌+◌, ◌-◌, Some, sym, ap, ◌∙◌, take, drop, length, length-drop, arith, take_all, option_map}
 use Rattle.boot_base.proofs.intent.cut_at_nul.Goals as goal
 
 pub returns-in-Some : goal.returns-in-Some

@@ -1,6 +1,4 @@
-use Rattle.std.proofs.Common.{◌≡◌, take}
-use Rattle.std.specs.Prelude.{string_bytes}
-use Rattle.std.specs.List.{flat_map}
+use Rattle.std.proofs.Common.{◌≡◌, take, string_bytes, flat_map}
 use Rattle.boot_base.specs.Names.{shown_byte}
 use Rattle.boot_base.proofs.name.shown_name.Given as goal
 

@@ -1,6 +1,5 @@
 use Rattle.std.proofs.Common.{rules, subst, sym}
-use Rattle.boot_machine.specs.Reading.{TakesAtMost}
-use Rattle.boot_machine.specs.Sent.{seen}
+use Rattle.boot_machine.specs.Prelude.{TakesAtMost, seen}
 use Rattle.boot_machine.proofs.Reading.{looks_none}
 use Rattle.tool_words.specs.declared.action.Action.{Action}
 use Rattle.boot_commands.specs.Commands.{action_length}

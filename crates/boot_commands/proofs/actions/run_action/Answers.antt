@@ -1,4 +1,4 @@
-use Rattle.boot_machine.specs.Sent.{seen}
+use Rattle.boot_machine.specs.Prelude.{seen}
 use Rattle.boot_machine.proofs.Seeing.{sees}
 use Rattle.boot_commands.specs.Commands.{action_deed}
 use Rattle.boot_commands.specs.Replies.{action_reply}

@@ -1,7 +1,6 @@
 use Rattle.std.proofs.Common.{refl}
-use Rattle.boot_machine.specs.Sent.{seen}
-use Rattle.command_plans.specs.Deeds.{deed_of_answer}
-use Rattle.command_plans.specs.Plans.{answer_of_plan}
+use Rattle.boot_machine.specs.Prelude.{seen}
+use Rattle.command_plans.specs.Prelude.{deed_of_answer, answer_of_plan}
 use Rattle.command_plans.proofs.Performed.{done_by, stopped_by}
 use Rattle.command_plans.proofs.Sparing.{spares}
 use Rattle.boot_commands.proofs.Tidies.{tidies_failed}

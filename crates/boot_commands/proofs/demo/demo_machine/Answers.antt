@@ -1,5 +1,4 @@
-use Rattle.std.proofs.Common.{List, sym, ap, ◌∙◌, subst}
-use Rattle.std.specs.Prelude.{bytes_eq}
+use Rattle.std.proofs.Common.{List, sym, ap, ◌∙◌, subst, bytes_eq}
 use Rattle.std.specs.List.{IsDistinct}
 use Rattle.memory_machine.specs.Given.{given_files, given_paths}
 use Rattle.memory_machine.specs.declared.memory.MemFile.{MemFile}

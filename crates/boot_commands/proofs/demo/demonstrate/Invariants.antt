@@ -1,5 +1,5 @@
 use Rattle.std.proofs.Common.{◌≡◌}
-use Rattle.boot_machine.specs.Sent.{seen}
+use Rattle.boot_machine.specs.Prelude.{seen}
 use Rattle.memory_machine.specs.Memory.{mem_state}
 use Rattle.boot_commands.specs.Demonstration.{demo_start, demo_turns}
 use Rattle.boot_commands.specs.DemoRuns.{IsReady, demo_state}

@@ -1,9 +1,9 @@
 use Rattle.std.proofs.Common.{ℕ, List, ◌∙◌, ap}
 use Rattle.hex.specs.Hex.{encode_lower}
-use Rattle.boot_machine.specs.Sent.{seen}
+use Rattle.boot_machine.specs.Prelude.{seen}
 use Rattle.pcr_values.specs.declared.bank.Bank.TheVariants as banks
-use Rattle.pcr_values.specs.Banks.{digest_of}
-use Rattle.command_plans.specs.Answers.{Answer}
+use Rattle.pcr_values.specs.Prelude.{digest_of}
+use Rattle.command_plans.specs.Prelude.{Answer}
 use Rattle.memory_machine.specs.Memory.{mem_state}
 use Rattle.boot_commands.specs.Demonstration.{listed_on_out}
 use Rattle.boot_commands.proofs.demo.list_digest.Goals as goal

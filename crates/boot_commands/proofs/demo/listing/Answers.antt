@@ -1,6 +1,6 @@
 use Rattle.std.proofs.Common.{ℕ, List, false, ◌∙◌, ap}
 use Rattle.std.proofs.lemmas.Result.{IfOk-weaker}
-use Rattle.boot_machine.specs.Sent.{seen}
+use Rattle.boot_machine.specs.Prelude.{seen}
 use Rattle.memory_machine.specs.Memory.{mem_state}
 use Rattle.tool_words.specs.declared.command.One.TheVariants as one
 use Rattle.boot_commands.specs.Replies.{one_reply}

@@ -1,5 +1,4 @@
-use Rattle.std.proofs.Common.{◌++◌, ◌∙◌, ap}
-use Rattle.std.specs.Prelude.{codes}
+use Rattle.std.proofs.Common.{◌++◌, ◌∙◌, ap, codes}
 use Rattle.boot_commands.specs.DemoImages.{headers, with_zeros}
 use Rattle.boot_commands.proofs.demo_images.demo_image.Goals as goal
 

@@ -1,5 +1,4 @@
-use Rattle.std.proofs.Common.{◌≡◌, [], take}
-use Rattle.std.specs.Prelude.{fold}
+use Rattle.std.proofs.Common.{◌≡◌, [], take, fold}
 use Rattle.boot_commands.specs.DemoImages.{with_number}
 use Rattle.boot_commands.proofs.demo_images.place_fields.Given as goal
 

@@ -1,5 +1,5 @@
 use Rattle.std.proofs.Common.{ℕ, List, ◌-◌, ◌∙◌, ap, drop, length, map, refl, take}
-use Rattle.boot_machine.specs.Sent.{Sent, seen}
+use Rattle.boot_machine.specs.Prelude.{Sent, seen}
 use Rattle.boot_machine.specs.declared.machine.Printed.{Printed}
 use Rattle.memory_machine.specs.Memory.{mem_state}
 use Rattle.boot_commands.specs.Replies.{one_reply}

@@ -1,7 +1,7 @@
 use Rattle.std.proofs.Common.{List, ℕ, [], ◌∷◌, ap, arith, sym, subst, ◌∙◌}
 use Rattle.std.proofs.lemmas.Result.{IfOk-weaker}
 use Rattle.std.proofs.lemmas.Bool.{eqb-false, eqb-true}
-use Rattle.command_plans.specs.Unsaying.{Says}
+use Rattle.command_plans.specs.Prelude.{Says}
 use Rattle.tool_words.specs.declared.action.Action.TheVariants as action
 use Rattle.boot_commands.specs.Expansions.{clean_or_idle}
 use Rattle.boot_commands.proofs.Expansions.{clean_done, clean_idle, made_so, refused_so}

@@ -1,11 +1,8 @@
 use Rattle.std.proofs.Common.{ℕ, List, sym, subst}
 use Rattle.std.proofs.lemmas.Result.{IfOk-weaker}
-use Rattle.boot_machine.specs.Reading.{TakesAtMost}
-use Rattle.boot_machine.specs.Sent.{seen}
+use Rattle.boot_machine.specs.Prelude.{TakesAtMost, seen}
 use Rattle.boot_machine.proofs.Reading.{looks_none}
-use Rattle.command_plans.specs.Folders.{folders_of}
-use Rattle.command_plans.specs.Menus.{menu_limit}
-use Rattle.command_plans.specs.Unsaying.{Says}
+use Rattle.command_plans.specs.Prelude.{folders_of, menu_limit, Says}
 use Rattle.tool_words.specs.declared.command.Several.{Several}
 use Rattle.type1_install.specs.Cleaning.{cleanup_expansion}
 use Rattle.boot_commands.specs.Demonstration.{demo_result}

@@ -1,6 +1,6 @@
 use Rattle.std.proofs.Common.{refl, subst}
 use Rattle.std.proofs.lemmas.Result.{IfOk-weaker}
-use Rattle.command_plans.specs.Unsaying.{Says}
+use Rattle.command_plans.specs.Prelude.{Says}
 use Rattle.boot_commands.proofs.Expansions.{made_so, refused_so}
 use Rattle.boot_commands.proofs.expanding.install_or_refusal.Goals as goal
 

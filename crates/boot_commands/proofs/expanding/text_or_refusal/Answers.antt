@@ -1,6 +1,6 @@
 use Rattle.std.proofs.Common.{[], ◌∷◌, subst}
 use Rattle.std.proofs.lemmas.Result.{IfOk-weaker}
-use Rattle.command_plans.specs.Unsaying.{Says}
+use Rattle.command_plans.specs.Prelude.{Says}
 use Rattle.tool_words.specs.declared.action.Action.TheVariants as action
 use Rattle.boot_commands.proofs.Expansions.{made_so, refused_so}
 use Rattle.boot_commands.proofs.expanding.text_or_refusal.Goals as goal

@@ -1,8 +1,6 @@
-use Rattle.std.proofs.Common.{ℕ, List, sym, subst}
-use Rattle.std.specs.Prelude.{All, IfOk, IsTrue}
-use Rattle.boot_machine.specs.Disk.{Files}
-use Rattle.command_plans.specs.Folders.{folders_of}
-use Rattle.command_plans.specs.Plans.{Drops, own_temps}
+use Rattle.std.proofs.Common.{ℕ, List, sym, subst, All, IfOk, IsTrue}
+use Rattle.boot_machine.specs.Prelude.{Files}
+use Rattle.command_plans.specs.Prelude.{folders_of, Drops, own_temps}
 use Rattle.entry_commands.specs.Tidying.{IsTidied, StandsAt}
 use Rattle.tool_words.specs.declared.command.One.{One}
 use Rattle.boot_commands.specs.Commands.{LeavesTidied, MayOwn}

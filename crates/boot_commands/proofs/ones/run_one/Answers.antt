@@ -1,10 +1,9 @@
 use Rattle.std.proofs.Common.{subst, sym}
-use Rattle.boot_machine.specs.Disk.{Files, State}
-use Rattle.boot_machine.specs.Sent.{seen}
+use Rattle.boot_machine.specs.Prelude.{Files, State, seen}
 use Rattle.boot_machine.proofs.Seeing.{sees}
 use Rattle.boot_commands.specs.Commands.{LeavesTidied, one_deed}
 use Rattle.boot_commands.specs.Replies.{one_reply}
-use Rattle.command_plans.specs.Plans.{Drops}
+use Rattle.command_plans.specs.Prelude.{Drops}
 use Rattle.command_plans.proofs.Performed.{plan_failed}
 use Rattle.boot_commands.proofs.Reading.{performs_after, tidies_after}
 use Rattle.boot_commands.proofs.Temps.{spares_after, spares_same, there_after, there_same}

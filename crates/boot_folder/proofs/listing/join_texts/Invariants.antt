@@ -1,5 +1,4 @@
-use Rattle.std.proofs.Common.{◌≡◌, ◌++◌, take}
-use Rattle.std.specs.List.{flat_map}
+use Rattle.std.proofs.Common.{◌≡◌, ◌++◌, take, flat_map}
 use Rattle.boot_folder.specs.Listing.{behind_space}
 use Rattle.boot_folder.proofs.listing.join_texts.Given as goal
 

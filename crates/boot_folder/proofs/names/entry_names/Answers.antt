@@ -2,7 +2,7 @@
 use Rattle.std.proofs.Common.{◌≡◌, ◌≤◌, ◌+◌, length, ap₂, ◌∙◌, subst, arith, rules}
 use Rattle.menu_order.specs.declared.counted.Suffix.TheVariants.{Efi}
 use Rattle.boot_machine.proofs.Reading.{looks_on}
-use Rattle.boot_machine.specs.Disk.{State}
+use Rattle.boot_machine.specs.Prelude.{State}
 use Rattle.boot_folder.specs.Scanning.{AreEntryNames}
 use Rattle.boot_folder.proofs.EntryFiles.{found_count}
 use Rattle.boot_folder.proofs.names.entry_names.Goals as goal

@@ -1,6 +1,5 @@
 -- The names that have the suffix are kept, each once.
-use Rattle.std.proofs.Common.{◌≡◌, ℕ, List, true, sym, subst, rules}
-use Rattle.std.specs.Prelude.{All}
+use Rattle.std.proofs.Common.{◌≡◌, ℕ, List, true, sym, subst, rules, All}
 use Rattle.std.proofs.lemmas.Fn.{filter_same}
 use Rattle.std.proofs.lemmas.List.Elements.{filter_passes}
 use Rattle.menu_order.specs.Splits.{has_suffix}

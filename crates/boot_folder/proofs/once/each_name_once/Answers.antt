@@ -1,6 +1,5 @@
 -- One of each name is kept of the sorted ones.
-use Rattle.std.proofs.Common.{rules}
-use Rattle.std.specs.Prelude.{bytes_eq}
+use Rattle.std.proofs.Common.{rules, bytes_eq}
 use Rattle.std.proofs.lemmas.Fn.{dedup_same}
 use Rattle.boot_folder.proofs.OnceNames.{names_distinct, names_among, names_all}
 use Rattle.boot_folder.proofs.once.each_name_once.Goals as goal

@@ -1,7 +1,6 @@
 -- The closure compares paths.
-use Rattle.std.proofs.Common.{rules}
+use Rattle.std.proofs.Common.{rules, IsSorted}
 use Rattle.std.proofs.lemmas.Result.{IfOk-weaker}
-use Rattle.std.specs.List.Sorted.{IsSorted}
 use Rattle.boot_folder.specs.Scanning.{path_order}
 use Rattle.boot_folder.proofs.OncePaths.{sorted_by_paths}
 use Rattle.boot_folder.proofs.once.sort_by_path.Goals as goal

@@ -1,8 +1,7 @@
 -- The closure compares names.
-use Rattle.std.proofs.Common.{rules}
+use Rattle.std.proofs.Common.{rules, IsSorted}
 use Rattle.std.proofs.lemmas.Result.{IfOk-weaker}
-use Rattle.std.specs.List.Sorted.{IsSorted}
-use Rattle.boot_machine.specs.Disk.{path_cmp}
+use Rattle.boot_machine.specs.Prelude.{path_cmp}
 use Rattle.boot_folder.proofs.OnceNames.{sorted_names}
 use Rattle.boot_folder.proofs.once.sort_names.Goals as goal
 

@@ -1,9 +1,8 @@
 -- One file more.
-use Rattle.std.proofs.Common.{◌++◌, ℕ, List, refl, sym, ap, ◌∙◌, arith, append-nil, rules}
-use Rattle.std.specs.Prelude.{option_to_list}
+use Rattle.std.proofs.Common.{◌++◌, ℕ, List, refl, sym, ap, ◌∙◌, arith, append-nil, rules, option_to_list}
 use Rattle.boot_base.specs.Paths.{under}
 use Rattle.boot_machine.proofs.Reading.{reads_none, reads_on}
-use Rattle.boot_machine.specs.Disk.{State}
+use Rattle.boot_machine.specs.Prelude.{State}
 use Rattle.boot_folder.specs.Entries.{entry_if}
 use Rattle.boot_folder.specs.Scanning.{read_limit}
 use Rattle.boot_folder.proofs.Scans.{chosen_more, taken_more}

@@ -1,5 +1,5 @@
 use Rattle.std.proofs.Common.{◌≡◌, ◌++◌, ◌*◌, IsTrue, take}
-use Rattle.boot_machine.specs.Reading.{OnlyReads, TakesAtMost}
+use Rattle.boot_machine.specs.Prelude.{OnlyReads, TakesAtMost}
 use Rattle.boot_folder.specs.Scanning.{entries_named, read_limit}
 use Rattle.boot_folder.proofs.scanning.append_entries.Given as goal
 

@@ -1,10 +1,8 @@
 -- The files of both types are read one after the other.
-use Rattle.std.proofs.Common.{◌≡◌, ◌++◌, ◌↔◌, ◌*◌, ℕ, List, length, ap, sym, ◌∙◌, subst, rules}
-use Rattle.std.specs.Prelude.{Contains}
+use Rattle.std.proofs.Common.{◌≡◌, ◌++◌, ◌↔◌, ◌*◌, ℕ, List, length, ap, sym, ◌∙◌, subst, rules, Contains}
 use Rattle.menu_order.specs.declared.counted.Suffix.TheVariants.{Conf, Efi}
 use Rattle.boot_machine.proofs.Reading.{looks_on}
-use Rattle.boot_machine.specs.Disk.{State}
-use Rattle.boot_machine.specs.Reading.{TakesAtMost}
+use Rattle.boot_machine.specs.Prelude.{State, TakesAtMost}
 use Rattle.menu_order.specs.declared.item.MenuItem.{MenuItem}
 use Rattle.boot_folder.specs.Entries.{IsEntry}
 use Rattle.boot_folder.specs.Scanning.{entries_named}

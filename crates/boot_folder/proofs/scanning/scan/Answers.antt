@@ -1,9 +1,8 @@
 -- The names, the entries of their files, and the menu of these.
-use Rattle.std.proofs.Common.{◌↔◌, sym, ◌∙◌, subst, rules}
-use Rattle.std.specs.Prelude.{Contains}
+use Rattle.std.proofs.Common.{◌↔◌, sym, ◌∙◌, subst, rules, Contains}
 use Rattle.menu_order.specs.declared.counted.Suffix.TheVariants.{Conf, Efi}
 use Rattle.boot_machine.proofs.Reading.{looks_on}
-use Rattle.boot_machine.specs.Disk.{State}
+use Rattle.boot_machine.specs.Prelude.{State}
 use Rattle.boot_folder.specs.Entries.{IsEntry}
 use Rattle.boot_folder.specs.Scanning.{AreEntryNames}
 use Rattle.boot_folder.proofs.EntryFiles.{found_menu, menu_only, view_menu}

@@ -1,7 +1,5 @@
-use Rattle.std.proofs.Common.{◌≡◌, length}
-use Rattle.std.specs.Prelude.{IsTrue, map, string_bytes, take}
-use Rattle.boot_machine.specs.Images.{IsFirm}
-use Rattle.boot_machine.specs.Sent.{Adds}
+use Rattle.std.proofs.Common.{◌≡◌, length, IsTrue, map, string_bytes, take}
+use Rattle.boot_machine.specs.Prelude.{IsFirm, Adds}
 use Rattle.boot_history.specs.Histories.{HasHistory, HaveCauses}
 use Rattle.boot_history.proofs.each.run_each.Given as goal
 

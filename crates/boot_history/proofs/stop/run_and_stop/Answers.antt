@@ -1,7 +1,5 @@
 use Rattle.std.proofs.Common.{◌≡◌, map, string_bytes, Ok, refl}
-use Rattle.boot_machine.specs.Disk.{recovered_view}
-use Rattle.boot_machine.specs.Images.{IsFirm, IsSettled}
-use Rattle.boot_machine.specs.Sent.{Adds, recovered_now}
+use Rattle.boot_machine.specs.Prelude.{recovered_view, IsFirm, IsSettled, Adds, recovered_now}
 use Rattle.memory_machine.specs.Memory.{mem_state}
 use Rattle.boot_run.specs.AskedLines.{asked_lines_of}
 use Rattle.boot_run.specs.Step.{Leaves}

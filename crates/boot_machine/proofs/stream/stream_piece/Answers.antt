@@ -1,5 +1,5 @@
 use Rattle.std.proofs.Common.{IsTrue, take, sym}
-use Rattle.boot_machine.specs.Streams.{TookSome}
+use Rattle.boot_machine.specs.Prelude.{TookSome}
 use Rattle.boot_machine.proofs.Pieces.{after_error}
 use Rattle.boot_machine.proofs.stream.stream_piece.Goals as goal
 

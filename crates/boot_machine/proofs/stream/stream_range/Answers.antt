@@ -1,7 +1,6 @@
 use Rattle.std.proofs.Common.{IsTrue, ◌++◌, arith, drop, refl, rules}
-use Rattle.boot_machine.specs.Rows.{contents}
+use Rattle.boot_machine.specs.Prelude.{contents, TookSome}
 use Rattle.boot_machine.proofs.Reading.{reads_none}
-use Rattle.boot_machine.specs.Streams.{TookSome}
 use Rattle.boot_machine.proofs.Pieces.{after_error, none_of, piece_more}
 use Rattle.boot_machine.proofs.stream.stream_range.Goals as goal
 

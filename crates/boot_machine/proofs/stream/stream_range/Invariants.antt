@@ -1,7 +1,5 @@
 use Rattle.std.proofs.Common.{◌≡◌, ◌≤◌, ◌-◌, IsTrue, length, drop}
-use Rattle.boot_machine.specs.Reading.{TakesAtMost, fill_with_zeros}
-use Rattle.boot_machine.specs.Rows.{contents}
-use Rattle.boot_machine.specs.Streams.{TookWhere}
+use Rattle.boot_machine.specs.Prelude.{TakesAtMost, fill_with_zeros, contents, TookWhere}
 use Rattle.boot_machine.proofs.stream.stream_range.Given as goal
 
 abbrev pub invariant-loop-done : goal.invariant-loop-done

@@ -1,6 +1,6 @@
 use Rattle.std.proofs.Common.{sym, subst}
 use Rattle.std.proofs.lemmas.Result.{IfOk-weaker}
-use Rattle.boot_machine.specs.Disk.{HasOneCandidate, IsRested, State}
+use Rattle.boot_machine.specs.Prelude.{HasOneCandidate, IsRested, State}
 use Rattle.install_steps.specs.Steps.{Keeps, NoNewTemp}
 use Rattle.boot_commands.specs.Expanding.{StandsFor}
 use Rattle.boot_run.proofs.Expanding.{recovers_more, same_more}

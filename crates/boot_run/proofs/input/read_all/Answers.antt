@@ -1,11 +1,9 @@
 use Rattle.std.proofs.Common.{◌≡◌, ◌⊎◌, inl, inr, ℕ, ◌+◌, ◌<◌, ◌≤◌, List, [], ◌++◌, length, take, drop, refl, sym, ap, ◌∙◌, arith, IsTrue}
 use Rattle.std.proofs.Math.Seq.{drop-append-add, drop-append_seam}
 use Rattle.std.proofs.lemmas.List.{append-nil, drop_all, take_all, take_at, take-append-le, length-take}
-use Rattle.boot_machine.specs.Disk.{State}
+use Rattle.boot_machine.specs.Prelude.{State, IsImage, EachSince}
 use Rattle.boot_machine.proofs.Elapsing.{at_once, input_moments}
 use Rattle.boot_machine.proofs.Taking.{input_same, input_end, input_more, same_trans}
-use Rattle.boot_machine.specs.Images.{IsImage}
-use Rattle.boot_machine.specs.Moments.{EachSince}
 use Rattle.boot_run.proofs.input.read_all.Given as given
 use Rattle.boot_run.proofs.input.read_all.Goals.{After-input}
 use Rattle.boot_run.proofs.input.read_all.Goals as goal

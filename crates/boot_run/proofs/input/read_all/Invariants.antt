@@ -1,7 +1,5 @@
 use Rattle.std.proofs.Common.{◌≡◌, ◌≤◌, ◌-◌, ◌++◌, IsTrue, vec_len}
-use Rattle.boot_machine.specs.Images.{IsImage}
-use Rattle.boot_machine.specs.Moments.{EachSince}
-use Rattle.boot_machine.specs.Sent.{SameButInput}
+use Rattle.boot_machine.specs.Prelude.{IsImage, EachSince, SameButInput}
 use Rattle.boot_run.proofs.input.read_all.Given as goal
 
 abbrev pub invariant-loop-buffer : goal.invariant-loop-buffer

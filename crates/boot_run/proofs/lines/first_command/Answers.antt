@@ -1,7 +1,6 @@
 use Rattle.std.proofs.Common.{◌∙◌, subst, rules}
-use Rattle.boot_machine.specs.Disk.{Files, IsRested}
-use Rattle.boot_machine.specs.Sent.{recovered_now}
-use Rattle.command_plans.specs.Performs.{Performs, end_of}
+use Rattle.boot_machine.specs.Prelude.{Files, IsRested, recovered_now}
+use Rattle.command_plans.specs.Prelude.{Performs, end_of}
 use Rattle.boot_run.specs.Lines.{line_deed}
 use Rattle.boot_run.proofs.Recovering.{performed_after, performed_failed, synced_after, synced_failed}
 use Rattle.boot_run.proofs.Staying.{leaves_more, leaves_none, where_more, where_none, where_rested}

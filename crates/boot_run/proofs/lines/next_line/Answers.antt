@@ -1,5 +1,5 @@
 use Rattle.std.proofs.Common.{refl}
-use Rattle.boot_machine.specs.Disk.{IsRested}
+use Rattle.boot_machine.specs.Prelude.{IsRested}
 use Rattle.boot_run.proofs.Staying.{where_more}
 use Rattle.boot_run.proofs.lines.next_line.Goals as goal
 

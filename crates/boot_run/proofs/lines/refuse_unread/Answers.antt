@@ -1,8 +1,6 @@
 use Rattle.std.proofs.Common.{◌≡◌, ℕ, List, take, subst, IsTrue}
-use Rattle.boot_machine.specs.Moments.{EachSince}
-use Rattle.boot_machine.specs.Rows.{on_channel, with_printed}
+use Rattle.boot_machine.specs.Prelude.{EachSince, on_channel, with_printed, PrintsPart}
 use Rattle.boot_machine.specs.declared.machine.Channel.TheVariants.{Err}
-use Rattle.boot_machine.specs.Sent.{PrintsPart}
 use Rattle.boot_run.proofs.Acknowledging.{refused_unread, told_unread}
 use Rattle.boot_machine.proofs.Seeing.{sees}
 use Rattle.boot_run.proofs.Staying.{prints_by}

@@ -1,8 +1,8 @@
 use Rattle.std.proofs.Common.{ap, sym, subst, ◌∙◌, rules}
-use Rattle.boot_machine.specs.Sent.{recovered_now, seen}
+use Rattle.boot_machine.specs.Prelude.{recovered_now, seen}
 use Rattle.boot_run.specs.Lines.{TidiedBy, is_unread, line_deed}
 use Rattle.boot_run.specs.RunsTo.{OnlyPrints, WherePrinted}
-use Rattle.command_plans.specs.Performs.{Performs, end_of}
+use Rattle.command_plans.specs.Prelude.{Performs, end_of}
 use Rattle.boot_run.proofs.Recovering.{performed_rested}
 use Rattle.boot_run.proofs.Staying.{files_stay, input_stays, leaves_none, leaves_rested, rested_stays, temps_stay, where_so, where_tidied}
 use Rattle.boot_run.proofs.lines.run_line.Goals as goal

@@ -2,7 +2,7 @@ use Rattle.std.proofs.Common.{◌≡◌, ◌≢◌, true, inl, inr, ⊎_elim, �
 use Rattle.std.proofs.lemmas.Bool.{cases_Bool}
 use Rattle.std.proofs.lemmas.List.{take_more, take_all}
 use Rattle.std.proofs.lemmas.List.Elements.{All-nil, All-push}
-use Rattle.boot_machine.specs.Disk.{IsRested}
+use Rattle.boot_machine.specs.Prelude.{IsRested}
 use Rattle.command_plans.specs.declared.outcome.Stop.TheVariants.{Disk}
 use Rattle.boot_run.specs.Endings.{AllTidied}
 use Rattle.boot_run.specs.Lines.{TidiedBy, has_command, is_unread}

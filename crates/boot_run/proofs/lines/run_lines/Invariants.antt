@@ -1,6 +1,5 @@
 use Rattle.std.proofs.Common.{take, ◌≡◌, true, IsTrue}
-use Rattle.boot_machine.specs.Disk.{IsRested}
-use Rattle.boot_machine.specs.Images.{IsFirm}
+use Rattle.boot_machine.specs.Prelude.{IsRested, IsFirm}
 use Rattle.install_steps.specs.Steps.{NoNewTemp}
 use Rattle.boot_run.specs.Endings.{AllTidied}
 use Rattle.boot_run.specs.Lines.{has_command}

@@ -1,10 +1,8 @@
 use Rattle.std.proofs.Common.{refl, sym, ◌≡◌, ℕ, List, take, ◌∙◌, ap, subst, Ok, rules}
-use Rattle.boot_machine.specs.Moments.{EachSince}
-use Rattle.boot_machine.specs.Rows.{on_channel, with_printed}
+use Rattle.boot_machine.specs.Prelude.{EachSince, on_channel, with_printed, PrintsPart, seen}
 use Rattle.boot_machine.specs.declared.machine.Channel.TheVariants.{Out}
-use Rattle.boot_machine.specs.Sent.{PrintsPart, seen}
 use Rattle.boot_run.specs.Lines.{acknowledgement, acknowledgement_in, with_acknowledgement}
-use Rattle.command_plans.specs.Performs.{Performs, end_of}
+use Rattle.command_plans.specs.Prelude.{Performs, end_of}
 use Rattle.boot_run.proofs.Acknowledging.{no_memory_yet, not_behind, behind_failed, behind_done}
 use Rattle.boot_machine.proofs.Seeing.{sees}
 use Rattle.boot_commands.specs.Commands.{LeavesTidied, one_deed}

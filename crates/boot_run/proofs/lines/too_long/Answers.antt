@@ -1,10 +1,8 @@
 use Rattle.std.proofs.Common.{ℕ, List, subst}
-use Rattle.boot_machine.specs.Moments.{EachSince}
-use Rattle.boot_machine.specs.Rows.{on_channel}
+use Rattle.boot_machine.specs.Prelude.{EachSince, on_channel, PrintsPart, recovered_now}
 use Rattle.boot_machine.specs.declared.machine.Channel.TheVariants.{Err}
-use Rattle.boot_machine.specs.Sent.{PrintsPart, recovered_now}
 use Rattle.boot_run.specs.Lines.{unread_deed, too_long_text}
-use Rattle.command_plans.specs.Performs.{Performs, end_of}
+use Rattle.command_plans.specs.Prelude.{Performs, end_of}
 use Rattle.boot_run.proofs.Acknowledging.{no_memory_yet, printed_not}
 use Rattle.boot_machine.proofs.Seeing.{sees}
 use Rattle.boot_run.proofs.lines.too_long.Goals as goal

@@ -1,16 +1,11 @@
 use Rattle.std.proofs.Common.{◌≡◌, ℕ, List, take, ◌∙◌, ap, subst, Ok, Err, IsTrue}
-use Rattle.boot_machine.specs.Moments.{EachSince}
-use Rattle.boot_machine.specs.Rows.{on_channel, with_printed}
+use Rattle.boot_machine.specs.Prelude.{EachSince, on_channel, with_printed, PrintsPart, recovered_now, recovered_views, Files, IsIn, recovered_view, IsFirm, IsImage}
 use Rattle.boot_machine.specs.declared.machine.Channel.TheVariants.{Out, Err as ErrChannel}
-use Rattle.boot_machine.specs.Sent.{PrintsPart, recovered_now, recovered_views}
 use Rattle.boot_run.specs.Lines.{acknowledgement, acknowledgement_in, with_acknowledgement, unread_deed, no_command_text}
-use Rattle.command_plans.specs.Performs.{Performs, end_of}
+use Rattle.command_plans.specs.Prelude.{Performs, end_of, Deed}
 use Rattle.boot_run.proofs.Acknowledging.{no_memory_yet, not_behind, behind_failed, behind_done, printed_not, printed_first, printed_both}
 use Rattle.boot_machine.proofs.Seeing.{sees}
 use Rattle.boot_run.proofs.Staying.{prints_more}
-use Rattle.boot_machine.specs.Disk.{Files, IsIn, recovered_view}
-use Rattle.boot_machine.specs.Images.{IsFirm, IsImage}
-use Rattle.command_plans.specs.Deeds.{Deed}
 use Rattle.boot_run.proofs.lines.unread_line.Given as given
 use Rattle.boot_run.proofs.lines.unread_line.Goals.{In_ok-outcome}
 use Rattle.boot_run.proofs.lines.unread_line.Goals as goal

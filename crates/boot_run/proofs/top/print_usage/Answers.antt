@@ -1,7 +1,5 @@
 use Rattle.std.proofs.Common.{◌≡◌, ℕ, List, take, ◌∙◌, subst}
-use Rattle.boot_machine.specs.Moments.{EachSince}
-use Rattle.boot_machine.specs.Rows.{on_channel, with_printed}
-use Rattle.boot_machine.specs.Sent.{PrintsPart}
+use Rattle.boot_machine.specs.Prelude.{EachSince, on_channel, with_printed, PrintsPart}
 use Rattle.boot_machine.specs.declared.machine.Channel.TheVariants.{Err}
 use Rattle.boot_run.specs.AskedLines.{usage_line}
 use Rattle.boot_run.proofs.Topping.{usage_done, usage_failed, usage_unsaid}

@@ -1,7 +1,5 @@
 use Rattle.std.proofs.Common.{◌≡◌, true, map, string_bytes, sym, ap, ◌∙◌, subst}
-use Rattle.boot_machine.specs.Disk.{IsRested}
-use Rattle.boot_machine.specs.Images.{IsSettled}
-use Rattle.boot_machine.specs.Sent.{Adds, recovered_views}
+use Rattle.boot_machine.specs.Prelude.{IsRested, IsSettled, Adds, recovered_views}
 use Rattle.boot_machine.proofs.Settled.{firm_of_settled}
 use Rattle.boot_run.specs.AskedLines.{asked_lines_of}
 use Rattle.boot_run.specs.Endings.{AllTidied, AtEnd, UnlessDisk, end_at, ended_of}

@@ -1,5 +1,5 @@
 use Rattle.std.proofs.Common.{◌≡◌, true, List, Err, ap, ◌∙◌, subst, rules}
-use Rattle.boot_machine.specs.Disk.{IsRested, State}
+use Rattle.boot_machine.specs.Prelude.{IsRested, State}
 use Rattle.boot_machine.proofs.Seeing.{sees}
 use Rattle.tool_words.specs.declared.command.Command.TheVariants as command
 use Rattle.command_plans.specs.declared.outcome.Stop.{Stop}

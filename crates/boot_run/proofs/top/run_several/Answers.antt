@@ -1,6 +1,5 @@
-use Rattle.std.proofs.Common.{◌≡◌, false, List, refl, sym, ap, ◌∙◌, subst, rules, Ok}
-use Rattle.std.specs.Prelude.{All}
-use Rattle.boot_machine.specs.Sent.{recovered_now}
+use Rattle.std.proofs.Common.{◌≡◌, false, List, refl, sym, ap, ◌∙◌, subst, rules, Ok, All}
+use Rattle.boot_machine.specs.Prelude.{recovered_now}
 use Rattle.tool_words.specs.declared.command.Command.TheVariants as command
 use Rattle.command_plans.specs.declared.outcome.Stop.TheVariants.{Memory as MemoryStop}
 use Rattle.boot_run.specs.AskedLines.{lines_at}

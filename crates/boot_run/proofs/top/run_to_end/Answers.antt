@@ -1,11 +1,10 @@
 use Rattle.std.proofs.Common.{◌≡◌, true, List, Err, map, string_bytes, refl, sym, ap, subst}
 use Rattle.tool_words.specs.Answers.{FaultIs}
 use Rattle.tool_words.specs.Meaning.{meaning}
-use Rattle.boot_machine.specs.Sent.{latest_view, recovered_views}
+use Rattle.boot_machine.specs.Prelude.{latest_view, recovered_views, IsRested, State}
 use Rattle.boot_machine.proofs.Seeing.{sees}
 use Rattle.boot_run.specs.AskedLines.{lines_at, lines_to_run}
 use Rattle.boot_run.specs.RunBy.{CleanBehind, RunsBy, RunsLines}
-use Rattle.boot_machine.specs.Disk.{IsRested, State}
 use Rattle.boot_run.specs.Endings.{AllTidied, AtEnd, ended_by}
 use Rattle.boot_run.specs.Lines.{has_command}
 use Rattle.boot_run.specs.declared.ended.Ended.TheVariants.{Memory}

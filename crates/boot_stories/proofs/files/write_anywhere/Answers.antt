@@ -1,7 +1,6 @@
 use Rattle.std.proofs.Common.{◌≡◌, true, ℕ, List}
 use Rattle.boot_base.specs.Paths.{Path}
-use Rattle.boot_machine.specs.Disk.{State, has}
-use Rattle.boot_machine.specs.Rows.{after_append, after_create}
+use Rattle.boot_machine.specs.Prelude.{State, has, after_append, after_create}
 use Rattle.boot_machine.proofs.Written.{has-created, has-appended}
 use Rattle.boot_stories.proofs.files.write_anywhere.Goals as goal
 

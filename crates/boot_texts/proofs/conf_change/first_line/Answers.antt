@@ -1,5 +1,4 @@
-use Rattle.std.proofs.Common.{◌∙◌, ◌∷◌, ◌-◌, ap, arith, drop, length, length-take, take}
-use Rattle.std.specs.Option.{option_copied}
+use Rattle.std.proofs.Common.{◌∙◌, ◌∷◌, ◌-◌, ap, arith, drop, length, length-take, take, option_copied}
 use Rattle.boot_texts.specs.TextLines.{pieces_of}
 use Rattle.boot_texts.proofs.FileLines.{first_line, last_line}
 use Rattle.boot_texts.proofs.conf_change.first_line.Goals as goal

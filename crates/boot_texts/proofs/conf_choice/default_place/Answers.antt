@@ -1,5 +1,4 @@
-use Rattle.std.proofs.Common.{◌∙◌, ap, sym, subst, ℕ, Option, length, ◌≡◌}
-use Rattle.std.specs.Prelude.{MatchOption}
+use Rattle.std.proofs.Common.{◌∙◌, ap, sym, subst, ℕ, Option, length, ◌≡◌, MatchOption}
 use Rattle.std.specs.Option.{option_or}
 use Rattle.boot_texts.specs.ConfChoice.{IsDefaultEntry, default_place, first_place, match_place}
 use Rattle.boot_texts.proofs.ConfChoices.{entry_at}

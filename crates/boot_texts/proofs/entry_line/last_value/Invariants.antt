@@ -1,6 +1,4 @@
-use Rattle.std.proofs.Common.{◌≡◌, map}
-use Rattle.std.specs.List.{filter_map}
-use Rattle.std.specs.Option.{option_copied}
+use Rattle.std.proofs.Common.{◌≡◌, map, filter_map, option_copied}
 use Rattle.boot_texts.specs.KeyValues.{last_value}
 use Rattle.boot_texts.specs.EntryLines.{entry_reading}
 use Rattle.boot_texts.proofs.entry_line.last_value.Given as goal

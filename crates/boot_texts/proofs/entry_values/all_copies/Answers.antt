@@ -1,5 +1,4 @@
-use Rattle.std.proofs.Common.{ap, sym, ◌∙◌, ◌++◌, ◌∷◌, [], append-nil}
-use Rattle.std.specs.Option.{option_copied, option_to_list}
+use Rattle.std.proofs.Common.{ap, sym, ◌∙◌, ◌++◌, ◌∷◌, [], append-nil, option_copied, option_to_list}
 use Rattle.boot_texts.specs.KeyValues.{given_value}
 use Rattle.boot_texts.proofs.LastValue.{values_of_more}
 use Rattle.boot_texts.specs.EntryLines.{entry_reading}

@@ -1,5 +1,4 @@
-use Rattle.std.proofs.Common.{◌≡◌, map}
-use Rattle.std.specs.List.{filter_map}
+use Rattle.std.proofs.Common.{◌≡◌, map, filter_map}
 use Rattle.boot_texts.specs.KeyValues.{values_of}
 use Rattle.boot_texts.specs.EntryLines.{entry_reading}
 use Rattle.boot_texts.proofs.entry_values.all_copies.Given as goal

@@ -1,6 +1,4 @@
-use Rattle.std.proofs.Common.{◌≡◌, ap, sym, ◌∙◌, Some}
-use Rattle.std.specs.Prelude.{bytes_eq}
-use Rattle.std.specs.Option.{option_copied}
+use Rattle.std.proofs.Common.{◌≡◌, ap, sym, ◌∙◌, Some, bytes_eq, option_copied}
 use Rattle.std.proofs.lemmas.Bool.{cond-false, cond-true}
 use Rattle.boot_texts.proofs.LastValue.{last_value-take}
 use Rattle.boot_texts.proofs.os_release.last_assigned.Goals as goal

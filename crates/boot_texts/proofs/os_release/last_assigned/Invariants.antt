@@ -1,5 +1,4 @@
-use Rattle.std.proofs.Common.{◌≡◌, take}
-use Rattle.std.specs.Option.{option_copied}
+use Rattle.std.proofs.Common.{◌≡◌, take, option_copied}
 use Rattle.boot_texts.specs.KeyValues.{last_value}
 use Rattle.boot_texts.proofs.os_release.last_assigned.Given as goal
 

@@ -1,6 +1,5 @@
 -- Each arm is one lemma on the pattern's first item.
-use Rattle.std.proofs.Common.{◌≡◌, ℕ, List, [], ◌∷◌, length, sym, ap, ◌∙◌, subst, rules, arith}
-use Rattle.std.proofs.lemmas.Bool.{eqb-true}
+use Rattle.std.proofs.Common.{◌≡◌, ℕ, List, [], ◌∷◌, length, sym, ap, ◌∙◌, subst, rules, arith, eqb-true}
 use Rattle.boot_texts.specs.PatternSteps.{MatchesLater}
 use Rattle.boot_texts.specs.Patterns.{PatternMatches}
 use Rattle.boot_texts.specs.PatternItems.{item_of}

@@ -1,6 +1,5 @@
-use Rattle.std.proofs.Common.{◌↔◌, ◌≤◌, ◌+◌, ◌*◌, ◌⊎◌, length}
+use Rattle.std.proofs.Common.{◌↔◌, ◌≤◌, ◌+◌, ◌*◌, ◌⊎◌, length, IfSome}
 use Rattle.std.specs.Option.{option_map, option_map_or}
-use Rattle.std.specs.Prelude.{IfSome}
 use Rattle.boot_texts.specs.PatternSteps.{MatchesLater, SearchMatches}
 use Rattle.boot_texts.specs.Patterns.{PatternMatches}
 use Rattle.boot_texts.proofs.pattern.matches.Given as goal

@@ -1,6 +1,5 @@
-use Rattle.std.proofs.Common.{◌≡◌, take}
-use Rattle.std.specs.List.{filter_map}
-use Rattle.pcr_values.specs.Banks.{bank_named}
+use Rattle.std.proofs.Common.{◌≡◌, take, filter_map}
+use Rattle.pcr_values.specs.Prelude.{bank_named}
 use Rattle.command_plans.proofs.choices.banks_named.Given as goal
 
 abbrev pub invariant-loop-name : goal.invariant-loop-name

@@ -1,14 +1,12 @@
-use Rattle.std.proofs.Common.{rules, ◌≢◌, ◌∙◌, ◌++◌, ◌∷◌, [], ℕ, Bool, List, true, cond, map, take, ap, sym, subst}
-use Rattle.std.specs.Prelude.{bytes_eq}
+use Rattle.std.proofs.Common.{rules, ◌≢◌, ◌∙◌, ◌++◌, ◌∷◌, [], ℕ, Bool, List, true, cond, map, take, ap, sym, subst, bytes_eq, nat_cmp}
 use Rattle.std.specs.Bool.{OnFalse}
 use Rattle.std.specs.BTreeMap.{is_at}
 use Rattle.std.specs.BTreeSet.{IsUnchanged, contains}
 use Rattle.std.specs.Cmp.Lexicographic.{lists_equiv, lists_ties, pointwise, slice_cmp, texts_ties}
 use Rattle.std.specs.List.{AllPairs, list_any}
-use Rattle.std.specs.Ordering.{nat_cmp}
 use Rattle.std.proofs.lemmas.Cmp.{nat_list_eq_equiv}
-use Rattle.pcr_values.specs.Phases.{phase_words}
-use Rattle.command_plans.specs.Choices.{without_repeats}
+use Rattle.pcr_values.specs.Prelude.{phase_words}
+use Rattle.command_plans.specs.Prelude.{without_repeats}
 use Rattle.command_plans.proofs.WithoutRepeats.{differ, kept_new, kept_seen, map_take_more, not_false, not_true, once_apart, tells_more}
 use Rattle.command_plans.proofs.choices.paths_named.Goals as goal
 use Rattle.command_plans.proofs.choices.paths_named.Goals.{then-branch+in_ok-read-2+in_ok-push, else-branch}

@@ -1,11 +1,9 @@
-use Rattle.std.proofs.Common.{◌≡◌, ℕ, List, take, map}
-use Rattle.std.specs.Prelude.{bytes_eq}
+use Rattle.std.proofs.Common.{◌≡◌, ℕ, List, take, map, bytes_eq, nat_cmp}
 use Rattle.std.specs.BTreeSet.{contains}
 use Rattle.std.specs.Cmp.Lexicographic.{pointwise, slice_cmp}
 use Rattle.std.specs.List.{list_any}
-use Rattle.std.specs.Ordering.{nat_cmp}
-use Rattle.pcr_values.specs.Phases.{phase_words}
-use Rattle.command_plans.specs.Choices.{without_repeats}
+use Rattle.pcr_values.specs.Prelude.{phase_words}
+use Rattle.command_plans.specs.Prelude.{without_repeats}
 use Rattle.command_plans.proofs.choices.paths_named.Given as goal
 
 abbrev pub invariant-loop-text : goal.invariant-loop-text

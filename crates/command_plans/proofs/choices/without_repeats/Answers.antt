@@ -1,7 +1,5 @@
-use Rattle.std.proofs.Common.{rules, sym, subst}
-use Rattle.std.specs.Prelude.{false, ◌≡◌}
-use Rattle.std.specs.List.{AllPairs}
-use Rattle.command_plans.specs.Choices.{without_repeats}
+use Rattle.std.proofs.Common.{rules, sym, subst, false, ◌≡◌, AllPairs}
+use Rattle.command_plans.specs.Prelude.{without_repeats}
 use Rattle.command_plans.proofs.WithoutRepeats.{kept_new, kept_seen, once_apart}
 use Rattle.command_plans.proofs.choices.without_repeats.Goals as goal
 

@@ -1,5 +1,5 @@
 use Rattle.std.proofs.Common.{◌≡◌}
-use Rattle.command_plans.specs.Choices.{without_repeats}
+use Rattle.command_plans.specs.Prelude.{without_repeats}
 use Rattle.command_plans.proofs.choices.without_repeats.Given as goal
 
 abbrev pub invariant-loop-item : goal.invariant-loop-item

@@ -1,6 +1,5 @@
 use Rattle.std.proofs.Common.{List, ap, subst, sym, ◌∙◌, length, ℕ}
-use Rattle.pe_reader.specs.Grammar.{pe_of}
-use Rattle.pe_reader.specs.Reads.{GivesFrom, headers_of}
+use Rattle.pe_reader.specs.Prelude.{pe_of, GivesFrom, headers_of}
 use Rattle.command_plans.proofs.Sizes.{shown_contents}
 use Rattle.command_plans.proofs.files.head_of_size.Goals as goal
 

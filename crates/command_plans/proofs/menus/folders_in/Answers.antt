@@ -1,6 +1,6 @@
 use Rattle.std.proofs.Common.{◌∙◌}
 use Rattle.boot_base.specs.Layout.{entries_below, images_below}
-use Rattle.command_plans.specs.Declining.{path_under}
+use Rattle.command_plans.specs.Prelude.{path_under}
 use Rattle.command_plans.proofs.Declining.{declined_first, declined_next, done_next, means_declined}
 use Rattle.command_plans.proofs.menus.folders_in.Goals as goal
 

@@ -1,7 +1,6 @@
 use Rattle.std.proofs.Common.{sym, subst}
-use Rattle.command_plans.specs.Unsaying.{UnsaidFor}
-use Rattle.command_plans.specs.Menus.{menu_at}
-use Rattle.boot_machine.specs.Sent.{seen}
+use Rattle.command_plans.specs.Prelude.{UnsaidFor, menu_at}
+use Rattle.boot_machine.specs.Prelude.{seen}
 use Rattle.command_plans.proofs.Scanned.{few_said, unsaid_menu}
 use Rattle.command_plans.proofs.menus.menu_at.Goals as goal
 

@@ -1,11 +1,11 @@
 use Rattle.std.proofs.Common.{refl, inl, sym, ap, ◌∙◌, subst, rules, Err}
-use Rattle.boot_machine.specs.Sent.{seen}
+use Rattle.boot_machine.specs.Prelude.{seen}
 use Rattle.boot_machine.proofs.Elapsing.{at_once}
 use Rattle.boot_machine.proofs.Recovering.{recovered_view-calm}
 use Rattle.boot_machine.proofs.Seeing.{sees, only_view}
 use Rattle.install_steps.specs.Steps.{IsDone, StepsTo}
 use Rattle.install_steps.proofs.QuietLemmas.{alone_by, quiet_start}
-use Rattle.command_plans.specs.Plans.{effect, own_temps}
+use Rattle.command_plans.specs.Prelude.{effect, own_temps}
 use Rattle.command_plans.specs.declared.plan.Change.TheVariants.{Nothing}
 use Rattle.command_plans.proofs.Effects.{left_rested, moved_rested, moves, moves_over_none, removed_rested, removes}
 use Rattle.command_plans.proofs.performing.apply.Goals as goal

@@ -1,13 +1,9 @@
 use Rattle.std.proofs.Common.{◌≡◌, true, ap, subst, ◌∙◌, arith}
-use Rattle.boot_machine.specs.Disk.{has, view}
-use Rattle.boot_machine.specs.Moments.{EachSince}
-use Rattle.boot_machine.specs.Rows.{on_channel}
-use Rattle.boot_machine.specs.Sent.{PrintsPart, seen}
+use Rattle.boot_machine.specs.Prelude.{has, view, EachSince, on_channel, PrintsPart, seen}
 use Rattle.boot_machine.proofs.Seeing.{sees}
 use Rattle.install_steps.specs.Steps.{IsDone, NoNewTemp, Sees}
 use Rattle.install_steps.proofs.KeepLemmas.{others_none, others_on, others_same}
-use Rattle.command_plans.specs.Answers.{channel_of}
-use Rattle.command_plans.specs.Plans.{Drops, effect, making_length, own_temps}
+use Rattle.command_plans.specs.Prelude.{channel_of, Drops, effect, making_length, own_temps}
 use Rattle.command_plans.proofs.Performed.{settle_failed, change_failed, replied}
 use Rattle.command_plans.proofs.Replies.{Replied, replied_drops, replied_files, replied_input, replied_rests, replied_temps}
 use Rattle.command_plans.proofs.performing.perform.Goals as goal

@@ -1,7 +1,5 @@
 use Rattle.std.proofs.Common.{◌≡◌, ℕ, take, refl, subst}
-use Rattle.boot_machine.specs.Moments.{EachSince}
-use Rattle.boot_machine.specs.Rows.{on_channel, with_printed}
-use Rattle.boot_machine.specs.Sent.{PrintsPart}
+use Rattle.boot_machine.specs.Prelude.{EachSince, on_channel, with_printed, PrintsPart}
 use Rattle.boot_machine.specs.declared.machine.Channel.{Channel}
 use Rattle.command_plans.proofs.Exits.{match_err}
 use Rattle.command_plans.proofs.performing.reply.Goals as goal

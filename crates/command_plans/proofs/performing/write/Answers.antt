@@ -1,5 +1,5 @@
 use Rattle.std.proofs.Common.{subst}
-use Rattle.boot_machine.specs.Sent.{seen}
+use Rattle.boot_machine.specs.Prelude.{seen}
 use Rattle.image_writer.specs.Sourced.{planned_image}
 use Rattle.image_writer.proofs.PlannedImages.{planned_image-is}
 use Rattle.install_steps.specs.Steps.{IsDone, StepsTo}

@@ -1,7 +1,6 @@
 use Rattle.std.proofs.Common.{◌≡◌, true, sym, subst, rules}
 use Rattle.boot_folder.specs.Entries.{IsEntry}
-use Rattle.boot_machine.specs.Disk.{State, has}
-use Rattle.boot_machine.specs.Sent.{seen}
+use Rattle.boot_machine.specs.Prelude.{State, has, seen}
 use Rattle.boot_machine.proofs.Reading.{looks_none, looks_on}
 use Rattle.menu_order.specs.Menu.{IsMenu}
 use Rattle.entry_commands.proofs.Firsts.{first_there}

@@ -1,9 +1,8 @@
-use Rattle.std.proofs.Common.{subst, sym}
-use Rattle.std.specs.Prelude.{Result}
+use Rattle.std.proofs.Common.{subst, sym, Result}
 use Rattle.boot_base.specs.Layout.{images_below}
 use Rattle.boot_base.specs.Paths.{Path, under}
 use Rattle.boot_base.specs.declared.refusal.Refusal.{Refusal}
-use Rattle.command_plans.specs.Declining.{Means, ◌>>=◌, path_under}
+use Rattle.command_plans.specs.Prelude.{Means, ◌>>=◌, path_under}
 use Rattle.entry_commands.proofs.install.image_path.Goals as goal
 
 pub returns : goal.returns

@@ -1,5 +1,5 @@
 use Rattle.command_plans.proofs.Worded.{answered_words}
-use Rattle.std.specs.Option.{option_map}
+use Rattle.std.proofs.Common.{option_map}
 use Rattle.entry_commands.specs.Installing.{installation_of}
 use Rattle.entry_commands.proofs.install.plan_install.Goals as goal
 

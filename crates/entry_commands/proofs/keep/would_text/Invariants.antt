@@ -1,5 +1,4 @@
-use Rattle.std.proofs.Common.{◌≡◌, take}
-use Rattle.std.specs.List.{flat_map}
+use Rattle.std.proofs.Common.{◌≡◌, take, flat_map}
 use Rattle.entry_commands.specs.Keeping.{would_line}
 use Rattle.entry_commands.proofs.keep.would_text.Given as goal
 

@@ -1,5 +1,5 @@
 use Rattle.command_plans.proofs.Worded.{said_words}
-use Rattle.command_plans.specs.Folders.{folders_of}
+use Rattle.command_plans.specs.Prelude.{folders_of}
 use Rattle.entry_commands.proofs.list.plan_list.Goals as goal
 
 pub returns-clause-words : goal.returns-clause-words

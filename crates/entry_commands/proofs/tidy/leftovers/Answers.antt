@@ -1,7 +1,6 @@
-use Rattle.std.proofs.Common.{◌≡◌, inl, inr, List, Ok, true, sym, subst, rules}
-use Rattle.std.specs.Prelude.{All, Contains}
+use Rattle.std.proofs.Common.{◌≡◌, inl, inr, List, Ok, true, sym, subst, rules, All, Contains}
 use Rattle.std.proofs.lemmas.List.Elements.{All-append, All-weaker, Contains-append_left, Contains-append_right}
-use Rattle.boot_machine.specs.Disk.{State, has}
+use Rattle.boot_machine.specs.Prelude.{State, has}
 use Rattle.boot_base.specs.Paths.{Path}
 use Rattle.entry_commands.specs.Tidying.{HasLeftovers, IsDirectlyIn, StandsAt}
 use Rattle.entry_commands.proofs.Leftovers.{all_among, found_more}

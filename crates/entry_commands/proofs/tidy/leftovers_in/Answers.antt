@@ -1,6 +1,5 @@
-use Rattle.std.proofs.Common.{◌≡◌, ℕ, List, true, sym, ap, ◌∙◌, subst, rules}
-use Rattle.std.specs.Prelude.{All}
-use Rattle.boot_machine.specs.Disk.{has}
+use Rattle.std.proofs.Common.{◌≡◌, ℕ, List, true, sym, ap, ◌∙◌, subst, rules, All}
+use Rattle.boot_machine.specs.Prelude.{has}
 use Rattle.entry_commands.specs.Tidying.{HasLeftovers, IsDirectlyIn, leftovers_among}
 use Rattle.entry_commands.proofs.Leftovers.{leftovers_there, leftovers_all, leftovers_within}
 use Rattle.boot_machine.proofs.Reading.{looks_once}

@@ -1,11 +1,9 @@
-use Rattle.std.proofs.Common.{Result, rules, subst, sym}
-use Rattle.std.specs.Prelude.{All, IfOk, IsTrue}
+use Rattle.std.proofs.Common.{Result, rules, subst, sym, All, IfOk, IsTrue}
 use Rattle.boot_base.specs.declared.refusal.Refusal.{Refusal}
 use Rattle.boot_folder.specs.declared.folders.Folders.{Folders}
-use Rattle.boot_machine.specs.Sent.{seen}
+use Rattle.boot_machine.specs.Prelude.{seen}
 use Rattle.boot_machine.proofs.Reading.{looks_none}
-use Rattle.command_plans.specs.Folders.{folders_of}
-use Rattle.command_plans.specs.Plans.{own_temps}
+use Rattle.command_plans.specs.Prelude.{folders_of, own_temps}
 use Rattle.entry_commands.specs.Tidying.{StandsAt, tidy_answer}
 use Rattle.entry_commands.proofs.Declined.{plans_unless, refuses_at_once, tidied_unless, within_unless}
 use Rattle.entry_commands.proofs.tidy.plan_tidy.Goals as goal

@@ -1,7 +1,7 @@
 use Rattle.std.proofs.Common.{rules}
-use Rattle.boot_machine.specs.Sent.{seen}
+use Rattle.boot_machine.specs.Prelude.{seen}
 use Rattle.boot_machine.proofs.Reading.{looks_none}
-use Rattle.command_plans.specs.Changes.{unlink_answer}
+use Rattle.command_plans.specs.Prelude.{unlink_answer}
 use Rattle.entry_commands.specs.Unlinking.{entry_path}
 use Rattle.entry_commands.proofs.Declined.{plans_unless, refuses_at_once}
 use Rattle.entry_commands.proofs.unlink.plan_unlink.Goals as goal

@@ -1,4 +1,4 @@
-use Rattle.std.specs.Prelude.{IsTrue}
+use Rattle.std.proofs.Common.{IsTrue}
 use Rattle.folder_changes.specs.Rescues.{HaveBytes}
 use Rattle.folder_changes.proofs.half.aliases_of.Given as goal
 

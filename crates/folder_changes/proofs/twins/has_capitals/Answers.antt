@@ -1,5 +1,4 @@
-use Rattle.std.proofs.Common.{ℕ, List, String, Global, map, string_bytes, subst, sym}
-use Rattle.std.proofs.lemmas.List.{take_all}
+use Rattle.std.proofs.Common.{ℕ, List, String, Global, map, string_bytes, subst, sym, take_all}
 use Rattle.fat_rules.specs.Aliases.{IsInCapitals}
 use Rattle.folder_changes.specs.Shown.{HasNoCapitals}
 use Rattle.folder_changes.proofs.Listing.{any_here, is_not_so, is_so}

@@ -1,4 +1,4 @@
-use Rattle.std.specs.Prelude.{map, string_bytes, take}
+use Rattle.std.proofs.Common.{map, string_bytes, take}
 use Rattle.folder_changes.specs.Shown.{HasNoCapitals}
 use Rattle.folder_changes.proofs.twins.has_capitals.Given as goal
 

@@ -1,5 +1,4 @@
-use Rattle.std.proofs.Common.{◌∙◌, rules, tests, String, Global, string_bytes}
-use Rattle.std.specs.Prelude.{bytes_eq}
+use Rattle.std.proofs.Common.{◌∙◌, rules, tests, String, Global, string_bytes, bytes_eq}
 use Rattle.std.proofs.lemmas.Iterator.{YieldsList-from_slice}
 use Rattle.std.proofs.lemmas.Iterator.Search.{any_from_yields_List}
 use Rattle.folder_changes.proofs.Listing.{has_path_of_texts}

@@ -1,6 +1,4 @@
-use Rattle.std.proofs.Common.{◌≡◌, ℕ, false, subst, List, String, Global, string_bytes, map}
-use Rattle.std.specs.Prelude.{All}
-use Rattle.std.proofs.lemmas.List.{take_all}
+use Rattle.std.proofs.Common.{◌≡◌, ℕ, false, subst, List, String, Global, string_bytes, map, All, take_all}
 use Rattle.folder_changes.specs.Sought.{is_twins_name}
 use Rattle.folder_changes.proofs.NoTwin.{all_more}
 use Rattle.folder_changes.proofs.twins.twin_among.Goals as goal

@@ -1,4 +1,4 @@
-use Rattle.std.specs.Prelude.{◌≡◌, All, IsTrue, false, map, string_bytes, take}
+use Rattle.std.proofs.Common.{◌≡◌, All, IsTrue, false, map, string_bytes, take}
 use Rattle.folder_changes.specs.Sought.{is_twins_name}
 use Rattle.folder_changes.proofs.twins.twin_among.Given as goal
 

@@ -1,5 +1,4 @@
-use Rattle.std.proofs.Common.{◌≡◌, not, sym, ap, ◌∙◌}
-use Rattle.std.specs.Prelude.{bytes_eq}
+use Rattle.std.proofs.Common.{◌≡◌, not, sym, ap, ◌∙◌, bytes_eq}
 use Rattle.boot_base.specs.Paths.{file_name_of}
 use Rattle.name_syncs.specs.Folders.{parent_folder}
 use Rattle.fat_rules.specs.Twins.{may_be_of_one_file}

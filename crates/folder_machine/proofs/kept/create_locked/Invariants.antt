@@ -1,4 +1,4 @@
-use Rattle.std.specs.Prelude.{IsTrue}
+use Rattle.std.proofs.Common.{IsTrue}
 use Rattle.name_syncs.specs.Named.{NameWaits}
 use Rattle.folder_machine.proofs.kept.create_locked.Given as goal
 

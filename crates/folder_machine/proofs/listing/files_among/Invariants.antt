@@ -1,4 +1,4 @@
-use Rattle.std.specs.Prelude.{◌≡◌, IsTrue, map, string_bytes, take}
+use Rattle.std.proofs.Common.{◌≡◌, IsTrue, map, string_bytes, take}
 use Rattle.folder_machine.specs.Looking.{files_in}
 use Rattle.folder_machine.proofs.listing.files_among.Given as goal
 

@@ -1,5 +1,5 @@
 use Rattle.std.proofs.Common.{◌≡◌, All}
-use Rattle.pcr_values.specs.Values.{bank_of}
+use Rattle.pcr_values.specs.Prelude.{bank_of}
 use Rattle.pcr_values.specs.declared.bank.Bank.TheVariants.{Sha256}
 use Rattle.format_rows.proofs.json.sections_of.Given as goal
 

@@ -1,7 +1,6 @@
 use Rattle.std.proofs.Common.{Result, subst, sym, rules}
 use Rattle.boot_base.specs.declared.refusal.Refusal.{Refusal}
-use Rattle.boot_machine.specs.Reading.{TakesAtMost}
-use Rattle.boot_machine.specs.Sent.{seen}
+use Rattle.boot_machine.specs.Prelude.{TakesAtMost, seen}
 use Rattle.image_build.specs.Building.{NamedFiles}
 use Rattle.image_build.specs.Planning.{planning_length}
 use Rattle.boot_machine.proofs.Reading.{looks_none}

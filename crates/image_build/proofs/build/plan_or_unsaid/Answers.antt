@@ -1,6 +1,6 @@
 use Rattle.boot_machine.proofs.Reading.{looks_on}
 use Rattle.std.proofs.Common.{◌∙◌, rules}
-use Rattle.boot_machine.specs.Sent.{seen}
+use Rattle.boot_machine.specs.Prelude.{seen}
 use Rattle.image_build.proofs.Planning.{build_by_name, meant_plan}
 use Rattle.image_build.proofs.Taken.{planning, written_of}
 use Rattle.image_build.proofs.build.plan_or_unsaid.Goals as goal

@@ -1,4 +1,4 @@
-use Rattle.pe_reader.specs.Reads.{headers_of}
+use Rattle.pe_reader.specs.Prelude.{headers_of}
 use Rattle.image_build.proofs.Planning.{built_found, image_meant_by, planned_on}
 use Rattle.image_build.proofs.Imaged.{refused_as}
 use Rattle.image_build.specs.Imaged.{image_result}

@@ -1,4 +1,4 @@
-use Rattle.boot_machine.specs.Sent.{seen}
+use Rattle.boot_machine.specs.Prelude.{seen}
 use Rattle.image_build.proofs.Planning.{ok_weaker, unsaid_plan}
 use Rattle.image_build.proofs.Taken.{idle_none}
 use Rattle.image_build.proofs.build.plan_sources.Goals as goal

@@ -1,5 +1,4 @@
-use Rattle.boot_machine.specs.Rows.{contents}
-use Rattle.boot_machine.specs.Sent.{seen}
+use Rattle.boot_machine.specs.Prelude.{contents, seen}
 use Rattle.image_build.specs.Building.{named_as}
 use Rattle.image_build.proofs.Planning.{head_read, ok_weaker, plannable}
 use Rattle.image_build.proofs.build.planned_build.Goals as goal

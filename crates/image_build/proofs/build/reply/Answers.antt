@@ -1,9 +1,8 @@
 use Rattle.std.proofs.Common.{Bool, rules, subst, sym}
-use Rattle.boot_machine.specs.Reading.{TakesAtMost}
+use Rattle.boot_machine.specs.Prelude.{TakesAtMost, seen}
 use Rattle.image_writer.specs.Sourced.{planned_image}
 use Rattle.image_build.specs.Planning.{measuring_length}
 use Rattle.boot_machine.proofs.Reading.{looks_none}
-use Rattle.boot_machine.specs.Sent.{seen}
 use Rattle.image_build.proofs.Planning.{line_said, values_behind}
 use Rattle.image_build.proofs.build.reply.Goals as goal
 

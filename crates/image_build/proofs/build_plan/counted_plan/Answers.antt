@@ -1,5 +1,5 @@
 use Rattle.std.proofs.Common.{◌∙◌, sym, arith}
-use Rattle.pe_reader.specs.Reads.{headers_of}
+use Rattle.pe_reader.specs.Prelude.{headers_of}
 use Rattle.image_build.proofs.Listed.{linux_added, linux_counted, text_added, text_counted}
 use Rattle.image_build.proofs.Imaged.{images_without, images_in_place, images_as_part, is_none, is_some}
 use Rattle.image_build.proofs.Planning.{found_read}

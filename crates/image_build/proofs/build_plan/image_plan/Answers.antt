@@ -2,7 +2,7 @@ use Rattle.std.proofs.Common.{ap, List, subst, ◌∙◌, rules, map}
 use Rattle.pe_builder.specs.declared.size.WideSize.{WideSize}
 use Rattle.pe_builder.specs.Planned.{PlansImage}
 use Rattle.pe_builder.specs.Sizes.{any_size}
-use Rattle.pe_reader.specs.Reads.{headers_of}
+use Rattle.pe_reader.specs.Prelude.{headers_of}
 use Rattle.image_build.proofs.Imaged.{plan_refused}
 use Rattle.image_build.proofs.build_plan.image_plan.Goals as goal
 

@@ -1,5 +1,4 @@
-use Rattle.std.proofs.Common.{◌≡◌, ◌-◌, ◌^◌, min, take}
-use Rattle.std.specs.Prelude.{sum_by}
+use Rattle.std.proofs.Common.{◌≡◌, ◌-◌, ◌^◌, min, take, sum_by}
 use Rattle.image_build.proofs.build_plan.total_bytes.Given as goal
 
 abbrev pub invariant-loop-part : goal.invariant-loop-part

@@ -1,9 +1,6 @@
 use Rattle.boot_machine.proofs.Reading.{looks_on}
 use Rattle.std.proofs.Common.{subst, ◌+◌, arith, rules}
-use Rattle.boot_machine.specs.Disk.{State}
-use Rattle.boot_machine.specs.Reading.{TakesAtMost}
-use Rattle.boot_machine.specs.Rows.{contents}
-use Rattle.boot_machine.specs.Sent.{seen}
+use Rattle.boot_machine.specs.Prelude.{State, TakesAtMost, contents, seen}
 use Rattle.image_build.specs.Reads.{loaded_sbat_length}
 use Rattle.image_build.proofs.build_reads.image_sbat.Goals as goal
 

@@ -1,16 +1,12 @@
-use Rattle.std.proofs.Common.{Global, List, Ok, Vec, ap, sym, ◌∙◌, ℕ, rules}
+use Rattle.std.proofs.Common.{Global, List, Ok, Vec, ap, sym, ◌∙◌, ℕ, rules, IsTrue}
 use Rattle.boot_machine.proofs.Reading.{looks_none}
-use Rattle.boot_machine.specs.Rows.{contents}
-use Rattle.boot_machine.specs.Sent.{seen}
+use Rattle.boot_machine.specs.Prelude.{contents, seen}
 use Rattle.pe_builder.specs.Replaced.{sbat_name}
 use Rattle.pe_reader.proofs.Finding.{loaded_bytes-none}
-use Rattle.pe_reader.specs.LoadedBytes.{loaded_bytes}
-use Rattle.pe_reader.specs.Reads.{headers_of}
+use Rattle.pe_reader.specs.Prelude.{loaded_bytes, headers_of, part}
 use Rattle.stub_replay.proofs.Ranges.{found_range}
-use Rattle.pe_reader.specs.Fields.{part}
 use Rattle.uki_parts.specs.Sbat.{sbat_entries}
 use Rattle.image_build.proofs.Cut.{entries_kept, says_made}
-use Rattle.std.specs.Prelude.{IsTrue}
 use Rattle.stub_replay.proofs.Sections.{section_long}
 use Rattle.image_build.proofs.build_reads.loaded_sbat.Goals as goal
 

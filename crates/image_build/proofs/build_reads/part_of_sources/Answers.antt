@@ -1,5 +1,4 @@
-use Rattle.boot_machine.specs.Rows.{contents}
-use Rattle.boot_machine.specs.Sent.{seen}
+use Rattle.boot_machine.specs.Prelude.{contents, seen}
 use Rattle.image_build.proofs.Pieced.{joined_sizes, part_is}
 use Rattle.image_build.proofs.build_reads.part_of_sources.Goals as goal
 

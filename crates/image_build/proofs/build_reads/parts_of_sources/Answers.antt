@@ -1,8 +1,6 @@
 use Rattle.std.proofs.Common.{◌∙◌, ◌++◌, ap, sym, refl, rules, arith, map}
 use Rattle.boot_machine.proofs.Reading.{reads_none, reads_on}
-use Rattle.boot_machine.specs.Disk.{State}
-use Rattle.boot_machine.specs.Rows.{contents}
-use Rattle.boot_machine.specs.Sent.{seen}
+use Rattle.boot_machine.specs.Prelude.{State, contents, seen}
 use Rattle.uki_parts.specs.declared.part.Part.{Part}
 use Rattle.image_build.specs.Building.{part_bytes, part_named}
 use Rattle.image_build.specs.Reads.{PartFrom, PartHasSizes, part_as}

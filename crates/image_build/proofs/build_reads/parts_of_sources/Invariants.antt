@@ -1,11 +1,8 @@
-use Rattle.std.proofs.Common.{◌≡◌, ◌++◌, IsTrue, Ok, map}
+use Rattle.std.proofs.Common.{◌≡◌, ◌++◌, IsTrue, Ok, map, All}
 use Rattle.std.specs.List.{AllZip}
-use Rattle.std.specs.Prelude.{All}
-use Rattle.boot_machine.specs.Reading.{OnlyReads, TakesAtMost}
-use Rattle.boot_machine.specs.Rows.{contents}
-use Rattle.boot_machine.specs.Sent.{seen}
+use Rattle.boot_machine.specs.Prelude.{OnlyReads, TakesAtMost, contents, seen}
 use Rattle.image_build.specs.Building.{part_bytes, part_named}
-use Rattle.command_plans.specs.Files.{each}
+use Rattle.command_plans.specs.Prelude.{each}
 use Rattle.image_build.specs.Reads.{PartFrom, PartHasSizes, part_as}
 use Rattle.image_build.proofs.build_reads.parts_of_sources.Given as goal
 

@@ -1,13 +1,10 @@
 use Rattle.boot_machine.proofs.Reading.{looks_on, reads_on}
-use Rattle.boot_machine.specs.Rows.{contents}
-use Rattle.boot_machine.specs.Sent.{seen}
-use Rattle.pe_reader.specs.Reads.{headers_of}
+use Rattle.boot_machine.specs.Prelude.{contents, seen, State, TakesAtMost}
+use Rattle.pe_reader.specs.Prelude.{headers_of}
 use Rattle.uki_parts.specs.Pieces.{bytes_of}
 use Rattle.image_build.specs.Building.{named_as}
 use Rattle.image_build.proofs.Material.{material_is}
 use Rattle.std.proofs.Common.{subst, ◌+◌, ◌∙◌, arith, rules}
-use Rattle.boot_machine.specs.Disk.{State}
-use Rattle.boot_machine.specs.Reading.{TakesAtMost}
 use Rattle.image_build.specs.Reads.{loaded_sbat_length}
 use Rattle.image_build.proofs.Taken.{reading}
 use Rattle.image_build.proofs.build_reads.read_build.Goals as goal

@@ -1,10 +1,8 @@
 use Rattle.std.proofs.Common.{◌≡◌, ◌≤◌, ◌++◌, length, IsTrue, Ok, map, sum_by}
-use Rattle.boot_machine.specs.Reading.{OnlyReads, TakesAtMost}
-use Rattle.boot_machine.specs.Rows.{contents}
-use Rattle.boot_machine.specs.Sent.{seen}
+use Rattle.boot_machine.specs.Prelude.{OnlyReads, TakesAtMost, contents, seen}
 use Rattle.uki_parts.specs.Pieces.{HasSizes, piece_bytes, total_length}
 use Rattle.image_build.specs.Building.{source_bytes}
-use Rattle.command_plans.specs.Files.{each}
+use Rattle.command_plans.specs.Prelude.{each}
 use Rattle.image_build.specs.Reads.{source_limit}
 use Rattle.image_build.proofs.build_reads.source_pieces.Given as goal
 

@@ -1,9 +1,7 @@
 use Rattle.std.proofs.Common.{◌≡◌, Ok, ap, subst, ◌∙◌}
 use Rattle.boot_base.specs.Paths.{Path}
-use Rattle.boot_machine.specs.Rows.{contents}
-use Rattle.pe_reader.specs.Grammar.{pe_of}
-use Rattle.pe_reader.specs.LoadedBytes.{loaded_bytes}
-use Rattle.pe_reader.specs.Reads.{headers_of}
+use Rattle.boot_machine.specs.Prelude.{contents}
+use Rattle.pe_reader.specs.Prelude.{pe_of, loaded_bytes, headers_of}
 use Rattle.image_build.specs.Planning.{IsContent, kept_bytes, stub_bytes}
 use Rattle.image_build.proofs.Values.{kept_not_named, kept_not_placed}
 use Rattle.image_build.proofs.build_values.kept_content.Goals as goal

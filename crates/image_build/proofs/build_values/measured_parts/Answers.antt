@@ -1,7 +1,6 @@
-use Rattle.std.proofs.Common.{subst, sym, ap, arith, rules, length, ◌∙◌}
+use Rattle.std.proofs.Common.{subst, sym, ap, arith, rules, length, ◌∙◌, All}
 use Rattle.std.proofs.lemmas.List.Sums.{sum_by-take-le}
-use Rattle.std.specs.Prelude.{All}
-use Rattle.boot_machine.specs.Rows.{contents}
+use Rattle.boot_machine.specs.Prelude.{contents}
 use Rattle.stub_replay.specs.declared.measurable.Measurable.{Measurable}
 use Rattle.stub_replay.specs.Measured.{measured_names, section_items}
 use Rattle.stub_replay.specs.Parts.{HaveSizes, IsPlaced, IsWhole, files_length}

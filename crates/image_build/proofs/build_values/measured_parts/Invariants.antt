@@ -1,8 +1,5 @@
-use Rattle.std.proofs.Common.{◌≡◌, ◌≤◌, length, map, take}
-use Rattle.std.specs.List.{flat_map}
-use Rattle.std.specs.Prelude.{All, sum_by}
-use Rattle.boot_machine.specs.Disk.{Files}
-use Rattle.boot_machine.specs.Rows.{contents}
+use Rattle.std.proofs.Common.{◌≡◌, ◌≤◌, length, map, take, flat_map, All, sum_by}
+use Rattle.boot_machine.specs.Prelude.{Files, contents}
 use Rattle.stub_replay.specs.Parts.{HaveSizes, IsPlaced, files_length, items_of, named_bytes}
 use Rattle.stub_replay.specs.Measured.{measured_names, section_items}
 use Rattle.image_build.specs.Planning.{IsPlannedOn, section_bytes}

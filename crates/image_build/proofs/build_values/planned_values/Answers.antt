@@ -1,9 +1,8 @@
 use Rattle.std.proofs.Common.{ap, map, subst, sym, ◌∙◌, rules}
 use Rattle.boot_machine.proofs.Reading.{looks_none}
-use Rattle.boot_machine.specs.Sent.{seen}
-use Rattle.pcr_values.specs.ValueLines.{HasDistinctBanks}
+use Rattle.boot_machine.specs.Prelude.{seen}
+use Rattle.pcr_values.specs.Prelude.{HasDistinctBanks, pcr_value}
 use Rattle.pcr_values.proofs.Distinct.{distinct_registers}
-use Rattle.pcr_values.specs.Values.{pcr_value}
 use Rattle.image_writer.specs.Sourced.{planned_image}
 use Rattle.image_build.proofs.Values.{values_said}
 use Rattle.image_build.proofs.build_values.planned_values.Goals as goal

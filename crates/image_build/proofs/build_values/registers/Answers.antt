@@ -1,8 +1,7 @@
 use Rattle.std.proofs.Common.{ap, arith, map, subst, sym, rules}
 use Rattle.boot_machine.proofs.Reading.{looks_none}
-use Rattle.boot_machine.specs.Rows.{contents}
-use Rattle.boot_machine.specs.Sent.{seen}
-use Rattle.pcr_values.specs.Values.{pcr_value}
+use Rattle.boot_machine.specs.Prelude.{contents, seen}
+use Rattle.pcr_values.specs.Prelude.{pcr_value}
 use Rattle.image_writer.specs.Sourced.{planned_image}
 use Rattle.stub_replay.specs.Parts.{HaveSizes, files_length}
 use Rattle.stub_replay.specs.Measured.{measured_list}

@@ -1,8 +1,5 @@
-use Rattle.std.proofs.Common.{ap, subst, sym, ◌∙◌}
-use Rattle.std.specs.List.{find}
-use Rattle.std.specs.Option.{option_copied}
-use Rattle.std.specs.Prelude.{bytes_eq}
-use Rattle.boot_machine.specs.Rows.{contents}
+use Rattle.std.proofs.Common.{ap, subst, sym, ◌∙◌, find, option_copied, bytes_eq}
+use Rattle.boot_machine.specs.Prelude.{contents}
 use Rattle.uki_parts.specs.Names.{name_bytes}
 use Rattle.image_build.specs.Planning.{IsContent}
 use Rattle.image_build.proofs.Values.{section_found, section_kept}

@@ -1,7 +1,6 @@
 use Rattle.std.proofs.Common.{sym, subst, ◌∙◌, Option}
 use Rattle.stub_replay.specs.declared.measurable.Content.{Content}
-use Rattle.pe_reader.specs.LoadedBytes.{loaded_bytes}
-use Rattle.pe_reader.specs.Reads.{headers_of}
+use Rattle.pe_reader.specs.Prelude.{loaded_bytes, headers_of}
 use Rattle.image_build.specs.Planning.{IsContent}
 use Rattle.image_build.proofs.Values.{stub_none, stub_some}
 use Rattle.image_build.proofs.build_values.stub_content.Goals as goal

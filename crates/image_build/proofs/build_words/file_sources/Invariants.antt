@@ -1,7 +1,7 @@
 use Rattle.std.proofs.Common.{◌≡◌, take, Ok}
 use Rattle.tool_words.specs.declared.command.Given.TheVariants.{File}
 use Rattle.image_build.specs.Building.{source_of}
-use Rattle.command_plans.specs.Files.{each}
+use Rattle.command_plans.specs.Prelude.{each}
 use Rattle.image_build.proofs.build_words.file_sources.Given as goal
 
 abbrev pub invariant-loop-word : goal.invariant-loop-word

@@ -1,5 +1,4 @@
-use Rattle.std.proofs.Common.{ap}
-use Rattle.std.specs.Option.{option_map}
+use Rattle.std.proofs.Common.{ap, option_map}
 use Rattle.command_plans.proofs.Declining.{means_declined}
 use Rattle.image_build.specs.Building.{clean}
 use Rattle.image_build.proofs.Wants.{given_declined, given_none, given_some}

@@ -1,5 +1,5 @@
 use Rattle.std.proofs.Common.{◌≡◌, Ok, map, rules, sym, subst, ◌∙◌}
-use Rattle.command_plans.specs.Declining.{DeclinedFor}
+use Rattle.command_plans.specs.Prelude.{DeclinedFor}
 use Rattle.command_plans.proofs.Declining.{means_declined}
 use Rattle.image_build.specs.Building.{part_named, with_parts}
 use Rattle.image_build.specs.Offers.{offered_part}

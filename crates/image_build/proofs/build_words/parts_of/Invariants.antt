@@ -1,5 +1,5 @@
 use Rattle.std.proofs.Common.{◌≡◌, map, drop}
-use Rattle.command_plans.specs.Files.{each}
+use Rattle.command_plans.specs.Prelude.{each}
 use Rattle.image_build.specs.Building.{extra_part, part_named, sources_of, wanted_parts, with_parts}
 use Rattle.image_build.specs.Offers.{offered_parts}
 use Rattle.image_build.proofs.build_words.parts_of.Given as goal

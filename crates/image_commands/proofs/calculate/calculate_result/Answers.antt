@@ -1,7 +1,6 @@
 use Rattle.std.proofs.Common.{◌∙◌, map, sym, subst, rules}
-use Rattle.boot_machine.specs.Rows.{contents}
-use Rattle.boot_machine.specs.Sent.{seen}
-use Rattle.pcr_values.specs.ValueLines.{HasDistinctBanks}
+use Rattle.boot_machine.specs.Prelude.{contents, seen}
+use Rattle.pcr_values.specs.Prelude.{HasDistinctBanks}
 use Rattle.pcr_values.proofs.Distinct.{distinct_registers}
 use Rattle.boot_machine.proofs.Reading.{looks_none, looks_on}
 use Rattle.image_commands.specs.Parts.{named_file, named_path}

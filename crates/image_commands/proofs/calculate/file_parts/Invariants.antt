@@ -1,5 +1,4 @@
-use Rattle.std.proofs.Common.{◌≡◌, map, take}
-use Rattle.std.specs.Prelude.{All}
+use Rattle.std.proofs.Common.{◌≡◌, map, take, All}
 use Rattle.stub_replay.specs.Parts.{HaveSizes, IsPlaced, named_bytes}
 use Rattle.uki_parts.specs.Pieces.{Reading}
 use Rattle.image_commands.specs.Parts.{HasItsSize, named_file}

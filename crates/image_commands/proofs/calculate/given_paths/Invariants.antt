@@ -1,6 +1,5 @@
 use Rattle.std.proofs.Common.{◌≡◌, map, take, Ok}
-use Rattle.command_plans.specs.Files.{each}
-use Rattle.command_plans.specs.Declining.{path_in}
+use Rattle.command_plans.specs.Prelude.{each, path_in}
 use Rattle.image_commands.proofs.Parts.{given_of}
 use Rattle.image_commands.specs.Calculating.{under_name}
 use Rattle.image_commands.specs.Parts.{named_path}

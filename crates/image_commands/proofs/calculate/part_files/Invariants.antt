@@ -1,9 +1,6 @@
-use Rattle.std.proofs.Common.{◌≡◌, ◌++◌, IsTrue, Ok, map}
-use Rattle.std.specs.Prelude.{All}
-use Rattle.boot_machine.specs.Reading.{OnlyReads, TakesAtMost}
-use Rattle.boot_machine.specs.Rows.{contents}
-use Rattle.boot_machine.specs.Sent.{seen}
-use Rattle.command_plans.specs.Files.{bytes_at, each}
+use Rattle.std.proofs.Common.{◌≡◌, ◌++◌, IsTrue, Ok, map, All}
+use Rattle.boot_machine.specs.Prelude.{OnlyReads, TakesAtMost, contents, seen}
+use Rattle.command_plans.specs.Prelude.{bytes_at, each}
 use Rattle.image_commands.specs.Calculating.{under_name}
 use Rattle.image_commands.specs.Parts.{HasItsSize, named_file, named_path}
 use Rattle.image_commands.proofs.calculate.part_files.Given as goal

@@ -1,6 +1,5 @@
 use Rattle.command_plans.proofs.Worded.{said_words}
-use Rattle.command_plans.specs.Files.{each}
-use Rattle.command_plans.specs.Declining.{path_in}
+use Rattle.command_plans.specs.Prelude.{each, path_in}
 use Rattle.image_commands.specs.Calculating.{given_words, under_name}
 use Rattle.image_commands.proofs.calculate.plan_calculate.Goals as goal
 

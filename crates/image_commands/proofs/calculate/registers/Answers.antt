@@ -1,6 +1,5 @@
 use Rattle.std.proofs.Common.{rules}
-use Rattle.boot_machine.specs.Rows.{contents}
-use Rattle.boot_machine.specs.Sent.{seen}
+use Rattle.boot_machine.specs.Prelude.{contents, seen}
 use Rattle.boot_machine.proofs.Reading.{looks_none}
 use Rattle.image_commands.proofs.Calculated.{registers_predicted, taken_predicted}
 use Rattle.image_commands.proofs.calculate.registers.Goals as goal

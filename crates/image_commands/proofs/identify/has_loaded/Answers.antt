@@ -1,5 +1,5 @@
 use Rattle.std.proofs.Common.{◌∙◌, sym}
-use Rattle.pe_reader.specs.Reads.{headers_of}
+use Rattle.pe_reader.specs.Prelude.{headers_of}
 use Rattle.image_commands.proofs.Heads.{none_loaded, some_loaded}
 use Rattle.image_commands.proofs.identify.has_loaded.Goals as goal
 

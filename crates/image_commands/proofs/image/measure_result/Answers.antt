@@ -1,5 +1,5 @@
 use Rattle.std.proofs.Common.{ap, arith, rules}
-use Rattle.boot_machine.specs.Sent.{seen}
+use Rattle.boot_machine.specs.Prelude.{seen}
 use Rattle.stub_replay.specs.Measured.{measured_raw_length}
 use Rattle.image_commands.proofs.Taking.{named_at}
 use Rattle.boot_machine.proofs.Reading.{looks_none}

@@ -1,5 +1,5 @@
 use Rattle.command_plans.proofs.Worded.{said_words}
-use Rattle.command_plans.specs.Declining.{path_in}
+use Rattle.command_plans.specs.Prelude.{path_in}
 use Rattle.image_commands.proofs.image.plan_image.Goals as goal
 
 pub returns-clause-words : goal.returns-clause-words

@@ -1,10 +1,8 @@
 use Rattle.std.proofs.Common.{ap, sym, subst, ◌∙◌, rules}
-use Rattle.boot_machine.specs.Disk.{State}
-use Rattle.boot_machine.specs.Rows.{contents}
-use Rattle.boot_machine.specs.Sent.{seen}
-use Rattle.pcr_values.specs.ValueLines.{HasDistinctBanks}
+use Rattle.boot_machine.specs.Prelude.{State, contents, seen}
+use Rattle.pcr_values.specs.Prelude.{HasDistinctBanks}
 use Rattle.pcr_values.proofs.Distinct.{distinct_registers}
-use Rattle.pe_reader.specs.Reads.{headers_of}
+use Rattle.pe_reader.specs.Prelude.{headers_of}
 use Rattle.boot_machine.proofs.Reading.{looks_on}
 use Rattle.image_commands.proofs.Registers.{values_are}
 use Rattle.image_commands.proofs.Taking.{image_taken}

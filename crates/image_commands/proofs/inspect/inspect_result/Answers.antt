@@ -1,6 +1,6 @@
 use Rattle.std.proofs.Common.{ℕ, List, ap, arith, rules}
-use Rattle.boot_machine.specs.Sent.{seen}
-use Rattle.pe_reader.specs.Grammar.{pe_of}
+use Rattle.boot_machine.specs.Prelude.{seen}
+use Rattle.pe_reader.specs.Prelude.{pe_of}
 use Rattle.image_commands.proofs.Taking.{named_at}
 use Rattle.image_commands.specs.Taking.{all_raw_length}
 use Rattle.boot_machine.proofs.Reading.{looks_none}

@@ -1,7 +1,7 @@
 use Rattle.std.proofs.Common.{◌≤◌, length, drop, ap, sym, subst, Ok, rules}
-use Rattle.boot_machine.specs.Rows.{contents}
+use Rattle.boot_machine.specs.Prelude.{contents}
 use Rattle.pe_reader.specs.declared.section.LoadedRange.{LoadedRange}
-use Rattle.pcr_values.specs.Values.{bytes_of_digest}
+use Rattle.pcr_values.specs.Prelude.{bytes_of_digest}
 use Rattle.image_commands.proofs.Inspecting.{facts_made}
 use Rattle.image_commands.proofs.inspect.inspected_section.Goals as goal
 

@@ -1,9 +1,8 @@
 use Rattle.std.proofs.Common.{◌≡◌, rules, refl, ap, arith}
-use Rattle.boot_machine.specs.Disk.{State}
-use Rattle.boot_machine.specs.Rows.{contents}
-use Rattle.pe_reader.specs.Reads.{headers_of}
+use Rattle.boot_machine.specs.Prelude.{State, contents}
+use Rattle.pe_reader.specs.Prelude.{headers_of}
 use Rattle.boot_machine.proofs.Reading.{reads_none, reads_on}
-use Rattle.pcr_values.specs.Values.{bank_of}
+use Rattle.pcr_values.specs.Prelude.{bank_of}
 use Rattle.pcr_values.specs.declared.bank.Bank.TheVariants as banks
 use Rattle.list_json.specs.declared.inspection.Inspected.{Inspected}
 use Rattle.image_commands.proofs.Inspecting.{all_more, item_inside, facts_more, unwrapped}

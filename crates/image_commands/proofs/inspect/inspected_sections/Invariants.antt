@@ -1,8 +1,6 @@
-use Rattle.std.proofs.Common.{◌≡◌, All, IsTrue, map, take}
-use Rattle.std.specs.Prelude.{sum_by}
-use Rattle.boot_machine.specs.Reading.{OnlyReads, TakesAtMost}
-use Rattle.boot_machine.specs.Rows.{contents}
-use Rattle.pcr_values.specs.Values.{bank_of}
+use Rattle.std.proofs.Common.{◌≡◌, All, IsTrue, map, take, sum_by}
+use Rattle.boot_machine.specs.Prelude.{OnlyReads, TakesAtMost, contents}
+use Rattle.pcr_values.specs.Prelude.{bank_of}
 use Rattle.pcr_values.specs.declared.bank.Bank.TheVariants as banks
 use Rattle.list_json.specs.Sections.{facts_of}
 use Rattle.image_commands.specs.Said.{section_facts}

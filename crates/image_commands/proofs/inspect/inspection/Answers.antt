@@ -1,9 +1,7 @@
 use Rattle.std.proofs.Common.{ap, rules}
-use Rattle.boot_machine.specs.Disk.{State}
+use Rattle.boot_machine.specs.Prelude.{State, contents, seen}
 use Rattle.boot_machine.proofs.Reading.{looks_on}
-use Rattle.boot_machine.specs.Rows.{contents}
-use Rattle.boot_machine.specs.Sent.{seen}
-use Rattle.pe_reader.specs.Reads.{headers_of}
+use Rattle.pe_reader.specs.Prelude.{headers_of}
 use Rattle.image_commands.proofs.Inspecting.{inspection_said}
 use Rattle.image_commands.proofs.Taking.{inspected_taken}
 use Rattle.image_commands.proofs.inspect.inspection.Goals as goal

@@ -1,5 +1,4 @@
-use Rattle.std.proofs.Common.{◌≡◌, ◌++◌, length, map, take}
-use Rattle.std.specs.List.{flat_map}
+use Rattle.std.proofs.Common.{◌≡◌, ◌++◌, length, map, take, flat_map}
 use Rattle.list_json.specs.Sections.{facts_of}
 use Rattle.image_commands.specs.Told.{first_line, section_lines}
 use Rattle.image_commands.proofs.told.inspection_lines.Given as goal

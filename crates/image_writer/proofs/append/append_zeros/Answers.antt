@@ -1,5 +1,4 @@
-use Rattle.std.proofs.Common.{ℕ, refl, subst, rules, arith}
-use Rattle.std.specs.Prelude.{replicate}
+use Rattle.std.proofs.Common.{ℕ, refl, subst, rules, arith, replicate}
 use Rattle.install_steps.specs.Appends.{IsGrown}
 use Rattle.install_steps.proofs.Appending.{appends_none, appends_on, appends_failed, appends-there}
 use Rattle.install_steps.specs.proofs.AppendLaws.{grown_none, grown_on, grown_as}

@@ -1,6 +1,5 @@
-use Rattle.std.proofs.Common.{◌≡◌, ◌≤◌, ◌-◌, IsTrue}
-use Rattle.std.specs.Prelude.{replicate}
-use Rattle.boot_machine.specs.Taken.{TakesNone}
+use Rattle.std.proofs.Common.{◌≡◌, ◌≤◌, ◌-◌, IsTrue, replicate}
+use Rattle.boot_machine.specs.Prelude.{TakesNone}
 use Rattle.install_steps.specs.Appends.{Appends, IsGrown}
 use Rattle.image_writer.proofs.append.append_zeros.Given as goal
 

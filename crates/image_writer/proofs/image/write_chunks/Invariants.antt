@@ -1,8 +1,5 @@
-use Rattle.std.proofs.Common.{◌≡◌, IsTrue, take}
-use Rattle.std.specs.Prelude.{sum_by}
-use Rattle.std.specs.List.{flat_map}
-use Rattle.boot_machine.specs.Reading.{TakesAtMost}
-use Rattle.boot_machine.specs.Rows.{contents}
+use Rattle.std.proofs.Common.{◌≡◌, IsTrue, take, sum_by, flat_map}
+use Rattle.boot_machine.specs.Prelude.{TakesAtMost, contents}
 use Rattle.install_steps.specs.Appends.{Appends, IsGrown}
 use Rattle.image_writer.specs.Chunks.{chunk_bytes}
 use Rattle.image_writer.specs.Sourced.{stub_path, new_sbat}

@@ -1,7 +1,5 @@
-use Rattle.std.proofs.Common.{◌≡◌, IsTrue, take}
-use Rattle.std.specs.List.{flat_map}
-use Rattle.boot_machine.specs.Rows.{contents}
-use Rattle.boot_machine.specs.Reading.{TakesAtMost}
+use Rattle.std.proofs.Common.{◌≡◌, IsTrue, take, flat_map}
+use Rattle.boot_machine.specs.Prelude.{contents, TakesAtMost}
 use Rattle.install_steps.specs.Appends.{Appends, IsGrown}
 use Rattle.image_writer.specs.Chunks.{chunks_bytes, section_chunks}
 use Rattle.image_writer.specs.Sourced.{stub_path, new_sbat}

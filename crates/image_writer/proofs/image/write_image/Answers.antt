@@ -1,14 +1,12 @@
-use Rattle.std.proofs.Common.{◌≡◌, ◌<◌, ◌≤◌, ℕ, List, sym, ap, subst, ◌∙◌, arith}
+use Rattle.std.proofs.Common.{◌≡◌, ◌<◌, ◌≤◌, ℕ, List, sym, ap, subst, ◌∙◌, arith, sum_by}
 use Rattle.boot_base.specs.Paths.{Path}
-use Rattle.boot_machine.specs.Disk.{view}
-use Rattle.boot_machine.specs.Rows.{contents}
+use Rattle.boot_machine.specs.Prelude.{view, contents}
 use Rattle.pe_reader.specs.declared.head.Head.{Head}
 use Rattle.pe_builder.specs.Known.{planned_before, planned_stub_length}
 use Rattle.image_writer.specs.Chunks.{behind_stub, new_stub_bytes}
 use Rattle.image_writer.specs.Sourced.{new_sbat, part_list, parts_bytes, stub_path}
 use Rattle.install_steps.proofs.Appending.{appends_on, appends-there, appends-source}
 use Rattle.install_steps.specs.proofs.AppendLaws.{contents-view, grown_as, grown_from_none, ok_then}
-use Rattle.std.specs.Prelude.{sum_by}
 use Rattle.uki_parts.specs.declared.part.Part.{Part}
 use Rattle.image_writer.specs.Taken.{kept_length, part_reading}
 use Rattle.image_writer.proofs.Assembled.{aligned, finished_bytes, kept_within}

@@ -1,5 +1,5 @@
 use Rattle.std.proofs.Common.{ℕ, List, ap, ◌∙◌}
-use Rattle.boot_machine.specs.Rows.{contents}
+use Rattle.boot_machine.specs.Prelude.{contents}
 use Rattle.image_writer.specs.Chunks.{chunks_bytes, headers_bytes}
 use Rattle.image_writer.specs.Sourced.{new_sbat, stub_path}
 use Rattle.install_steps.proofs.Appending.{appends_on, appends_failed, appends-there, appends-source}

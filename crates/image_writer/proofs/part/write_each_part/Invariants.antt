@@ -1,9 +1,7 @@
 use Rattle.std.proofs.Common.{◌≡◌, IsTrue, take}
-use Rattle.std.specs.Prelude.{sum_by}
-use Rattle.std.specs.List.{flat_map}
-use Rattle.boot_machine.specs.Reading.{TakesAtMost}
+use Rattle.boot_machine.specs.Prelude.{TakesAtMost}
 use Rattle.install_steps.specs.Appends.{Appends, IsGrown}
-use Rattle.std.proofs.Common.{◌<◌}
+use Rattle.std.proofs.Common.{◌<◌, sum_by, flat_map}
 use Rattle.uki_parts.specs.Pieces.{Reading}
 use Rattle.image_writer.specs.Chunks.{Agrees, padded_part}
 use Rattle.image_writer.specs.Taken.{part_reading}

@@ -1,6 +1,4 @@
-use Rattle.std.proofs.Common.{◌++◌, ℕ, List, ap, ◌∙◌}
-use Rattle.std.specs.Prelude.{replicate}
-use Rattle.std.specs.List.{flat_map}
+use Rattle.std.proofs.Common.{◌++◌, ℕ, List, ap, ◌∙◌, replicate, flat_map}
 use Rattle.uki_parts.specs.declared.piece.Piece.{Piece}
 use Rattle.image_writer.specs.Chunks.{given_bytes}
 use Rattle.install_steps.proofs.Appending.{appends_on, appends-there}

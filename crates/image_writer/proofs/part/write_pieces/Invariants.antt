@@ -1,7 +1,5 @@
-use Rattle.std.proofs.Common.{◌≡◌, IsTrue, take}
-use Rattle.std.specs.Prelude.{sum_by}
-use Rattle.std.specs.List.{flat_map}
-use Rattle.boot_machine.specs.Reading.{TakesAtMost}
+use Rattle.std.proofs.Common.{◌≡◌, IsTrue, take, sum_by, flat_map}
+use Rattle.boot_machine.specs.Prelude.{TakesAtMost}
 use Rattle.install_steps.specs.Appends.{Appends, IsGrown}
 use Rattle.uki_parts.specs.Pieces.{Reading, file_length}
 use Rattle.image_writer.specs.Chunks.{Agrees, given_bytes}

@@ -1,7 +1,6 @@
 use Rattle.std.proofs.Common.{◌≡◌, [], ◌∷◌, refl, sym, ap, ◌∙◌, subst, rules}
 use Rattle.std.specs.FinMap as map
-use Rattle.boot_machine.specs.Disk.{Files, recovered_view, view}
-use Rattle.boot_machine.specs.Rows.{contents, move_in}
+use Rattle.boot_machine.specs.Prelude.{Files, recovered_view, view, contents, move_in}
 use Rattle.boot_machine.proofs.Going.{goes-create}
 use Rattle.boot_machine.proofs.Views.{view-insert_temp}
 use Rattle.boot_machine.proofs.Written.{has-created}

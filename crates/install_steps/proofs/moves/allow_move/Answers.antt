@@ -1,9 +1,8 @@
 use Rattle.std.proofs.Common.{◌≡◌, true, not, sym, ap, ◌∙◌, rules, IsTrue}
-use Rattle.boot_machine.specs.Disk.{State, has}
+use Rattle.boot_machine.specs.Prelude.{State, has, OnlyReads}
 use Rattle.boot_machine.proofs.Reading.{looks_once, reads_on, reads_once}
 use Rattle.install_steps.proofs.RefusedLemmas.{has-sized, told_at}
 use Rattle.install_steps.proofs.MachineLemmas.{only_here}
-use Rattle.boot_machine.specs.Reading.{OnlyReads}
 use Rattle.install_steps.proofs.moves.allow_move.Given as given
 use Rattle.install_steps.proofs.moves.allow_move.Goals.{After-is_some, After-size-2}
 use Rattle.install_steps.proofs.moves.allow_move.Goals as goal

@@ -1,13 +1,11 @@
 use Rattle.std.proofs.Common.{◌≡◌, inl, inr, refl, ap, ◌∙◌, rules, [], ◌∷◌, IsTrue}
 use Rattle.std.specs.FinMap as map
-use Rattle.boot_machine.specs.Disk.{recovered_view}
-use Rattle.boot_machine.specs.Rows.{move_in}
+use Rattle.boot_machine.specs.Prelude.{recovered_view, move_in, IsFirm}
 use Rattle.boot_machine.proofs.Recovering.{calm-removed}
 use Rattle.boot_machine.proofs.Views.{has-removed, temps-move_in}
 use Rattle.install_steps.proofs.MoveLemmas.{apart_of, intended_view, intended_there, moved_view, dropped_view, intent_there}
 use Rattle.install_steps.proofs.StepLemmas.{steps_part, steps_then, done_after, ok_both}
 use Rattle.install_steps.proofs.QuietLemmas.{alone_by, quiet_of, quiet_then, quiet_bare}
-use Rattle.boot_machine.specs.Images.{IsFirm}
 use Rattle.install_steps.specs.Steps.{StepsTo}
 use Rattle.install_steps.proofs.moves.move_intended.Given as given
 use Rattle.install_steps.proofs.moves.move_intended.Goals.{After-rename_synced}

@@ -1,7 +1,5 @@
-use Rattle.std.proofs.Common.{◌≡◌, inr, sym, ap, ◌∙◌, subst, rules, [], ◌∷◌, IsTrue, true, false}
-use Rattle.std.specs.Prelude.{IsErrOf}
-use Rattle.boot_machine.specs.Disk.{State, recovered_view, has}
-use Rattle.boot_machine.specs.Rows.{move_in}
+use Rattle.std.proofs.Common.{◌≡◌, inr, sym, ap, ◌∙◌, subst, rules, [], ◌∷◌, IsTrue, true, false, IsErrOf}
+use Rattle.boot_machine.specs.Prelude.{State, recovered_view, has, move_in, IsFirm}
 use Rattle.boot_machine.proofs.Recovering.{has-recovered_view}
 use Rattle.install_steps.specs.Steps.{IsDone, after_move, StepsTo}
 use Rattle.install_steps.specs.declared.faults.MoveFault.TheVariants.{NotFound, TargetExists}
@@ -9,7 +7,6 @@ use Rattle.install_steps.proofs.RefusedLemmas.{moved_there}
 use Rattle.install_steps.proofs.StepLemmas.{goes-reads, steps_to, steps_behind}
 use Rattle.install_steps.proofs.QuietLemmas.{alone_by, quiet_of, quiet_reads, quiet_then}
 use Rattle.install_steps.proofs.MachineLemmas.{quiet_here, starts}
-use Rattle.boot_machine.specs.Images.{IsFirm}
 use Rattle.install_steps.proofs.moves.move_name.Given as given
 use Rattle.install_steps.proofs.moves.move_name.Goals.{After-move_intended, In_ok-allow_move}
 use Rattle.install_steps.proofs.moves.move_name.Goals as goal

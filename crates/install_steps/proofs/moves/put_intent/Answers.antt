@@ -1,7 +1,7 @@
 use Rattle.install_steps.proofs.KeepLemmas.{own_alone}
 use Rattle.std.proofs.Common.{◌≡◌, ◌∙◌, [], refl, sym, subst, rules, ◌∷◌, IsTrue}
 use Rattle.std.specs.FinMap as map
-use Rattle.boot_machine.specs.Rows.{contents, move_in}
+use Rattle.boot_machine.specs.Prelude.{contents, move_in, IsFirm}
 use Rattle.boot_machine.proofs.Going.{goes-create, During}
 use Rattle.boot_machine.proofs.Written.{has-created}
 use Rattle.install_steps.specs.Steps.{Intends}
@@ -12,7 +12,6 @@ use Rattle.install_steps.proofs.AppendLemmas.{goes-appends, contents-created}
 use Rattle.install_steps.proofs.WrittenIntent.{grown_whole, intends_written, temps_put, may_stand_from}
 use Rattle.install_steps.proofs.QuietLemmas.{alone_by, quiet-create, quiet_appends, quiet_of, quiet_then, Quiet}
 use Rattle.install_steps.proofs.MachineLemmas.{only_here, quiet_here, starts_same}
-use Rattle.boot_machine.specs.Images.{IsFirm}
 use Rattle.install_steps.proofs.moves.put_intent.Given as given
 use Rattle.install_steps.proofs.moves.put_intent.Goals.{After-append, In_ok-append}
 use Rattle.install_steps.proofs.moves.put_intent.Goals as goal

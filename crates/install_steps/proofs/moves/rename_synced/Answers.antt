@@ -1,12 +1,10 @@
 use Rattle.std.proofs.Common.{inr, refl, rules, [], inl, IsTrue}
-use Rattle.boot_machine.specs.Disk.{recovered_view}
-use Rattle.boot_machine.specs.Rows.{move_in}
+use Rattle.boot_machine.specs.Prelude.{recovered_view, move_in, IsFirm}
 use Rattle.boot_machine.proofs.Recovering.{names_of, not_soft, recovered_view-half_moved}
 use Rattle.boot_machine.proofs.Going.{goes-rename, goes-sync_names, During}
 use Rattle.install_steps.proofs.StepLemmas.{steps_to, on_ok, differ_of, OldOrNext}
 use Rattle.install_steps.proofs.QuietLemmas.{alone_by, quiet-rename, quiet-sync_names, Quiet}
 use Rattle.install_steps.proofs.MachineLemmas.{only_here, quiet_here, starts}
-use Rattle.boot_machine.specs.Images.{IsFirm}
 use Rattle.install_steps.proofs.moves.rename_synced.Given as given
 use Rattle.install_steps.proofs.moves.rename_synced.Goals.{After-rename_name}
 use Rattle.install_steps.proofs.moves.rename_synced.Goals as goal

@@ -1,6 +1,6 @@
 use Rattle.std.proofs.Common.{◌≡◌, inl}
 use Rattle.std.specs.FinMap as map
-use Rattle.boot_machine.specs.Disk.{recovered_view}
+use Rattle.boot_machine.specs.Prelude.{recovered_view}
 use Rattle.boot_machine.proofs.Recovering.{calm-removed, recovered_view-drop_intent}
 use Rattle.install_steps.proofs.StepLemmas.{steps_part, ok_both}
 use Rattle.install_steps.proofs.recovery.drop_intent.Goals as goal

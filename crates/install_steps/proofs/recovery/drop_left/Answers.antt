@@ -1,12 +1,11 @@
 use Rattle.std.proofs.Common.{◌≡◌, inl, true, false, ◌∙◌, rules, [], IsTrue}
 use Rattle.std.specs.FinMap as map
-use Rattle.boot_machine.specs.Disk.{has, recovered_view}
+use Rattle.boot_machine.specs.Prelude.{has, recovered_view, IsFirm}
 use Rattle.boot_machine.proofs.Recovering.{intent_there, whole-first, whole-second, whole-removed, intent_kept, recovered_view-drop_left}
 use Rattle.boot_machine.proofs.Going.{goes-read, During}
 use Rattle.install_steps.proofs.StepLemmas.{steps_same, ok_then, Same, steps_behind}
 use Rattle.install_steps.proofs.QuietLemmas.{alone_by, quiet-read, quiet_of, quiet_then, Quiet}
 use Rattle.install_steps.proofs.MachineLemmas.{only_here, quiet_here, starts_same}
-use Rattle.boot_machine.specs.Images.{IsFirm}
 use Rattle.install_steps.proofs.recovery.drop_left.Given as given
 use Rattle.install_steps.proofs.recovery.drop_left.Goals.{After-size, After-size-2}
 use Rattle.install_steps.proofs.recovery.drop_left.Goals as goal

@@ -1,8 +1,6 @@
-use Rattle.std.proofs.Common.{◌≡◌, IsTrue, sym, ap, ◌∙◌, None, rules, []}
-use Rattle.std.specs.Option.{option_map}
+use Rattle.std.proofs.Common.{◌≡◌, IsTrue, sym, ap, ◌∙◌, None, rules, [], option_map}
 use Rattle.boot_base.specs.Intents.{names_of}
-use Rattle.boot_machine.specs.Disk.{intent_names, recovered_view}
-use Rattle.boot_machine.specs.Images.{IsFirm}
+use Rattle.boot_machine.specs.Prelude.{intent_names, recovered_view, IsFirm}
 use Rattle.boot_machine.proofs.Going.{During, goes-read}
 use Rattle.boot_machine.proofs.Recovering.{whole-unread}
 use Rattle.install_steps.specs.Steps.{StepsTo}

@@ -1,5 +1,5 @@
 use Rattle.std.proofs.Common.{◌≡◌, inr, ⊎_elim, true, refl, sym, subst, ◌∙◌, [], rules, IsTrue}
-use Rattle.boot_machine.specs.Disk.{has, recovered_view}
+use Rattle.boot_machine.specs.Prelude.{has, recovered_view, IsFirm}
 use Rattle.boot_machine.proofs.Recovering.{recovered_view-remove_temp}
 use Rattle.boot_machine.proofs.Soft.{now_sees}
 use Rattle.boot_machine.proofs.Going.{goes-unlink, goes-sync_names, During}
@@ -7,7 +7,6 @@ use Rattle.install_steps.proofs.StepLemmas.{OldOrNext, steps_to, is_done}
 use Rattle.install_steps.proofs.LeftoverLemmas.{calm_lacks, lacks_all, lacks_none, lacks_more, listed_at, none_new, still_there}
 use Rattle.install_steps.proofs.QuietLemmas.{alone_by, quiet-sync_names, quiet-unlink, Quiet}
 use Rattle.install_steps.proofs.MachineLemmas.{only_here, quiet_here, starts}
-use Rattle.boot_machine.specs.Images.{IsFirm}
 use Rattle.install_steps.proofs.steps.drop_leftovers.Given as given
 use Rattle.install_steps.proofs.steps.drop_leftovers.Goals.{After-sync_names, After-unlink_temp}
 use Rattle.install_steps.proofs.steps.drop_leftovers.Goals as goal

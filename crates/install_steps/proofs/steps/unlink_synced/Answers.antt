@@ -1,7 +1,6 @@
 use Rattle.std.proofs.Common.{inr, refl, rules, [], inl, IsTrue}
 use Rattle.std.specs.FinMap as map
-use Rattle.boot_machine.specs.Disk.{recovered_view}
-use Rattle.boot_machine.specs.Rows.{after_unlink}
+use Rattle.boot_machine.specs.Prelude.{recovered_view, after_unlink, IsFirm}
 use Rattle.boot_machine.proofs.Views.{has-removed}
 use Rattle.boot_machine.proofs.Soft.{by_done_or_not, by_sync_names}
 use Rattle.boot_machine.proofs.Going.{goes-unlink, goes-sync_names, During}
@@ -9,7 +8,6 @@ use Rattle.install_steps.specs.Steps.{NoNewTemp}
 use Rattle.install_steps.proofs.StepLemmas.{steps_to, on_ok, OldOrNext}
 use Rattle.install_steps.proofs.QuietLemmas.{alone_by, quiet-sync_names, quiet-unlink, Quiet}
 use Rattle.install_steps.proofs.MachineLemmas.{only_here, quiet_here, starts}
-use Rattle.boot_machine.specs.Images.{IsFirm}
 use Rattle.install_steps.proofs.steps.unlink_synced.Given as given
 use Rattle.install_steps.proofs.steps.unlink_synced.Goals.{After-unlink}
 use Rattle.install_steps.proofs.steps.unlink_synced.Goals as goal

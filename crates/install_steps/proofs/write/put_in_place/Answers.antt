@@ -1,15 +1,13 @@
 use Rattle.install_steps.proofs.KeepLemmas.{own_alone}
 use Rattle.std.proofs.Common.{◌≡◌, inr, false, refl, [], ◌∙◌, rules, ◌∷◌, IsTrue}
 use Rattle.std.specs.FinSet as set
-use Rattle.boot_machine.specs.Disk.{recovered_view}
-use Rattle.boot_machine.specs.Rows.{move_in}
+use Rattle.boot_machine.specs.Prelude.{recovered_view, move_in, IsFirm, IsSettled}
 use Rattle.boot_machine.proofs.Going.{goes-sync_file, goes-rename, goes-sync_names, During}
 use Rattle.boot_machine.proofs.Recovering.{recovered_view-half_temp}
 use Rattle.boot_machine.proofs.Written.{is_synced}
 use Rattle.install_steps.proofs.StepLemmas.{steps_to, is_done, on_ok, OldOrNext}
 use Rattle.install_steps.proofs.QuietLemmas.{alone_by, quiet-rename, quiet-sync_file, quiet-sync_names, Quiet}
 use Rattle.install_steps.proofs.MachineLemmas.{only_here, quiet_here, starts_settled}
-use Rattle.boot_machine.specs.Images.{IsFirm, IsSettled}
 use Rattle.install_steps.proofs.write.put_in_place.Given as given
 use Rattle.install_steps.proofs.write.put_in_place.Goals.{After-rename_temp}
 use Rattle.install_steps.proofs.write.put_in_place.Goals as goal

@@ -1,15 +1,13 @@
 use Rattle.install_steps.proofs.KeepLemmas.{own_alone}
 use Rattle.std.proofs.Common.{◌≡◌, subst, rules, [], ◌∷◌, IsTrue}
 use Rattle.std.specs.FinMap as map
-use Rattle.boot_machine.specs.Disk.{recovered_view}
-use Rattle.boot_machine.specs.Rows.{move_in}
+use Rattle.boot_machine.specs.Prelude.{recovered_view, move_in, IsFirm}
 use Rattle.boot_machine.proofs.Going.{goes-create, goes-append, During}
 use Rattle.boot_machine.proofs.Written.{has-created, has-appended, calm-written, recovered_view-written, temps-written}
 use Rattle.install_steps.specs.Steps.{IsDone}
 use Rattle.install_steps.proofs.StepLemmas.{firm_so_far, settled_so_far, steps_same, ok_both, ok_then, off_intent, Same, steps_put}
 use Rattle.install_steps.proofs.QuietLemmas.{alone_by, quiet-append, quiet-create, quiet_of, quiet_then, Quiet}
 use Rattle.install_steps.proofs.MachineLemmas.{only_here, quiet_here, starts_same}
-use Rattle.boot_machine.specs.Images.{IsFirm}
 use Rattle.install_steps.proofs.write.write_bytes.Given as given
 use Rattle.install_steps.proofs.write.write_bytes.Goals.{After-append, In_ok-append}
 use Rattle.install_steps.proofs.write.write_bytes.Goals as goal

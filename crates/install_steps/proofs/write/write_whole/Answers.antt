@@ -1,9 +1,6 @@
 use Rattle.std.proofs.Common.{◌≡◌, IsTrue, true, false, length, [], ◌∷◌, refl, subst, rules, arith}
 use Rattle.std.specs.FinMap as map
-use Rattle.boot_machine.specs.Disk.{has, recovered_view}
-use Rattle.boot_machine.specs.Images.{IsFirm}
-use Rattle.boot_machine.specs.Reading.{TakesAtMost}
-use Rattle.boot_machine.specs.Rows.{contents, move_in}
+use Rattle.boot_machine.specs.Prelude.{has, recovered_view, IsFirm, TakesAtMost, contents, move_in}
 use Rattle.boot_machine.proofs.Going.{During, goes-create, goes-read}
 use Rattle.boot_machine.proofs.Recovering.{has-recovered_view}
 use Rattle.boot_machine.proofs.Written.{has-created}

@@ -1,7 +1,5 @@
 -- What is seen of each group so far tells whether the next entry is kept.
-use Rattle.std.proofs.Common.{◌≡◌, not, ◌&&◌, ◌||◌, ◌++◌, ◌∷◌, [], ap, sym, ◌∙◌, take, arith, List, ℕ}
-use Rattle.std.specs.Prelude.{nat_lt, unwrap_or, if◌then◌else◌}
-use Rattle.std.proofs.lemmas.List.{append-nil}
+use Rattle.std.proofs.Common.{◌≡◌, not, ◌&&◌, ◌||◌, ◌++◌, ◌∷◌, [], ap, sym, ◌∙◌, take, arith, List, ℕ, nat_lt, unwrap_or, if◌then◌else◌, append-nil}
 use Rattle.keep_newest.specs.declared.newest.Tally.{Tally}
 use Rattle.keep_newest.specs.Doomed.{group_of, is_good, is_kept_record, places_behind}
 use Rattle.keep_newest.specs.Tallies.{no_tally, tally_of}

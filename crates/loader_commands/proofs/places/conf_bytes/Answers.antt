@@ -1,9 +1,8 @@
 use Rattle.std.proofs.Common.{List, ℕ, Result, ap, ◌∙◌, subst, rules}
 use Rattle.boot_base.specs.declared.refusal.Refusal.{Refusal}
-use Rattle.boot_machine.specs.Disk.{State}
-use Rattle.boot_machine.specs.Sent.{seen}
+use Rattle.boot_machine.specs.Prelude.{State, seen}
 use Rattle.boot_machine.proofs.Reading.{looks_on}
-use Rattle.command_plans.specs.Unsaying.{Says}
+use Rattle.command_plans.specs.Prelude.{Says}
 use Rattle.loader_commands.proofs.Limits.{conf_read}
 use Rattle.loader_commands.proofs.places.conf_bytes.Goals as goal
 

@@ -1,5 +1,5 @@
 use Rattle.std.proofs.Common.{◌∙◌}
-use Rattle.command_plans.specs.Folders.{folders_of}
+use Rattle.command_plans.specs.Prelude.{folders_of}
 use Rattle.command_plans.proofs.Declining.{declined_first, declined_next, done_next, means_declined}
 use Rattle.loader_commands.specs.Places.{conf_path}
 use Rattle.loader_commands.proofs.places.loader_paths.Goals as goal

@@ -1,9 +1,7 @@
 use Rattle.std.proofs.Common.{◌≡◌, List, ℕ, Ok, subst, rules}
-use Rattle.boot_machine.specs.Disk.{State}
-use Rattle.boot_machine.specs.Sent.{seen}
+use Rattle.boot_machine.specs.Prelude.{State, seen}
 use Rattle.boot_machine.proofs.Reading.{looks_none, looks_on}
-use Rattle.command_plans.specs.Menus.{menu_at}
-use Rattle.command_plans.specs.Unsaying.{Says}
+use Rattle.command_plans.specs.Prelude.{menu_at, Says}
 use Rattle.loader_commands.specs.Showing.{menu_shown}
 use Rattle.loader_commands.proofs.Told.{shown_by}
 use Rattle.menu_order.specs.declared.item.MenuItem.{MenuItem}

@@ -1,5 +1,4 @@
-use Rattle.std.proofs.Common.{◌≡◌, map, take}
-use Rattle.std.specs.Prelude.{string_bytes}
+use Rattle.std.proofs.Common.{◌≡◌, map, take, string_bytes}
 use Rattle.memory_folder.specs.Entries.{names_in_folder}
 use Rattle.memory_folder.proofs.entry.names_in_folder.Given as goal
 

@@ -1,4 +1,4 @@
-use Rattle.std.specs.Prelude.{IsTrue}
+use Rattle.std.proofs.Common.{IsTrue}
 use Rattle.name_syncs.proofs.Noted.{if_nothing_waits}
 use Rattle.name_syncs.proofs.sync.sync_changed.Goals as goal
 

@@ -1,6 +1,5 @@
 use Rattle.std.proofs.Common.{◌≡◌, map, string_bytes, take}
-use Rattle.pcr_values.specs.Banks.{extend_all}
-use Rattle.pcr_values.specs.Values.{pcr_bank, pcr_bytes}
+use Rattle.pcr_values.specs.Prelude.{extend_all, pcr_bank, pcr_bytes}
 use Rattle.pcr_values.proofs.phase_path.after_phases.Given as goal
 
 abbrev pub invariant-loop-word : goal.invariant-loop-word

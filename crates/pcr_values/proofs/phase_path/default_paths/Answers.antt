@@ -1,5 +1,5 @@
 use Rattle.std.proofs.Common.{◌≡◌, rules, subst, sym}
-use Rattle.pcr_values.specs.Phases.{HasDistinctPaths, default_phase_paths}
+use Rattle.pcr_values.specs.Prelude.{HasDistinctPaths, default_phase_paths}
 use Rattle.pcr_values.proofs.Distinct.{default_phase_paths-distinct}
 use Rattle.pcr_values.proofs.phase_path.default_paths.Goals as goal
 

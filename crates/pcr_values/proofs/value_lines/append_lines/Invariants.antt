@@ -1,6 +1,5 @@
-use Rattle.std.proofs.Common.{◌≡◌, ◌++◌, take}
-use Rattle.std.specs.List.{flat_map}
-use Rattle.pcr_values.specs.ValueLines.{heading_of, line_after}
+use Rattle.std.proofs.Common.{◌≡◌, ◌++◌, take, flat_map}
+use Rattle.pcr_values.specs.Prelude.{heading_of, line_after}
 use Rattle.pcr_values.proofs.value_lines.append_lines.Given as goal
 
 abbrev pub invariant-loop-start : goal.invariant-loop-start

@@ -1,5 +1,4 @@
-use Rattle.std.proofs.Common.{◌∙◌, ◌++◌, List, [], ℕ, ap, sym, take, ◌∷◌}
-use Rattle.std.specs.List.{flat_map}
+use Rattle.std.proofs.Common.{◌∙◌, ◌++◌, List, [], ℕ, ap, sym, take, ◌∷◌, flat_map}
 use Rattle.std.proofs.lemmas.List.{flat_map_more, take_all, take_more}
 use Rattle.pcr_values.proofs.ItemLines.{lines_of, lines_of-items}
 use Rattle.pcr_values.proofs.value_lines.result_lines.Goals as goal

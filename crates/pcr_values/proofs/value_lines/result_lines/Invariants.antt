@@ -1,5 +1,4 @@
-use Rattle.std.proofs.Common.{◌≡◌, take}
-use Rattle.std.specs.List.{flat_map}
+use Rattle.std.proofs.Common.{◌≡◌, take, flat_map}
 use Rattle.pcr_values.proofs.ItemLines.{lines_of}
 use Rattle.pcr_values.proofs.value_lines.result_lines.Given as goal
 

@@ -1,5 +1,4 @@
-use Rattle.std.proofs.Common.{◌≡◌, ◌<◌, ◌^◌, take, max}
-use Rattle.std.specs.List.{fold}
+use Rattle.std.proofs.Common.{◌≡◌, ◌<◌, ◌^◌, take, max, fold}
 use Rattle.pe_builder.specs.Layout.{virtual_end}
 use Rattle.pe_builder.proofs.extent.end_after.Given as goal
 

@@ -1,7 +1,7 @@
 use Rattle.std.proofs.Common.{◌+◌, sym, ◌∙◌, List, max, take, ap}
 use Rattle.std.proofs.lemmas.List.{take_rest}
 use Rattle.pe_reader.specs.declared.section.Section.{Section}
-use Rattle.pe_reader.specs.LoadedBytes.{section_at_index}
+use Rattle.pe_reader.specs.Prelude.{section_at_index}
 use Rattle.pe_builder.specs.Layout.{end_after}
 use Rattle.pe_builder.proofs.Totals.{end_after-set}
 use Rattle.pe_builder.proofs.extent.end_resized.Goals as goal

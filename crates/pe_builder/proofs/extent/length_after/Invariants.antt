@@ -1,5 +1,4 @@
-use Rattle.std.proofs.Common.{◌≡◌, ◌≤◌, ◌^◌, ◌+◌, ◌*◌, take, sum_by}
-use Rattle.std.specs.List.{fold}
+use Rattle.std.proofs.Common.{◌≡◌, ◌≤◌, ◌^◌, ◌+◌, ◌*◌, take, sum_by, fold}
 use Rattle.pe_builder.specs.Layout.{file_behind}
 use Rattle.pe_builder.proofs.extent.length_after.Given as goal
 

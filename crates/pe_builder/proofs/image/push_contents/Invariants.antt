@@ -1,5 +1,4 @@
-use Rattle.std.proofs.Common.{◌≡◌, map, take}
-use Rattle.std.specs.List.{fold}
+use Rattle.std.proofs.Common.{◌≡◌, map, take, fold}
 use Rattle.pe_builder.specs.Image.{add_raw}
 use Rattle.pe_builder.proofs.image.push_contents.Given as goal
 

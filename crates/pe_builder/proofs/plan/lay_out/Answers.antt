@@ -1,6 +1,6 @@
 use Rattle.std.proofs.Common.{refl, ap, ◌∙◌, arith}
 use Rattle.pe_reader.specs.declared.head.Head.{Head}
-use Rattle.pe_reader.specs.Reads.{headers_of}
+use Rattle.pe_reader.specs.Prelude.{headers_of}
 use Rattle.pe_builder.specs.Layout.{sections_for, length_after}
 use Rattle.pe_builder.specs.Planned.{head_after}
 use Rattle.pe_reader.proofs.Bounds.{bounds}

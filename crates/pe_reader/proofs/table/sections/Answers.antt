@@ -1,6 +1,6 @@
 use Rattle.std.proofs.Common.{◌≡◌, ◌+◌, ◌*◌, length, ◌-◌, Ok, Err, sym, ap, ◌∙◌, arith, length-drop}
 use Rattle.std.proofs.lemmas.Result.{err_from_is_err_and}
-use Rattle.pe_reader.specs.Grammar.{check_section, section_at}
+use Rattle.pe_reader.specs.Prelude.{check_section, section_at}
 use Rattle.pe_reader.proofs.Stepping.{sections_of-next, sections_of-stop, sections_of-end}
 use Rattle.pe_reader.proofs.table.sections.Goals as goal
 

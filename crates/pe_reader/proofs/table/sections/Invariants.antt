@@ -1,5 +1,5 @@
 use Rattle.std.proofs.Common.{◌≡◌, ◌+◌, ◌*◌, [], length, ◌-◌}
-use Rattle.pe_reader.specs.Grammar.{sections_of}
+use Rattle.pe_reader.specs.Prelude.{sections_of}
 use Rattle.pe_reader.proofs.table.sections.Given as goal
 
 abbrev pub invariant-loop-i : goal.invariant-loop-i

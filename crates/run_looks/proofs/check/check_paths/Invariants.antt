@@ -1,5 +1,4 @@
-use Rattle.std.proofs.Common.{IsTrue, take}
-use Rattle.std.specs.Prelude.{All}
+use Rattle.std.proofs.Common.{IsTrue, take, All}
 use Rattle.run_looks.specs.Standing.{FileStands}
 use Rattle.run_looks.proofs.check.check_paths.Given as goal
 

@@ -1,6 +1,5 @@
 use Rattle.std.proofs.Common.{◌≡◌, sym, ap, ◌∙◌}
-use Rattle.pe_reader.specs.LoadedBytes.{loaded_bytes, bytes_in}
-use Rattle.pe_reader.specs.Reads.{headers_of}
+use Rattle.pe_reader.specs.Prelude.{loaded_bytes, bytes_in, headers_of}
 use Rattle.pe_reader.proofs.Finding.{loaded_bytes-found, loaded_bytes-none}
 use Rattle.stub_replay.proofs.bytes.loaded_bytes.Goals as goal
 

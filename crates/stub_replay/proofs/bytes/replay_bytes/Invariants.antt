@@ -1,6 +1,5 @@
 use Rattle.std.proofs.Common.{◌≡◌}
-use Rattle.pcr_values.specs.Banks.{fold_of}
-use Rattle.pcr_values.specs.Values.{pcr_bank, pcr_bytes}
+use Rattle.pcr_values.specs.Prelude.{fold_of, pcr_bank, pcr_bytes}
 use Rattle.stub_replay.proofs.Turns.{items_until}
 use Rattle.stub_replay.proofs.bytes.replay_bytes.Given as goal
 

@@ -1,8 +1,7 @@
 use Rattle.std.proofs.Common.{sym, ◌∙◌, IsTrue, rules}
-use Rattle.boot_machine.specs.Rows.{contents}
-use Rattle.boot_machine.specs.Sent.{seen}
+use Rattle.boot_machine.specs.Prelude.{contents, seen}
 use Rattle.boot_machine.proofs.Reading.{looks_none}
-use Rattle.pe_reader.specs.Reads.{headers_of}
+use Rattle.pe_reader.specs.Prelude.{headers_of}
 use Rattle.stub_replay.proofs.Sections.{section_none, section_some, section_long}
 use Rattle.stub_replay.proofs.Shown.{shown_contents}
 use Rattle.stub_replay.proofs.file.measure_section.Goals as goal

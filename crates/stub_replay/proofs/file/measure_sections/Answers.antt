@@ -1,6 +1,5 @@
 use Rattle.std.proofs.Common.{◌≡◌, IsTrue, arith, refl, rules, ap}
-use Rattle.boot_machine.specs.Disk.{State}
-use Rattle.boot_machine.specs.Rows.{contents}
+use Rattle.boot_machine.specs.Prelude.{State, contents}
 use Rattle.boot_machine.proofs.Reading.{reads_none, reads_on}
 use Rattle.stub_replay.proofs.Measuring.{measured_none}
 use Rattle.stub_replay.proofs.Sections.{between_on, sections_more, sections_all}

@@ -1,6 +1,5 @@
 use Rattle.std.proofs.Common.{◌≡◌, IsTrue}
-use Rattle.boot_machine.specs.Rows.{contents}
-use Rattle.boot_machine.specs.Reading.{OnlyReads, TakesAtMost}
+use Rattle.boot_machine.specs.Prelude.{contents, OnlyReads, TakesAtMost}
 use Rattle.stub_replay.specs.Taking.{ExtendsWhere}
 use Rattle.stub_replay.proofs.Turns.{items_until, length_until}
 use Rattle.stub_replay.proofs.file.measure_sections.Given as goal

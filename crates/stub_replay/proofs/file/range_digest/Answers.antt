@@ -1,6 +1,6 @@
 use Rattle.std.proofs.Common.{◌≤◌, List, ℕ, ap, ◌∙◌, drop, length, subst, sym}
-use Rattle.pe_reader.specs.LoadedBytes.{bytes_in}
-use Rattle.pcr_values.specs.Banks.{digest_of}
+use Rattle.pe_reader.specs.Prelude.{bytes_in}
+use Rattle.pcr_values.specs.Prelude.{digest_of}
 use Rattle.stub_replay.proofs.Sections.{one_taken}
 use Rattle.stub_replay.proofs.Shown.{shown_contents}
 use Rattle.stub_replay.proofs.file.range_digest.Goals as goal

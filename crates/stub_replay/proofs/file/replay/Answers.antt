@@ -1,5 +1,5 @@
 use Rattle.std.proofs.Common.{[], ◌∷◌, IsTrue}
-use Rattle.boot_machine.specs.Rows.{contents}
+use Rattle.boot_machine.specs.Prelude.{contents}
 use Rattle.stub_replay.specs.Measured.{measured_list}
 use Rattle.stub_replay.proofs.Sections.{all_between, one_held, one_after}
 use Rattle.stub_replay.proofs.file.replay.Goals as goal

@@ -1,5 +1,5 @@
 use Rattle.std.proofs.Common.{◌∙◌, rules, IsTrue}
-use Rattle.boot_machine.specs.Rows.{contents}
+use Rattle.boot_machine.specs.Prelude.{contents}
 use Rattle.boot_machine.proofs.Reading.{looks_none}
 use Rattle.stub_replay.specs.Measured.{measured_list}
 use Rattle.stub_replay.proofs.Measuring.{value_banks, value_shown}

@@ -1,6 +1,5 @@
-use Rattle.boot_machine.specs.Rows.{contents}
-use Rattle.boot_machine.specs.Sent.{seen}
-use Rattle.pe_reader.specs.Fields.{part}
+use Rattle.boot_machine.specs.Prelude.{contents, seen}
+use Rattle.pe_reader.specs.Prelude.{part}
 use Rattle.stub_replay.proofs.Taking.{zeros_behind}
 use Rattle.stub_replay.proofs.pieces.take_loaded.Goals as goal
 

@@ -1,9 +1,7 @@
 use Rattle.std.proofs.Common.{rules, arith, refl, ap}
 use Rattle.std.proofs.lemmas.List.Sums.{sum_by_more}
 use Rattle.uki_parts.specs.Pieces.{file_length}
-use Rattle.boot_machine.specs.Disk.{State}
-use Rattle.boot_machine.specs.Rows.{contents}
-use Rattle.boot_machine.specs.Sent.{seen}
+use Rattle.boot_machine.specs.Prelude.{State, contents, seen}
 use Rattle.boot_machine.proofs.Reading.{reads_none, reads_on}
 use Rattle.stub_replay.proofs.Taking.{where_none, pieces_more}
 use Rattle.stub_replay.proofs.pieces.take_pieces.Goals as goal

@@ -1,8 +1,5 @@
-use Rattle.std.proofs.Common.{◌≡◌, IsTrue, take}
-use Rattle.std.specs.Prelude.{sum_by}
-use Rattle.boot_machine.specs.Rows.{contents}
-use Rattle.boot_machine.specs.Sent.{seen}
-use Rattle.boot_machine.specs.Reading.{OnlyReads, TakesAtMost}
+use Rattle.std.proofs.Common.{◌≡◌, IsTrue, take, sum_by}
+use Rattle.boot_machine.specs.Prelude.{contents, seen, OnlyReads, TakesAtMost}
 use Rattle.uki_parts.specs.Pieces.{HasSizes, bytes_of, file_length}
 use Rattle.stub_replay.specs.Taking.{TakesWhere}
 use Rattle.stub_replay.proofs.pieces.take_pieces.Given as goal

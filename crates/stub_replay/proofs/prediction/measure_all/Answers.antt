@@ -1,8 +1,6 @@
 use Rattle.std.proofs.Common.{rules, arith, refl, ap}
 use Rattle.std.proofs.lemmas.List.Sums.{sum_by_more}
-use Rattle.boot_machine.specs.Disk.{State}
-use Rattle.boot_machine.specs.Rows.{contents}
-use Rattle.boot_machine.specs.Sent.{seen}
+use Rattle.boot_machine.specs.Prelude.{State, contents, seen}
 use Rattle.boot_machine.proofs.Reading.{reads_none, reads_on}
 use Rattle.stub_replay.specs.declared.measurable.Measurable.{Measurable}
 use Rattle.stub_replay.specs.Parts.{read_length}

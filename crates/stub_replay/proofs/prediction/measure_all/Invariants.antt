@@ -1,7 +1,5 @@
 use Rattle.std.proofs.Common.{◌≡◌, IsTrue, take, map}
-use Rattle.boot_machine.specs.Rows.{contents}
-use Rattle.boot_machine.specs.Sent.{seen}
-use Rattle.boot_machine.specs.Reading.{OnlyReads, TakesAtMost}
+use Rattle.boot_machine.specs.Prelude.{contents, seen, OnlyReads, TakesAtMost}
 use Rattle.stub_replay.specs.Parts.{named_bytes, items_of, HaveSizes, files_length}
 use Rattle.stub_replay.specs.Taking.{ExtendsWhere}
 use Rattle.stub_replay.proofs.prediction.measure_all.Given as goal

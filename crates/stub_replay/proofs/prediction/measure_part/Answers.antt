@@ -1,6 +1,5 @@
 use Rattle.std.proofs.Common.{arith, rules}
-use Rattle.boot_machine.specs.Rows.{contents}
-use Rattle.boot_machine.specs.Sent.{seen}
+use Rattle.boot_machine.specs.Prelude.{contents, seen}
 use Rattle.boot_machine.proofs.Reading.{looks_none}
 use Rattle.stub_replay.proofs.Taking.{held_after}
 use Rattle.stub_replay.proofs.Measuring.{part_empty, part_some}

@@ -1,6 +1,5 @@
 use Rattle.std.proofs.Common.{◌∙◌, rules, map, IsTrue}
-use Rattle.boot_machine.specs.Rows.{contents}
-use Rattle.boot_machine.specs.Sent.{seen}
+use Rattle.boot_machine.specs.Prelude.{contents, seen}
 use Rattle.boot_machine.proofs.Reading.{looks_none}
 use Rattle.stub_replay.specs.Parts.{named_bytes, items_of, HaveSizes}
 use Rattle.stub_replay.proofs.Measuring.{value_banks, value_shown}

@@ -1,8 +1,7 @@
-use Rattle.std.proofs.Common.{[], arith, subst, sym, List}
+use Rattle.std.proofs.Common.{[], arith, subst, sym, List, take, ◌+◌}
 use Rattle.pcr_values.specs.declared.bank.Bank.{Bank}
 use Rattle.stub_replay.specs.declared.register.Register.{Register}
 use Rattle.stub_replay.specs.Registers.{AllHold, Holds}
-use Rattle.std.specs.Prelude.{take, ◌+◌}
 use Rattle.stub_replay.proofs.Zips.{zip_more}
 use Rattle.stub_replay.proofs.register.begin_all.Goals as goal
 

@@ -1,5 +1,4 @@
-use Rattle.std.proofs.Common.{◌≡◌, length, drop}
-use Rattle.std.specs.Str.{chars}
+use Rattle.std.proofs.Common.{◌≡◌, length, drop, chars}
 use Rattle.tool_words.specs.Line.{line_words}
 use Rattle.tool_words.specs.LineSteps.{all_words}
 use Rattle.tool_words.proofs.line.words_of.Given as goal

@@ -1,5 +1,4 @@
-use Rattle.std.proofs.Common.{◌≡◌, drop}
-use Rattle.std.specs.Option.{option_copied}
+use Rattle.std.proofs.Common.{◌≡◌, drop, option_copied}
 use Rattle.std.specs.List.{last_or}
 use Rattle.tool_words.specs.Items.{all_values, last_option_value}
 use Rattle.tool_words.specs.Shown.{items_shown}

@@ -1,7 +1,5 @@
 use Rattle.std.proofs.Common.{◌≡◌, ◌∙◌, arith, drop, refl, rules, subst, sym}
-use Rattle.boot_machine.specs.Disk.{State}
-use Rattle.boot_machine.specs.Reading.{fill_with_zeros}
-use Rattle.boot_machine.specs.Rows.{contents}
+use Rattle.boot_machine.specs.Prelude.{State, fill_with_zeros, contents}
 use Rattle.boot_machine.proofs.Pieces.{none_of}
 use Rattle.boot_machine.proofs.Reading.{reads_none, reads_on}
 use Rattle.type1_install.proofs.SameBytes.{alike_more}

@@ -1,6 +1,5 @@
 use Rattle.std.proofs.Common.{◌≡◌, ◌≤◌, ◌-◌, ◌*◌, IsTrue}
-use Rattle.boot_machine.specs.Reading.{OnlyReads, TakesAtMost, fill_with_zeros}
-use Rattle.boot_machine.specs.Rows.{contents}
+use Rattle.boot_machine.specs.Prelude.{OnlyReads, TakesAtMost, fill_with_zeros, contents}
 use Rattle.type1_install.proofs.alike.are_alike.Given as goal
 
 abbrev pub invariant-loop-done : goal.invariant-loop-done

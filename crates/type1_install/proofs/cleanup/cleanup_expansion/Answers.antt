@@ -1,6 +1,6 @@
 use Rattle.std.proofs.Common.{rules}
 use Rattle.boot_machine.proofs.Reading.{looks_none, looks_on}
-use Rattle.boot_machine.specs.Sent.{seen}
+use Rattle.boot_machine.specs.Prelude.{seen}
 use Rattle.type1_install.specs.Cleaning.{cleanup_expansion}
 use Rattle.type1_install.proofs.Unnamed.{fault_says}
 use Rattle.type1_install.proofs.cleanup.cleanup_expansion.Goals as goal

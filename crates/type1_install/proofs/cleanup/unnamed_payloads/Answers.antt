@@ -1,7 +1,6 @@
-use Rattle.std.proofs.Common.{ℕ, List, subst, sym}
-use Rattle.std.specs.Prelude.{Contains}
+use Rattle.std.proofs.Common.{ℕ, List, subst, sym, Contains}
 use Rattle.boot_base.specs.Paths.{Path}
-use Rattle.boot_machine.specs.Rows.{IsNamesOf}
+use Rattle.boot_machine.specs.Prelude.{IsNamesOf}
 use Rattle.type1_install.specs.Payloads.{payload_folder}
 use Rattle.type1_install.specs.Unnamed.{unnamed_among}
 use Rattle.type1_install.proofs.Standing.{unnamed_are}

@@ -1,5 +1,5 @@
 use Rattle.std.proofs.Common.{◌≡◌, take, Ok}
-use Rattle.command_plans.specs.Files.{each}
+use Rattle.command_plans.specs.Prelude.{each}
 use Rattle.type1_install.specs.Installing.{install_source}
 use Rattle.type1_install.proofs.install_words.check_initrds.Given as goal
 

@@ -1,7 +1,6 @@
 use Rattle.std.proofs.Common.{List, subst}
 use Rattle.boot_base.specs.Paths.{Path}
-use Rattle.command_plans.specs.Declining.{Means}
-use Rattle.command_plans.specs.Files.{each}
+use Rattle.command_plans.specs.Prelude.{Means, each}
 use Rattle.command_plans.proofs.Declining.{means_declined}
 use Rattle.type1_install.specs.Installing.{install_source}
 use Rattle.type1_install.proofs.Words.{also_first, first_declined}

@@ -1,5 +1,4 @@
-use Rattle.std.proofs.Common.{◌∙◌, ap, sym}
-use Rattle.std.specs.Prelude.{string_bytes}
+use Rattle.std.proofs.Common.{◌∙◌, ap, sym, string_bytes}
 use Rattle.type1_install.specs.Installing.{place_in}
 use Rattle.type1_install.proofs.Planned.{few_read, fields_read}
 use Rattle.type1_install.proofs.Words.{plan_is}

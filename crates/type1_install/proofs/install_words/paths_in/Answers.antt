@@ -1,5 +1,5 @@
 use Rattle.std.proofs.Common.{◌∙◌, ap, sym, Ok}
-use Rattle.command_plans.specs.Declining.{path_in}
+use Rattle.command_plans.specs.Prelude.{path_in}
 use Rattle.command_plans.proofs.Declining.{means_declined}
 use Rattle.command_plans.proofs.Each.{each_none, each_taken, taken_declined}
 use Rattle.type1_install.proofs.install_words.paths_in.Goals as goal

@@ -1,6 +1,5 @@
 use Rattle.std.proofs.Common.{◌≡◌, take, Ok}
-use Rattle.command_plans.specs.Declining.{path_in}
-use Rattle.command_plans.specs.Files.{each}
+use Rattle.command_plans.specs.Prelude.{path_in, each}
 use Rattle.type1_install.proofs.install_words.paths_in.Given as goal
 
 abbrev pub invariant-loop-word : goal.invariant-loop-word

@@ -1,7 +1,7 @@
 use Rattle.std.proofs.Common.{◌∙◌}
 use Rattle.boot_base.specs.Layout.{entries_below}
 use Rattle.boot_base.specs.Paths.{under}
-use Rattle.command_plans.specs.Declining.{path_in, path_under}
+use Rattle.command_plans.specs.Prelude.{path_in, path_under}
 use Rattle.command_plans.proofs.Declining.{declined_first, declined_next, done_next, means_declined}
 use Rattle.type1_install.specs.Installing.{payload_probe}
 use Rattle.type1_install.proofs.install_words.place_in.Goals as goal

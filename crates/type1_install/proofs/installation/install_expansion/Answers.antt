@@ -1,12 +1,8 @@
-use Rattle.std.proofs.Common.{◌≡◌, ◌∙◌, ◌∷◌, ◌++◌, [], Ok, List, ap, arith, length, map, subst, sym, rules}
-use Rattle.std.specs.Prelude.{All, sum_by}
+use Rattle.std.proofs.Common.{◌≡◌, ◌∙◌, ◌∷◌, ◌++◌, [], Ok, List, ap, arith, length, map, subst, sym, rules, All, sum_by}
 use Rattle.boot_base.specs.Paths.{Path}
-use Rattle.boot_machine.specs.Disk.{State}
-use Rattle.boot_machine.specs.Reading.{TakesAtMost}
-use Rattle.boot_machine.specs.Sent.{seen}
+use Rattle.boot_machine.specs.Prelude.{State, TakesAtMost, seen}
 use Rattle.boot_machine.proofs.Reading.{looks_none, looks_on}
-use Rattle.command_plans.specs.Files.{bytes_at, each}
-use Rattle.command_plans.specs.Unsaying.{UnsaidFor}
+use Rattle.command_plans.specs.Prelude.{bytes_at, each, UnsaidFor}
 use Rattle.command_plans.proofs.Unsaying.{says_unsaid}
 use Rattle.boot_texts.specs.EntryText.{entry_text}
 use Rattle.tool_words.specs.declared.action.Action.{Action}

@@ -1,5 +1,4 @@
-use Rattle.std.proofs.Common.{◌∙◌, ◌++◌, List, ap}
-use Rattle.std.specs.List.{filter_map}
+use Rattle.std.proofs.Common.{◌∙◌, ◌++◌, List, ap, filter_map}
 use Rattle.std.proofs.lemmas.List.Elements.{filter_map-append}
 use Rattle.boot_base.specs.Paths.{Path}
 use Rattle.type1_install.specs.Payloads.{path_of_value}

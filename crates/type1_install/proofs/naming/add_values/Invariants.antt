@@ -1,5 +1,4 @@
-use Rattle.std.proofs.Common.{◌≡◌, ◌++◌, take}
-use Rattle.std.specs.List.{filter_map}
+use Rattle.std.proofs.Common.{◌≡◌, ◌++◌, take, filter_map}
 use Rattle.type1_install.specs.Payloads.{path_of_value}
 use Rattle.type1_install.proofs.naming.add_values.Given as goal
 

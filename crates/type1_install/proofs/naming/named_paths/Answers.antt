@@ -1,5 +1,4 @@
-use Rattle.std.proofs.Common.{◌∙◌, ◌++◌, List, [], ap, append-nil, sym}
-use Rattle.std.specs.List.{flat_map}
+use Rattle.std.proofs.Common.{◌∙◌, ◌++◌, List, [], ap, append-nil, sym, flat_map}
 use Rattle.std.proofs.lemmas.Grind.{flat_map-append}
 use Rattle.boot_base.specs.Paths.{Path}
 use Rattle.type1_install.specs.Unnamed.{paths_named_by}

@@ -1,5 +1,4 @@
-use Rattle.std.proofs.Common.{◌≡◌, take}
-use Rattle.std.specs.List.{flat_map}
+use Rattle.std.proofs.Common.{◌≡◌, take, flat_map}
 use Rattle.type1_install.specs.Unnamed.{paths_named_by}
 use Rattle.type1_install.proofs.naming.named_paths.Given as goal
 

@@ -1,5 +1,4 @@
-use Rattle.std.proofs.Common.{not, rules}
-use Rattle.std.specs.Prelude.{bytes_eq}
+use Rattle.std.proofs.Common.{not, rules, bytes_eq}
 use Rattle.std.specs.List.{list_any}
 use Rattle.std.proofs.lemmas.Fn.{filter_same}
 use Rattle.boot_base.specs.Paths.{Path}

@@ -1,5 +1,4 @@
-use Rattle.std.proofs.Common.{◌∙◌, List, subst, sym}
-use Rattle.std.specs.Prelude.{Contains}
+use Rattle.std.proofs.Common.{◌∙◌, List, subst, sym, Contains}
 use Rattle.boot_base.specs.Paths.{Path}
 use Rattle.type1_install.proofs.Unnamed.{left_over}
 use Rattle.type1_install.proofs.naming.unnamed.Goals as goal

@@ -1,9 +1,7 @@
 use Rattle.std.proofs.Common.{◌∙◌, ap, length, sym, rules}
-use Rattle.boot_machine.specs.Disk.{State}
-use Rattle.boot_machine.specs.Rows.{contents}
-use Rattle.boot_machine.specs.Sent.{seen}
+use Rattle.boot_machine.specs.Prelude.{State, contents, seen}
 use Rattle.boot_machine.proofs.Reading.{looks_on}
-use Rattle.command_plans.specs.Files.{bytes_at}
+use Rattle.command_plans.specs.Prelude.{bytes_at}
 use Rattle.command_plans.proofs.Unsaying.{says_unsaid}
 use Rattle.type1_install.proofs.Payloads.{payload_made, unsaid_first}
 use Rattle.type1_install.proofs.Taken.{digested}

@@ -1,14 +1,10 @@
-use Rattle.std.proofs.Common.{◌≡◌, ◌∙◌, ◌∷◌, [], Ok, ap, arith, length, length-append, refl, rules, subst, sym}
-use Rattle.std.specs.Prelude.{All}
+use Rattle.std.proofs.Common.{◌≡◌, ◌∙◌, ◌∷◌, [], Ok, ap, arith, length, length-append, refl, rules, subst, sym, All}
 use Rattle.std.proofs.lemmas.List.Elements.{All-nil, All-push}
 use Rattle.std.proofs.lemmas.List.Sums.{sum_by-take-le}
 use Rattle.boot_base.specs.Paths.{Path}
-use Rattle.boot_machine.specs.Disk.{State}
-use Rattle.boot_machine.specs.Reading.{TakesAtMost}
-use Rattle.boot_machine.specs.Sent.{seen}
+use Rattle.boot_machine.specs.Prelude.{State, TakesAtMost, seen}
 use Rattle.boot_machine.proofs.Reading.{reads_none, reads_on}
-use Rattle.command_plans.specs.Files.{bytes_at}
-use Rattle.command_plans.specs.Unsaying.{UnsaidFor}
+use Rattle.command_plans.specs.Prelude.{bytes_at, UnsaidFor}
 use Rattle.command_plans.proofs.Each.{each_none, each_taken}
 use Rattle.command_plans.proofs.Unsaying.{says_unsaid}
 use Rattle.type1_install.specs.Installing.{digesting_length}

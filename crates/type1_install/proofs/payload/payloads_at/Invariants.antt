@@ -1,8 +1,6 @@
-use Rattle.std.proofs.Common.{◌≡◌, IsTrue, Ok, length, take}
-use Rattle.std.specs.Prelude.{All, sum_by}
-use Rattle.boot_machine.specs.Reading.{OnlyReads, TakesAtMost}
-use Rattle.boot_machine.specs.Sent.{seen}
-use Rattle.command_plans.specs.Files.{bytes_at, each}
+use Rattle.std.proofs.Common.{◌≡◌, IsTrue, Ok, length, take, All, sum_by}
+use Rattle.boot_machine.specs.Prelude.{OnlyReads, TakesAtMost, seen}
+use Rattle.command_plans.specs.Prelude.{bytes_at, each}
 use Rattle.type1_install.specs.Installing.{digesting_length}
 use Rattle.type1_install.specs.Shown.{HasPayloadName, payload_at}
 use Rattle.type1_install.proofs.payload.payloads_at.Given as goal

@@ -1,5 +1,4 @@
-use Rattle.std.proofs.Common.{◌∙◌, ◌+◌, ◌≤◌, Ok, ap, length, subst, sym}
-use Rattle.std.specs.Prelude.{replicate}
+use Rattle.std.proofs.Common.{◌∙◌, ◌+◌, ◌≤◌, Ok, ap, length, subst, sym, replicate}
 use Rattle.boot_base.specs.Paths.{Path, under}
 use Rattle.command_plans.proofs.Declining.{means_declined}
 use Rattle.type1_install.proofs.Places.{probe_is, probe_room}

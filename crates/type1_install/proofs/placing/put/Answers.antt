@@ -1,11 +1,8 @@
 use Rattle.std.proofs.Common.{◌≡◌, ◌∙◌, length, Ok, Some, ap, subst, sym, rules}
 use Rattle.std.specs.FinMap.{get, insert}
-use Rattle.boot_machine.specs.Disk.{State}
-use Rattle.boot_machine.specs.Rows.{contents}
-use Rattle.boot_machine.specs.Sent.{seen}
+use Rattle.boot_machine.specs.Prelude.{State, contents, seen}
 use Rattle.boot_machine.proofs.Reading.{looks_on}
-use Rattle.command_plans.specs.Answers.{Answer, done_answer}
-use Rattle.command_plans.specs.Files.{bytes_at}
+use Rattle.command_plans.specs.Prelude.{Answer, done_answer, bytes_at}
 use Rattle.command_plans.proofs.Declining.{done_next}
 use Rattle.type1_install.specs.Placing.{payload_text}
 use Rattle.type1_install.proofs.placing.put.Goals as goal

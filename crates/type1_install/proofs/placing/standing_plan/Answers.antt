@@ -1,7 +1,6 @@
 use Rattle.std.proofs.Common.{ℕ, List, sym, ap, ◌∙◌}
-use Rattle.boot_machine.specs.Disk.{Files}
-use Rattle.boot_machine.specs.Sent.{seen}
-use Rattle.command_plans.specs.Answers.{done_answer}
+use Rattle.boot_machine.specs.Prelude.{Files, seen}
+use Rattle.command_plans.specs.Prelude.{done_answer}
 use Rattle.type1_install.specs.Placing.{payload_text}
 use Rattle.type1_install.proofs.SameBytes.{insert_same}
 use Rattle.type1_install.proofs.placing.standing_plan.Goals as goal

@@ -1,5 +1,4 @@
-use Rattle.std.proofs.Common.{◌≡◌, ◌≤◌, ◌+◌, ◌*◌, length, subst, ap, map, sym, ◌∙◌, rules}
-use Rattle.std.specs.List.{flat_map}
+use Rattle.std.proofs.Common.{◌≡◌, ◌≤◌, ◌+◌, ◌*◌, length, subst, ap, map, sym, ◌∙◌, rules, flat_map}
 use Rattle.uki_parts.specs.Pieces.{piece_length, total_length}
 use Rattle.uki_parts.specs.Initrds.{padded_piece, joined_length}
 use Rattle.uki_parts.proofs.Padded.{joined_initrds-several, joined_initrds-one, total_length-joined, joined-bound}

@@ -1,5 +1,4 @@
-use Rattle.std.proofs.Common.{◌≡◌}
-use Rattle.std.specs.List.{flat_map}
+use Rattle.std.proofs.Common.{◌≡◌, flat_map}
 use Rattle.uki_parts.specs.Initrds.{padded_piece}
 use Rattle.uki_parts.proofs.initrds.join_padded.Given as goal
 

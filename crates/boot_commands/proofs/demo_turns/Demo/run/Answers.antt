@@ -1,4 +1,4 @@
-use Rattle.boot_machine.specs.Sent.{seen}
+use Rattle.boot_machine.specs.Prelude.{seen}
 use Rattle.memory_machine.specs.Memory.{mem_state}
 use Rattle.boot_commands.specs.DemoRuns.{demo_state, reply_answer}
 use Rattle.boot_commands.proofs.Turning.{counted}

@@ -1,5 +1,4 @@
-use Rattle.std.proofs.Common.{◌≡◌, map}
-use Rattle.std.specs.List.{filter_map}
+use Rattle.std.proofs.Common.{◌≡◌, map, filter_map}
 use Rattle.boot_texts.specs.OsLines.{os_reading}
 use Rattle.boot_texts.proofs.os_release.OsRelease.read.Given as goal
 

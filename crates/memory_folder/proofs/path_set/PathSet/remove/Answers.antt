@@ -1,5 +1,4 @@
-use Rattle.std.proofs.Common.{◌≡◌, ◌∙◌, ℕ, List, ap, not, rules}
-use Rattle.std.specs.Prelude.{bytes_eq}
+use Rattle.std.proofs.Common.{◌≡◌, ◌∙◌, ℕ, List, ap, not, rules, bytes_eq}
 use Rattle.std.proofs.lemmas.Fn.{filter_same}
 use Rattle.memory_folder.specs.Paths.{paths_without}
 use Rattle.memory_folder.proofs.Sets.{without_adds, without_gone}

@@ -1,7 +1,6 @@
 use Rattle.std.proofs.Common.{◌≡◌, map, subst, rules}
-use Rattle.boot_machine.specs.Disk.{Files}
+use Rattle.boot_machine.specs.Prelude.{Files, is_listed}
 use Rattle.memory_machine.specs.Entries.{files_of, pairs_of, left_pair}
-use Rattle.boot_machine.specs.Listed.{is_listed}
 use Rattle.memory_machine.specs.Stops.{IsFilled}
 use Rattle.memory_machine.proofs.RedoneLemmas.{filled_entries}
 use Rattle.memory_machine.proofs.files.FileList.fill_soft.Goals as goal

@@ -1,7 +1,7 @@
 use Rattle.std.proofs.Common.{◌∙◌, ap, filter, lit<, rules}
 use Rattle.std.proofs.lemmas.Iterator.Consumers.{YieldsList-end}
 use Rattle.std.proofs.lemmas.Iterator.Splits.{YieldsList-from_str_split}
-use Rattle.pcr_values.specs.Phases.{colon, is_phase_word}
+use Rattle.pcr_values.specs.Prelude.{colon, is_phase_word}
 use Rattle.pcr_values.proofs.phase_path.PhasePath.read.Goals as goal
 
 pub returns : goal.returns

@@ -1,5 +1,5 @@
 use Rattle.std.proofs.Common.{◌≡◌, filter, map, string_bytes}
-use Rattle.pcr_values.specs.Phases.{is_phase_word}
+use Rattle.pcr_values.specs.Prelude.{is_phase_word}
 use Rattle.pcr_values.proofs.phase_path.PhasePath.read.Given as goal
 
 abbrev pub invariant-loop-word : goal.invariant-loop-word

@@ -1,6 +1,5 @@
-use Rattle.std.proofs.Common.{map, string_bytes, take}
+use Rattle.std.proofs.Common.{map, string_bytes, take, flat_map}
 use Rattle.std.specs.Fmt.{HasWritten, IsPlainFormatter}
-use Rattle.std.specs.List.{flat_map}
 use Rattle.pcr_values.proofs.PhaseWords.{behind_colon}
 use Rattle.pcr_values.proofs.phase_path.PhasePathDisplay.fmt.Given as goal
 

@@ -1,5 +1,4 @@
-use Rattle.std.proofs.Common.{string_bytes}
-use Rattle.std.specs.Str.{bytes_eq}
+use Rattle.std.proofs.Common.{string_bytes, bytes_eq}
 use Rattle.std.specs.Cmp.Derive.Mapped.{pointwise-map}
 use Rattle.pcr_values.proofs.phase_path.PhasePathPartialEq.eq.Goals as goal
 

@@ -1,5 +1,4 @@
-use Rattle.std.proofs.Common.{ap, ◌∙◌}
-use Rattle.std.specs.Prelude.{string_bytes}
+use Rattle.std.proofs.Common.{ap, ◌∙◌, string_bytes}
 use Rattle.std.specs.FinMap as map
 use Rattle.run_looks.proofs.Maps.{inserted}
 use Rattle.run_looks.proofs.map.PathMap.insert.Goals as goal

@@ -1,10 +1,8 @@
-use Rattle.std.proofs.Common.{◌≡◌, Global, true, sym, ap, ◌∙◌, rules}
-use Rattle.std.specs.Prelude.{String, string_bytes}
+use Rattle.std.proofs.Common.{◌≡◌, Global, true, sym, ap, ◌∙◌, rules, String, string_bytes, map-id}
 use Rattle.std.specs.Vec.Iter.{into_iter_steps}
 use Rattle.std.proofs.lemmas.Iterator.Adapters.{YieldsList-from_vec}
 use Rattle.std.proofs.lemmas.Iterator.Consumers.{YieldsList-end}
 use Rattle.std.proofs.lemmas.Iterator.{YieldsList}
-use Rattle.std.proofs.lemmas.List.{map-id}
 use Rattle.std.proofs.lemmas.Map.Text.{hash_set_updates_text}
 use Rattle.run_looks.proofs.NameSets.{adds_lasting, contains_lasting, contains_name, has_lasting, same_sets}
 use Rattle.run_looks.proofs.names.LastingNames.of.Goals as goal
