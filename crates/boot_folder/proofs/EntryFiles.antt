@@ -172,7 +172,8 @@ module _ (files : Files) (folders : Folders) where
       parts : (is_file_name (file_name_of path) ≡ true) × (has_suffix suffix (file_name_of path) ≡ true) × (path ≡ under (folder_of folders suffix) (file_name_of path))
       parts = stands_parts folders suffix path stands
 
-      made : (own : Path) (bytes : List ℕ) → path_of path ≡ Some path → own ≡ path → map.get files own ≡ Some bytes → entry_of suffix own bytes ≡ Some item → (item.path ≡ path) × IsEntry files folders item
+      made : (own : Path) (bytes : List ℕ) → path_of path ≡ Some path → own ≡ path → map.get files own ≡ Some bytes
+          → entry_of suffix own bytes ≡ Some item → (item.path ≡ path) × IsEntry files folders item
       made own bytes read same_path there valid =
           let at_own : item.path ≡ own = valid_path suffix own bytes item valid in
           let at : item.path ≡ path = at_own ∙ same_path in (
@@ -190,7 +191,8 @@ module _ (files : Files) (folders : Folders) where
             },
           )
 
-      at_own : (own : Path) (o : Option (List ℕ)) → path_of path ≡ Some path → own ≡ path → map.get files own ≡ o → option_and_then (entry_of suffix own) o ≡ Some item → (item.path ≡ path) × IsEntry files folders item
+      at_own : (own : Path) (o : Option (List ℕ)) → path_of path ≡ Some path → own ≡ path → map.get files own ≡ o
+          → option_and_then (entry_of suffix own) o ≡ Some item → (item.path ≡ path) × IsEntry files folders item
       at_own own None read same_path there valid = absurd (none_some item valid)
       at_own own (Some bytes) read same_path there valid = made own bytes read same_path there valid
 

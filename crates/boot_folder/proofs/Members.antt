@@ -45,7 +45,8 @@ module _ {X Y : Type 0} (f : X → Option Y) where
   chosen_from [] y c = absurd (none_in y c)
   chosen_from (x ∷ xs) y c = by (λ later. let rest = chosen_from xs y later in (rest.0, Contains-later x rest.0 xs rest.1, rest.2)) (f x) refl c
     where
-      by : (Contains (filter_map f xs) y → (z : X) × Contains (x ∷ xs) z × (f z ≡ Some y)) → (o : Option Y) → f x ≡ o → Contains (cons_option o (filter_map f xs)) y → (z : X) × Contains (x ∷ xs) z × (f z ≡ Some y)
+      by : (Contains (filter_map f xs) y → (z : X) × Contains (x ∷ xs) z × (f z ≡ Some y)) → (o : Option Y)
+          → f x ≡ o → Contains (cons_option o (filter_map f xs)) y → (z : X) × Contains (x ∷ xs) z × (f z ≡ Some y)
       by behind None e c = behind c
       by behind (Some z) e c = ⊎_elim
           (λ (is : z ≡ y). (x, Contains-head x xs, e ∙ ap (λ (w : Y). Some w) is))
@@ -110,7 +111,8 @@ module _ {K : Type 0} (test : K → Bool) where
   passing_from [] k c = absurd (none_in k c)
   passing_from (j ∷ ks) k c = by (test j) refl (λ later. let rest = passing_from ks k later in (Contains-later j k ks rest.0, rest.1)) c
     where
-      by : (b : Bool) → test j ≡ b → (Contains (filter test ks) k → Contains (j ∷ ks) k × (test k ≡ true)) → Contains (cond b (j ∷ filter test ks) (filter test ks)) k → Contains (j ∷ ks) k × (test k ≡ true)
+      by : (b : Bool) → test j ≡ b → (Contains (filter test ks) k → Contains (j ∷ ks) k × (test k ≡ true))
+          → Contains (cond b (j ∷ filter test ks) (filter test ks)) k → Contains (j ∷ ks) k × (test k ≡ true)
       by false e behind c = behind c
       by true e behind c = ⊎_elim
           (λ (is : j ≡ k). (subst (Contains (j ∷ ks)) is (Contains-head j ks), ap test (sym is) ∙ e))

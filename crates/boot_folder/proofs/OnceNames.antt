@@ -49,7 +49,8 @@ module _ (given sorted once : List (List ℕ)) (moved : IsPermutation given sort
 
 -- the same names, each once
 module _ (names once : List (List ℕ)) (distinct : IsDistinct bytes_eq once) (among : (name : List ℕ) → Contains once name → Contains names name) where
-  pub still_names : (files : Files) (folder : Path) (suffix : Suffix) → ((name : List ℕ) → Contains names name → Contains once name) → AreEntryNames files folder suffix names → AreEntryNames files folder suffix once
+  pub still_names : (files : Files) (folder : Path) (suffix : Suffix) → ((name : List ℕ) → Contains names name → Contains once name)
+      → AreEntryNames files folder suffix names → AreEntryNames files folder suffix once
   still_names files folder suffix all are = record {
     distinct = distinct;
     each = λ name. (λ is. (are.each name).0 (among name is), λ is. all name ((are.each name).1 is));

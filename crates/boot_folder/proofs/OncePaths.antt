@@ -42,7 +42,8 @@ same_path_equiv = record {
   congr = λ a b c is. nat_list_eq_equiv.congr a.path b.path c.path is;
 }
 
-paths_apart : (item : MenuItem) (items : List MenuItem) → AllByRecursion (λ other. eq_by_cmp path_order item other ≡ false) items → AllByRecursion (λ path. bytes_eq item.path path ≡ false) (map (λ (i : MenuItem). i.path) items)
+paths_apart : (item : MenuItem) (items : List MenuItem) → AllByRecursion (λ other. eq_by_cmp path_order item other ≡ false) items
+    → AllByRecursion (λ path. bytes_eq item.path path ≡ false) (map (λ (i : MenuItem). i.path) items)
 paths_apart item [] all = tt
 paths_apart item (other ∷ items) all = (tied item other ∙ all.0, paths_apart item items all.1)
 

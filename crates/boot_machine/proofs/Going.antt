@@ -70,7 +70,8 @@ module _ {D E : Type 0} (time : Timeline D) (state : D → State) (P : Files →
   pub goes-sync_file : (p : Path) → SyncFileRow (state mid) (state new) p r → During time state P old new
   goes-sync_file p row = goes (by_sync_file (λ s. Stands (state old) P s) (state mid) (state new) p r so_far.stands (stands-file_synced (state old) P (state mid) so_far.stands p) row)
 
-  pub goes-rename : (from to : Path) → set.contains (state mid).soft from ≡ false → P (recovered_view (maps.insert (state mid).files to (contents (state mid).files from))) → P (recovered_view (move_in from to (state mid).files)) → RenameRow (state mid) (state new) from to r → During time state P old new
+  pub goes-rename : (from to : Path) → set.contains (state mid).soft from ≡ false → P (recovered_view (maps.insert (state mid).files to (contents (state mid).files from)))
+      → P (recovered_view (move_in from to (state mid).files)) → RenameRow (state mid) (state new) from to r → During time state P old new
   goes-rename from to synced half sees row =
       goes (by_rename (λ s. Stands (state old) P s) (state mid) (state new) from to r so_far.stands (stands-half_renamed (state old) P (state mid) so_far.stands from to synced half)
       (stands-after_rename (state old) P (state mid) so_far.stands from to synced half sees) row)
@@ -82,5 +83,6 @@ module _ {D E : Type 0} (time : Timeline D) (state : D → State) (P : Files →
   goes-sync_names row = goes (by_sync_names (λ s. Stands (state old) P s) (state mid) (state new) r so_far.stands (stands-names_synced (state old) P (state mid) so_far.stands) row)
 
 -- a call that only reads
-pub goes-read : {D : Type 0} (time : Timeline D) (state : D → State) (P : Files → Type 0) (old mid new : D) → During time state P old mid → Elapses time state mid new → state new ≡ state mid → During time state P old new
+pub goes-read : {D : Type 0} (time : Timeline D) (state : D → State) (P : Files → Type 0) (old mid new : D)
+    → During time state P old mid → Elapses time state mid new → state new ≡ state mid → During time state P old new
 goes-read time state P old mid new so_far elapsed is = goes_on time state P old mid new so_far elapsed (subst (λ (s : State). Stands (state old) P s) (sym is) so_far.stands)

@@ -252,7 +252,8 @@ recovered_view-insert m p v calm lasts free =
 pub recovered_view-remove : (m : Files) (p : Path) → IsCalm m → is_temp p ≡ false → recovered_view (map.remove m p) ≡ map.remove (recovered_view m) p
 recovered_view-remove m p calm lasts = recovered_view-calm (map.remove m p) (calm-remove m p calm) ∙ view-remove m p lasts ∙ ap (λ (n : Files). map.remove n p) (sym (recovered_view-calm m calm))
 
-pub recovered_view-move_in : (m : Files) (from to : Path) → IsCalm m → is_temp from ≡ false → is_temp to ≡ false → is_same_path intent to ≡ false → recovered_view (move_in from to m) ≡ move_in from to (recovered_view m)
+pub recovered_view-move_in : (m : Files) (from to : Path) → IsCalm m → is_temp from ≡ false → is_temp to ≡ false
+    → is_same_path intent to ≡ false → recovered_view (move_in from to m) ≡ move_in from to (recovered_view m)
 recovered_view-move_in m from to calm from_lasts to_lasts free =
     recovered_view-calm (move_in from to m) (calm-move_in m from to free calm) ∙ view-move_in m from to from_lasts to_lasts ∙ ap (move_in from to) (sym (recovered_view-calm m calm))
 

@@ -11,7 +11,8 @@ use Rattle.boot_machine.proofs.Recovering.{AreShown, get-recovered_view, temp_no
 abbrev pub AreTemp : Paths → Type 0
 AreTemp soft = (q : Path) → set.contains soft q ≡ true → is_temp q ≡ true
 
-left_intended : (o : Option (Path × Path)) (m : Files) (q : Path) → of_intent o (λ a b. is_same_path q a && has m a && has m b) ≡ true → of_intent o (λ a b. is_same_path q a || is_same_path q b) ≡ true
+left_intended : (o : Option (Path × Path)) (m : Files) (q : Path) → of_intent o (λ a b. is_same_path q a && has m a && has m b) ≡ true
+    → of_intent o (λ a b. is_same_path q a || is_same_path q b) ≡ true
 left_intended None m q e = cc
 left_intended (Some p) m q e = or_left (is_same_path q p.0) (is_same_path q p.1) (and_parts (is_same_path q p.0) (has m p.0) (and_parts (is_same_path q p.0 && has m p.0) (has m p.1) e).0).0
 
@@ -26,7 +27,8 @@ soft_of_firm s sound firm q is_soft =
     let there = sound.somewhere q is_soft in
     let c = there.0 in
     let left = of_intent (intent_names c) (λ a b. is_same_path q a && has c a && has c b) in
-    let hidden : is_some (cond (not (is_temp q) && not (is_same_path q intent) && not left) (maps.get c q) None) ≡ false = sym (ap is_some (get-recovered_view c q)) ∙ firm.unseen c there.1 q is_soft in
+    let hidden : is_some (cond (not (is_temp q) && not (is_same_path q intent) && not left) (maps.get c q) None) ≡ false = sym (ap is_some (get-recovered_view c q))
+    ∙ firm.unseen c there.1 q is_soft in
     by_tests (is_temp q) (is_same_path q intent) left (maps.get c q) there.2 hidden
     (λ is. let here : q ≡ intent = is_same_path-true q intent is in clash (firm.intent c there.1 (ap (has c) (sym here) ∙ there.2)) (ap (set.contains s.soft) (sym here) ∙ is_soft))
     (λ is. clash (firm.unnamed c there.1 q is_soft) (left_intended (intent_names c) c q is))
@@ -143,7 +145,8 @@ module _ (old : State) (P : Files → Type 0) (s : State) (so_far : Stands old P
     input = so_far.input;
   }
 
-pub stands-after_rename : (old : State) (P : Files → Type 0) (s : State) → Stands old P s → (from to : Path) → set.contains s.soft from ≡ false → P (recovered_view (maps.insert s.files to (contents s.files from))) → P (recovered_view (move_in from to s.files)) → Stands old P (after_rename from to s)
+pub stands-after_rename : (old : State) (P : Files → Type 0) (s : State) → Stands old P s → (from to : Path) → set.contains s.soft from ≡ false
+    → P (recovered_view (maps.insert s.files to (contents s.files from))) → P (recovered_view (move_in from to s.files)) → Stands old P (after_rename from to s)
 stands-after_rename old P s so_far from to synced half new =
     let at_half = stands-half_renamed old P s so_far from to synced half in
     record {
@@ -153,7 +156,8 @@ stands-after_rename old P s so_far from to synced half new =
       input = at_half.input;
     }
 
-pub by_rename : {E : Type 0} (Q : State → Type 0) (s t : State) (from to : Path) (r : Result Unit E) → Q s → Q (after_half_rename from to s) → Q (after_rename from to s) → RenameRow s t from to r → Q t
+pub by_rename : {E : Type 0} (Q : State → Type 0) (s t : State) (from to : Path) (r : Result Unit E)
+    → Q s → Q (after_half_rename from to s) → Q (after_rename from to s) → RenameRow s t from to r → Q t
 by_rename Q s t from to (Ok u) before half after is = subst Q (sym is) after
 by_rename Q s t from to (Err e) before half after (inl is) = subst Q (sym is) before
 by_rename Q s t from to (Err e) before half after (inr (inl is)) = subst Q (sym is) half

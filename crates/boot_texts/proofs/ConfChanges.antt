@@ -27,7 +27,8 @@ pub written_kept : (keep : List ℕ → Bool) (line old : List ℕ) → keep lin
 written_kept keep line old is = rw is (simp (append_assoc, append-nil))
 
 -- one more line
-pub written_more : (keep : List ℕ → Bool) (line : List ℕ) (lines : List (List ℕ)) → text_of_lines (filter keep (line ∷ lines)) ≡ text_of_lines (filter keep (line ∷ [])) ++ text_of_lines (filter keep lines)
+pub written_more : (keep : List ℕ → Bool) (line : List ℕ) (lines : List (List ℕ))
+    → text_of_lines (filter keep (line ∷ lines)) ≡ text_of_lines (filter keep (line ∷ [])) ++ text_of_lines (filter keep lines)
 written_more keep line lines =
     ap text_of_lines (filter-append keep (line ∷ []) lines) ∙ flat_map-append with_newline (filter keep (line ∷ [])) (filter keep lines)
 
@@ -221,7 +222,8 @@ value_graphic Timeout value is = timeout_graphic value is
 
 -- ---- what the settings say after the change
 
-pub conf_lines : (key : ConfKey) (value text : List ℕ) → IsConfValue key value → raw_lines (text_with_value (conf_key_name key) value text) ≡ filter (lacks_value (conf_key_name key)) (raw_lines text) ++ key_line (conf_key_name key) value ∷ []
+pub conf_lines : (key : ConfKey) (value text : List ℕ) → IsConfValue key value
+    → raw_lines (text_with_value (conf_key_name key) value text) ≡ filter (lacks_value (conf_key_name key)) (raw_lines text) ++ key_line (conf_key_name key) value ∷ []
 conf_lines key value text is =
     let fits = value_graphic key value is in
     changed_lines (conf_key_name key) value text (writable key value fits.0 fits.1)
@@ -234,7 +236,8 @@ conf_set Timeout value text is =
     let fits = value_graphic Timeout value is in
     ap (value_if is_timeout) (value_is_set (codes "timeout") value text (writable Timeout value fits.0 fits.1)) ∙ rw is refl
 
-pub conf_other : (key : ConfKey) (value text : List ℕ) → IsConfValue key value → conf_value (other_conf_key key) (conf_of (text_with_value (conf_key_name key) value text)) ≡ conf_value (other_conf_key key) (conf_of text)
+pub conf_other : (key : ConfKey) (value text : List ℕ) → IsConfValue key value
+    → conf_value (other_conf_key key) (conf_of (text_with_value (conf_key_name key) value text)) ≡ conf_value (other_conf_key key) (conf_of text)
 conf_other Default value text is =
     let fits = value_graphic Default value is in
     ap (value_if is_timeout) (other_stays (codes "default") (codes "timeout") value text refl (writable Default value fits.0 fits.1))

@@ -19,7 +19,8 @@ slices_are_lines : (text : List ℕ) → list_all is_line (slice_split is_newlin
 slices_are_lines [] = refl
 slices_are_lines (x ∷ xs) = by_test (slices_are_lines xs) (is_newline x) refl
   where
-    by_test : list_all is_line (slice_split is_newline xs) ≡ true → (b : Bool) → is_newline x ≡ b → list_all is_line (cond (is_newline x) ([] ∷ slice_split is_newline xs) (onto_first x (slice_split is_newline xs))) ≡ true
+    by_test : list_all is_line (slice_split is_newline xs) ≡ true → (b : Bool) → is_newline x ≡ b
+        → list_all is_line (cond (is_newline x) ([] ∷ slice_split is_newline xs) (onto_first x (slice_split is_newline xs))) ≡ true
     by_test behind true e = rw e behind
     by_test behind false e = rw e (onto_lines x e (slice_split is_newline xs) behind)
 

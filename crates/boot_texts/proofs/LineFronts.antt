@@ -20,7 +20,8 @@ pub rest_cases : (test : ℕ → Bool) (xs : List ℕ) → (drop (prefix_len tes
 rest_cases test [] = inl refl
 rest_cases test (x ∷ xs) = by_test (rest_cases test xs) (test x) refl
   where
-    by_test : (drop (prefix_len test xs) xs ≡ []) ⊎ BeginsWith (λ x. not (test x)) (drop (prefix_len test xs) xs) → (b : Bool) → test x ≡ b → (drop (cond (test x) (1 + prefix_len test xs) 0) (x ∷ xs) ≡ []) ⊎ BeginsWith (λ x. not (test x)) (drop (cond (test x) (1 + prefix_len test xs) 0) (x ∷ xs))
+    by_test : (drop (prefix_len test xs) xs ≡ []) ⊎ BeginsWith (λ x. not (test x)) (drop (prefix_len test xs) xs) → (b : Bool) → test x ≡ b
+        → (drop (cond (test x) (1 + prefix_len test xs) 0) (x ∷ xs) ≡ []) ⊎ BeginsWith (λ x. not (test x)) (drop (cond (test x) (1 + prefix_len test xs) 0) (x ∷ xs))
     by_test behind true e =
         let next : 1 + prefix_len test xs ≡ suc (prefix_len test xs) = omega arith in
         rw (e, next) behind

@@ -70,7 +70,8 @@ in_front : (b next : ℕ) (rest value : List ℕ)
     → double_reading (b ∷ next ∷ rest) ≡ Some value → IsClosed (b ∷ next ∷ rest) value
 in_front b next rest value far near read = by_quote (eqb b 34) refl
   where
-    by_escape : (t : Bool) → is_escapable next ≡ t → eqb b 92 ≡ true → cond t (behind (next ∷ []) (double_reading rest)) (behind (b ∷ next ∷ []) (double_reading rest)) ≡ Some value → IsClosed (b ∷ next ∷ rest) value
+    by_escape : (t : Bool) → is_escapable next ≡ t → eqb b 92 ≡ true
+        → cond t (behind (next ∷ []) (double_reading rest)) (behind (b ∷ next ∷ []) (double_reading rest)) ≡ Some value → IsClosed (b ∷ next ∷ rest) value
     by_escape true escapes backslash read =
         let tail = behind_some (next ∷ []) (double_reading rest) value read in
         subst (λ (b : ℕ). IsClosed (b ∷ next ∷ rest) value) (sym (eqb-true b 92 backslash)) (more (escaped next) rest tail.0 value escapes (far tail.0 tail.1) tail.2)

@@ -71,7 +71,8 @@ again key text value key_is read =
     let end_is : end ≡ length key = prefix_len-front (λ byte. not (is_equals byte)) key (61 ∷ text) (key_has_no_equals key key_is) refl in
     let key_front : take end line ≡ key = ap (λ (n : ℕ). take n line) end_is ∙ take_at key (61 ∷ text) (length key) refl in
     let behind_is : drop (end + 1) line ≡ text =
-    ap (λ (n : ℕ). drop (n + 1) line) end_is ∙ ap (λ (xs : List ℕ). drop (length key + 1) xs) (append_assoc-one key text) ∙ drop_at (key ++ 61 ∷ []) text (length key + 1) (length-append key (61 ∷ [])) in
+    ap (λ (n : ℕ). drop (n + 1) line) end_is ∙ ap (λ (xs : List ℕ). drop (length key + 1) xs) (append_assoc-one key text)
+    ∙ drop_at (key ++ 61 ∷ []) text (length key + 1) (length-append key (61 ∷ [])) in
     let below : end < length line = omega (arith, end_is, length-append key (61 ∷ text)) in
     let first : (ltb end (length line) && is_key (take end line)) ≡ true =
     and_from (ltb end (length line)) (is_key (take end line)) (lt-ltb end (length line) below) (subst (λ (key : List ℕ). is_key key ≡ true) (sym key_front) key_is) in

@@ -100,7 +100,8 @@ end_passes test (byte ∷ piece) rest is = later_passes (test (byte ∷ (piece +
 abbrev ItemAnd : PatternItem → (List ℕ → Bool) → List ℕ → Type 0
 ItemAnd item test text = (piece : List ℕ) × (rest : List ℕ) × (text ≡ piece ++ rest) × ItemMatches item piece × (test rest ≡ true)
 
-first_found : (item : PatternItem) (test : List ℕ → Bool) (text : List ℕ) → first_passes item test text ≡ true → ((byte : ℕ) → item_takes item byte ≡ true → ItemMatches item (byte ∷ [])) → ItemAnd item test text
+first_found : (item : PatternItem) (test : List ℕ → Bool) (text : List ℕ) → first_passes item test text ≡ true
+    → ((byte : ℕ) → item_takes item byte ≡ true → ItemMatches item (byte ∷ [])) → ItemAnd item test text
 first_found item test [] is takes = cc
 first_found item test (byte ∷ text) is takes =
     let parts = and_parts (item_takes item byte) (test text) is in

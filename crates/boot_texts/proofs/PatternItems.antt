@@ -37,7 +37,8 @@ cut (x ∷ xs) = by_test (eqb x 93) refl (cut xs)
     by_test false e (inl none) = inl (rw e (omega (arith, none)))
     by_test false e (inr found) = inr (x ∷ found.0, found.1, ap (λ (rest : List ℕ). x ∷ rest) found.2, rw e found.3)
 
-set_found : (front back : List ℕ) → list_all is_inside_set front ≡ true → (item : PatternItem) (rest : List ℕ) → set_reading (front ++ 93 ∷ back) ≡ Some (item, rest) → (is_pattern_item item ≡ true) × (91 ∷ (front ++ 93 ∷ back) ≡ item_bytes item ++ rest)
+set_found : (front back : List ℕ) → list_all is_inside_set front ≡ true → (item : PatternItem) (rest : List ℕ)
+    → set_reading (front ++ 93 ∷ back) ≡ Some (item, rest) → (is_pattern_item item ≡ true) × (91 ∷ (front ++ 93 ∷ back) ≡ item_bytes item ++ rest)
 set_found [] back all item rest read = absurd (none-some (item, rest) read)
 set_found (f ∷ fs) back all item rest read =
     let is : is_pattern_item (set (f ∷ fs)) ≡ true = and_from (not (eqb (length (f ∷ fs)) 0)) (list_all is_inside_set (f ∷ fs)) (not_from_false (eqb (length (f ∷ fs)) 0) (has_length f fs)) all in
@@ -52,7 +53,8 @@ none_or_some false x y e = refl
 set_sound : (text : List ℕ) (item : PatternItem) (rest : List ℕ) → set_reading text ≡ Some (item, rest) → (is_pattern_item item ≡ true) × (91 ∷ text ≡ item_bytes item ++ rest)
 set_sound text item rest read = by_cut (cut text)
   where
-    by_cut : (prefix_len is_inside_set text ≡ length text) ⊎ ((front : List ℕ) × (back : List ℕ) × (text ≡ front ++ 93 ∷ back) × (list_all is_inside_set front ≡ true)) → (is_pattern_item item ≡ true) × (91 ∷ text ≡ item_bytes item ++ rest)
+    by_cut : (prefix_len is_inside_set text ≡ length text) ⊎ ((front : List ℕ) × (back : List ℕ) × (text ≡ front ++ 93 ∷ back) × (list_all is_inside_set front ≡ true))
+        → (is_pattern_item item ≡ true) × (91 ∷ text ≡ item_bytes item ++ rest)
     by_cut (inl none) =
         let n = prefix_len is_inside_set text in
         let pair : PatternItem × List ℕ = (set (take n text), drop (n + 1) text) in

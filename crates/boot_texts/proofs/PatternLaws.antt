@@ -137,7 +137,8 @@ there_twice item items all is =
     let parts = and_parts (is_pattern_item item) (list_all is_pattern_item items) all in
     none-some (item, flat_map item_bytes items) (ap item_reading is ∙ first_complete item (flat_map item_bytes items) parts.0)
 
-same_items : (items others : List PatternItem) → list_all is_pattern_item items ≡ true → list_all is_pattern_item others ≡ true → flat_map item_bytes items ≡ flat_map item_bytes others → items ≡ others
+same_items : (items others : List PatternItem) → list_all is_pattern_item items ≡ true
+    → list_all is_pattern_item others ≡ true → flat_map item_bytes items ≡ flat_map item_bytes others → items ≡ others
 same_items [] [] all also is = refl
 same_items [] (other ∷ others) all also is = absurd (there_twice other others also is)
 same_items (item ∷ items) [] all also is = absurd (there_twice item items all (sym is))

@@ -146,7 +146,8 @@ never_behind pattern never (byte ∷ text) (inl m) = never text m
 never_behind pattern never (byte ∷ text) (inr m) = never_behind pattern never text m
 
 -- what begins with `*` and matches further on matches here
-pub run_behind : (pattern behind : List ℕ) → ((other : List ℕ) → PatternMatches pattern other ↔ (PatternMatches behind other ⊎ MatchesLater behind other)) → (text : List ℕ) → MatchesLater pattern text → PatternMatches pattern text
+pub run_behind : (pattern behind : List ℕ) → ((other : List ℕ) → PatternMatches pattern other ↔ (PatternMatches behind other ⊎ MatchesLater behind other))
+    → (text : List ℕ) → MatchesLater pattern text → PatternMatches pattern text
 run_behind pattern behind run [] m = absurd m
 run_behind pattern behind run (byte ∷ text) (inl m) = (run (byte ∷ text)).1 (inr ((run text).0 m))
 run_behind pattern behind run (byte ∷ text) (inr m) = (run (byte ∷ text)).1 (inr ((run text).0 (run_behind pattern behind run text m)))

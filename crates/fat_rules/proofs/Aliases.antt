@@ -74,7 +74,8 @@ all_true a b c d e f p q r s t = grind (arith, p, q, r, s, t)
 
 alias_of_parts : (stem extension : List ℕ) → IsAliasStem stem → IsAliasExtension extension → is_alias (stem ++ 46 ∷ extension) ≡ true
 alias_of_parts stem extension s x =
-    let bytes : list_all is_short_byte (stem ++ 46 ∷ extension) ≡ true = list_all-append is_short_byte stem (46 ∷ extension) ∙ (ap (λ b. b && (true && list_all is_short_byte extension)) s.bytes ∙ x.bytes) in
+    let bytes : list_all is_short_byte (stem ++ 46 ∷ extension) ≡ true = list_all-append is_short_byte stem (46 ∷ extension)
+    ∙ (ap (λ b. b && (true && list_all is_short_byte extension)) s.bytes ∙ x.bytes) in
     ap (λ parts. list_all is_short_byte (stem ++ 46 ∷ extension) && has_short_parts (stem ++ 46 ∷ extension) parts && (has_tilde (stem_of_name (stem ++ 46 ∷ extension) parts) || not (has_small_letter (stem ++ 46 ∷ extension)))) (cut_there stem extension s.dotless)
     ∙ all_true _ _ _ _ _ _ bytes s.short x.short x.dotless s.tilde
 

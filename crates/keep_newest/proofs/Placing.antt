@@ -65,7 +65,8 @@ module _ (n : ℕ) (per_key : Bool) where
       (is_kept_record n per_key earlier item)
     where
       by : filter_map (slice_get (earlier ++ item ∷ later)) (places_behind n per_key (earlier ++ item ∷ []) later) ≡ doomed_behind n per_key
-          (earlier ++ item ∷ []) later → (keep : Bool) → filter_map (slice_get (earlier ++ item ∷ later)) ((if keep then [] else (length earlier ∷ [])) ++ places_behind n per_key (earlier ++ item ∷ []) later)
+          (earlier ++ item ∷ []) later → (keep : Bool)
+          → filter_map (slice_get (earlier ++ item ∷ later)) ((if keep then [] else (length earlier ∷ [])) ++ places_behind n per_key (earlier ++ item ∷ []) later)
           ≡ (if keep then [] else (item ∷ [])) ++ doomed_behind n per_key (earlier ++ item ∷ []) later
       by rest true = rest
       by rest false = ap (λ o. cons_option o (filter_map (slice_get (earlier ++ item ∷ later)) (places_behind n per_key (earlier ++ item ∷ []) later))) (got earlier later item)
@@ -89,7 +90,8 @@ module _ (n : ℕ) (per_key : Bool) where
       above rest = λ k d lt. omega (arith, long, rest.from k d lt)
 
       by : Rises (length (earlier ++ item ∷ [])) (length (earlier ++ item ∷ []) + length later)
-          (places_behind n per_key (earlier ++ item ∷ []) later) → (keep : Bool) → Rises (length earlier) (length earlier + length (item ∷ later)) ((if keep then [] else (length earlier ∷ [])) ++ places_behind n per_key (earlier ++ item ∷ []) later)
+          (places_behind n per_key (earlier ++ item ∷ []) later) → (keep : Bool)
+          → Rises (length earlier) (length earlier + length (item ∷ later)) ((if keep then [] else (length earlier ∷ [])) ++ places_behind n per_key (earlier ++ item ∷ []) later)
       by rest true = record {
         from = λ k d lt. omega (arith, above rest k d lt);
         upto = λ k d lt. omega (arith, long, rest.upto k d lt);

@@ -127,6 +127,7 @@ table_reads bytes headers count place pass apart =
     let at = table_at bytes count place (table_sections count table) refl in
     let all = list_all-from (passes (length bytes) headers) (table_sections count table) no_section (λ i h. ap (passes (length bytes) headers) (at i (omega arith)) ∙ pass i (omega arith)) in
     let every : AllApart (table_sections count table) no_section = record {
-      apart = λ i j a b. ap (λ (s : Section). is_apart s (get_or (table_sections count table) i no_section)) (at j (omega arith)) ∙ ap (is_apart (section_from bytes (place + 40 * j))) (at i (omega arith)) ∙ apart i j a (omega arith);
+      apart = λ i j a b. ap (λ (s : Section). is_apart s (get_or (table_sections count table) i no_section)) (at j (omega arith))
+          ∙ ap (is_apart (section_from bytes (place + 40 * j))) (at i (omega arith)) ∙ apart i j a (omega arith);
     } in
     sections_of-from (length bytes) headers count place [] table no_section all every

@@ -19,7 +19,8 @@ unfolding items
 items-plain command word [] e = ap (λ r. r >>= last_items word) e
 items-plain command word (next ∷ words) e = ap (λ r. r >>= λ s. more_items word next words s (items command (next ∷ words)) (items command words)) e
 
-pub items-whole : (command : CommandName) (word : Word) (text : Word) (value : Word) (after : List Word) → word_meaning command word ≡ Ok (Whole text value) → items command (word ∷ after) ≡ onto (Value text value) (items command after)
+pub items-whole : (command : CommandName) (word : Word) (text : Word) (value : Word) (after : List Word)
+    → word_meaning command word ≡ Ok (Whole text value) → items command (word ∷ after) ≡ onto (Value text value) (items command after)
 unfolding items
 items-whole command word text value [] e = ap (λ r. r >>= last_items word) e
 items-whole command word text value (next ∷ words) e = ap (λ r. r >>= λ s. more_items word next words s (items command (next ∷ words)) (items command words)) e
@@ -34,16 +35,19 @@ with_next_word-bind : (command : CommandName) (option : OptionRule) (words : Lis
 with_next_word-bind command option words (Ok value) = refl
 with_next_word-bind command option words (Err reason) = refl
 
-pub items-open : (command : CommandName) (word : Word) (option : OptionRule) (after : List Word) → word_meaning command word ≡ Ok (Open option) → items command (word ∷ after) ≡ (with_next_word option word after >>= λ o. onto o.0 (items command o.1))
+pub items-open : (command : CommandName) (word : Word) (option : OptionRule) (after : List Word) → word_meaning command word ≡ Ok (Open option)
+    → items command (word ∷ after) ≡ (with_next_word option word after >>= λ o. onto o.0 (items command o.1))
 unfolding items
 items-open command word option [] e = ap (λ r. r >>= last_items word) e
 items-open command word option (next ∷ words) e =
     ap (λ r. r >>= λ s. more_items word next words s (items command (next ∷ words)) (items command words)) e
     ∙ with_next_word-bind command option words (check_value option next)
 
-pub items-with_next_word : (command : CommandName) (word : Word) (option : OptionRule) (after : List Word) (item : Item) (rest : List Word) → word_meaning command word ≡ Ok (Open option) → with_next_word option word after ≡ Ok (item, rest) → items command (word ∷ after) ≡ onto item (items command rest)
+pub items-with_next_word : (command : CommandName) (word : Word) (option : OptionRule) (after : List Word) (item : Item) (rest : List Word)
+    → word_meaning command word ≡ Ok (Open option) → with_next_word option word after ≡ Ok (item, rest) → items command (word ∷ after) ≡ onto item (items command rest)
 items-with_next_word command word option after item rest e o = items-open command word option after e ∙ ap (λ r. r >>= λ o. onto o.0 (items command o.1)) o
 
-pub items-opened_err : (command : CommandName) (word : Word) (option : OptionRule) (after : List Word) (fault : WordsFault) → word_meaning command word ≡ Ok (Open option) → FaultIs fault (with_next_word option word after) → FaultIs fault (items command (word ∷ after))
+pub items-opened_err : (command : CommandName) (word : Word) (option : OptionRule) (after : List Word) (fault : WordsFault)
+    → word_meaning command word ≡ Ok (Open option) → FaultIs fault (with_next_word option word after) → FaultIs fault (items command (word ∷ after))
 items-opened_err command word option after Memory e o = tt
 items-opened_err command word option after (Usage reason) e o = items-open command word option after e ∙ ap (λ r. r >>= λ o. onto o.0 (items command o.1)) o

@@ -18,7 +18,8 @@ words_on-itself None c (piece ∷ pieces) = refl
 words_on-itself (Some word) c [] = ap (λ t. t ∷ []) (ap (λ e. word ++ e) (append-nil (encode_utf8 c)))
 words_on-itself (Some word) c (piece ∷ pieces) = ap (λ t. t ∷ words_between pieces) (sym (append_assoc word (encode_utf8 c) (text piece)))
 
-pub marks-itself : (quoted : Bool) (c : ℕ) (rest : List ℕ) → mark quoted c ≡ Itself c → slice_split is_gap_mark (marks quoted (c ∷ rest)) ≡ onto_first (Itself c) (slice_split is_gap_mark (marks quoted rest))
+pub marks-itself : (quoted : Bool) (c : ℕ) (rest : List ℕ) → mark quoted c ≡ Itself c
+    → slice_split is_gap_mark (marks quoted (c ∷ rest)) ≡ onto_first (Itself c) (slice_split is_gap_mark (marks quoted rest))
 marks-itself quoted c rest e =
     ap (λ m. slice_split is_gap_mark (m ∷ marks (cond (is_quote c) (not quoted) quoted) rest)) e
     ∙ ap (λ t. onto_first (Itself c) (slice_split is_gap_mark (marks (cond t (not quoted) quoted) rest))) (itself-no_quote quoted c e)
@@ -37,7 +38,8 @@ all_words-itself done word fresh begun after quoted c rest empty is pushed e =
     ∙ ap (λ w. words_on (Some (w ++ encode_utf8 c)) (slice_split is_gap_mark (marks quoted rest))) (sym (ap string_bytes is ∙ begun-is word fresh empty))
     ∙ ap (λ w. words_on (Some w) (slice_split is_gap_mark (marks quoted rest))) (sym pushed))
 
-pub at_next : (F G : List ℕ → List Word) (line : List ℕ) (n c : ℕ) (all : List Word) → (n < length line) × (c ≡ get_or line n c) → ((rest : List ℕ) → F (c ∷ rest) ≡ G rest) → F (drop n line) ≡ all → G (drop (n + 1) line) ≡ all
+pub at_next : (F G : List ℕ → List Word) (line : List ℕ) (n c : ℕ) (all : List Word) → (n < length line) × (c ≡ get_or line n c)
+    → ((rest : List ℕ) → F (c ∷ rest) ≡ G rest) → F (drop n line) ≡ all → G (drop (n + 1) line) ≡ all
 at_next F G line n c all here step known =
     sym (step (drop (n + 1) line))
     ∙ ap F (sym (drop_more line n c here.0 ∙ ap (λ x. x ∷ drop (n + 1) line) (sym here.1)))

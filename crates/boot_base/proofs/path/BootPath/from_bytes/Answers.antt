@@ -26,5 +26,6 @@ returns-then-eq c =
 pub returns : goal.returns
 returns c =
     let text = c.in-Ok.ensures.cases in
-    let other : bytes_eq c.in-Some.path c.args.bytes.now ≡ false = ap (bytes_eq c.in-Some.path) (sym text.0) ∙ ap (λ p. bytes_eq p c.in-Ok.text.now) (sym c.as_str.ensures.text) ∙ sym c.eq.ensures ∙ c.if-eq.false in
+    let other : bytes_eq c.in-Some.path c.args.bytes.now ≡ false = ap (bytes_eq c.in-Some.path) (sym text.0)
+    ∙ ap (λ p. bytes_eq p c.in-Ok.text.now) (sym c.as_str.ensures.text) ∙ sym c.eq.ensures ∙ c.if-eq.false in
     none-unnamed c.args.bytes.now (unnamed-other c.args.bytes.now (is_utf8-from_IsUtf8 c.args.bytes.now text.1) c.in-Some.path (ap path_of (sym text.0) ∙ sym c.in_ok-path.ensures ∙ c.in-Some.is) other)
