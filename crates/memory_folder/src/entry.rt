@@ -1,5 +1,5 @@
 //! What stands in a folder in memory.
-ghost use Rattle.std.specs.Prelude.{◌≡◌, ◌≤◌, IfOk, drop, length, map, option_map, string_bytes, take};
+ghost use Rattle.std.specs.Prelude.{◌≡◌, IfOk, map, option_map, string_bytes};
 ghost use Rattle.memory_folder.specs.Entries.{first_entry_at, found_at, found_of_entry};
 ghost use Rattle.memory_folder.specs.Entries.{found_of_start, found_with, names_in_folder};
 
@@ -90,18 +90,4 @@ pub(crate) fn names_in_folder(
         }
     }
     Ok(names)
-}
-
-// Some of the bytes from that place on, as many as there are and as there is room for.
-pub(crate) fn copy_some(bytes: &[u8], at: usize, into: &mut [u8]) -> usize
-    ensures within { result ≤ length into.new }
-    ensures bytes { take result into.new ≡ take result (drop at bytes.now) }
-{
-    if at >= bytes.len() {
-        return 0;
-    }
-    let rest = &bytes[at..];
-    let count = rest.len().min(into.len());
-    into[..count].copy_from_slice(&rest[..count]);
-    count
 }

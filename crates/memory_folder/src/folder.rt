@@ -6,9 +6,9 @@ ghost use Rattle.folder_calls.specs.Tree.{is_file};
 ghost use Rattle.memory_folder.specs.Entries.{found_with};
 ghost use Rattle.memory_folder.specs.Folder.{inode_of_file, memory_tree, memory_waits, memory_written};
 
-use crate::entry::{Entry, copy_some, found_at, found_of_start, names_in_folder};
+use crate::entry::{Entry, found_at, found_of_start, names_in_folder};
 use crate::notes::Notes;
-use boot_base::Text;
+use boot_base::{Text, copy_from};
 use folder_calls::{Access, Calls, Found, Hold, Kind, LockFault, Locked};
 use name_syncs::{FolderFault, folder_of};
 use std::alloc::Global;
@@ -219,7 +219,7 @@ impl Calls for MemoryFolder {
 
     fn read(&self, file: &MemoryFile, at: u64, into: &mut [u8]) -> io::Result<usize> {
         match self.entry_of(file) {
-            Some(entry) => Ok(copy_some(&entry.bytes, at as usize, into)),
+            Some(entry) => Ok(copy_from(&entry.bytes, at as usize, into)),
             None => Err(io::Error::from(ErrorKind::NotFound)),
         }
     }

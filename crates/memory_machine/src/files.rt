@@ -12,7 +12,7 @@ ghost use Rattle.memory_machine.specs.Stops.{IsFilled};
 
 use crate::MemFile;
 use crate::event::Event;
-use boot_base::{FileName, Text, ends_as_temp};
+use boot_base::{FileName, Text, copy_from, ends_as_temp};
 use std::alloc::{AllocError, Global};
 use std::marker::Model;
 
@@ -54,17 +54,11 @@ fn is_there(entries: &[Entry], path: &str) -> bool
     place(entries, path).is_some()
 }
 
-// Some of the bytes from that place on, as many as there are and as there is room for.
+// Copies bytes from that place on, as a machine gives them.
 pub(crate) fn copy_some(bytes: &[u8], at: usize, into: &mut [u8]) -> usize
     ensures { Gave (drop at bytes.now) into.new result }
 {
-    if at >= bytes.len() {
-        return 0;
-    }
-    let rest = &bytes[at..];
-    let count = rest.len().min(into.len());
-    into[..count].copy_from_slice(&rest[..count]);
-    count
+    copy_from(bytes, at, into)
 }
 
 // Takes every entry of that path away.

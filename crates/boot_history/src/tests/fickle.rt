@@ -2,7 +2,7 @@
 ghost use Rattle.std.specs.Prelude.{◌≤◌, length};
 ghost use Rattle.boot_machine.specs.Prelude.{CountsDisk, CountsPipe};
 
-use boot_base::{BootPath, FileName, FilePath, TempPath};
+use boot_base::{BootPath, FileName, FilePath, TempPath, copy_from};
 use boot_machine::{Channel, DiskFault, Machine, NamesFault, PipeFault, Printed};
 use std::alloc::{AllocError, Global};
 
@@ -51,19 +51,6 @@ pub(crate) fn kept_at<'a>(files: &'a [Kept], path: &str) -> Option<&'a Kept> {
     files.iter().find(|kept| kept.path.as_str() == path)
 }
 
-// Some of the bytes from that place on, as many as there are and as there is room for.
-fn copy_some(bytes: &[u8], at: usize, into: &mut [u8]) -> usize
-    ensures { result ≤ length into.new }
-{
-    if at >= bytes.len() {
-        return 0;
-    }
-    let rest = &bytes[at..];
-    let count = rest.len().min(into.len());
-    into[..count].copy_from_slice(&rest[..count]);
-    count
-}
-
 // A call gives None if it isn't done.
 impl Shelf {
     fn take(&mut self, path: &str) -> Option<Vec<u8>> {
@@ -108,7 +95,7 @@ impl Shelf {
         ensures { result ≤ length into.new }
     {
         match kept_at(&self.files, path) {
-            Some(kept) => copy_some(&kept.bytes, at as usize, into),
+            Some(kept) => copy_from(&kept.bytes, at as usize, into),
             None => 0,
         }
     }

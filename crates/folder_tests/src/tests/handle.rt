@@ -1,7 +1,8 @@
 //! A run's handle on a folder that several runs share. It tells nothing of what stands there.
 ghost use Rattle.std.specs.Prelude.{◌≤◌, length, IfOk};
 
-use super::shelf::{Kept, OpenFile, Shelf, copy_some};
+use super::shelf::{Kept, OpenFile, Shelf};
+use boot_base::copy_from;
 use boot_run::run;
 use folder_calls::{Access, Calls, Found, Hold, LockFault, Locked};
 use folder_machine::FolderMachine;
@@ -51,7 +52,7 @@ impl Notes {
     fn take_input(&self, into: &mut [u8]) -> usize
         ensures { result ≤ length into.new }
     {
-        let count = copy_some(&self.input, self.read.get(), into);
+        let count = copy_from(&self.input, self.read.get(), into);
         self.read.set(self.read.get().saturating_add(count));
         count
     }

@@ -2,6 +2,7 @@
 //! FAT can keep, and no two have the same.
 ghost use Rattle.std.specs.Prelude.{◌≤◌, length, IfOk};
 
+use boot_base::copy_from;
 use fat_rules::Facts;
 use folder_calls::{Access, Found, Hold, Kind, LockFault};
 use name_syncs::{folder_of, parted};
@@ -76,19 +77,6 @@ fn is_of_other(lock: &Lock, number: u64) -> bool {
         Some(other) => *other != number,
         None => false,
     }
-}
-
-/// Some of the bytes from that place on, as many as there are and as there is room for.
-pub(crate) fn copy_some(bytes: &[u8], at: usize, into: &mut [u8]) -> usize
-    ensures { result ≤ length into.new }
-{
-    if at >= bytes.len() {
-        return 0;
-    }
-    let rest = &bytes[at..];
-    let count = rest.len().min(into.len());
-    into[..count].copy_from_slice(&rest[..count]);
-    count
 }
 
 impl Shelf {
@@ -207,7 +195,7 @@ impl Shelf {
         ensures { IfOk result (λ n. n ≤ length into.new) }
     {
         match self.nodes.get(file.node) {
-            Some(node) => Ok(copy_some(&node.bytes, at as usize, into)),
+            Some(node) => Ok(copy_from(&node.bytes, at as usize, into)),
             None => Err(io::Error::from(ErrorKind::NotFound)),
         }
     }
