@@ -41,7 +41,7 @@ pub fn uki_item<M: Machine>(
     ensures looks { Looks M.tells M.time M.state M.counts (CountsItem result) machine.old machine.new }
     ensures taken { IsTrue M.tells → TakesAtMost image_limit (M.taken machine.old) (M.taken machine.new) }
 {
-    let head = Pe::read_head_of_size(alloc, machine, file, size)?;
+    let head = Pe::read_head(alloc, machine, file, size)?;
     let range = osrel_range(&head)?;
     let text = range_bytes(alloc, machine, file, range)?;
     let release = OsRelease::read(alloc, &text)?;

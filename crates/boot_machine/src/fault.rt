@@ -14,9 +14,6 @@ pub enum ReadFault {
     Disk,
 }
 
-/// Why a folder's names weren't given.
-pub type NamesFault = ReadFault;
-
 impl From<AllocError> for ReadFault {
     ghost from_gives = { λ _ fault. fault ≡ reads.Memory };
 

@@ -102,7 +102,7 @@ pub fn head_of_size<M: Machine>(
     ensures taken { IsTrue M.tells → TakesAtMost head_limit (M.taken machine.old) (M.taken machine.new) }
 {
     path.know();
-    Pe::read_head_of_size(alloc, machine, path, size)
+    Pe::read_head(alloc, machine, path, size)
 }
 
 /// The headers of the image of `size` bytes at a path: of its bytes they alone are read, which are at most 69,463.

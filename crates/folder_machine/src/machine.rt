@@ -5,7 +5,7 @@ ghost use Rattle.std.specs.Prelude.{◌≡◌, IfOk};
 use crate::faults::Faults;
 use crate::system::System;
 use boot_base::{BootPath, FileName, FilePath, TempPath};
-use boot_machine::{Channel, DiskFault, Machine, NamesFault, PipeFault};
+use boot_machine::{Channel, DiskFault, Machine, PipeFault, ReadFault};
 use folder_calls::Calls;
 use std::alloc::Global;
 use std::io;
@@ -133,16 +133,16 @@ impl<C: Calls + Drop, E: Print + Drop> Machine for FolderMachine<C, E> {
         self.disk("read", path.as_str(), answer)
     }
 
-    fn names(&mut self, alloc: Global, folder: &BootPath) -> Result<Vec<FileName>, NamesFault>
+    fn names(&mut self, alloc: Global, folder: &BootPath) -> Result<Vec<FileName>, ReadFault>
         ensures call { CountsCall (CountsRead result) (CountsNamesOnce result) self.old.faults self.new.faults }
         ensures still { self.new.system.changes ≡ self.old.system.changes }
     {
         match self.system.names_in(alloc, folder.as_str()) {
             Ok(names) => Ok(names),
-            Err(error) if error.kind() == ErrorKind::OutOfMemory => Err(NamesFault::Memory),
+            Err(error) if error.kind() == ErrorKind::OutOfMemory => Err(ReadFault::Memory),
             Err(error) => {
                 let _ = self.disk::<()>("list", folder.as_str(), Err(error));
-                Err(NamesFault::Disk)
+                Err(ReadFault::Disk)
             }
         }
     }

@@ -1,11 +1,11 @@
 //! Images that are built in memory.
-ghost use Rattle.std.specs.Prelude.{◌≡◌, ◌≤◌, length, map, IfOk};
-ghost use Rattle.pe_builder.specs.Refusals.{wide_size};
-ghost use Rattle.pe_builder.specs.Sizes.{part_limit};
+ghost use Rattle.std.specs.Prelude.{◌≡◌, ◌≤◌, ◌^◌, length, map, sum_by, IfOk};
+ghost use Rattle.std.specs.List.{AllByRecursion};
+ghost use Rattle.pe_builder.specs.Layout.{FitsPart};
 
 use crate::case::Case;
 use crate::fault::RowFault;
-use crate::refusal::{fault_text, in_place, part_flags, part_name};
+use crate::refusal::{fault_text, in_place, part_name, part_size};
 use crate::words::{bytes_of, split_at_mark};
 use pe_builder::{ImageLayout, PartSize, image_bytes};
 use pe_reader::Pe;
@@ -45,21 +45,16 @@ fn sizes_of(
     names: &[SectionName],
     contents: &[Vec<u8>],
 ) -> Result<Vec<PartSize>, RowFault>
-    requires { length contents.now ≤ part_limit }
-    ensures { IfOk result (λ sizes. map length (map (λ c. c.items) contents.now)
-        ≡ map (λ p. p.length) (map wide_size sizes.items)) }
+    requires { length contents.now ≤ 16 }
+    ensures exact { IfOk result (λ sizes. map length (map (λ c. c.items) contents.now)
+        ≡ map (λ p. p.length) sizes.items) }
+    ensures total { IfOk result (λ sizes. sum_by (λ p. p.length) sizes.items ≤ 2 ^ 62) }
+    ensures fit { IfOk result (λ sizes. AllByRecursion FitsPart sizes.items) }
 {
     let mut sizes = Vec::new(alloc);
     for i in 0..contents.len() {
         let name = names.get(i).copied().ok_or(RowFault::Unclear)?;
-        let length = u32::try_from(contents[i].len())
-            .ok()
-            .ok_or(RowFault::Unclear)?;
-        sizes.push(PartSize {
-            name,
-            length,
-            flags: part_flags(&name),
-        })?;
+        sizes.push(part_size(name, contents[i].len() as u64)?)?;
     }
     Ok(sizes)
 }

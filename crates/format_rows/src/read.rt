@@ -56,7 +56,7 @@ pub(crate) fn head_there(
     ensures { IfOk result (λ head. pe_of (contents (mem_state machine.new).files path.now) ≡ Ok (headers_of head)) }
 {
     match machine.size(path.file())? {
-        Some(size) if size <= FILE_LIMIT => Pe::read_head(alloc, machine, path),
+        Some(size) if size <= FILE_LIMIT => Pe::read_head(alloc, machine, path, size),
         _ => Err(HeadFault::Disk),
     }
 }

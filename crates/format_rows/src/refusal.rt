@@ -3,14 +3,15 @@ ghost use Rattle.std.specs.Prelude.{◌≡◌, ◌≤◌, ◌^◌, length, sum_b
 ghost use Rattle.pe_reader.specs.Prelude.{headers_of};
 ghost use Rattle.pe_builder.specs.Replaced.{MayReplace};
 ghost use Rattle.pe_builder.specs.Planned.{sbat_if_in_place};
+ghost use Rattle.pe_builder.specs.Layout.{FitsPart};
 ghost use Rattle.pe_builder.specs.Sizes.{part_limit};
+ghost use Rattle.std.specs.List.{AllByRecursion};
 
 use crate::case::Case;
 use crate::fault::RowFault;
 use crate::words::{number, quote_bytes, split_at_mark};
-use pe_builder::{LayoutFault, WideSize, plan_refusal};
+use pe_builder::{ImageLayout, LayoutFault, PartSize};
 use pe_reader::Pe;
-use sample_images::{DATA, READ_ONLY_CODE};
 use std::alloc::{AllocError, Global};
 use uki_parts::{PartKind, SectionName};
 
@@ -30,43 +31,39 @@ pub(crate) fn part_name(text: &str) -> Result<SectionName, RowFault> {
     name.ok_or(RowFault::Unclear)
 }
 
-/// The Characteristics of the section of a part.
-pub(crate) fn part_flags(name: &SectionName) -> u32 {
-    if name.bytes() == b".linux".as_slice() {
-        READ_ONLY_CODE
-    } else {
-        DATA
-    }
-}
-
-// The size of a part by its name and its length.
-fn wide_size(word: &str) -> Result<WideSize, RowFault>
-    ensures { IfOk result (λ size. size.length ≤ 2 ^ 40) }
+/// The size of a part of a row.
+pub(crate) fn part_size(name: SectionName, length: u64) -> Result<PartSize, RowFault>
+    ensures length { IfOk result (λ size. size.length ≡ length) }
+    ensures small { IfOk result (λ size. size.length ≤ 2 ^ 40) }
+    ensures fits { IfOk result FitsPart }
 {
-    let (name, length) = split_at_mark(word, ':')?;
-    let name = part_name(name)?;
-    let length = number(length)?;
     if length > LENGTH_LIMIT {
         return Err(RowFault::Unclear);
     }
-    Ok(WideSize {
-        name,
-        length,
-        flags: part_flags(&name),
-    })
+    Ok(PartSize::with_name(name, length))
+}
+
+// The size of a part by its name and its length.
+fn size_of_word(word: &str) -> Result<PartSize, RowFault>
+    ensures small { IfOk result (λ size. size.length ≤ 2 ^ 40) }
+    ensures fits { IfOk result FitsPart }
+{
+    let (name, length) = split_at_mark(word, ':')?;
+    part_size(part_name(name)?, number(length)?)
 }
 
 // The sizes of at most sixteen parts.
-fn wide_sizes(alloc: Global, rest: &str) -> Result<Vec<WideSize>, RowFault>
+fn part_sizes(alloc: Global, rest: &str) -> Result<Vec<PartSize>, RowFault>
     ensures few { IfOk result (λ sizes. length sizes.items ≤ part_limit) }
     ensures total { IfOk result (λ sizes. sum_by (λ p. p.length) sizes.items ≤ 2 ^ 62) }
+    ensures fit { IfOk result (λ sizes. AllByRecursion FitsPart sizes.items) }
 {
     let mut sizes = Vec::new(alloc);
     for word in rest.split_whitespace() {
         if sizes.len() >= PART_LIMIT {
             return Err(RowFault::Unclear);
         }
-        sizes.push(wide_size(word)?)?;
+        sizes.push(size_of_word(word)?)?;
     }
     Ok(sizes)
 }
@@ -95,10 +92,10 @@ pub(crate) fn fault_text(alloc: Global, fault: LayoutFault) -> Result<String, Al
 pub(crate) fn refusal_text(alloc: Global, case: &Case, rest: &str) -> Result<String, RowFault> {
     let stub = case.file();
     let pe = Pe::read(alloc, stub)?;
-    let sizes = wide_sizes(alloc, rest)?;
+    let sizes = part_sizes(alloc, rest)?;
     let sbat = in_place(&pe, &case.sbat);
-    match plan_refusal(&pe, stub.len() as u32, &sizes, sbat) {
-        Some(fault) => Ok(fault_text(alloc, fault)?),
-        None => Ok(String::from_str(alloc, "none")?),
+    match ImageLayout::make(alloc, &pe, stub.len() as u32, &sizes, sbat) {
+        Ok(_) => Ok(String::from_str(alloc, "none")?),
+        Err(fault) => Ok(fault_text(alloc, fault)?),
     }
 }

@@ -17,12 +17,12 @@ use Rattle.uki_parts.specs.declared.piece.Piece.TheVariants as pieces
 use Rattle.uki_parts.specs.Pieces.{Reading, HasSizes, bytes_of, piece_bytes, piece_length, total_length}
 use Rattle.pe_builder.specs.declared.fault.LayoutFault.{LayoutFault}
 use Rattle.pe_builder.specs.declared.fault.LayoutFault.TheVariants as faults
-use Rattle.pe_builder.specs.declared.size.WideSize.{WideSize}
+use Rattle.pe_builder.specs.declared.size.PartSize.{PartSize}
 use Rattle.pe_builder.specs.Image.{finished_image}
 use Rattle.pe_builder.specs.Planned.{Makes, PlansImage, sbat_if_in_place}
 use Rattle.pe_builder.specs.Refusals.{first_refusal}
 use Rattle.pe_builder.specs.Replaced.{sbat_name}
-use Rattle.pe_builder.specs.Sizes.{any_size, part_flags}
+use Rattle.pe_builder.specs.Sizes.{size_of, part_flags}
 use Rattle.image_writer.specs.Sourced.{IsPieced, IsSourced, new_sbat, part_list, parts_bytes, planned_image, stub_path}
 use Rattle.image_writer.specs.declared.sources.Sources.{Sources}
 use Rattle.pe_builder.specs.declared.plan.ImageLayout.{ImageLayout}
@@ -45,18 +45,18 @@ read_length : (files : Reading) (part : Part) → IsPieced files part → length
 read_length files part is = length-bytes_of files part.pieces.items is.sizes ∙ is.total
 
 -- so the sizes of the parts are those of their bytes
-sizes_read : (files : Reading) (parts : List Part) → All (IsPieced files) parts → map size_of_part (map (part_as files) parts) ≡ map any_size parts
+sizes_read : (files : Reading) (parts : List Part) → All (IsPieced files) parts → map size_of_part (map (part_as files) parts) ≡ map size_of parts
 sizes_read files [] pieced = refl
 sizes_read files (part ∷ parts) pieced =
     let here = read_length files part (All-head (IsPieced files) part parts pieced) in
-    ap (λ (n : ℕ). (let size : WideSize = record { name = part.name; length = n; flags = part_flags part.name } in size) ∷ map size_of_part (map (part_as files) parts)) here
-    ∙ ap (λ (l : List WideSize). any_size part ∷ l) (sizes_read files parts (All-tail (IsPieced files) part parts pieced))
+    ap (λ (n : ℕ). (let size : PartSize = record { name = part.name; length = n; flags = part_flags part.name } in size) ∷ map size_of_part (map (part_as files) parts)) here
+    ∙ ap (λ (l : List PartSize). size_of part ∷ l) (sizes_read files parts (All-tail (IsPieced files) part parts pieced))
 
 contents_read : (files : Reading) (parts : List Part) → map (λ (p : SectionName × List ℕ). p.1) (map (part_as files) parts) ≡ parts_bytes files parts
 contents_read files [] = refl
 contents_read files (part ∷ parts) = ap (λ (l : List (List ℕ)). bytes_of files part.pieces.items ∷ l) (contents_read files parts)
 
-pub lengths_read : (files : Reading) (parts : List Part) → All (IsPieced files) parts → map length (parts_bytes files parts) ≡ map (λ p. p.length) (map any_size parts)
+pub lengths_read : (files : Reading) (parts : List Part) → All (IsPieced files) parts → map length (parts_bytes files parts) ≡ map (λ p. p.length) (map size_of parts)
 lengths_read files [] pieced = refl
 lengths_read files (part ∷ parts) pieced =
     let here = read_length files part (All-head (IsPieced files) part parts pieced) in
@@ -81,11 +81,11 @@ filled_read files (part ∷ parts) pieced =
 
 sourced_for : (plan : ImageLayout) (sources : Sources) (view : Files) (h : Headers) (in_place : Option ℕ) → pe_of (contents view (stub_path sources)) ≡ Ok h
     → All (IsPieced (contents view)) (part_list sources) → option_map length (sbat_if_in_place in_place (new_sbat sources)) ≡ in_place
-    → PlansImage plan h (length (contents view (stub_path sources))) (map any_size (part_list sources)) in_place → IsSourced plan sources view
+    → PlansImage plan h (length (contents view (stub_path sources))) (map size_of (part_list sources)) in_place → IsSourced plan sources view
 sourced_for plan sources view h in_place reads pieced len plans = record {
   plan_is = record {
     headers = h;
-    sizes = map any_size (part_list sources);
+    sizes = map size_of (part_list sources);
     in_place = in_place;
     reads = reads;
     plans = plans;
@@ -100,19 +100,19 @@ built output image = Ok (record { output = output; image = image })
 
 -- of parts that are read, the first refusal goes by the sizes that they say
 refusal_read : (output : Path) (h : Headers) (files : Reading) (stub : List ℕ) (parts : List Part) (in_place : Option ℕ) (sbat : List ℕ) (refused : Option LayoutFault)
-    → All (IsPieced files) parts → option_map length (sbat_if_in_place in_place sbat) ≡ in_place → first_refusal h (length stub) (map any_size parts) in_place ≡ refused
+    → All (IsPieced files) parts → option_map length (sbat_if_in_place in_place sbat) ≡ in_place → first_refusal h (length stub) (map size_of parts) in_place ≡ refused
     → image_of_parts output h stub (map (part_as files) parts) (sbat_if_in_place in_place sbat)
     ≡ image_or output h stub (map (part_as files) parts) (sbat_if_in_place in_place sbat) (option_and_then (builder_refusal output) refused)
 refusal_read output h files stub parts in_place sbat refused pieced len is =
     let read = map (part_as files) parts in
     let or : Option LayoutFault → Result BuiltImage Refusal = λ o. image_or output h stub read (sbat_if_in_place in_place sbat) (option_and_then (builder_refusal output) o) in
-    ap (λ (l : List WideSize). or (first_refusal h (length stub) l (option_map length (sbat_if_in_place in_place sbat)))) (sizes_read files parts pieced)
-    ∙ ap (λ (o : Option ℕ). or (first_refusal h (length stub) (map any_size parts) o)) len
+    ap (λ (l : List PartSize). or (first_refusal h (length stub) l (option_map length (sbat_if_in_place in_place sbat)))) (sizes_read files parts pieced)
+    ∙ ap (λ (o : Option ℕ). or (first_refusal h (length stub) (map size_of parts) o)) len
     ∙ ap or is
 
 image_for : (output : Path) (plan : ImageLayout) (sources : Sources) (view : Files) (h : Headers) (in_place : Option ℕ) → pe_of (contents view (stub_path sources)) ≡ Ok h
     → All (IsPieced (contents view)) (part_list sources) → option_map length (sbat_if_in_place in_place (new_sbat sources)) ≡ in_place
-    → PlansImage plan h (length (contents view (stub_path sources))) (map any_size (part_list sources)) in_place
+    → PlansImage plan h (length (contents view (stub_path sources))) (map size_of (part_list sources)) in_place
     → image_of_parts output h (contents view (stub_path sources)) (map (part_as (contents view)) (part_list sources))
     (sbat_if_in_place in_place (new_sbat sources)) ≡ built output (planned_image plan sources view)
 image_for output plan sources view h in_place reads pieced len plans =
@@ -121,9 +121,9 @@ image_for output plan sources view h in_place reads pieced len plans =
     let parts = part_list sources in
     let sbat = sbat_if_in_place in_place (new_sbat sources) in
     refusal_read output h files stub parts in_place (new_sbat sources) None pieced len plans.buildable.not_refused
-    ∙ ap (λ (l : List WideSize). built output (finished_image h l (map (λ p. p.1) (map (part_as files) parts)) sbat stub)) (sizes_read files parts pieced)
-    ∙ ap (λ (l : List (List ℕ)). built output (finished_image h (map any_size parts) l sbat stub)) (contents_read files parts)
-    ∙ ap (λ (l : List ℕ). built output l) (sym (planned_image-is plan sources view h (map any_size parts) in_place reads plans len))
+    ∙ ap (λ (l : List PartSize). built output (finished_image h l (map (λ p. p.1) (map (part_as files) parts)) sbat stub)) (sizes_read files parts pieced)
+    ∙ ap (λ (l : List (List ℕ)). built output (finished_image h (map size_of parts) l sbat stub)) (contents_read files parts)
+    ∙ ap (λ (l : List ℕ). built output l) (sym (planned_image-is plan sources view h (map size_of parts) in_place reads plans len))
 
 -- the image of parts and a `.sbat` in place, where it is said
 abbrev pub parts_meant : Files → Headers → Path → List Part → Option ℕ → List ℕ → Path → Result BuiltImage Refusal
@@ -138,11 +138,11 @@ pub record Read (view : Files) (h : Headers) (n : ℕ) (stub : Path) (parts : Li
   pub sbat_length : option_map length (sbat_if_in_place in_place sbat) ≡ in_place
 
 images_plan : (view : Files) (h : Headers) (n : ℕ) (in_place : Option ℕ) (image : ImagePlan) → Read view h n (stub_path image.sources) (part_list image.sources) in_place (new_sbat image.sources)
-    → PlansImage image.plan h n (map any_size (part_list image.sources)) in_place
+    → PlansImage image.plan h n (map size_of (part_list image.sources)) in_place
     → Images view (parts_meant view h (stub_path image.sources) (part_list image.sources) in_place (new_sbat image.sources)) (Ok image)
 images_plan view h n in_place image read plans =
     let sources = image.sources in
-    let here = subst (λ (k : ℕ). PlansImage image.plan h k (map any_size (part_list sources)) in_place) (sym read.length_is) plans in (
+    let here = subst (λ (k : ℕ). PlansImage image.plan h k (map size_of (part_list sources)) in_place) (sym read.length_is) plans in (
       sourced_for image.plan sources view h in_place read.reads read.pieced read.sbat_length here,
       λ output. image_for output image.plan sources view h in_place read.reads read.pieced read.sbat_length here,
     )
@@ -151,7 +151,7 @@ images_made : (view : Files) (h : Headers) (n : ℕ) (stub : Path) (parts : List
     → IsPlanOf image h n stub parts in_place sbat → Images view (parts_meant view h stub parts in_place sbat) (Ok image)
 images_made view h n stub parts in_place sbat image read is =
     let F : Path → List Part → List ℕ → Type 0 =
-    λ p l s. Read view h n p l in_place s → PlansImage image.plan h n (map any_size l) in_place → Images view (parts_meant view h p l in_place s)
+    λ p l s. Read view h n p l in_place s → PlansImage image.plan h n (map size_of l) in_place → Images view (parts_meant view h p l in_place s)
     (Ok image) in
     let all : F stub parts sbat =
     subst (λ (p : Path). F p parts sbat) is.stub_is
@@ -160,10 +160,10 @@ images_made view h n stub parts in_place sbat image read is =
     all read is.plans
 
 images_refused : (view : Files) (h : Headers) (n : ℕ) (stub : Path) (parts : List Part) (in_place : Option ℕ) (sbat : List ℕ) (fault : LayoutFault) → Read view h n stub parts in_place sbat
-    → first_refusal h n (map any_size parts) in_place ≡ Some fault → (output : Path) (why : Refusal) → builder_refusal output fault ≡ Some why
+    → first_refusal h n (map size_of parts) in_place ≡ Some fault → (output : Path) (why : Refusal) → builder_refusal output fault ≡ Some why
     → parts_meant view h stub parts in_place sbat output ≡ Err why
 images_refused view h n stub parts in_place sbat fault read is output why told =
-    let here = subst (λ (k : ℕ). first_refusal h k (map any_size parts) in_place ≡ Some fault) (sym read.length_is) is in
+    let here = subst (λ (k : ℕ). first_refusal h k (map size_of parts) in_place ≡ Some fault) (sym read.length_is) is in
     refusal_read output h (contents view) (contents view stub) parts in_place sbat (Some fault) read.pieced read.sbat_length here
     ∙ ap (λ (o : Option Refusal). image_or output h (contents view stub) (map (part_as (contents view)) parts) (sbat_if_in_place in_place sbat) o) told
 
@@ -311,14 +311,14 @@ images_as_part view h n stub parts list linux part sbat none result are holds is
 
 -- the fault of the plan of these parts, as it is handed on
 refused_by : (P : ImageLayout → Type 0) (h : Headers) (n : ℕ) (stub : Path) (parts : List Part) (in_place : Option ℕ) (sbat : List ℕ) (fault : LayoutFault)
-    → Makes P (Err fault) (first_refusal h n (map any_size parts) in_place) → PlansParts h n stub parts in_place sbat (Err fault)
+    → Makes P (Err fault) (first_refusal h n (map size_of parts) in_place) → PlansParts h n stub parts in_place sbat (Err fault)
 refused_by P h n stub parts in_place sbat faults.Memory made = tt
 refused_by P h n stub parts in_place sbat fault made = made
 
-pub plan_refused : (P : ImageLayout → Type 0) (h : Headers) (n : ℕ) (stub : Path) (parts : List Part) (sizes : List WideSize) (in_place : Option ℕ)
+pub plan_refused : (P : ImageLayout → Type 0) (h : Headers) (n : ℕ) (stub : Path) (parts : List Part) (sizes : List PartSize) (in_place : Option ℕ)
     (sbat : List ℕ) (fault : LayoutFault) (result : Result ImagePlan LayoutFault)
-    → sizes ≡ map any_size parts → Makes P (Err fault) (first_refusal h n sizes in_place) → IsErr result → IsErrAnd result (λ e. e ≡ fault) → PlansParts h n stub parts in_place sbat result
+    → sizes ≡ map size_of parts → Makes P (Err fault) (first_refusal h n sizes in_place) → IsErr result → IsErrAnd result (λ e. e ≡ fault) → PlansParts h n stub parts in_place sbat result
 plan_refused P h n stub parts sizes in_place sbat fault (Ok image) is made failed same = cc
 plan_refused P h n stub parts sizes in_place sbat fault (Err e) is made failed same =
     subst (λ (f : LayoutFault). PlansParts h n stub parts in_place sbat (Err f)) (sym same)
-    (refused_by P h n stub parts in_place sbat fault (subst (λ (l : List WideSize). Makes P (Err fault) (first_refusal h n l in_place)) is made))
+    (refused_by P h n stub parts in_place sbat fault (subst (λ (l : List PartSize). Makes P (Err fault) (first_refusal h n l in_place)) is made))

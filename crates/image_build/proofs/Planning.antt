@@ -29,7 +29,7 @@ use Rattle.uki_parts.specs.Parts.{part_place}
 use Rattle.uki_parts.specs.Pieces.{Reading}
 use Rattle.uki_parts.specs.declared.part.Part.{Part}
 use Rattle.image_build.specs.Building.{BuiltImage, build_answer, build_of, built_answer, built_line, built_text, Material, NamedFiles, contents_of, material, material_of, build_named, named_as, named_files, sbat_of}
-use Rattle.pe_builder.specs.Sizes.{any_size}
+use Rattle.pe_builder.specs.Sizes.{size_of}
 use Rattle.image_build.specs.Imaged.{AreFound, AreOrdered, Images, IsCountable, IsOwnPlan, IsPlanOf, IsSized}
 use Rattle.image_build.proofs.Imaged.{AreRead}
 use Rattle.image_build.specs.Planning.{HasItsLength, IsPlannable, IsPlannedOn, built_as}
@@ -162,7 +162,7 @@ pub own_plan : (image : ImagePlan) (h : Headers) (n : ℕ) (stub : Path) (parts 
     → IsPlanOf image h n stub parts in_place sbat → option_map length (sbat_if_in_place in_place sbat) ≡ in_place → IsOwnPlan image h n stub
 own_plan image h n stub parts in_place sbat is long = record {
   in_place = in_place;
-  plans = subst (λ (l : List Part). PlansImage image.plan h n (map any_size l) in_place) (sym is.parts_are) is.plans;
+  plans = subst (λ (l : List Part). PlansImage image.plan h n (map size_of l) in_place) (sym is.parts_are) is.plans;
   stub_is = is.stub_is;
   sbat_length = ap (λ (l : List ℕ). option_map length (sbat_if_in_place in_place l)) is.sbat_is ∙ long;
 }
@@ -177,7 +177,7 @@ planned_on view built image sizes reads own sourced =
       reads = ap pe_of at ∙ reads;
       own = record {
         in_place = own.in_place;
-        plans = subst (λ (n : ℕ). PlansImage image.plan (headers_of built.head) n (map any_size (part_list image.sources)) own.in_place) (sym (ap length at ∙ sizes.stub)) own.plans;
+        plans = subst (λ (n : ℕ). PlansImage image.plan (headers_of built.head) n (map size_of (part_list image.sources)) own.in_place) (sym (ap length at ∙ sizes.stub)) own.plans;
         stub_is = refl;
         sbat_length = own.sbat_length;
       };

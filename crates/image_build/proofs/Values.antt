@@ -33,7 +33,7 @@ use Rattle.uki_parts.specs.Names.{name_bytes}
 use Rattle.uki_parts.specs.Pieces.{Reading, HasSizes, bytes_of}
 use Rattle.uki_parts.specs.declared.part.Part.{Part}
 use Rattle.uki_parts.specs.declared.piece.Piece.{Piece}
-use Rattle.pe_builder.specs.Sizes.{any_size}
+use Rattle.pe_builder.specs.Sizes.{size_of}
 use Rattle.image_build.specs.Planning.{IsContent, IsPlannedOn, kept_bytes, section_bytes, stub_bytes}
 use Rattle.image_build.specs.declared.planned.PlannedBuild.{PlannedBuild}
 use Rattle.image_build.proofs.Imaged.{lengths_read}
@@ -81,14 +81,14 @@ abbrev has_name : List ℕ → Part → Bool
 has_name name part = bytes_eq (name_bytes part.name) name
 
 part_found : (files : Reading) (name : List ℕ) (parts : List Part)
-    → find_content name (map any_size parts) (parts_bytes files parts) ≡ option_map (λ part. bytes_of files part.pieces.items)
+    → find_content name (map size_of parts) (parts_bytes files parts) ≡ option_map (λ part. bytes_of files part.pieces.items)
     (find (has_name name) parts)
 unfolding find_content
 part_found files name [] = refl
 part_found files name (part ∷ parts) = by_test (has_name name part) (part_found files name parts)
   where
-    by_test : (is : Bool) → find_content name (map any_size parts) (parts_bytes files parts) ≡ option_map (λ part. bytes_of files part.pieces.items) (find (has_name name) parts)
-        → cond is (Some (bytes_of files part.pieces.items)) (find_content name (map any_size parts) (parts_bytes files parts)) ≡ option_map
+    by_test : (is : Bool) → find_content name (map size_of parts) (parts_bytes files parts) ≡ option_map (λ part. bytes_of files part.pieces.items) (find (has_name name) parts)
+        → cond is (Some (bytes_of files part.pieces.items)) (find_content name (map size_of parts) (parts_bytes files parts)) ≡ option_map
         (λ part. bytes_of files part.pieces.items) (cond is (Some part) (find (has_name name) parts))
     by_test true rest = refl
     by_test false rest = rest
@@ -137,11 +137,11 @@ section_more files bytes i parts more name part is before holds at =
 
 -- and all of them are what a stub measures of the image
 has_finished : (view : Files) (plan : PlannedBuild) (on : IsPlannedOn view plan)
-    → HasFinished (headers_of plan.head) (map any_size (part_list plan.image.sources)) (parts_bytes (contents view) (part_list plan.image.sources))
+    → HasFinished (headers_of plan.head) (map size_of (part_list plan.image.sources)) (parts_bytes (contents view) (part_list plan.image.sources))
     (sbat_if_in_place on.own.in_place (new_sbat plan.image.sources)) (stub_bytes view plan)
 has_finished view plan on = record {
   reads = on.reads;
-  buildable = subst (IsBuildable (headers_of plan.head) (length (stub_bytes view plan)) (map any_size (part_list plan.image.sources))) (sym on.own.sbat_length) on.own.plans.buildable;
+  buildable = subst (IsBuildable (headers_of plan.head) (length (stub_bytes view plan)) (map size_of (part_list plan.image.sources))) (sym on.own.sbat_length) on.own.plans.buildable;
   lengths = lengths_read (contents view) (part_list plan.image.sources) on.sourced.pieced;
 }
 
@@ -150,7 +150,7 @@ pub image_items : (view : Files) (plan : PlannedBuild) (on : IsPlannedOn view pl
 unfolding measured_by
 image_items view plan on =
     let h = headers_of plan.head in
-    let sizes = map any_size (part_list plan.image.sources) in
+    let sizes = map size_of (part_list plan.image.sources) in
     let bytes = parts_bytes (contents view) (part_list plan.image.sources) in
     let sbat = sbat_if_in_place on.own.in_place (new_sbat plan.image.sources) in
     let stub = stub_bytes view plan in
@@ -165,7 +165,7 @@ pub image_long : (view : Files) (plan : PlannedBuild) (on : IsPlannedOn view pla
 unfolding measured_length
 image_long view plan on =
     let h = headers_of plan.head in
-    let sizes = map any_size (part_list plan.image.sources) in
+    let sizes = map size_of (part_list plan.image.sources) in
     let bytes = parts_bytes (contents view) (part_list plan.image.sources) in
     let sbat = sbat_if_in_place on.own.in_place (new_sbat plan.image.sources) in
     let stub = stub_bytes view plan in

@@ -19,7 +19,7 @@ use Rattle.uki_parts.specs.declared.kind.PartKind.TheVariants as kinds
 use Rattle.uki_parts.specs.declared.name.SectionName.{SectionName}
 use Rattle.pe_builder.specs.declared.fault.LayoutFault.{LayoutFault}
 use Rattle.pe_builder.specs.declared.fault.LayoutFault.TheVariants as faults
-use Rattle.pe_builder.specs.declared.size.WideSize.{WideSize}
+use Rattle.pe_builder.specs.declared.size.PartSize.{PartSize}
 use Rattle.pe_builder.specs.Image.{finished_image}
 use Rattle.pe_builder.specs.Refusals.{first_refusal}
 use Rattle.pe_builder.specs.Replaced.{sbat_index, sbat_name}
@@ -148,7 +148,7 @@ abbrev pub has_bytes : SectionName × List ℕ → Bool
 has_bytes part = not (length part.1 == 0)
 
 -- what the builder knows of a part: its name, its length and its flags
-abbrev pub size_of_part : SectionName × List ℕ → WideSize
+abbrev pub size_of_part : SectionName × List ℕ → PartSize
 size_of_part part = record { name = part.0; length = length part.1; flags = part_flags part.0 }
 
 -- the refusal, or else the image of these parts and of a `.sbat` that takes the place of the stub's

@@ -19,7 +19,7 @@ use Rattle.pe_builder.specs.declared.fault.LayoutFault.TheVariants as faults
 use Rattle.pe_builder.specs.Planned.{PlansImage, sbat_if_in_place}
 use Rattle.pe_builder.specs.Refusals.{first_refusal}
 use Rattle.pe_builder.specs.Replaced.{sbat_name}
-use Rattle.pe_builder.specs.Sizes.{any_size}
+use Rattle.pe_builder.specs.Sizes.{size_of}
 use Rattle.image_writer.specs.Sourced.{IsPieced, IsSourced, new_sbat, part_list, planned_image, stub_path}
 use Rattle.image_build.specs.declared.build_plan.ImagePlan.{ImagePlan}
 use Rattle.image_build.specs.Building.{BuiltImage, builder_refusal, with_sbat_text}
@@ -85,7 +85,7 @@ Images view meant (Err fault) =
 -- the plan of an image of these parts, and its sources
 pub record IsPlanOf (image : ImagePlan) (headers : Headers) (stub_length : ℕ) (stub : Path) (parts : List Part)
     (in_place : Option ℕ) (sbat : List ℕ) : Type 0 where
-  pub plans : PlansImage image.plan headers stub_length (map any_size parts) in_place
+  pub plans : PlansImage image.plan headers stub_length (map size_of parts) in_place
   pub stub_is : stub_path image.sources ≡ stub
   pub parts_are : part_list image.sources ≡ parts
   pub sbat_is : new_sbat image.sources ≡ sbat
@@ -96,11 +96,11 @@ PlansParts headers stub_length stub parts in_place sbat (Ok image) =
     IsPlanOf image headers stub_length stub parts in_place sbat
 PlansParts headers stub_length stub parts in_place sbat (Err faults.Memory) = Unit {0}
 PlansParts headers stub_length stub parts in_place sbat (Err fault) =
-    first_refusal headers stub_length (map any_size parts) in_place ≡ Some fault
+    first_refusal headers stub_length (map size_of parts) in_place ≡ Some fault
 
 -- the plan is that of its own sources, with this stub
 pub record IsOwnPlan (image : ImagePlan) (headers : Headers) (stub_length : ℕ) (stub : Path) : Type 0 where
   pub in_place : Option ℕ
-  pub plans : PlansImage image.plan headers stub_length (map any_size (part_list image.sources)) in_place
+  pub plans : PlansImage image.plan headers stub_length (map size_of (part_list image.sources)) in_place
   pub stub_is : stub_path image.sources ≡ stub
   pub sbat_length : option_map length (sbat_if_in_place in_place (new_sbat image.sources)) ≡ in_place

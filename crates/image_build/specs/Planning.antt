@@ -18,7 +18,7 @@ use Rattle.uki_parts.specs.declared.part.Part.{Part}
 use Rattle.boot_base.specs.declared.refusal.Refusal.{Refusal}
 use Rattle.stub_replay.specs.Measured.{measured_length}
 use Rattle.image_build.specs.Building.{BuiltImage, NamedFiles, build_named}
-use Rattle.pe_builder.specs.Sizes.{any_size}
+use Rattle.pe_builder.specs.Sizes.{size_of}
 use Rattle.image_build.specs.Imaged.{IsOwnPlan}
 use Rattle.image_build.specs.Reads.{IsKernel, reading_length}
 use Rattle.image_build.specs.declared.build_reads.BuildParts.{BuildParts}
@@ -58,7 +58,7 @@ kept_bytes view plan in_place name =
 -- what the section of a name is going to hold
 abbrev pub section_bytes : Files → PlannedBuild → Option ℕ → List ℕ → List ℕ
 section_bytes view plan in_place name =
-    given_parts (map any_size (part_list plan.image.sources))
+    given_parts (map size_of (part_list plan.image.sources))
     (parts_bytes (contents view) (part_list plan.image.sources))
     (sbat_if_in_place in_place (new_sbat plan.image.sources)) (stub_bytes view plan) name
 

@@ -6,14 +6,14 @@ ghost use Rattle.boot_machine.specs.Prelude.{Files};
 ghost use Rattle.pe_reader.specs.Prelude.{ReadFrom, headers_of};
 ghost use Rattle.pe_builder.specs.Replaced.{MayReplace};
 ghost use Rattle.pe_builder.specs.Layout.{FitsPart};
-ghost use Rattle.pe_builder.specs.Sizes.{any_size, part_limit};
+ghost use Rattle.pe_builder.specs.Sizes.{size_of, part_limit};
 ghost use Rattle.uki_parts.specs.Parts.{part_place};
 ghost use Rattle.image_build.specs.Building.{has_sbat};
 ghost use Rattle.image_build.specs.Imaged.{AreFound, AreOrdered, IsCountable, IsOwnPlan, Images, IsSbatPart, PlansParts, image_result, is_filled};
 
 use boot_base::{BootPath, Bytes};
 use image_writer::Sources;
-use pe_builder::{ImageLayout, LayoutFault, WideSize};
+use pe_builder::{ImageLayout, LayoutFault, PartSize};
 use pe_reader::Pe;
 use std::alloc::{AllocError, Global};
 use uki_parts::{Part, PartKind, PartList, Piece, SectionName};
@@ -33,13 +33,13 @@ pub struct ImagePlan {
     pub sources: Sources,
 }
 
-fn any_sizes(alloc: Global, parts: &[Part]) -> Result<Vec<WideSize>, AllocError>
-    ensures exact { IfOk result (λ sizes. sizes.items ≡ map any_size parts.now) }
+fn sizes_of(alloc: Global, parts: &[Part]) -> Result<Vec<PartSize>, AllocError>
+    ensures exact { IfOk result (λ sizes. sizes.items ≡ map size_of parts.now) }
     ensures fit { IfOk result (λ sizes. AllByRecursion FitsPart sizes.items) }
 {
     let mut sizes = Vec::new(alloc);
     for part in parts {
-        sizes.push(WideSize::of(part))?;
+        sizes.push(PartSize::of(part))?;
     }
     Ok(sizes)
 }
@@ -60,8 +60,8 @@ fn image_plan(
     requires sbat { MayReplace (headers_of head.now) in_place }
     ensures { PlansParts (headers_of head.now) stub_length stub parts in_place sbat.items result }
 {
-    let sizes = any_sizes(alloc, parts.parts())?;
-    let plan = ImageLayout::of_sizes(alloc, head, stub_length, &sizes, in_place)?;
+    let sizes = sizes_of(alloc, parts.parts())?;
+    let plan = ImageLayout::make(alloc, head, stub_length, &sizes, in_place)?;
     Ok(ImagePlan {
         plan,
         sources: Sources::new(stub, parts, sbat),

@@ -42,7 +42,7 @@ fn kind<M: Machine>(alloc: Global, path: &BootPath, machine: &mut M) -> Result<&
     ensures taken { IsTrue M.tells → TakesAtMost head_limit (M.taken machine.old) (M.taken machine.new) }
 {
     let size = readable_size(alloc, path, machine)?;
-    match Pe::read_head_of_size(alloc, machine, path, size) {
+    match Pe::read_head(alloc, machine, path, size) {
         Ok(head) => Ok(pe_kind(&head)),
         Err(HeadFault::NotPe { .. }) => Ok("unknown\n"),
         Err(HeadFault::Memory) => Err(Unsaid::Memory),

@@ -11,7 +11,7 @@ use Rattle.uki_parts.specs.declared.part.Part.{Part}
 use Rattle.uki_parts.specs.Pieces.{Reading}
 use Rattle.pe_builder.specs.declared.plan.ImageLayout.{ImageLayout}
 use Rattle.pe_builder.specs.declared.plan.SbatPlace.{SbatPlace}
-use Rattle.pe_builder.specs.declared.size.WideSize.{WideSize}
+use Rattle.pe_builder.specs.declared.size.PartSize.{PartSize}
 use Rattle.pe_builder.specs.Puts.{put}
 use Rattle.pe_builder.specs.Layout.{head_with, new_sections, end_after}
 use Rattle.pe_builder.specs.Replaced.{sbat_index, with_sbat_size}
@@ -202,7 +202,7 @@ stands h stub sbat behind (Some size) shape fits len fields room =
     let inside = fits.2 in
     (omega arith, omega arith, omega (arith, room, range.0), range.1, some_is _ _ len, fits.1)
 
-ordered : (h : Headers) (stub sbat : List ℕ) (sizes : List WideSize) (in_place : Option ℕ) → Shape stub h → FitsSbat h in_place
+ordered : (h : Headers) (stub sbat : List ℕ) (sizes : List PartSize) (in_place : Option ℕ) → Shape stub h → FitsSbat h in_place
     → HasImage (with_sbat_size h in_place) (length stub) sizes → option_map length (sbat_if_in_place in_place sbat) ≡ in_place
     → (let new = new_sections (with_sbat_size h in_place) (length stub) sizes in
     IsOrdered h.head (head_with (with_sbat_size h in_place) new) new (sbat_place h in_place) (length stub) sbat)
@@ -265,7 +265,7 @@ pub one_image : (plan : ImageLayout) (stub sbat : List ℕ) (contents : List (Li
 one_image plan stub sbat contents a b is first second =
     first is.headers is.sizes is.in_place is.reads is.plans is.sbat_length ∙ sym (second is.headers is.sizes is.in_place is.reads is.plans is.sbat_length)
 
-pub is_finished : (plan : ImageLayout) (stub sbat : List ℕ) (contents : List (List ℕ)) (h : Headers) (sizes : List WideSize) (in_place : Option ℕ)
+pub is_finished : (plan : ImageLayout) (stub sbat : List ℕ) (contents : List (List ℕ)) (h : Headers) (sizes : List PartSize) (in_place : Option ℕ)
     → pe_of stub ≡ Ok h → PlansImage plan h (length stub) sizes in_place → option_map length (sbat_if_in_place in_place sbat) ≡ in_place
     → IsFinished plan stub contents sbat (finished_image h sizes contents (sbat_if_in_place in_place sbat) stub)
 is_finished plan stub sbat contents h sizes in_place reads plans len = λ h' sizes' in_place' reads' plans' len'.

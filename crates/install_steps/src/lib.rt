@@ -18,7 +18,7 @@ mod steps;
 mod write;
 
 pub use appends::{append, copy_part};
-pub use faults::{MoveFault, RecoverFault, StepFault};
+pub use faults::{MoveFault, StepFault};
 pub use moves::{Intent, move_name};
 pub use recovery::recover;
 pub use steps::{drop_leftovers, drop_name, settle};

@@ -6,10 +6,9 @@ ghost use Rattle.boot_machine.specs.Prelude.{CountsDisk, CountsRead, EachSince, 
 ghost use Rattle.install_steps.specs.Recovery.{RecoversTo, SameFrom, SeesSame};
 ghost use Rattle.install_steps.specs.Steps.{CanStep, LeavesAlone, NoNewTemp, StepsTo};
 
-use crate::RecoverFault;
 use crate::steps::{settle, unlink_synced};
 use boot_base::{FilePath, INTENT_LIMIT, IntentNames};
-use boot_machine::{DiskFault, Machine, read_part, zeros};
+use boot_machine::{DiskFault, Machine, ReadFault, read_part, zeros};
 use std::alloc::{AllocError, Global};
 
 // The names in the intent of that size, where it is in the right form. A longer file is not.
@@ -18,7 +17,7 @@ fn left_names<M: Machine>(
     machine: &mut M,
     intent: &FilePath,
     size: u64,
-) -> Result<Option<IntentNames>, RecoverFault>
+) -> Result<Option<IntentNames>, ReadFault>
     requires at_intent { intent.now ≡ intent_path }
     requires there { IsTrue M.tells → has (M.state machine.old).files intent_path ≡ true }
     requires size { IsTrue M.tells → size ≡ length (contents (M.state machine.old).files intent_path) }
@@ -78,7 +77,7 @@ fn finish_left<M: Machine>(
     alloc: Global,
     machine: &mut M,
     intent: &FilePath,
-) -> Result<(), RecoverFault>
+) -> Result<(), ReadFault>
     requires at_intent { intent.now ≡ intent_path }
     requires one { IsTrue M.tells → HasOneCandidate (M.state machine.old) }
     ensures step { IsTrue M.tells → IsFirm (M.state machine.old) → StepsTo M.time M.state
@@ -107,7 +106,7 @@ pub fn recover<M: Machine>(
     alloc: Global,
     machine: &mut M,
     intent: &FilePath,
-) -> Result<(), RecoverFault>
+) -> Result<(), ReadFault>
     requires at_intent { intent.now ≡ intent_path }
     ensures recovers { IsTrue M.tells → IsFirm (M.state machine.old)
         → RecoversTo M.time M.state machine.old machine.new }

@@ -14,7 +14,7 @@ use crate::disk::Disk;
 use crate::event::Event;
 use crate::files::{FileList, copy_some};
 use boot_base::{BootPath, FileName, FilePath, TempPath, Text};
-use boot_machine::{Channel, DiskFault, Machine, NamesFault, PipeFault, Printed};
+use boot_machine::{Channel, DiskFault, Machine, PipeFault, Printed, ReadFault};
 use std::alloc::{AllocError, Global};
 
 /// A file that a machine in memory begins with.
@@ -517,16 +517,16 @@ impl Machine for MemMachine {
         Ok(count)
     }
 
-    fn names(&mut self, alloc: Global, folder: &BootPath) -> Result<Vec<FileName>, NamesFault>
+    fn names(&mut self, alloc: Global, folder: &BootPath) -> Result<Vec<FileName>, ReadFault>
         ensures row { NamesRow (mem_state self.old) (mem_state self.new) folder.now result }
         ensures call { MemCall names_call TakesNone KeepsNone no_effect no_effect self.old self.new result }
     {
         if self.run_sync(Event::Look).is_err() {
-            return Err(NamesFault::Disk);
+            return Err(ReadFault::Disk);
         }
         match self.files.names(alloc, folder.as_str()) {
             Ok(names) => Ok(names),
-            Err(_) => Err(NamesFault::Memory),
+            Err(_) => Err(ReadFault::Memory),
         }
     }
 

@@ -8,7 +8,7 @@ use Rattle.std.proofs.lemmas.Bool.Decides.{nat_tests}
 use Rattle.pe_reader.specs.declared.head.Head.{Head}
 use Rattle.pe_reader.specs.declared.section.Section.{Section}
 use Rattle.pe_reader.specs.Prelude.{check_section, is_in_file, is_apart, section_at, sections_of}
-use Rattle.pe_builder.specs.declared.size.WideSize.{WideSize}
+use Rattle.pe_builder.specs.declared.size.PartSize.{PartSize}
 use Rattle.pe_builder.specs.Puts.{pad_to}
 use Rattle.pe_builder.proofs.Rounding.{length-pad_to}
 use Rattle.pe_builder.specs.Layout.{virtual_end, end_after, section_for, sections_for, raw_end, length_after, FitsPart}
@@ -26,7 +26,7 @@ with_raw-tail unit bytes (c ∷ cs) =
     let r = with_raw-tail unit (pad_to unit bytes ++ pad_to unit c) cs in
     (replicate ((unit - length bytes % unit) % unit) 0 ++ (pad_to unit c ++ r.0), r.1 ∙ regroup bytes _ (pad_to unit c) r.0)
 
-pub length-with_raw : (h : Head) (bytes : List ℕ) (parts : List WideSize) (contents : List (List ℕ))
+pub length-with_raw : (h : Head) (bytes : List ℕ) (parts : List PartSize) (contents : List (List ℕ))
     → map length contents ≡ map (λ p. p.length) parts
     → length (with_raw h.file_alignment bytes contents) ≡ length_after h (length bytes) parts
 unfolding with_raw length_after
@@ -41,13 +41,13 @@ length-with_raw h bytes (p ∷ ps) (c ∷ cs) e =
     length-append (pad_to unit bytes) (pad_to unit c) ∙ rw (length-pad_to unit bytes, length-pad_to unit c, e1) refl in
     length-with_raw h (pad_to unit bytes ++ pad_to unit c) ps cs e2 ∙ ap (λ (k : ℕ). length_after h k ps) l
 
-pub le-length_after : (h : Head) (r : ℕ) (parts : List WideSize) → r ≤ length_after h r parts
+pub le-length_after : (h : Head) (r : ℕ) (parts : List PartSize) → r ≤ length_after h r parts
 unfolding length_after
 le-length_after h r [] = omega arith
 le-length_after h r (p ∷ ps) =
     omega (arith, le-length_after h (next_multiple_of r h.file_alignment + next_multiple_of p.length h.file_alignment) ps)
 
-pub length-sections_for : (h : Head) (r a : ℕ) (parts : List WideSize) → length (sections_for h r a parts) ≡ length parts
+pub length-sections_for : (h : Head) (r a : ℕ) (parts : List PartSize) → length (sections_for h r a parts) ≡ length parts
 unfolding sections_for
 length-sections_for h r a [] = refl
 length-sections_for h r a (p ∷ ps) = ap suc (length-sections_for h (raw_end (section_for h r a p)) (virtual_end (section_for h r a p)) ps)
@@ -87,13 +87,13 @@ checked_passes m header_size earlier place s a b c d =
     rw (le-leb _ _ a, le-leb _ _ b, c, d) refl
 
 -- what the sizes of the parts have to be
-pub record Small (h : Head) (r a : ℕ) (parts : List WideSize) (m : ℕ) : Type 0 where
+pub record Small (h : Head) (r a : ℕ) (parts : List PartSize) (m : ℕ) : Type 0 where
   pub fits : AllByRecursion FitsPart parts
   pub file : length_after h r parts ≤ m
   pub small : m ≤ 268435456
   pub memory : end_after a (sections_for h r a parts) < 4294967296
 
-first_fits : (h : Head) (r a : ℕ) (p : WideSize) (ps : List WideSize) (m : ℕ) → Small h r a (p ∷ ps) m → FitsHeader (section_for h r a p)
+first_fits : (h : Head) (r a : ℕ) (p : PartSize) (ps : List PartSize) (m : ℕ) → Small h r a (p ∷ ps) m → FitsHeader (section_for h r a p)
 unfolding length_after sections_for end_after
 first_fits h r a p ps m s =
     let f = s.fits.0 in
@@ -112,7 +112,7 @@ first_fits h r a p ps m s =
     }
 
 -- the sizes of the other parts
-others_small : (h : Head) (r a : ℕ) (p : WideSize) (ps : List WideSize) (m : ℕ) → Small h r a (p ∷ ps) m
+others_small : (h : Head) (r a : ℕ) (p : PartSize) (ps : List PartSize) (m : ℕ) → Small h r a (p ∷ ps) m
     → Small h (raw_end (section_for h r a p)) (virtual_end (section_for h r a p)) ps m
 unfolding length_after sections_for end_after
 others_small h r a p ps m s =
@@ -127,7 +127,7 @@ others_small h r a p ps m s =
     }
 
 -- The headers of the new sections read as these, and pass the checks.
-pub sections_of-new : (h : Head) (m header_size r a : ℕ) (parts : List WideSize) (place : ℕ) (earlier : List Section)
+pub sections_of-new : (h : Head) (m header_size r a : ℕ) (parts : List PartSize) (place : ℕ) (earlier : List Section)
     → Small h r a parts m → header_size ≤ r → list_all (is_in_file r header_size) earlier ≡ true
     → sections_of m header_size (length parts) place earlier (flat_map section_header (sections_for h r a parts))
     ≡ Ok (earlier ++ sections_for h r a parts)
@@ -156,7 +156,7 @@ sections_of-new h m header_size r a (p ∷ ps) place earlier small hs ok =
     rw (reads, passes, behind) (next ∙ ap (λ (l : List Section). Ok l) (append_assoc earlier (s ∷ []) rest))
 
 -- each header has 40 bytes
-pub length-headers : (h : Head) (m r a : ℕ) (parts : List WideSize) → Small h r a parts m
+pub length-headers : (h : Head) (m r a : ℕ) (parts : List PartSize) → Small h r a parts m
     → length (flat_map section_header (sections_for h r a parts)) ≡ 40 * length parts
 unfolding sections_for
 length-headers h m r a [] small = refl

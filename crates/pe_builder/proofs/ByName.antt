@@ -12,7 +12,7 @@ use Rattle.pe_reader.specs.Prelude.{Headers, pe_of, is_named, section_at_index, 
 use Rattle.boot_base.specs.Names.{short_name}
 use Rattle.pe_reader.proofs.Shape.{stages-shape, pe_of-stages}
 use Rattle.pe_builder.proofs.Fits.{FitsSection, HasImage}
-use Rattle.pe_builder.specs.declared.size.WideSize.{WideSize}
+use Rattle.pe_builder.specs.declared.size.PartSize.{PartSize}
 use Rattle.pe_builder.specs.Replaced.{sbat_name, sbat_index, resized_section, with_sbat_size, with_content}
 use Rattle.pe_builder.specs.Image.{content_named, loaded_or_part, finished_image}
 use Rattle.pe_builder.specs.Laws.{HasFinished, finished_loaded}
@@ -94,7 +94,7 @@ replaced_loads h sbat stub name content e fits =
     ]
 
 -- what the finished image has loaded of a name
-pub loaded_bytes-finished_image : (h : Headers) (sizes : List WideSize) (contents : List (List ℕ)) (sbat : Option (List ℕ)) (stub : List ℕ)
+pub loaded_bytes-finished_image : (h : Headers) (sizes : List PartSize) (contents : List (List ℕ)) (sbat : Option (List ℕ)) (stub : List ℕ)
     → HasFinished h sizes contents sbat stub → (name : List ℕ)
     → loaded_bytes (finished_image h sizes contents sbat stub) name ≡ finished_loaded h sizes contents sbat stub name
 loaded_bytes-finished_image h sizes contents None stub f name =

@@ -10,7 +10,7 @@ use Rattle.pe_reader.specs.declared.section.Section.{Section}
 use Rattle.pe_reader.specs.Prelude.{Headers}
 use Rattle.pe_reader.proofs.Shape.{Shape, stages-shape, pe_of-stages}
 use Rattle.pe_builder.proofs.Fits.{FitsSbat, HasImage}
-use Rattle.pe_builder.specs.declared.size.WideSize.{WideSize}
+use Rattle.pe_builder.specs.declared.size.PartSize.{PartSize}
 use Rattle.pe_builder.specs.Puts.{put, pad_to}
 use Rattle.pe_builder.specs.Layout.{virtual_end, raw_end, end_after, section_for, sections_for, length_after, new_sections, head_with}
 use Rattle.pe_builder.specs.Replaced.{sbat_index, with_sbat_size, with_content, with_sbat}
@@ -97,7 +97,7 @@ get_or-pad_to unit xs j = elim (cases_lt j (length xs)) [
 ]
 
 -- before the raw data of all parts
-raw_before : (h : Head) (n a k : ℕ) (sizes : List WideSize) (contents : List (List ℕ)) → k < n
+raw_before : (h : Head) (n a k : ℕ) (sizes : List PartSize) (contents : List (List ℕ)) → k < n
     → byte_of (raw_data (sections_for h n a sizes) contents) (λ _. 0) k ≡ 0
 unfolding byte_of raw_data sections_for
 raw_before h n a k [] contents below = refl
@@ -108,7 +108,7 @@ raw_before h n a k (p ∷ ps) (c ∷ cs) below =
     rw (covers_before r k (omega arith)) (raw_before h (raw_end s) (virtual_end s) k ps cs (omega arith))
 
 -- behind bytes the byte at a place is that of the part whose raw data stand there
-raw_byte : (h : Head) (sizes : List WideSize) (contents : List (List ℕ)) (bytes : List ℕ) (n a k : ℕ)
+raw_byte : (h : Head) (sizes : List PartSize) (contents : List (List ℕ)) (bytes : List ℕ) (n a k : ℕ)
     → length bytes ≡ n → map length contents ≡ map (λ p. p.length) sizes → n ≤ k
     → get_or (with_raw h.file_alignment bytes contents) k 0 ≡ byte_of (raw_data (sections_for h n a sizes) contents) (λ _. 0) k
 unfolding byte_of raw_data sections_for with_raw
@@ -153,7 +153,7 @@ beyond : {k n : ℕ} → n ≤ k → (a b : ℕ) → (if nat_lt k n then a else 
 beyond h a b = grind (arith, nat_tests)
 
 -- the byte at a place of bytes written over, with raw data behind them
-whole_byte : (h : Head) (sizes : List WideSize) (contents : List (List ℕ)) (ranges : List Range) (stub : List ℕ) (a k : ℕ)
+whole_byte : (h : Head) (sizes : List PartSize) (contents : List (List ℕ)) (ranges : List Range) (stub : List ℕ) (a k : ℕ)
     → AllByRecursion (EndWithin (length stub)) ranges → map length contents ≡ map (λ p. p.length) sizes
     → get_or (with_raw h.file_alignment (puts ranges stub) contents) k 0
     ≡ byte_of ranges (λ j. if nat_lt j (length stub) then get_or stub j 0 else byte_of (raw_data (sections_for h (length stub) a sizes) contents) (λ _. 0) j) k
@@ -173,7 +173,7 @@ whole_byte h sizes contents ranges stub a k ok e =
     ]
 
 -- the fields and headers of an image lie in the stub
-fields_within : (stub : List ℕ) (h changed : Headers) (sizes : List WideSize) (more : List Range) → Shape stub h → changed.head ≡ h.head
+fields_within : (stub : List ℕ) (h changed : Headers) (sizes : List PartSize) (more : List Range) → Shape stub h → changed.head ≡ h.head
     → HasImage changed (length stub) sizes → AllByRecursion (EndWithin (length stub)) more
     → AllByRecursion (EndWithin (length stub)) (rewritten_fields h.head (head_with changed (new_sections changed (length stub) sizes))
     (flat_map section_header (new_sections changed (length stub) sizes)) more)
@@ -224,7 +224,7 @@ headers_puts h sbat new stub =
     ap (λ (l : List ℕ). with_headers (with_sbat_size h (option_map length sbat)) new l) (sbat_puts h sbat stub)
 
 -- the finished image, place by place
-pub by_place : (h : Headers) (sizes : List WideSize) (contents : List (List ℕ)) (sbat : Option (List ℕ)) (stub : List ℕ)
+pub by_place : (h : Headers) (sizes : List PartSize) (contents : List (List ℕ)) (sbat : Option (List ℕ)) (stub : List ℕ)
     → HasFinished h sizes contents sbat stub → IsByPlace h sizes contents sbat stub
 by_place h sizes contents sbat stub f =
     let n = length stub in

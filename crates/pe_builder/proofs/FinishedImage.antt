@@ -4,7 +4,7 @@ use Rattle.pe_reader.specs.declared.section.Section.{Section}
 use Rattle.pe_reader.specs.Prelude.{Headers, pe_of}
 use Rattle.pe_reader.proofs.Shape.{stages-shape, pe_of-stages}
 use Rattle.pe_builder.proofs.Fits.{FitsSection, HasImage}
-use Rattle.pe_builder.specs.declared.size.WideSize.{WideSize}
+use Rattle.pe_builder.specs.declared.size.PartSize.{PartSize}
 use Rattle.pe_builder.specs.Layout.{virtual_end, end_after, new_sections}
 use Rattle.pe_builder.specs.Replaced.{sbat_index, resized_section, with_sbat_size, with_content}
 use Rattle.pe_builder.specs.Image.{finished_image, finished_headers}
@@ -16,7 +16,7 @@ use Rattle.pe_builder.proofs.PlannedIs.{stands, length-with_content}
 use Rattle.pe_builder.proofs.Grown.{pe_of-image}
 
 -- where nothing is refused there is an image
-pub has_finished : (h : Headers) (sizes : List WideSize) (contents : List (List ℕ)) (sbat : Option (List ℕ)) (stub : List ℕ)
+pub has_finished : (h : Headers) (sizes : List PartSize) (contents : List (List ℕ)) (sbat : Option (List ℕ)) (stub : List ℕ)
     → HasFinished h sizes contents sbat stub → HasImage (with_sbat_size h (option_map length sbat)) (length stub) sizes
 has_finished h sizes contents sbat stub f =
     buildable_image h (length stub) sizes (option_map length sbat) f.buildable
@@ -28,11 +28,11 @@ end_before a [] i s h = absurd (omega arith)
 end_before a (x ∷ xs) zero s h = omega (arith, le-end_after (max a (virtual_end s)) xs)
 end_before a (x ∷ xs) (suc i) s h = end_before (max a (virtual_end x)) xs i s (omega arith)
 
-small_stub : (h : Headers) (n : ℕ) (sizes : List WideSize) → HasImage h n sizes → n ≤ 268435456
+small_stub : (h : Headers) (n : ℕ) (sizes : List PartSize) → HasImage h n sizes → n ≤ 268435456
 small_stub h n sizes has = omega (arith, le-length_after h.head n sizes, has.file_length)
 
 -- the new `.sbat` fits its section
-pub fits_section : (h : Headers) (sizes : List WideSize) (contents : List (List ℕ)) (sbat stub : List ℕ)
+pub fits_section : (h : Headers) (sizes : List PartSize) (contents : List (List ℕ)) (sbat stub : List ℕ)
     → HasFinished h sizes contents (Some sbat) stub → FitsSection h (sbat_index h) sbat
 fits_section h sizes contents sbat stub f =
     let has = has_finished h sizes contents (Some sbat) stub f in
@@ -56,7 +56,7 @@ fits_section h sizes contents sbat stub f =
     }
 
 -- The finished image reads as PE.
-pub pe_of-finished_image : (h : Headers) (sizes : List WideSize) (contents : List (List ℕ)) (sbat : Option (List ℕ)) (stub : List ℕ)
+pub pe_of-finished_image : (h : Headers) (sizes : List PartSize) (contents : List (List ℕ)) (sbat : Option (List ℕ)) (stub : List ℕ)
     → HasFinished h sizes contents sbat stub
     → pe_of (finished_image h sizes contents sbat stub) ≡ Ok (finished_headers h (length stub) sizes (option_map length sbat))
 pe_of-finished_image h sizes contents None stub f =

@@ -2,13 +2,13 @@
 use Rattle.std.proofs.Common.{ℕ, ◌+◌, ◌*◌, ◌^◌, ◌<◌, ◌≤◌, List, length, Option, Some, None}
 use Rattle.std.specs.List.{AllByRecursion}
 use Rattle.pe_reader.specs.Prelude.{Headers, section_at_index}
-use Rattle.pe_builder.specs.declared.size.WideSize.{WideSize}
+use Rattle.pe_builder.specs.declared.size.PartSize.{PartSize}
 use Rattle.pe_builder.specs.Layout.{new_sections, head_with, length_after, FitsPart}
 use Rattle.pe_builder.specs.Replaced.{sbat_index}
 use Rattle.pe_builder.specs.Refusals.{sbat_room}
 
 -- a stub of that length with these headers has an image with parts of these sizes
-pub record HasImage (h : Headers) (stub_length : ℕ) (parts : List WideSize) : Type 0 where
+pub record HasImage (h : Headers) (stub_length : ℕ) (parts : List PartSize) : Type 0 where
   pub fit : AllByRecursion FitsPart parts
   pub room : h.head.table_place + 40 * (h.head.section_count + length parts) ≤ h.head.header_size
   pub few : h.head.section_count + length parts ≤ 96

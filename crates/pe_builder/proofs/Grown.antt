@@ -10,7 +10,7 @@ use Rattle.pe_reader.proofs.Checks.{pe_place_of-more, coff_of-more, optional_of-
 use Rattle.pe_reader.proofs.Tables.{sections_of-more}
 use Rattle.pe_reader.proofs.Shape.{optional_of_is, Stages, Shape, pe_of-stages, pe_of-from_stages, stages-shape}
 use Rattle.pe_builder.proofs.Fits.{HasImage}
-use Rattle.pe_builder.specs.declared.size.WideSize.{WideSize}
+use Rattle.pe_builder.specs.declared.size.PartSize.{PartSize}
 use Rattle.pe_builder.specs.Puts.{put}
 use Rattle.pe_builder.proofs.Putting.{length-put, u32_at-put, u16_at-put, u32_at-put_behind}
 use Rattle.pe_builder.specs.Layout.{end_after, length_after, new_sections, head_with, headers_with}
@@ -177,7 +177,7 @@ writes place size table n count initialized image z hs stub tail r small_count s
     }
 
 -- what the parts' sizes say of the new sections
-pub small_of : (stub : List ℕ) (h : Headers) (parts : List WideSize) → HasImage h (length stub) parts
+pub small_of : (stub : List ℕ) (h : Headers) (parts : List PartSize) → HasImage h (length stub) parts
     → Small h.head (length stub) (end_after h.head.header_size h.sections) parts (length_after h.head (length stub) parts)
 small_of stub h parts has =
     let new = new_sections h (length stub) parts in
@@ -191,7 +191,7 @@ small_of stub h parts has =
     }
 
 -- the writing of the header fields of an image
-rewrite_of : (stub : List ℕ) (h : Headers) (parts : List WideSize) → Shape stub h → HasImage h (length stub) parts
+rewrite_of : (stub : List ℕ) (h : Headers) (parts : List PartSize) → Shape stub h → HasImage h (length stub) parts
     → Rewrite h.head.pe_place h.head.optional_size (h.head.table_place + 40 * h.head.section_count) (length stub)
     (little_bytes 2 (head_with h (new_sections h (length stub) parts)).section_count)
     (little_bytes 4 (head_with h (new_sections h (length stub) parts)).initialized_size)
@@ -216,7 +216,7 @@ rewrite_of stub h parts shape has =
     }
 
 -- the image's stages, as those of a stub
-image_stages : (stub tail : List ℕ) (h : Headers) (parts : List WideSize) → Stages stub h → HasImage h (length stub) parts
+image_stages : (stub tail : List ℕ) (h : Headers) (parts : List PartSize) → Stages stub h → HasImage h (length stub) parts
     → length (with_headers h (new_sections h (length stub) parts) stub ++ tail) ≡ length_after h.head (length stub) parts
     → Stages (with_headers h (new_sections h (length stub) parts) stub ++ tail) (headers_with h (new_sections h (length stub) parts))
 unfolding with_headers
@@ -275,13 +275,13 @@ image_stages stub tail h parts s has len =
           ∙ old ∙ added;
     }
 
-pub length-with_headers : (stub : List ℕ) (h : Headers) (parts : List WideSize) → Shape stub h → HasImage h (length stub) parts
+pub length-with_headers : (stub : List ℕ) (h : Headers) (parts : List PartSize) → Shape stub h → HasImage h (length stub) parts
     → length (with_headers h (new_sections h (length stub) parts) stub) ≡ length stub
 unfolding with_headers
 length-with_headers stub h parts shape has = (lengths _ _ _ _ _ _ _ _ _ _ (rewrite_of stub h parts shape has)).l5
 
 -- The image of a stub and parts reads as PE, with the stub's sections and the new ones.
-pub pe_of-image : (stub : List ℕ) (h : Headers) (parts : List WideSize) (contents : List (List ℕ))
+pub pe_of-image : (stub : List ℕ) (h : Headers) (parts : List PartSize) (contents : List (List ℕ))
     → pe_of stub ≡ Ok h → HasImage h (length stub) parts → map length contents ≡ map (λ p. p.length) parts
     → pe_of (image_with_parts h parts contents stub) ≡ Ok (headers_with h (new_sections h (length stub) parts))
 pe_of-image stub h parts contents e has sizes =
@@ -295,7 +295,7 @@ pe_of-image stub h parts contents e has sizes =
     ap pe_of t.1 ∙ pe_of-from_stages (w ++ t.0) _ (image_stages stub t.0 h parts s has len)
 
 -- what stands behind the headers stays
-pub part-with_headers : (stub : List ℕ) (h : Headers) (parts : List WideSize) (at count : ℕ) → Shape stub h → HasImage h (length stub) parts
+pub part-with_headers : (stub : List ℕ) (h : Headers) (parts : List PartSize) (at count : ℕ) → Shape stub h → HasImage h (length stub) parts
     → h.head.header_size ≤ at → part (with_headers h (new_sections h (length stub) parts) stub) at count ≡ part stub at count
 unfolding with_headers
 part-with_headers stub h parts at count shape has behind =

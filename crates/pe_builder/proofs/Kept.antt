@@ -11,7 +11,7 @@ use Rattle.pe_reader.specs.Prelude.{part, Headers, pe_of, is_in_file, is_named, 
 use Rattle.pe_reader.proofs.Shape.{Shape, pe_of-stages, stages-shape}
 use Rattle.uki_parts.specs.Names.{name_bytes}
 use Rattle.pe_builder.proofs.Fits.{HasImage}
-use Rattle.pe_builder.specs.declared.size.WideSize.{WideSize}
+use Rattle.pe_builder.specs.declared.size.PartSize.{PartSize}
 use Rattle.pe_builder.specs.Puts.{pad_to}
 use Rattle.pe_builder.proofs.Rounding.{length-pad_to, pad_to-is}
 use Rattle.pe_builder.specs.Layout.{virtual_end, end_after, section_for, sections_for, raw_end, new_sections}
@@ -28,7 +28,7 @@ raw_range : (n header_size : ℕ) (s : Section) → is_in_file n header_size s �
 raw_range n header_size s e = grind (arith, nat_tests)
 
 -- a section of the stub has the loaded bytes that it had
-pub loaded_by-image : (stub tail : List ℕ) (h : Headers) (parts : List WideSize) (s : Section) → Shape stub h → HasImage h (length stub) parts
+pub loaded_by-image : (stub tail : List ℕ) (h : Headers) (parts : List PartSize) (s : Section) → Shape stub h → HasImage h (length stub) parts
     → is_in_file (length stub) h.head.header_size s ≡ true
     → loaded_by (with_headers h (new_sections h (length stub) parts) stub ++ tail) s ≡ loaded_by stub s
 loaded_by-image stub tail h parts s shape has e = by_range (raw_range (length stub) h.head.header_size s e)
@@ -61,7 +61,7 @@ content_at unit bytes c tail n h =
     ∙ take_at c _ n h
 
 -- the loaded bytes of a new section are the content
-loaded_by-new : (h : Head) (bytes c tail : List ℕ) (a : ℕ) (p : WideSize) → length c ≡ p.length
+loaded_by-new : (h : Head) (bytes c tail : List ℕ) (a : ℕ) (p : PartSize) → length c ≡ p.length
     → loaded_by ((pad_to h.file_alignment bytes ++ pad_to h.file_alignment c) ++ tail) (section_for h (length bytes) a p) ≡ c
 loaded_by-new h bytes c tail a p e =
     let m : min p.length (next_multiple_of p.length h.file_alignment) ≡ p.length = omega arith in
@@ -74,7 +74,7 @@ choose true f x y c d there other = there refl
 choose false f x y c d there other = other refl
 
 -- the first new section of a name has the content of the first part of that name
-pub loaded_of-new : (h : Head) (name : List ℕ) (parts : List WideSize) (contents : List (List ℕ)) (bytes : List ℕ) (r a : ℕ)
+pub loaded_of-new : (h : Head) (name : List ℕ) (parts : List PartSize) (contents : List (List ℕ)) (bytes : List ℕ) (r a : ℕ)
     → length bytes ≡ r → map length contents ≡ map (λ p. p.length) parts
     → loaded_of (with_raw h.file_alignment bytes contents) (find (is_named name) (sections_for h r a parts)) ≡ content_named name parts contents
 unfolding with_raw sections_for content_named
@@ -112,7 +112,7 @@ split stub image name content n header_size new kept added (s ∷ sections) ok =
     ]
 
 -- What an image has loaded of a name: the stub's section of that name, or else the part.
-pub loaded_bytes-image : (stub : List ℕ) (h : Headers) (parts : List WideSize) (contents : List (List ℕ)) (name : List ℕ)
+pub loaded_bytes-image : (stub : List ℕ) (h : Headers) (parts : List PartSize) (contents : List (List ℕ)) (name : List ℕ)
     → pe_of stub ≡ Ok h → HasImage h (length stub) parts → map length contents ≡ map (λ p. p.length) parts
     → loaded_bytes (image_with_parts h parts contents stub) name ≡ loaded_or_part stub (find (is_named name) h.sections) (content_named name parts contents)
 loaded_bytes-image stub h parts contents name e has sizes =

@@ -11,7 +11,7 @@ use Rattle.pe_reader.proofs.Shape.{Shape, stages-shape, pe_of-stages}
 use Rattle.pe_reader.proofs.Tables.{at_list_all}
 use Rattle.pe_builder.proofs.Fits.{FitsSbat}
 use Rattle.pe_builder.proofs.Units.{file_unit}
-use Rattle.pe_builder.specs.declared.size.WideSize.{WideSize}
+use Rattle.pe_builder.specs.declared.size.PartSize.{PartSize}
 use Rattle.pe_builder.specs.declared.plan.ImageLayout.{ImageLayout}
 use Rattle.pe_builder.specs.declared.plan.SbatPlace.{SbatPlace}
 use Rattle.pe_builder.specs.Puts.{put}
@@ -38,7 +38,7 @@ same_head : (h : Head) (a a' b b' c c' : ℕ) → a ≡ a' → b ≡ b' → c �
     → (let x : Head = record h { section_count = a; initialized_size = b; image_size = c } in x) ≡ record h { section_count = a'; initialized_size = b'; image_size = c' }
 same_head h a a' b b' c c' e1 e2 e3 = cc
 
-pub head_after-is : (h : Headers) (n : ℕ) (parts : List WideSize) → head_after h.head (end_after h.head.header_size h.sections) parts ≡ head_with h (new_sections h n parts)
+pub head_after-is : (h : Headers) (n : ℕ) (parts : List PartSize) → head_after h.head (end_after h.head.header_size h.sections) parts ≡ head_with h (new_sections h n parts)
 head_after-is h n parts =
     let a = end_after h.head.header_size h.sections in
     let new = new_sections h n parts in
@@ -47,7 +47,7 @@ head_after-is h n parts =
     (ap (λ (k : ℕ). h.head.initialized_size + k) (sym (sum-sections_for h.head n a parts)))
     (ap (λ (k : ℕ). next_multiple_of k h.head.section_alignment) (sym (end_after-append h.head.header_size h.sections new ∙ end_after-sections_for h.head n a parts)))
 
-pub plans : (plan : ImageLayout) (h : Headers) (n start : ℕ) (parts : List WideSize) (sbat : Option ℕ)
+pub plans : (plan : ImageLayout) (h : Headers) (n start : ℕ) (parts : List PartSize) (sbat : Option ℕ)
     → start ≡ end_after h.head.header_size (with_sbat_size h sbat).sections
     → plan.stub_length ≡ n → plan.before ≡ h.head → plan.sections.items ≡ sections_for h.head n start parts → plan.after ≡ head_after h.head start parts
     → plan.sbat ≡ sbat_place h sbat → plan.image_length ≡ length_after h.head n parts
@@ -63,7 +63,7 @@ plans plan h n start parts sbat at stub before sections after place total fit ma
 }
 
 -- what a plan makes of headers with resized sections and of a stub that is changed accordingly
-image_by_of : (plan : ImageLayout) (h : Headers) (sizes : List WideSize) (contents : List (List ℕ)) (sbat stub changed : List ℕ) (n : ℕ)
+image_by_of : (plan : ImageLayout) (h : Headers) (sizes : List PartSize) (contents : List (List ℕ)) (sbat stub changed : List ℕ) (n : ℕ)
     → plan.before ≡ h.head → plan.after ≡ head_with h (new_sections h n sizes) → plan.sections.items ≡ new_sections h n sizes
     → replaced_by plan.sbat sbat stub ≡ changed → n ≡ length changed
     → image_by plan contents sbat stub ≡ image_with_parts h sizes contents changed
@@ -112,7 +112,7 @@ length-with_content h sbat stub s =
     length_replaced _ _ (length stub) (little_bytes 4 (length sbat)) _ stub refl refl (omega arith) (omega (arith, l))
 
 -- what a plan makes is the finished image
-pub image_by-is : (plan : ImageLayout) (h : Headers) (sizes : List WideSize) (contents : List (List ℕ)) (in_place : Option ℕ) (sbat stub : List ℕ)
+pub image_by-is : (plan : ImageLayout) (h : Headers) (sizes : List PartSize) (contents : List (List ℕ)) (in_place : Option ℕ) (sbat stub : List ℕ)
     → pe_of stub ≡ Ok h → PlansImage plan h (length stub) sizes in_place → option_map length (sbat_if_in_place in_place sbat) ≡ in_place
     → image_by plan contents sbat stub ≡ finished_image h sizes contents (sbat_if_in_place in_place sbat) stub
 unfolding with_content
@@ -161,7 +161,7 @@ fitting plan stub sbat contents is =
     }
 
 -- what a plan was made for has a finished image
-pub has_finished_by : (plan : ImageLayout) (h : Headers) (sizes : List WideSize) (contents : List (List ℕ)) (in_place : Option ℕ) (sbat stub : List ℕ)
+pub has_finished_by : (plan : ImageLayout) (h : Headers) (sizes : List PartSize) (contents : List (List ℕ)) (in_place : Option ℕ) (sbat stub : List ℕ)
     → pe_of stub ≡ Ok h → PlansImage plan h (length stub) sizes in_place → map length contents ≡ map (λ p. p.length) sizes
     → option_map length (sbat_if_in_place in_place sbat) ≡ in_place → HasFinished h sizes contents (sbat_if_in_place in_place sbat) stub
 has_finished_by plan h sizes contents in_place sbat stub e p l g =

@@ -6,7 +6,7 @@ use Rattle.pe_reader.specs.declared.head.Head.{Head}
 use Rattle.pe_reader.specs.declared.section.Section.{Section}
 use Rattle.pe_reader.specs.Grammar.{Headers}
 use Rattle.pe_reader.specs.LoadedBytes.{section_at_index}
-use Rattle.pe_builder.specs.declared.size.WideSize.{WideSize}
+use Rattle.pe_builder.specs.declared.size.PartSize.{PartSize}
 use Rattle.pe_builder.specs.Layout.{head_with, new_sections}
 use Rattle.pe_builder.specs.Replaced.{sbat_index, with_sbat_size}
 use Rattle.pe_builder.specs.Refusals.{sbat_room}
@@ -57,7 +57,7 @@ raw_data (s ∷ sections) (content ∷ contents) = record { place = s.raw_place;
 
 -- The byte at a place of the finished image: that of a rewritten field, a new section header or the new `.sbat`, else
 -- the stub's byte, and behind the stub that of the part whose raw data stand there, else zero.
-abbrev pub finished_byte : Headers → List WideSize → List (List ℕ) → Option (List ℕ) → List ℕ → ℕ → ℕ
+abbrev pub finished_byte : Headers → List PartSize → List (List ℕ) → Option (List ℕ) → List ℕ → ℕ → ℕ
 finished_byte h sizes contents sbat stub k =
     let changed = with_sbat_size h (option_map length sbat) in
     let new = new_sections changed (length stub) sizes in

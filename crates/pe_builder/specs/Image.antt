@@ -8,7 +8,7 @@ use Rattle.pe_reader.specs.declared.section.Section.{Section}
 use Rattle.pe_reader.specs.Grammar.{Headers}
 use Rattle.pe_reader.specs.LoadedBytes.{loaded_by}
 use Rattle.uki_parts.specs.Names.{name_bytes}
-use Rattle.pe_builder.specs.declared.size.WideSize.{WideSize}
+use Rattle.pe_builder.specs.declared.size.PartSize.{PartSize}
 use Rattle.pe_builder.specs.Puts.{put, pad_to}
 use Rattle.pe_builder.specs.Layout.{head_with, headers_with, new_sections}
 use Rattle.pe_builder.specs.Replaced.{with_sbat_size, with_sbat}
@@ -42,22 +42,22 @@ unfoldable pub with_raw : ℕ → List ℕ → List (List ℕ) → List ℕ
 with_raw unit bytes contents = fold (add_raw unit) bytes contents
 
 -- the image of a stub and parts
-abbrev pub image_with_parts : Headers → List WideSize → List (List ℕ) → List ℕ → List ℕ
+abbrev pub image_with_parts : Headers → List PartSize → List (List ℕ) → List ℕ → List ℕ
 image_with_parts h parts contents stub =
     with_raw h.head.file_alignment (with_headers h (new_sections h (length stub) parts) stub) contents
 
 -- the finished image of a stub, parts, and a new `.sbat` where the stub's is replaced in place
-abbrev pub finished_image : Headers → List WideSize → List (List ℕ) → Option (List ℕ) → List ℕ → List ℕ
+abbrev pub finished_image : Headers → List PartSize → List (List ℕ) → Option (List ℕ) → List ℕ → List ℕ
 finished_image h parts contents sbat stub =
     image_with_parts (with_sbat_size h (option_map length sbat)) parts contents (with_sbat h sbat stub)
 
 -- its headers
-abbrev pub finished_headers : Headers → ℕ → List WideSize → Option ℕ → Headers
+abbrev pub finished_headers : Headers → ℕ → List PartSize → Option ℕ → Headers
 finished_headers h stub_length parts sbat =
     headers_with (with_sbat_size h sbat) (new_sections (with_sbat_size h sbat) stub_length parts)
 
 -- the content of the first part of a name, nothing where there is no such part
-unfoldable pub content_named : List ℕ → List WideSize → List (List ℕ) → List ℕ
+unfoldable pub content_named : List ℕ → List PartSize → List (List ℕ) → List ℕ
 content_named name [] contents = []
 content_named name (p ∷ parts) [] = []
 content_named name (p ∷ parts) (content ∷ contents) =

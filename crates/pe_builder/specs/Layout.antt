@@ -6,7 +6,7 @@ use Rattle.pe_reader.specs.declared.head.Head.{Head}
 use Rattle.pe_reader.specs.declared.section.Section.{Section}
 use Rattle.pe_reader.specs.Grammar.{Headers}
 use Rattle.uki_parts.specs.Names.{padded_bytes}
-use Rattle.pe_builder.specs.declared.size.WideSize.{WideSize}
+use Rattle.pe_builder.specs.declared.size.PartSize.{PartSize}
 
 -- where a section ends in memory
 abbrev pub virtual_end : Section → ℕ
@@ -18,7 +18,7 @@ end_after address sections = fold (λ a s. max a (virtual_end s)) address sectio
 
 -- A part becomes a section: VirtualAddress is an address rounded up to SectionAlignment, PointerToRawData the file's
 -- length rounded up to FileAlignment, SizeOfRawData the part's length rounded up to FileAlignment.
-abbrev pub section_for : Head → ℕ → ℕ → WideSize → Section
+abbrev pub section_for : Head → ℕ → ℕ → PartSize → Section
 section_for h file_length address p = record {
   name = padded_bytes p.name;
   virtual_size = p.length;
@@ -33,7 +33,7 @@ abbrev pub raw_end : Section → ℕ
 raw_end s = s.raw_place + s.raw_size
 
 -- the sections for parts, one behind the other
-unfoldable pub sections_for : Head → ℕ → ℕ → List WideSize → List Section
+unfoldable pub sections_for : Head → ℕ → ℕ → List PartSize → List Section
 sections_for h file_length address [] = []
 sections_for h file_length address (p ∷ parts) =
     section_for h file_length address p
@@ -41,23 +41,23 @@ sections_for h file_length address (p ∷ parts) =
     (virtual_end (section_for h file_length address p)) parts
 
 -- the file's length behind one part more
-abbrev pub file_behind : Head → ℕ → WideSize → ℕ
+abbrev pub file_behind : Head → ℕ → PartSize → ℕ
 file_behind h file_length p = next_multiple_of file_length h.file_alignment + next_multiple_of p.length h.file_alignment
 
 -- the address behind one part more
-abbrev pub address_behind : Head → ℕ → WideSize → ℕ
+abbrev pub address_behind : Head → ℕ → PartSize → ℕ
 address_behind h address p = next_multiple_of address h.section_alignment + p.length
 
 -- the file's length behind parts
-unfoldable pub length_after : Head → ℕ → List WideSize → ℕ
+unfoldable pub length_after : Head → ℕ → List PartSize → ℕ
 length_after h file_length parts = fold (file_behind h) file_length parts
 
 -- the address behind parts
-unfoldable pub address_after : Head → ℕ → List WideSize → ℕ
+unfoldable pub address_after : Head → ℕ → List PartSize → ℕ
 address_after h address parts = fold (address_behind h) address parts
 
 -- the new sections of a stub of that length
-abbrev pub new_sections : Headers → ℕ → List WideSize → List Section
+abbrev pub new_sections : Headers → ℕ → List PartSize → List Section
 new_sections h stub_length parts = sections_for h.head stub_length (end_after h.head.header_size h.sections) parts
 
 -- the stub's head with the numbers of an image that has more sections
@@ -73,6 +73,6 @@ abbrev pub headers_with : Headers → List Section → Headers
 headers_with h new = record { head = head_with h new; sections = h.sections ++ new }
 
 -- what may become a section
-pub record FitsPart (p : WideSize) : Type 0 where
+pub record FitsPart (p : PartSize) : Type 0 where
   pub name : length (padded_bytes p.name) ≡ 8
   pub flags : p.flags < 2 ^ 32

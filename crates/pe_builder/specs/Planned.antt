@@ -8,7 +8,7 @@ use Rattle.pe_builder.specs.declared.fault.LayoutFault.TheVariants.{Memory}
 use Rattle.pe_reader.specs.declared.head.Head.{Head}
 use Rattle.pe_reader.specs.Grammar.{Headers, pe_of}
 use Rattle.pe_reader.specs.LoadedBytes.{section_at_index}
-use Rattle.pe_builder.specs.declared.size.WideSize.{WideSize}
+use Rattle.pe_builder.specs.declared.size.PartSize.{PartSize}
 use Rattle.pe_builder.specs.declared.plan.ImageLayout.{ImageLayout}
 use Rattle.pe_builder.specs.declared.plan.SbatPlace.{SbatPlace}
 use Rattle.pe_builder.specs.Puts.{put}
@@ -29,7 +29,7 @@ sbat_place h (Some size) = Some (record {
 
 -- The plan of an image of a stub of that length with these headers, of parts of these sizes, and of a new `.sbat` of
 -- that length where the stub's is replaced in place.
-pub record PlansImage (plan : ImageLayout) (h : Headers) (stub_length : ℕ) (sizes : List WideSize)
+pub record PlansImage (plan : ImageLayout) (h : Headers) (stub_length : ℕ) (sizes : List PartSize)
     (sbat : Option ℕ) : Type 0 where
   pub stub_length_is : plan.stub_length ≡ stub_length
   pub before : plan.before ≡ h.head
@@ -40,7 +40,7 @@ pub record PlansImage (plan : ImageLayout) (h : Headers) (stub_length : ℕ) (si
   pub buildable : IsBuildable h stub_length sizes sbat
 
 -- the head of an image with new sections behind an address
-abbrev pub head_after : Head → ℕ → List WideSize → Head
+abbrev pub head_after : Head → ℕ → List PartSize → Head
 head_after h start parts = record h {
   section_count = h.section_count + length parts;
   initialized_size = h.initialized_size + sum_by (λ p. p.length) parts;
@@ -65,7 +65,7 @@ sbat_if_in_place in_place sbat = option_map (λ _. sbat) in_place
 -- replaces one.
 pub record IsPlanFor (plan : ImageLayout) (stub : List ℕ) (contents : List (List ℕ)) (sbat : List ℕ) : Type 0 where
   pub headers : Headers
-  pub sizes : List WideSize
+  pub sizes : List PartSize
   pub in_place : Option ℕ
   pub reads : pe_of stub ≡ Ok headers
   pub plans : PlansImage plan headers (length stub) sizes in_place
@@ -75,7 +75,7 @@ pub record IsPlanFor (plan : ImageLayout) (stub : List ℕ) (contents : List (Li
 -- The bytes are the finished image of whatever the plan was made for.
 abbrev pub IsFinished : ImageLayout → List ℕ → List (List ℕ) → List ℕ → List ℕ → Type 0
 IsFinished plan stub contents sbat image =
-    (h : Headers) (sizes : List WideSize) (in_place : Option ℕ) →
+    (h : Headers) (sizes : List PartSize) (in_place : Option ℕ) →
     pe_of stub ≡ Ok h → PlansImage plan h (length stub) sizes in_place →
     option_map length (sbat_if_in_place in_place sbat) ≡ in_place →
     image ≡ finished_image h sizes contents (sbat_if_in_place in_place sbat) stub

@@ -7,17 +7,12 @@ use Rattle.boot_base.specs.Limits.{file_limit}
 use Rattle.pe_reader.specs.declared.section.Section.{Section}
 use Rattle.pe_reader.specs.LoadedBytes.{is_named, section_at_index}
 use Rattle.pe_reader.specs.Grammar.{Headers}
-use Rattle.pe_builder.specs.declared.size.PartSize.{PartSize}
 use Rattle.uki_parts.specs.Names.{name_bytes}
-use Rattle.pe_builder.specs.declared.size.WideSize.{WideSize}
+use Rattle.pe_builder.specs.declared.size.PartSize.{PartSize}
 use Rattle.pe_builder.specs.declared.fault.LayoutFault.{LayoutFault}
 use Rattle.pe_builder.specs.declared.fault.LayoutFault.TheVariants.{SignedStub, SectionTwice, SbatDoesNotFit, NoHeaderSpace, AddressSpace, ImageTooLarge}
 use Rattle.pe_builder.specs.Layout.{end_after, length_after, address_after, FitsPart}
 use Rattle.pe_builder.specs.Replaced.{sbat_index, with_sbat_size, MayReplace}
-
--- the size of a part whose length may be any number
-abbrev pub wide_size : PartSize → WideSize
-wide_size p = record { name = p.name; length = p.length; flags = p.flags }
 
 -- a refusal where a test holds, else the rest
 abbrev pub refuse : Bool → LayoutFault → Option LayoutFault → Option LayoutFault
@@ -29,17 +24,17 @@ or_else None rest = rest
 or_else (Some fault) rest = Some fault
 
 -- whether a part has this name
-abbrev pub part_is_named : List ℕ → WideSize → Bool
+abbrev pub part_is_named : List ℕ → PartSize → Bool
 part_is_named name p = bytes_eq (name_bytes p.name) name
 
 -- whether a section or an earlier part has the name of a part
-abbrev pub is_taken : List Section → List WideSize → WideSize → Bool
+abbrev pub is_taken : List Section → List PartSize → PartSize → Bool
 is_taken sections earlier p =
     list_any (is_named (name_bytes p.name)) sections
     || list_any (part_is_named (name_bytes p.name)) earlier
 
 -- the first part whose name is taken, after the earlier ones
-unfoldable pub first_taken : List Section → List WideSize → List WideSize → Option LayoutFault
+unfoldable pub first_taken : List Section → List PartSize → List PartSize → Option LayoutFault
 first_taken sections earlier [] = None
 first_taken sections earlier (p ∷ parts) =
     if is_taken sections earlier p then Some (SectionTwice p.name) else first_taken sections (earlier ++ p ∷ []) parts
@@ -54,7 +49,7 @@ sbat_refusal h None = None
 sbat_refusal h (Some length) = refuse (nat_lt (sbat_room h) length) (SbatDoesNotFit length (sbat_room h)) None
 
 -- the bytes that headers need
-abbrev pub need : Headers → List WideSize → ℕ
+abbrev pub need : Headers → List PartSize → ℕ
 need h parts = h.head.table_place + 40 * (h.head.section_count + length parts)
 
 -- the bytes that headers have: up to SizeOfHeaders, and no more than 96 section headers
@@ -62,16 +57,16 @@ abbrev pub have : Headers → ℕ
 have h = min h.head.header_size (h.head.table_place + 3840)
 
 -- SizeOfImage of the image
-abbrev pub image_size : Headers → List WideSize → ℕ
+abbrev pub image_size : Headers → List PartSize → ℕ
 image_size h parts =
     next_multiple_of (address_after h.head (end_after h.head.header_size h.sections) parts) h.head.section_alignment
 
 -- SizeOfInitializedData of the image
-abbrev pub initialized_size : Headers → List WideSize → ℕ
+abbrev pub initialized_size : Headers → List PartSize → ℕ
 initialized_size h parts = h.head.initialized_size + sum_by (λ p. p.length) parts
 
 -- the first refusal that rests on sizes: of the headers, of addresses, of SizeOfInitializedData, of the file
-unfoldable pub size_refusal : Headers → ℕ → List WideSize → Option LayoutFault
+unfoldable pub size_refusal : Headers → ℕ → List PartSize → Option LayoutFault
 size_refusal h stub_length parts =
     refuse (nat_lt (have h) (need h parts)) (NoHeaderSpace (need h parts) (have h)) (
     refuse (nat_le 4294967296 (image_size h parts)) (AddressSpace (image_size h parts)) (
@@ -81,7 +76,7 @@ size_refusal h stub_length parts =
 
 -- The first refusal for a stub of that length with these headers, parts of these sizes, and a new `.sbat` of that
 -- length where the stub's is replaced in place.
-unfoldable pub first_refusal : Headers → ℕ → List WideSize → Option ℕ → Option LayoutFault
+unfoldable pub first_refusal : Headers → ℕ → List PartSize → Option ℕ → Option LayoutFault
 first_refusal h stub_length parts sbat =
     refuse (not (h.head.certificate_size == 0)) SignedStub (
     or_else (first_taken h.sections [] parts) (
@@ -90,7 +85,7 @@ first_refusal h stub_length parts sbat =
 
 -- A stub of that length with these headers has an image with parts of these sizes, and with a new `.sbat` of that
 -- length in place where it is given: nothing is refused.
-pub record IsBuildable (h : Headers) (stub_length : ℕ) (parts : List WideSize) (sbat : Option ℕ) : Type 0 where
+pub record IsBuildable (h : Headers) (stub_length : ℕ) (parts : List PartSize) (sbat : Option ℕ) : Type 0 where
   pub fit : AllByRecursion FitsPart parts
   pub may_replace : MayReplace h sbat
   pub not_refused : first_refusal h stub_length parts sbat ≡ None

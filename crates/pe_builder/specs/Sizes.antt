@@ -4,7 +4,6 @@ use Rattle.uki_parts.specs.declared.name.SectionName.{SectionName}
 use Rattle.uki_parts.specs.declared.part.Part.{Part}
 use Rattle.uki_parts.specs.Names.{name_bytes}
 use Rattle.pe_builder.specs.declared.size.PartSize.{PartSize}
-use Rattle.pe_builder.specs.declared.size.WideSize.{WideSize}
 
 -- the most parts of an image, so that no sum of their sizes needs more than 64 bits
 abbrev pub part_limit : ℕ
@@ -18,7 +17,3 @@ part_flags name = if bytes_eq (name_bytes name) (codes ".linux") then 0x40000020
 -- the size of a part
 abbrev pub size_of : Part → PartSize
 size_of part = record { name = part.name; length = part.length; flags = part_flags part.name }
-
--- the size of a part of any length
-abbrev pub any_size : Part → WideSize
-any_size part = record { name = part.name; length = part.length; flags = part_flags part.name }

@@ -7,7 +7,7 @@ ghost use Rattle.pe_builder.specs.Layout.{virtual_end, end_after, length_after, 
 ghost use Rattle.pe_builder.specs.Replaced.{sbat_index, with_sbat_size, MayReplace};
 ghost use Rattle.pe_builder.specs.Sizes.{part_limit};
 
-use crate::size::WideSize;
+use crate::size::PartSize;
 use pe_reader::{Head, Pe, Section};
 
 /// The index of the stub's first `.sbat`, or the number of its sections where it has none.
@@ -70,7 +70,7 @@ pub fn up(x: u64, unit: u32) -> u64
 
 /// The length of the file behind parts.
 #[tactic(auto, unfolding(crate::specs::Layout::length_after))]
-pub fn length_after(head: &Head, stub_length: u32, parts: &[WideSize]) -> u64
+pub fn length_after(head: &Head, stub_length: u32, parts: &[PartSize]) -> u64
     requires unit { 0 < head.now.file_alignment }
     requires small_unit { head.now.file_alignment ≤ 65536 }
     requires few { length parts.now ≤ part_limit }
@@ -86,7 +86,7 @@ pub fn length_after(head: &Head, stub_length: u32, parts: &[WideSize]) -> u64
 
 /// The address behind parts.
 #[tactic(auto, unfolding(crate::specs::Layout::address_after))]
-pub fn address_after(head: &Head, address: u64, parts: &[WideSize]) -> u64
+pub fn address_after(head: &Head, address: u64, parts: &[PartSize]) -> u64
     requires unit { 0 < head.now.section_alignment }
     requires small_unit { head.now.section_alignment ≤ 65536 }
     requires few { length parts.now ≤ part_limit }
@@ -103,7 +103,7 @@ pub fn address_after(head: &Head, address: u64, parts: &[WideSize]) -> u64
 }
 
 /// The bytes of parts.
-pub fn total(parts: &[WideSize]) -> u64
+pub fn total(parts: &[PartSize]) -> u64
     requires { sum_by (λ p. p.length) parts.now ≤ 2 ^ 62 }
     ensures { result ≡ sum_by (λ p. p.length) parts.now }
 {

@@ -1,4 +1,4 @@
-//! The bytes of an image.
+//! The bytes of an image in memory: the plain form of what `image_writer` writes, which no command calls.
 
 ghost use Rattle.std.specs.Prelude.{◌≡◌, ◌+◌, ◌*◌, ◌-◌, ◌≤◌, ◌<◌, ◌++◌, length, map, replicate, IfOk, OnOk, flat_map};
 ghost use Rattle.byteorder.specs.Endian.{little_bytes};

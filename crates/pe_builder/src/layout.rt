@@ -4,12 +4,12 @@ ghost use Rattle.std.specs.Prelude.{◌≡◌, ◌+◌, ◌*◌, ◌<◌, ◌≤
 ghost use Rattle.pe_builder.specs.Layout.{section_for, sections_for, raw_end, virtual_end, length_after, address_after};
 
 use crate::extent::up;
-use crate::size::WideSize;
+use crate::size::PartSize;
 use pe_reader::{Head, Section};
 use std::alloc::{AllocError, Global};
 
 // A part as a section behind a file of that length and an address.
-fn section_for(head: &Head, file_length: u32, address: u32, part: &WideSize) -> Section
+fn section_for(head: &Head, file_length: u32, address: u32, part: &PartSize) -> Section
     requires file_unit { 0 < head.now.file_alignment }
     requires memory_unit { 0 < head.now.section_alignment }
     requires file { raw_end (section_for head.now file_length address part.now) < 2 ^ 32 }
@@ -34,7 +34,7 @@ pub fn sections_for(
     head: &Head,
     stub_length: u32,
     start: u32,
-    parts: &[WideSize],
+    parts: &[PartSize],
 ) -> Result<Vec<Section>, AllocError>
     requires file_unit { 0 < head.now.file_alignment }
     requires memory_unit { 0 < head.now.section_alignment }

@@ -23,5 +23,4 @@ pub use fault::LayoutFault;
 pub use image::image_bytes;
 pub use laws::{image_by_place, image_loads, image_reads, sizes_agree};
 pub use plan::{ImageLayout, SbatPlace};
-pub use refusal::plan_refusal;
-pub use size::{PartSize, WideSize};
+pub use size::PartSize;

@@ -7,7 +7,7 @@ ghost use Rattle.boot_base.specs.Limits.{file_limit};
 ghost use Rattle.pe_reader.specs.Prelude.{ReadFrom, headers_of, section_at_index};
 ghost use Rattle.pe_builder.specs.Layout.{end_after, address_after, FitsPart};
 ghost use Rattle.pe_builder.specs.Replaced.{sbat_index, with_sbat_size, MayReplace};
-ghost use Rattle.pe_builder.specs.Refusals.{wide_size, first_refusal, size_refusal};
+ghost use Rattle.pe_builder.specs.Refusals.{first_refusal, size_refusal};
 ghost use Rattle.pe_builder.specs.Planned.{PlansImage, Makes, head_after, planned_length, sbat_place};
 ghost use Rattle.pe_builder.specs.Known.{planned_stub_length, planned_before, planned_after, planned_sections, planned_sbat};
 ghost use Rattle.pe_reader.specs.Grammar.{section_limit};
@@ -17,7 +17,7 @@ use crate::extent::{address_after, length_after, sbat_index, stub_end, total, up
 use crate::fault::LayoutFault;
 use crate::layout::sections_for;
 use crate::refusal::find_refusal;
-use crate::size::{PartSize, WideSize, wide_sizes};
+use crate::size::PartSize;
 use pe_reader::{Head, Pe, Section};
 use std::alloc::{AllocError, Global};
 
@@ -54,41 +54,19 @@ pub struct SbatPlace {
 
 impl ImageLayout {
     /// The plan of an image of a stub of `stub_length` bytes and of parts of these sizes, in the order in which they
-    /// are to stand. A new `.sbat` of `sbat_in_place` bytes takes the place of the stub's where
-    /// that is given, which asks for a stub that has one.
+    /// are to stand. A new `.sbat` of `sbat_in_place` bytes takes the place of the stub's if that is given, which asks
+    /// for a stub that has one.
     ///
     /// # Errors
     ///
-    /// The first reason why there is no image, as `plan_refusal` has them, exactly where there is none; `Memory` where
-    /// there is no memory for the plan.
+    /// The first reason why there is no image, exactly if there is none; `Memory` if there is no memory for the plan. The
+    /// reasons in their order: `SignedStub`, `SectionTwice`, `SbatDoesNotFit`, `NoHeaderSpace`, `AddressSpace` by
+    /// SizeOfImage and then by SizeOfInitializedData, `ImageTooLarge`.
     pub fn make(
         alloc: Global,
         stub: &Pe,
         stub_length: u32,
         sizes: &[PartSize],
-        sbat_in_place: Option<u32>,
-    ) -> Result<ImageLayout, LayoutFault>
-        requires read { ReadFrom stub.now stub_length }
-        requires few { length sizes.now ≤ part_limit }
-        requires sbat { MayReplace (headers_of stub.now) sbat_in_place }
-        ensures { Makes
-            (λ plan. PlansImage plan (headers_of stub.now) stub_length (map wide_size sizes.now) sbat_in_place) result
-            (first_refusal (headers_of stub.now) stub_length (map wide_size sizes.now) sbat_in_place) }
-    {
-        let sizes = wide_sizes(alloc, sizes)?;
-        ImageLayout::of_sizes(alloc, stub, stub_length, &sizes, sbat_in_place)
-    }
-
-    /// The same plan of parts that may have any length.
-    ///
-    /// # Errors
-    ///
-    /// As of `make`.
-    pub fn of_sizes(
-        alloc: Global,
-        stub: &Pe,
-        stub_length: u32,
-        sizes: &[WideSize],
         sbat_in_place: Option<u32>,
     ) -> Result<ImageLayout, LayoutFault>
         requires read { ReadFrom stub.now stub_length }
@@ -154,7 +132,7 @@ fn lay_out(
     alloc: Global,
     stub: &Pe,
     stub_length: u32,
-    sizes: &[WideSize],
+    sizes: &[PartSize],
     sbat_in_place: Option<u32>,
 ) -> Result<ImageLayout, AllocError>
     requires read { ReadFrom stub.now stub_length }
@@ -179,7 +157,7 @@ fn lay_out(
 }
 
 // The head of the image.
-fn head_after(head: &Head, start: u32, parts: &[WideSize]) -> Head
+fn head_after(head: &Head, start: u32, parts: &[PartSize]) -> Head
     requires memory_unit { 0 < head.now.section_alignment }
     requires small_unit { head.now.section_alignment ≤ 65536 }
     requires few { head.now.section_count + length parts.now ≤ section_limit }

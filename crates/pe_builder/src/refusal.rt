@@ -10,8 +10,8 @@ ghost use Rattle.pe_builder.specs.Sizes.{part_limit};
 
 use crate::extent::{address_after, length_after, sbat_index, stub_end, total, up};
 use crate::fault::LayoutFault;
-use crate::size::WideSize;
-use crate::taken::{find_taken, first_taken};
+use crate::size::PartSize;
+use crate::taken::find_taken;
 use boot_base::FILE_LIMIT;
 use pe_reader::Pe;
 use std::alloc::{AllocError, Global};
@@ -20,37 +20,16 @@ use std::alloc::{AllocError, Global};
 const MAX_TABLE: u32 = 3840;
 
 /// The first reason why there is no image of a stub of that length and parts of these sizes, with a new `.sbat` of
-/// that length in the place of the stub's where it is given; None exactly where there is one. The parts may have any
-/// length. It takes no memory, and never answers `Memory`.
-///
-/// The reasons in their order: `SignedStub`, `SectionTwice`, `SbatDoesNotFit`, `NoHeaderSpace`, `AddressSpace` by
-/// SizeOfImage and then by SizeOfInitializedData, `ImageTooLarge`.
-pub fn plan_refusal(
-    stub: &Pe,
-    stub_length: u32,
-    sizes: &[WideSize],
-    sbat_in_place: Option<u32>,
-) -> Option<LayoutFault>
-    requires read { ReadFrom stub.now stub_length }
-    requires few { length sizes.now ≤ part_limit }
-    requires total { sum_by (λ p. p.length) sizes.now ≤ 2 ^ 62 }
-    requires sbat { MayReplace (headers_of stub.now) sbat_in_place }
-    ensures { result ≡ first_refusal (headers_of stub.now) stub_length sizes.now sbat_in_place }
-{
-    let taken = first_taken(stub.sections(), sizes);
-    refusal(stub, stub_length, sizes, sbat_in_place, taken)
-}
-
-/// The same reason, found with a set of names, so that many parts take no time that grows with their square.
+/// that length in the place of the stub's if it is given; None exactly if there is one.
 ///
 /// # Errors
 ///
-/// Only where there is no memory for the set.
-pub(crate) fn find_refusal(
+/// Only if there is no memory for a set of the parts' names.
+pub fn find_refusal(
     alloc: Global,
     stub: &Pe,
     stub_length: u32,
-    sizes: &[WideSize],
+    sizes: &[PartSize],
     sbat_in_place: Option<u32>,
 ) -> Result<Option<LayoutFault>, AllocError>
     requires read { ReadFrom stub.now stub_length }
@@ -68,7 +47,7 @@ pub(crate) fn find_refusal(
 fn refusal(
     stub: &Pe,
     stub_length: u32,
-    parts: &[WideSize],
+    parts: &[PartSize],
     sbat_in_place: Option<u32>,
     taken: Option<LayoutFault>,
 ) -> Option<LayoutFault>
@@ -109,7 +88,7 @@ fn sbat_refusal(stub: &Pe, sbat_in_place: Option<u32>) -> Option<LayoutFault>
 fn size_refusal(
     stub: &Pe,
     stub_length: u32,
-    parts: &[WideSize],
+    parts: &[PartSize],
     sbat_in_place: Option<u32>,
 ) -> Option<LayoutFault>
     requires file_unit { 0 < (headers_of stub.now).head.file_alignment }

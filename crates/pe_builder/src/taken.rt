@@ -3,10 +3,10 @@
 ghost use Rattle.std.specs.Prelude.{◌≡◌, [], IfOk};
 ghost use Rattle.std.specs.List.{list_any};
 ghost use Rattle.pe_reader.specs.Prelude.{is_named};
-ghost use Rattle.pe_builder.specs.Refusals.{part_is_named, is_taken, first_taken};
+ghost use Rattle.pe_builder.specs.Refusals.{first_taken};
 
 use crate::fault::LayoutFault;
-use crate::size::WideSize;
+use crate::size::PartSize;
 use pe_reader::Section;
 use std::alloc::{AllocError, Global};
 use std::collections::BTreeSet;
@@ -18,35 +18,6 @@ fn is_section(sections: &[Section], name: &[u8]) -> bool
     sections.iter().any(|section| section.is_named(name))
 }
 
-// Whether a part has the name.
-fn is_part(parts: &[WideSize], name: &[u8]) -> bool
-    ensures { result ≡ list_any (part_is_named name.now) parts.now }
-{
-    parts.iter().any(|part| part.is_named(name))
-}
-
-// Whether a section or an earlier part has the name of a part.
-fn is_taken(sections: &[Section], earlier: &[WideSize], part: &WideSize) -> bool
-    ensures { result ≡ is_taken sections.now earlier.now part.now }
-{
-    let name = part.name.bytes();
-    is_section(sections, name) || is_part(earlier, name)
-}
-
-/// The first part whose name is taken. It takes no memory, and time that grows with the square of the number of parts.
-pub fn first_taken(sections: &[Section], parts: &[WideSize]) -> Option<LayoutFault>
-    ensures { result ≡ first_taken sections.now [] parts.now }
-{
-    for i in 0..parts.len() {
-        if is_taken(sections, &parts[..i], &parts[i]) {
-            return Some(LayoutFault::SectionTwice {
-                name: parts[i].name,
-            });
-        }
-    }
-    None
-}
-
 /// The first part whose name is taken. A set tells which names earlier parts have, so that many parts take no time that
 /// grows with their square.
 ///
@@ -56,7 +27,7 @@ pub fn first_taken(sections: &[Section], parts: &[WideSize]) -> Option<LayoutFau
 pub fn find_taken(
     alloc: Global,
     sections: &[Section],
-    parts: &[WideSize],
+    parts: &[PartSize],
 ) -> Result<Option<LayoutFault>, AllocError>
     ensures { IfOk result (λ found. found ≡ first_taken sections.now [] parts.now) }
 {

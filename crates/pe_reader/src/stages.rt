@@ -2,7 +2,7 @@
 
 ghost use Rattle.std.specs.Prelude.{◌≡◌, ◌+◌, ◌*◌, ◌≤◌, ◌<◌, [], length, IfOk, IsTrue};
 ghost use Rattle.boot_base.specs.Limits.{file_limit};
-ghost use Rattle.boot_machine.specs.Prelude.{CountsDisk, Looks, TakesAtMost, contents};
+ghost use Rattle.boot_machine.specs.Prelude.{Looks, TakesAtMost, contents};
 ghost use Rattle.pe_reader.specs.Prelude.{part, head_of, pe_place_of, coff_of, optional_of, sections_of, FromBytes, GivesFrom, CountsHead, HeadFrom};
 ghost use Rattle.pe_reader.specs.Grammar.{section_limit};
 
@@ -10,22 +10,9 @@ use crate::fault::HeadFault;
 use crate::head::{Coff, Head, coff_header, optional_header, pe_place};
 use crate::section::Section;
 use crate::table::sections;
-use boot_base::{BootPath, FILE_LIMIT};
-use boot_machine::{DiskFault, Machine, read_part, zeros};
+use boot_base::BootPath;
+use boot_machine::{Machine, read_part, zeros};
 use std::alloc::Global;
-
-/// The file's length in bytes: 0 where no such file is there, and at most the limit.
-pub fn known_size<M: Machine>(machine: &mut M, path: &BootPath) -> Result<u64, DiskFault>
-    ensures value { IfOk result (λ size. IsTrue M.tells
-        → length (contents (M.state machine.old).files path.now) ≤ file_limit
-        → size ≡ length (contents (M.state machine.old).files path.now)) }
-    ensures small { IfOk result (λ size. size ≤ file_limit) }
-    ensures looks { Looks M.tells M.time M.state M.counts (CountsDisk result) machine.old machine.new }
-    ensures taken { IsTrue M.tells → TakesAtMost 0 (M.taken machine.old) (M.taken machine.new) }
-{
-    let size = machine.size(path.file())?;
-    Ok(size.unwrap_or(0).min(FILE_LIMIT))
-}
 
 /// What the headers before the section table say.
 #[tactic(auto, unfolding(crate::specs::Grammar::head_of))]

@@ -7,7 +7,7 @@ use Rattle.pe_reader.specs.declared.section.Section.{Section}
 use Rattle.pe_reader.specs.Prelude.{Headers, pe_of, is_named, loaded_bytes, loaded_in, loaded_of}
 use Rattle.pe_reader.proofs.Finding.{find-position}
 use Rattle.uki_parts.specs.Names.{name_bytes}
-use Rattle.pe_builder.specs.declared.size.WideSize.{WideSize}
+use Rattle.pe_builder.specs.declared.size.PartSize.{PartSize}
 use Rattle.pe_builder.specs.declared.fault.LayoutFault.{LayoutFault}
 use Rattle.pe_builder.specs.declared.fault.LayoutFault.TheVariants.{SignedStub, SectionTwice}
 use Rattle.pe_builder.specs.Replaced.{sbat_name, sbat_index, MayReplace}
@@ -25,7 +25,7 @@ first_none None rest e = refl
 first_none (Some f) rest e = cc
 
 -- where nothing is refused, no name is taken
-none_taken : (h : Headers) (n : ℕ) (parts : List WideSize) (sbat : Option ℕ) → first_refusal h n parts sbat ≡ None → first_taken h.sections [] parts ≡ None
+none_taken : (h : Headers) (n : ℕ) (parts : List PartSize) (sbat : Option ℕ) → first_refusal h n parts sbat ≡ None → first_taken h.sections [] parts ≡ None
 unfolding first_refusal
 none_taken h n parts sbat e = first_none (first_taken h.sections [] parts) _ (not_signed _ _ e)
 
@@ -34,7 +34,7 @@ taken_steps true fault rest e = cc
 taken_steps false fault rest e = (refl, e)
 
 -- no part has the name of a section
-no_part_named : (sections : List Section) (earlier parts : List WideSize) (contents : List (List ℕ)) (name : List ℕ)
+no_part_named : (sections : List Section) (earlier parts : List PartSize) (contents : List (List ℕ)) (name : List ℕ)
     → first_taken sections earlier parts ≡ None → list_any (is_named name) sections ≡ true → find_content name parts contents ≡ None
 unfolding first_taken find_content
 no_part_named sections earlier [] contents name free there = refl
@@ -51,7 +51,7 @@ no_part_named sections earlier (p ∷ parts) (content ∷ contents) name free th
     ]
 
 -- the content of a name is that of the part, if there is one
-content_is : (name : List ℕ) (parts : List WideSize) (contents : List (List ℕ)) → content_named name parts contents ≡ or_kept (find_content name parts contents) []
+content_is : (name : List ℕ) (parts : List PartSize) (contents : List (List ℕ)) → content_named name parts contents ≡ or_kept (find_content name parts contents) []
 unfolding content_named find_content
 content_is name [] contents = refl
 content_is name (p ∷ parts) [] = refl
@@ -90,7 +90,7 @@ stub_loads : (stub name : List ℕ) (h : Headers) (o : Option Section) → pe_of
 stub_loads stub name h o reads at = ap (loaded_in stub name) reads ∙ ap (loaded_of stub) at
 
 -- the stub's section of a name, or else the part
-stub_or_part : (h : Headers) (sizes : List WideSize) (contents : List (List ℕ)) (stub name : List ℕ) → pe_of stub ≡ Ok h → first_taken h.sections [] sizes ≡ None
+stub_or_part : (h : Headers) (sizes : List PartSize) (contents : List (List ℕ)) (stub name : List ℕ) → pe_of stub ≡ Ok h → first_taken h.sections [] sizes ≡ None
     → loaded_or_part stub (find (is_named name) h.sections) (content_named name sizes contents) ≡ or_kept (find_content name sizes contents) (loaded_bytes stub name)
 unfolding loaded_or_part
 stub_or_part h sizes contents stub name reads free = elim (option_ends (find (is_named name) h.sections)) [
@@ -102,7 +102,7 @@ stub_or_part h sizes contents stub name reads free = elim (option_ends (find (is
 ]
 
 -- no part has the name of a `.sbat` that is replaced
-sbat_alone : (h : Headers) (sizes : List WideSize) (contents : List (List ℕ)) (size : ℕ) → MayReplace h (Some size) → first_taken h.sections [] sizes ≡ None
+sbat_alone : (h : Headers) (sizes : List PartSize) (contents : List (List ℕ)) (size : ℕ) → MayReplace h (Some size) → first_taken h.sections [] sizes ≡ None
     → find_content sbat_name sizes contents ≡ None
 sbat_alone h sizes contents size may free = elim (option_ends (find (is_named sbat_name) h.sections)) [
   | inl none ↦ absurd (replaced_there h size may none)
@@ -110,7 +110,7 @@ sbat_alone h sizes contents size may free = elim (option_ends (find (is_named sb
 ]
 
 -- The finished image has loaded of each name what is given.
-pub given_loaded : (h : Headers) (sizes : List WideSize) (contents : List (List ℕ)) (sbat : Option (List ℕ)) (stub : List ℕ)
+pub given_loaded : (h : Headers) (sizes : List PartSize) (contents : List (List ℕ)) (sbat : Option (List ℕ)) (stub : List ℕ)
     → HasFinished h sizes contents sbat stub → (name : List ℕ) → finished_loaded h sizes contents sbat stub name ≡ given_parts sizes contents sbat stub name
 given_loaded h sizes contents None stub has name =
     stub_or_part h sizes contents stub name has.reads (none_taken h (length stub) sizes None has.buildable.not_refused)

@@ -4,7 +4,7 @@ use Rattle.std.specs.List.{flat_map, AllByRecursion}
 use Rattle.pe_reader.specs.Prelude.{Headers, loaded_bytes}
 use Rattle.pcr_values.specs.declared.bank.Bank.{Bank}
 use Rattle.pcr_values.specs.Prelude.{fold_of}
-use Rattle.pe_builder.specs.declared.size.WideSize.{WideSize}
+use Rattle.pe_builder.specs.declared.size.PartSize.{PartSize}
 use Rattle.pe_builder.specs.Image.{finished_image}
 use Rattle.pe_builder.specs.Laws.{HasFinished}
 use Rattle.pe_builder.proofs.FinishedImage.{pe_of-finished_image}
@@ -28,14 +28,14 @@ unfolding measured_by
 predicted_is_replayed image parts bank path shows =
     ap (λ (l : List (List ℕ)). fold_of bank (l ++ path)) (sym (same_items (loaded_bytes image) parts measured_names shows.same))
 
-pub image_shows : (h : Headers) (sizes : List WideSize) (contents : List (List ℕ)) (sbat : Option (List ℕ)) (stub : List ℕ)
+pub image_shows : (h : Headers) (sizes : List PartSize) (contents : List (List ℕ)) (sbat : Option (List ℕ)) (stub : List ℕ)
     → HasFinished h sizes contents sbat stub → Shows (finished_image h sizes contents sbat stub) (given_parts sizes contents sbat stub)
 image_shows h sizes contents sbat stub has = record {
   reads = rw (pe_of-finished_image h sizes contents sbat stub has) refl;
   same = all_names _ (λ name. loaded_bytes-finished_image h sizes contents sbat stub has name ∙ given_loaded h sizes contents sbat stub has name) measured_names;
 }
 
-pub predicted_of_parts : (h : Headers) (sizes : List WideSize) (contents : List (List ℕ)) (sbat : Option (List ℕ)) (stub : List ℕ) (bank : Bank) (path : List (List ℕ))
+pub predicted_of_parts : (h : Headers) (sizes : List PartSize) (contents : List (List ℕ)) (sbat : Option (List ℕ)) (stub : List ℕ) (bank : Bank) (path : List (List ℕ))
     → HasFinished h sizes contents sbat stub
     → predicted_pcr (given_parts sizes contents sbat stub) bank path ≡ stub_pcr (finished_image h sizes contents sbat stub) bank path
 predicted_of_parts h sizes contents sbat stub bank path has =

@@ -1,4 +1,5 @@
-//! The register after a stub has measured an image whose bytes are at hand.
+//! The register after a stub has measured an image whose bytes are in memory: the plain form of `replay_all`, which no
+//! command calls.
 ghost use Rattle.std.specs.Prelude.{◌≡◌, ◌+◌, ◌<◌, ◌^◌, Ok, IfOk};
 ghost use Rattle.pe_reader.specs.Prelude.{pe_of, loaded_bytes, bytes_in, headers_of};
 ghost use Rattle.pcr_values.specs.Prelude.{extend_all, fold_of, pcr_bank, pcr_bytes};

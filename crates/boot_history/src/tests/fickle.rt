@@ -3,7 +3,7 @@ ghost use Rattle.std.specs.Prelude.{◌≤◌, length};
 ghost use Rattle.boot_machine.specs.Prelude.{CountsDisk, CountsPipe};
 
 use boot_base::{BootPath, FileName, FilePath, TempPath, copy_from};
-use boot_machine::{Channel, DiskFault, Machine, NamesFault, PipeFault, Printed};
+use boot_machine::{Channel, DiskFault, Machine, PipeFault, Printed, ReadFault};
 use std::alloc::{AllocError, Global};
 
 /// A file by its path.
@@ -215,7 +215,7 @@ impl Machine for Fickle {
         Ok(self.shelf.read(path.as_str(), at, into))
     }
 
-    fn names(&mut self, alloc: Global, _folder: &BootPath) -> Result<Vec<FileName>, NamesFault> {
+    fn names(&mut self, alloc: Global, _folder: &BootPath) -> Result<Vec<FileName>, ReadFault> {
         self.shelf.begin();
         Ok(Vec::new(alloc))
     }
