@@ -12,7 +12,8 @@ use Rattle.boot_base.specs.declared.refusal.Refusal.TheVariants as refusals
 use Rattle.boot_machine.specs.Disk.{Files, view}
 use Rattle.tool_words.specs.declared.command.One.{One}
 use Rattle.tool_words.specs.declared.command.One.TheVariants as one
-use Rattle.tool_words.specs.declared.command.BlessWord.TheVariants.{Good, Bad}
+use Rattle.menu_order.specs.declared.bless.BlessVerb.TheVariants.{Good, Bad}
+use Rattle.tool_words.specs.declared.command.BlessWord.TheVariants.{Mark}
 use Rattle.pcr_values.specs.declared.bank.Bank.TheVariants as banks
 use Rattle.pcr_values.specs.Banks.{digest_of}
 use Rattle.command_plans.specs.Answers.{Answer, is_refusal}
@@ -66,8 +67,8 @@ abbrev pub drawn_command : ℕ → ℕ → ℕ → List ℕ → One
 drawn_command kind image name entry =
     if nat_lt kind 3 then drawn_install image name
     else if nat_lt kind 5 then one.Boot demo_esp
-    else if kind == 5 then one.Bless Good entry demo_esp
-    else if kind == 6 then one.Bless Bad entry demo_esp
+    else if kind == 5 then one.Bless (Mark Good) entry demo_esp
+    else if kind == 6 then one.Bless (Mark Bad) entry demo_esp
     else one.Unlink (demo_name name ++ codes ".efi") demo_esp
 
 -- the path in `booted /efi/EFI/Linux/NAME` and its newline, without the `/efi` in front

@@ -1,4 +1,4 @@
-//! A plan is carried out.
+//! What the carrying out of a plan keeps of the files, and what it leaves to tidy.
 ghost use Rattle.std.specs.Prelude.{◌≡◌, IsTrue};
 ghost use Rattle.boot_machine.specs.Prelude.{Files, IsFirm, IsRested, seen};
 ghost use Rattle.boot_commands.specs.Commands.{Behaves, LeavesTidied, TidiesTo};

@@ -6,6 +6,7 @@ ghost use Rattle.boot_commands.specs.Demonstration.{after_command, demo_esp, dem
 ghost use Rattle.boot_commands.specs.DemoRuns.{IsReady, demo_state, reply_answer};
 ghost use Rattle.boot_commands.specs.Replies.{one_reply};
 ghost use Rattle.tool_words.specs.declared.command.One.TheVariants.{Bless as BlessCommand, Unlink as UnlinkCommand};
+ghost use Rattle.tool_words.specs.declared.command.BlessWord.TheVariants.{Mark};
 
 use crate::draws::Draws;
 use crate::ones::run_one;
@@ -13,6 +14,7 @@ use boot_base::Text;
 use boot_machine::Printed;
 use command_plans::Outcome;
 use memory_machine::MemMachine;
+use menu_order::BlessVerb;
 use std::alloc::{AllocError, Global};
 use tool_words::{BlessWord, One};
 
@@ -67,11 +69,11 @@ fn install(alloc: Global, image: u64, name: u64) -> Result<One, AllocError>
     })
 }
 
-fn bless(alloc: Global, verb: BlessWord, entry: &Text) -> Result<One, AllocError>
-    ensures { IfOk result (λ command. command ≡ BlessCommand verb entry.now demo_esp) }
+fn bless(alloc: Global, verb: BlessVerb, entry: &Text) -> Result<One, AllocError>
+    ensures { IfOk result (λ command. command ≡ BlessCommand (Mark verb) entry.now demo_esp) }
 {
     Ok(One::Bless {
-        verb,
+        verb: BlessWord::Mark(verb),
         path: Text::of(alloc, entry.as_str())?,
         esp: Text::of(alloc, ESP)?,
     })
@@ -102,8 +104,8 @@ fn drawn_command(
         3 | 4 => Ok(One::Boot {
             esp: Text::of(alloc, ESP)?,
         }),
-        5 => bless(alloc, BlessWord::Good, entry),
-        6 => bless(alloc, BlessWord::Bad, entry),
+        5 => bless(alloc, BlessVerb::Good, entry),
+        6 => bless(alloc, BlessVerb::Bad, entry),
         _ => unlink(alloc, name),
     }
 }

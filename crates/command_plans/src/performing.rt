@@ -1,4 +1,4 @@
-//! A plan is carried out.
+//! Carries a plan out.
 ghost use Rattle.std.specs.Prelude.{[], ◌∷◌, ◌≡◌, ◌≤◌, ℕ, true, length, take, IfOk, IsErrOf, MatchResult, OnOk, IsTrue};
 ghost use Rattle.std.specs.FinMap.{insert};
 ghost use Rattle.boot_base.specs.Limits.{file_limit};

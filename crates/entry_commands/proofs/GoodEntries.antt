@@ -239,10 +239,10 @@ module _ (folders : Folders) (path : Path) (view : Files) (e : HasGoodEntry fold
 
   pub kept_bless : (verb : BlessWord) (word esp : List ℕ) → SparesGoodName path verb word esp
       → HasGoodEntry folders path (bless_answer view verb word esp).after
-  kept_bless words.Good word esp spares =
+  kept_bless (words.Mark verbs.Good) word esp spares =
       kept_meant verbs.Good word esp (λ paths is there gone. absurd (clash there gone))
-  kept_bless words.Bad word esp spares =
+  kept_bless (words.Mark verbs.Bad) word esp spares =
       kept_meant verbs.Bad word esp (λ paths is there gone. spared word esp spares paths is)
-  kept_bless words.Indeterminate word esp spares =
+  kept_bless (words.Mark verbs.Indeterminate) word esp spares =
       kept_meant verbs.Indeterminate word esp (λ paths is there gone. spared word esp spares paths is)
   kept_bless words.Status word esp spares = after_said (HasGoodEntry folders path) view (status_result view word esp) e

@@ -12,7 +12,6 @@ use Rattle.menu_order.specs.Counter.{counted_of, done_text_of, suffix_text, writ
 use Rattle.menu_order.specs.Renames.{bad_name_of, base_of, good_name_of, with_counter}
 use Rattle.menu_order.specs.Splits.{Cut, counter_in, cut_last, has_suffix, split_from, split_of, split_stem, stem_of}
 use Rattle.menu_order.specs.declared.bless.BlessVerb.{BlessVerb}
-use Rattle.menu_order.specs.declared.bless.BlessVerb.TheVariants as verbs
 use Rattle.menu_order.specs.declared.bless.BlessChoice.{BlessChoice}
 use Rattle.menu_order.specs.declared.bless.BlessChoice.TheVariants as choices
 use Rattle.menu_order.specs.declared.counted.Counted.{Counted}
@@ -266,7 +265,5 @@ module _ (P : Files → Type 0) (view : Files) (ok : P view)
       kept_choice verb paths.0 (is_reported word esp paths.0 paths.1) choice refl answer paths.2)
 
   pub blessed : (verb : BlessWord) (word esp : List ℕ) → P (bless_answer view verb word esp).after
-  blessed words.Good word esp = kept_verb verbs.Good word esp
-  blessed words.Bad word esp = kept_verb verbs.Bad word esp
-  blessed words.Indeterminate word esp = kept_verb verbs.Indeterminate word esp
+  blessed (words.Mark verb) word esp = kept_verb verb word esp
   blessed words.Status word esp = after_said P view (status_result view word esp) ok

@@ -123,9 +123,7 @@ some_status paths present = by_counted present.counted
     by_counted false = by_good present.good
 
 pub some_marked : (view : Files) (verb : BlessWord) (word esp : List ℕ) → 0 < length (bless_answer view verb word esp).text
-some_marked view words.Good word esp = some_blessing view verbs.Good word esp
-some_marked view words.Bad word esp = some_blessing view verbs.Bad word esp
-some_marked view words.Indeterminate word esp = some_blessing view verbs.Indeterminate word esp
+some_marked view (words.Mark verb) word esp = some_blessing view verb word esp
 some_marked view words.Status word esp =
     some_said view (status_result view word esp) (text_next (reported_paths word esp) _ (λ paths. some_status paths (present_at view paths)))
 

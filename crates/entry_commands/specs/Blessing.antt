@@ -105,7 +105,5 @@ status_result view word esp = reported_paths word esp >>= λ paths. status_by pa
 
 -- what `bless` answers for each of its verbs
 abbrev pub bless_answer : Files → BlessWord → List ℕ → List ℕ → Answer
-bless_answer view words.Good word esp = answer_or_refusal view (bless_result view verbs.Good word esp)
-bless_answer view words.Bad word esp = answer_or_refusal view (bless_result view verbs.Bad word esp)
-bless_answer view words.Indeterminate word esp = answer_or_refusal view (bless_result view verbs.Indeterminate word esp)
+bless_answer view (words.Mark verb) word esp = answer_or_refusal view (bless_result view verb word esp)
 bless_answer view words.Status word esp = answer_of_read view (status_result view word esp)

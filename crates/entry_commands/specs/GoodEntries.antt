@@ -5,6 +5,7 @@ use Rattle.menu_order.specs.Counter.{IsUncounted}
 use Rattle.boot_folder.specs.Entries.{IsEntry}
 use Rattle.boot_folder.specs.declared.folders.Folders.{Folders}
 use Rattle.boot_machine.specs.Disk.{Files}
+use Rattle.menu_order.specs.declared.bless.BlessVerb.TheVariants as verbs
 use Rattle.menu_order.specs.declared.item.MenuItem.{MenuItem}
 use Rattle.tool_words.specs.declared.command.BlessWord.{BlessWord}
 use Rattle.tool_words.specs.declared.command.BlessWord.TheVariants as words
@@ -20,7 +21,7 @@ pub record HasGoodEntry (folders : Folders) (path : Path) (view : Files) : Type 
 -- A blessing doesn't take the name at this path away: only one as bad or as indeterminate takes the good name of the
 -- entry that its words report.
 abbrev pub SparesGoodName : Path → BlessWord → List ℕ → List ℕ → Type 0
-SparesGoodName path words.Good word esp = Unit {0}
-SparesGoodName path words.Bad word esp = IfOk (reported_paths word esp) (λ paths. paths.good ≢ path)
-SparesGoodName path words.Indeterminate word esp = IfOk (reported_paths word esp) (λ paths. paths.good ≢ path)
+SparesGoodName path (words.Mark verbs.Good) word esp = Unit {0}
+SparesGoodName path (words.Mark verbs.Bad) word esp = IfOk (reported_paths word esp) (λ paths. paths.good ≢ path)
+SparesGoodName path (words.Mark verbs.Indeterminate) word esp = IfOk (reported_paths word esp) (λ paths. paths.good ≢ path)
 SparesGoodName path words.Status word esp = Unit {0}

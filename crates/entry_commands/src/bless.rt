@@ -254,20 +254,7 @@ pub fn plan_bless<M: Machine>(
     ensures words { RefusesWords (reported_paths word.now esp.now) result }
 {
     match verb {
-        BlessWord::Good => answer_or_refusal(
-            alloc,
-            bless(alloc, BlessVerb::Good, word, esp, machine),
-        ),
-        BlessWord::Bad => answer_or_refusal(
-            alloc,
-            bless(alloc, BlessVerb::Bad, word, esp, machine),
-        ),
-        BlessWord::Indeterminate => {
-            answer_or_refusal(
-                alloc,
-                bless(alloc, BlessVerb::Indeterminate, word, esp, machine),
-            )
-        }
+        BlessWord::Mark(mark) => answer_or_refusal(alloc, bless(alloc, mark, word, esp, machine)),
         BlessWord::Status => text_or_refusal(alloc, status(alloc, word, esp, machine)),
     }
 }

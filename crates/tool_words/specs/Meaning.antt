@@ -17,6 +17,7 @@ use Rattle.tool_words.specs.declared.command.EntryTexts.{EntryTexts}
 use Rattle.tool_words.specs.declared.command.KeepWords.{KeepWords}
 use Rattle.tool_words.specs.declared.command.Given.{Given}
 use Rattle.tool_words.specs.declared.command.Given.TheVariants.{Inline, File}
+use Rattle.menu_order.specs.declared.bless.BlessVerb.TheVariants as mark
 use Rattle.tool_words.specs.declared.command.BlessWord.TheVariants as bless
 use Rattle.tool_words.specs.declared.fault.UsageReason.{UsageReason}
 use Rattle.tool_words.specs.declared.fault.UsageReason.TheVariants as reason
@@ -211,9 +212,9 @@ command_from name.Identify g = command.One (one.Identify (g.operand 0))
 command_from name.Tidy g = command.One (one.Tidy (esp g.last))
 command_from name.Install g = command.One (one.Install (g.operand 0) (g.operand 1) (g.last (codes "--tries")) (esp g.last))
 command_from name.Boot g = command.One (one.Boot (esp g.last))
-command_from name.BlessGood g = command.One (one.Bless bless.Good (g.operand 0) (esp g.last))
-command_from name.BlessBad g = command.One (one.Bless bless.Bad (g.operand 0) (esp g.last))
-command_from name.BlessIndeterminate g = command.One (one.Bless bless.Indeterminate (g.operand 0) (esp g.last))
+command_from name.BlessGood g = command.One (one.Bless (bless.Mark mark.Good) (g.operand 0) (esp g.last))
+command_from name.BlessBad g = command.One (one.Bless (bless.Mark mark.Bad) (g.operand 0) (esp g.last))
+command_from name.BlessIndeterminate g = command.One (one.Bless (bless.Mark mark.Indeterminate) (g.operand 0) (esp g.last))
 command_from name.BlessStatus g = command.One (one.Bless bless.Status (g.operand 0) (esp g.last))
 command_from name.LoaderShow g = command.One (one.LoaderShow (esp g.last))
 command_from name.LoaderDefault g = command.One (one.LoaderDefault (g.operand 0) (esp g.last))

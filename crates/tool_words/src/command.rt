@@ -1,6 +1,7 @@
 //! What the words of a run come to.
 
 use boot_base::{Text, TextList};
+use menu_order::BlessVerb;
 
 /// A command of the program with all that its words say. Texts are as given.
 #[derive(Debug, Drop)]
@@ -208,12 +209,8 @@ pub enum Given {
 /// What `bless` is asked for.
 #[derive(Clone, Copy, Debug, PartialEq, Eq)]
 pub enum BlessWord {
-    /// The entry boots.
-    Good,
-    /// The entry does not boot.
-    Bad,
-    /// Nothing is known of the entry any more.
-    Indeterminate,
-    /// Only say which of these it is.
+    /// Mark the entry so.
+    Mark(BlessVerb),
+    /// Only say how it is marked.
     Status,
 }

@@ -13,6 +13,7 @@ use crate::command::{
 use crate::items::Item;
 use crate::values::{all_values, last_value, operand_at};
 use boot_base::Text;
+use menu_order::BlessVerb;
 use std::alloc::{AllocError, Global};
 use word_grammar::CommandName;
 
@@ -329,9 +330,11 @@ pub(crate) fn fill(
         CommandName::Boot => Ok(Command::One(One::Boot {
             esp: esp(alloc, items)?,
         })),
-        CommandName::BlessGood => bless(alloc, BlessWord::Good, items),
-        CommandName::BlessBad => bless(alloc, BlessWord::Bad, items),
-        CommandName::BlessIndeterminate => bless(alloc, BlessWord::Indeterminate, items),
+        CommandName::BlessGood => bless(alloc, BlessWord::Mark(BlessVerb::Good), items),
+        CommandName::BlessBad => bless(alloc, BlessWord::Mark(BlessVerb::Bad), items),
+        CommandName::BlessIndeterminate => {
+            bless(alloc, BlessWord::Mark(BlessVerb::Indeterminate), items)
+        }
         CommandName::BlessStatus => bless(alloc, BlessWord::Status, items),
         CommandName::LoaderShow => Ok(Command::One(One::LoaderShow {
             esp: esp(alloc, items)?,
