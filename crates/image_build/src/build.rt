@@ -14,7 +14,7 @@ ghost use Rattle.image_build.specs.Reads.{BuiltHasSizes, material_as, reading_le
 ghost use Rattle.pe_reader.specs.Prelude.{pe_of, headers_of};
 ghost use Rattle.uki_parts.specs.Names.{name_bytes};
 
-use crate::build_plan::plan_image_of;
+use crate::build_plan::{StubFile, plan_image_of};
 use crate::build_reads::{BuildParts, read_build};
 use crate::build_values::planned_values;
 use crate::build_words::build_sources;
@@ -78,7 +78,11 @@ fn plan_parts(alloc: Global, built: BuildParts) -> Result<PlannedBuild, Unsaid>
         sbat,
         output,
     } = built;
-    match plan_image_of(alloc, &head, stub_length as u32, stub, parts, linux, sbat) {
+    let stub = StubFile {
+        path: stub,
+        length: stub_length as u32,
+    };
+    match plan_image_of(alloc, &head, stub, parts, linux, sbat) {
         Ok(image) => Ok(PlannedBuild {
             image,
             head,

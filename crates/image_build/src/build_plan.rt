@@ -33,6 +33,15 @@ pub struct ImagePlan {
     pub sources: Sources,
 }
 
+/// The file of a stub.
+#[derive(Debug, Drop)]
+pub struct StubFile {
+    /// Its path.
+    pub path: BootPath,
+    /// How many bytes it has.
+    pub length: u32,
+}
+
 fn sizes_of(alloc: Global, parts: &[Part]) -> Result<Vec<PartSize>, AllocError>
     ensures exact { IfOk result (λ sizes. sizes.items ≡ map size_of parts.now) }
     ensures fit { IfOk result (λ sizes. AllByRecursion FitsPart sizes.items) }
@@ -48,23 +57,22 @@ fn sizes_of(alloc: Global, parts: &[Part]) -> Result<Vec<PartSize>, AllocError>
 fn image_plan(
     alloc: Global,
     head: &Pe,
-    stub_length: u32,
-    stub: BootPath,
+    stub: StubFile,
     parts: PartList,
     in_place: Option<u32>,
     sbat: Vec<u8>,
 ) -> Result<ImagePlan, LayoutFault>
-    requires read { ReadFrom head.now stub_length }
+    requires read { ReadFrom head.now stub.length }
     requires few { length parts ≤ part_limit }
     requires total { sum_by (λ part. part.length) parts ≤ 2 ^ 62 }
     requires sbat { MayReplace (headers_of head.now) in_place }
-    ensures { PlansParts (headers_of head.now) stub_length stub parts in_place sbat.items result }
+    ensures { PlansParts (headers_of head.now) stub.length stub.path parts in_place sbat.items result }
 {
     let sizes = sizes_of(alloc, parts.parts())?;
-    let plan = ImageLayout::make(alloc, head, stub_length, &sizes, in_place)?;
+    let plan = ImageLayout::make(alloc, head, stub.length, &sizes, in_place)?;
     Ok(ImagePlan {
         plan,
-        sources: Sources::new(stub, parts, sbat),
+        sources: Sources::new(stub.path, parts, sbat),
     })
 }
 
@@ -133,60 +141,58 @@ fn is_countable(parts: &[Part], sbat: &[u8]) -> bool
 fn counted_plan(
     alloc: Global,
     head: &Pe,
-    stub_length: u32,
-    stub: BootPath,
+    stub: StubFile,
     parts: Vec<Part>,
     linux: Part,
     sbat: Vec<u8>,
 ) -> Result<ImagePlan, LayoutFault>
-    requires read { ReadFrom head.now stub_length }
+    requires read { ReadFrom head.now stub.length }
     requires parts { AreOrdered parts.items linux }
     requires counted { IsCountable parts.items sbat.items }
-    ensures images { (view : Files) → AreFound view (headers_of head.now) stub_length stub parts.items linux
-        → Images view (image_result view (headers_of head.now) stub parts.items linux sbat.items) result }
-    ensures own { IfOk result (λ image. IsOwnPlan image (headers_of head.now) stub_length stub) }
+    ensures images { (view : Files) → AreFound view (headers_of head.now) stub.length stub.path parts.items linux
+        → Images view (image_result view (headers_of head.now) stub.path parts.items linux sbat.items) result }
+    ensures own { IfOk result (λ image. IsOwnPlan image (headers_of head.now) stub.length stub.path) }
 {
     let mut list = list_of_parts(alloc, parts)?;
     if sbat.is_empty() {
         list.add(linux)?;
-        return image_plan(alloc, head, stub_length, stub, list, None, sbat);
+        return image_plan(alloc, head, stub, list, None, sbat);
     }
     if has_sbat(head) {
         list.add(linux)?;
         let length = sbat.len() as u32;
-        return image_plan(alloc, head, stub_length, stub, list, Some(length), sbat);
+        return image_plan(alloc, head, stub, list, Some(length), sbat);
     }
     list.add(sbat_part(alloc, sbat)?)?;
     list.add(linux)?;
-    image_plan(alloc, head, stub_length, stub, list, None, Vec::new(alloc))
+    image_plan(alloc, head, stub, list, None, Vec::new(alloc))
 }
 
-/// The plan of an image of the stub at a path, which has these headers and this length, of parts in append order, a
-/// kernel and an SBAT text. Parts without bytes are left out. An SBAT text that isn't empty takes the place of the
-/// stub's, or becomes a part before the kernel where the stub has none.
+/// The plan of an image of a stub, which has these headers, of parts in append order, a kernel and an SBAT text. Parts
+/// without bytes are left out. An SBAT text that isn't empty takes the place of the stub's, or becomes a part before the
+/// kernel if the stub has none.
 ///
 /// # Errors
 ///
-/// The first refusal of the builder, as `plan_refusal` has it, exactly where there is one; `Memory` where there is no
-/// memory for the plan, or where there are more parts with bytes than 16,777,214, more bytes than 2^61, or an SBAT text
-/// of 4 GiB, which no command's words and files reach (`builds_are_countable`).
+/// The first refusal of the builder, exactly if there is one; `Memory` if there is no memory for the plan, or if there
+/// are more parts with bytes than 16,777,214, more bytes than 2^61, or an SBAT text of 4 GiB, which no command's words
+/// and files reach (`builds_are_countable`).
 pub fn plan_image_of(
     alloc: Global,
     head: &Pe,
-    stub_length: u32,
-    stub: BootPath,
+    stub: StubFile,
     parts: Vec<Part>,
     linux: Part,
     sbat: Vec<u8>,
 ) -> Result<ImagePlan, LayoutFault>
-    requires read { ReadFrom head.now stub_length }
+    requires read { ReadFrom head.now stub.length }
     requires parts { AreOrdered parts.items linux }
-    ensures images { (view : Files) → AreFound view (headers_of head.now) stub_length stub parts.items linux
-        → Images view (image_result view (headers_of head.now) stub parts.items linux sbat.items) result }
-    ensures own { IfOk result (λ image. IsOwnPlan image (headers_of head.now) stub_length stub) }
+    ensures images { (view : Files) → AreFound view (headers_of head.now) stub.length stub.path parts.items linux
+        → Images view (image_result view (headers_of head.now) stub.path parts.items linux sbat.items) result }
+    ensures own { IfOk result (λ image. IsOwnPlan image (headers_of head.now) stub.length stub.path) }
 {
     if !is_countable(&parts, &sbat) {
         return Err(LayoutFault::Memory);
     }
-    counted_plan(alloc, head, stub_length, stub, parts, linux, sbat)
+    counted_plan(alloc, head, stub, parts, linux, sbat)
 }

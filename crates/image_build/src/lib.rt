@@ -15,7 +15,7 @@ mod planned;
 mod source;
 
 pub use build::plan_build;
-pub use build_plan::{ImagePlan, plan_image_of};
+pub use build_plan::{ImagePlan, StubFile, plan_image_of};
 pub use build_reads::{BuildParts, read_build};
 pub use build_words::build_sources;
 pub use laws::{builds_are_countable, built_values_are_the_stubs};

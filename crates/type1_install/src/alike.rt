@@ -6,6 +6,12 @@ ghost use Rattle.boot_machine.specs.Prelude.{CountsDisk, Looks, TakesAtMost, con
 use boot_base::{BootPath, Buffer, PIECE_SIZE};
 use boot_machine::{DiskFault, Machine, read_piece};
 
+// A piece of each of two files.
+struct Pieces {
+    first: Buffer,
+    second: Buffer,
+}
+
 // How many of the `left` bytes from `at` on are read of both files, if these are the same in both, and else 0.
 fn same_piece<M: Machine>(
     first: &BootPath,
@@ -13,8 +19,7 @@ fn same_piece<M: Machine>(
     at: u64,
     left: u64,
     machine: &mut M,
-    one: &mut Buffer,
-    other: &mut Buffer,
+    pieces: &mut Pieces,
 ) -> Result<u64, DiskFault>
     requires left { 0 < left }
     requires end { at + left < 2 ^ 64 }
@@ -29,9 +34,9 @@ fn same_piece<M: Machine>(
     ensures taken_same { IfOk result (λ count. IsTrue M.tells → 0 < count
         → TakesAtMost (2 * count) (M.taken machine.old) (M.taken machine.new)) }
 {
-    let count = read_piece(machine, first.file(), at, left, one)?;
-    let again = read_piece(machine, second.file(), at, left, other)?;
-    if one[..count] == other[..again] {
+    let count = read_piece(machine, first.file(), at, left, &mut pieces.first)?;
+    let again = read_piece(machine, second.file(), at, left, &mut pieces.second)?;
+    if pieces.first[..count] == pieces.second[..again] {
         Ok(count as u64)
     } else {
         Ok(0)
@@ -55,12 +60,14 @@ pub(crate) fn are_alike<M: Machine>(
     ensures looks { Looks M.tells M.time M.state M.counts (CountsDisk result) machine.old machine.new }
     ensures taken { IsTrue M.tells → TakesAtMost (2 * size) (M.taken machine.old) (M.taken machine.new) }
 {
-    let mut one: Buffer = [0; PIECE_SIZE];
-    let mut other: Buffer = [0; PIECE_SIZE];
+    let mut pieces = Pieces {
+        first: [0; PIECE_SIZE],
+        second: [0; PIECE_SIZE],
+    };
     let mut done = 0u64;
     while done < size {
         let left = size - done;
-        let count = same_piece(first, second, done, left, machine, &mut one, &mut other)?;
+        let count = same_piece(first, second, done, left, machine, &mut pieces)?;
         if count == 0 {
             return Ok(false);
         }

@@ -17,8 +17,8 @@ image_plan-requires-clause-total c =
 
 pub returns-then-is_empty-clause-images : goal.returns-then-is_empty-clause-images
 returns-then-is_empty-clause-images c view found =
-    let read = found_read view (headers_of c.args.head.now) c.args.stub_length c.args.stub c.args.parts.items c.args.linux c.args.sbat.items c.requires.counted found in
-    images_without view (headers_of c.args.head.now) c.args.stub_length c.args.stub c.args.parts.items c.add.new.self c.args.linux c.args.sbat.items c.image_plan.result c.requires.parts
+    let read = found_read view (headers_of c.args.head.now) c.args.stub.length c.args.stub.path c.args.parts.items c.args.linux c.args.sbat.items c.requires.counted found in
+    images_without view (headers_of c.args.head.now) c.args.stub.length c.args.stub.path c.args.parts.items c.add.new.self c.args.linux c.args.sbat.items c.image_plan.result c.requires.parts
     (linux_added c.args.parts.items c.in_ok-list.list c.add.new.self c.args.linux c.requires.parts c.in_ok-list.ensures c.in_ok-add.ensures.ok)
     (omega (arith, c.args.sbat.ok.0, is_none c.is_empty.result c.args.sbat.len c.is_empty.ensures c.if-is_empty.true)) c.image_plan.ensures read
 
@@ -34,8 +34,8 @@ image_plan-requires-then-has_sbat-clause-total c =
 
 pub returns-then-has_sbat-clause-images : goal.returns-then-has_sbat-clause-images
 returns-then-has_sbat-clause-images c view found =
-    let read = found_read view (headers_of c.args.head.now) c.args.stub_length c.args.stub c.args.parts.items c.args.linux c.args.sbat.items c.requires.counted found in
-    images_in_place view (headers_of c.args.head.now) c.args.stub_length c.args.stub c.args.parts.items c.add-then-has_sbat.new.self c.args.linux
+    let read = found_read view (headers_of c.args.head.now) c.args.stub.length c.args.stub.path c.args.parts.items c.args.linux c.args.sbat.items c.requires.counted found in
+    images_in_place view (headers_of c.args.head.now) c.args.stub.length c.args.stub.path c.args.parts.items c.add-then-has_sbat.new.self c.args.linux
     c.args.sbat.items c.len-length.result c.image_plan-then-has_sbat.result c.requires.parts
     (linux_added c.args.parts.items c.in_ok-list.list c.add-then-has_sbat.new.self c.args.linux c.requires.parts c.in_ok-list.ensures c.in_ok-add-2.ensures.ok)
     (omega (arith, c.args.sbat.ok.0, is_some c.is_empty.result c.args.sbat.len c.is_empty.ensures c.if-is_empty.false))
@@ -55,8 +55,8 @@ image_plan-requires-2-clause-total c =
 
 pub returns-clause-images : goal.returns-clause-images
 returns-clause-images c view found =
-    let read = found_read view (headers_of c.args.head.now) c.args.stub_length c.args.stub c.args.parts.items c.args.linux c.args.sbat.items c.requires.counted found in
-    images_as_part view (headers_of c.args.head.now) c.args.stub_length c.args.stub c.args.parts.items c.add-3.new.self c.args.linux
+    let read = found_read view (headers_of c.args.head.now) c.args.stub.length c.args.stub.path c.args.parts.items c.args.linux c.args.sbat.items c.requires.counted found in
+    images_as_part view (headers_of c.args.head.now) c.args.stub.length c.args.stub.path c.args.parts.items c.add-3.new.self c.args.linux
     c.in_ok-sbat_part.field-0 c.args.sbat.items c.new.result.items c.image_plan-2.result
     c.requires.parts c.in_ok-sbat_part.ensures
     (text_added c.args.parts.items c.in_ok-list.list c.add-2.new.self c.add-3.new.self c.args.linux c.in_ok-sbat_part.field-0 c.args.sbat.items
