@@ -1,15 +1,15 @@
 -- The names of entry files, and what is found of each file.
-use Rattle.std.proofs.Common.{◌≡◌, ◌≤◌, ℕ, true, List, [], filter, length, Option, Some, None, refl, sym, ap, ◌∙◌, inl, inr, bytes_eq, is_some, nat_le, option_and_then, unwrap_or}
+use Rattle.std.proofs.Common.{◌≡◌, ℕ, true, List, [], filter, length, Option, Some, None, refl, sym, ap, ◌∙◌, inl, inr, bytes_eq, nat_le, option_and_then, unwrap_or}
 use Rattle.std.specs.FinMap as map
-use Rattle.std.proofs.lemmas.Bool.{cases_Bool, cond-true, cond-false, leb-true}
+use Rattle.std.proofs.lemmas.Bool.{cases_Bool, cond-true, cond-false}
 use Rattle.boot_base.specs.Paths.{Path}
 use Rattle.menu_order.specs.Splits.{has_suffix}
 use Rattle.menu_order.specs.declared.counted.Suffix.{Suffix}
-use Rattle.menu_order.specs.declared.counted.Suffix.TheVariants.{Conf, Efi}
-use Rattle.boot_machine.specs.Prelude.{Files, has, IsNamesOf, contents}
+use Rattle.menu_order.specs.declared.counted.Suffix.TheVariants.{Conf}
+use Rattle.boot_machine.specs.Prelude.{Files, IsNamesOf, contents}
 use Rattle.menu_order.specs.declared.item.MenuItem.{MenuItem}
 use Rattle.boot_folder.specs.Entries.{entry_at, entry_of}
-use Rattle.boot_folder.specs.Records.{value_if_ok, type1_entry, uki_of}
+use Rattle.boot_folder.specs.Records.{type1_entry}
 use Rattle.boot_folder.specs.Scanning.{AreEntryNames, size_within}
 use Rattle.boot_folder.proofs.Members.{distinct_passing, passing, passing_from}
 
@@ -54,42 +54,9 @@ sized_from limit files path size (Some bytes) is within = elim (cases_Bool (nat_
 pub sized : (limit : ℕ) (files : Files) (path : Path) (size : ℕ) → Some size ≡ size_within limit (map.get files path) → IsSized limit files path size
 sized limit files path size within = sized_from limit files path size (map.get files path) refl (sym within)
 
-pub there_of : (limit : ℕ) (files : Files) (path : Path) (size : ℕ) → IsSized limit files path size → has files path ≡ true
-there_of limit files path size is = ap is_some is.there
-
-pub short_of : (limit : ℕ) (files : Files) (path : Path) (size : ℕ) → IsSized limit files path size → length (contents files path) ≤ limit
-short_of limit files path size is = leb-true (length (contents files path)) limit is.fits
-
 -- ---- what it is read as
-
-no_text : (path : Path) (file : Option (List ℕ)) → size_within 65536 file ≡ None → option_and_then (entry_of Conf path) file ≡ None
-no_text path None none = refl
-no_text path (Some bytes) none = elim (cases_Bool (nat_le (length bytes) 65536)) [
-  | inl fits ↦ absurd (none_some (length bytes) (sym (cond-true (nat_le (length bytes) 65536) (Some (length bytes)) None fits) ∙ none))
-  | inr long ↦ rw long refl
-]
-
-pub text_none : (files : Files) (path : Path) → None ≡ size_within 65536 (map.get files path) → None ≡ entry_at Conf files path
-text_none files path none = sym (no_text path (map.get files path) (sym none))
-
-no_image : (path : Path) (file : Option (List ℕ)) → size_within 268435456 file ≡ None → option_and_then (entry_of Efi path) file ≡ None
-no_image path None none = refl
-no_image path (Some bytes) none = elim (cases_Bool (nat_le (length bytes) 268435456)) [
-  | inl fits ↦ absurd (none_some (length bytes) (sym (cond-true (nat_le (length bytes) 268435456) (Some (length bytes)) None fits) ∙ none))
-  | inr long ↦ rw long refl
-]
-
-pub image_none : (files : Files) (path : Path) → size_within 268435456 (map.get files path) ≡ None → None ≡ entry_at Efi files path
-image_none files path none = sym (no_image path (map.get files path) none)
 
 pub text_found : (files : Files) (path : Path) (size : ℕ) (read : List ℕ) (item : Option MenuItem) → IsSized 65536 files path size → (size ≡ length (contents files path) → read ≡ contents files path)
     → item ≡ type1_entry path read → item ≡ entry_at Conf files path
 text_found files path size read item is given reads =
     reads ∙ ap (type1_entry path) (given is.size_is) ∙ sym (ap (option_and_then (entry_of Conf path)) is.there)
-
-pub image_found : (files : Files) (path : Path) (size : ℕ) (item : Option MenuItem) → IsSized 268435456 files path size
-    → item ≡ value_if_ok (uki_of path (contents files path)) → item ≡ entry_at Efi files path
-image_found files path size item is reads =
-    reads
-    ∙ sym (cond-true (nat_le (length (contents files path)) 268435456) (value_if_ok (uki_of path (contents files path))) None is.fits)
-    ∙ sym (ap (option_and_then (entry_of Efi path)) is.there)

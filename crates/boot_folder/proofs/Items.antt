@@ -2,13 +2,12 @@
 use Rattle.std.proofs.Common.{◌≡◌, List, ℕ, Result, Ok, Err, refl, sym, subst, IsErrAnd}
 use Rattle.boot_folder.specs.Items.{GivesItem}
 use Rattle.boot_base.specs.Paths.{Path}
-use Rattle.boot_machine.specs.Prelude.{Counts}
 use Rattle.menu_order.specs.declared.item.MenuItem.{MenuItem}
-use Rattle.pe_reader.specs.Prelude.{Headers, FailsFrom, head_counts}
+use Rattle.pe_reader.specs.Prelude.{Headers, FailsFrom}
 use Rattle.pe_reader.specs.declared.fault.FailedCheck.{FailedCheck}
 use Rattle.pe_reader.specs.declared.fault.HeadFault.{HeadFault}
 use Rattle.pe_reader.specs.declared.fault.HeadFault.TheVariants as heads
-use Rattle.boot_folder.specs.Items.{FailsAs, IsUnread, item_counts, item_fault}
+use Rattle.boot_folder.specs.Items.{FailsAs, IsUnread, item_fault}
 use Rattle.boot_folder.specs.Records.{Unfit, uki_from}
 use Rattle.boot_folder.specs.declared.fault.ItemFault.{ItemFault}
 use Rattle.boot_folder.specs.declared.fault.ItemFault.TheVariants as faults
@@ -18,11 +17,6 @@ unfolding uki_from
 headless path file read heads.Memory e = tt
 headless path file read heads.Disk e = tt
 headless path file read (heads.NotPe reason offset) e = rw e refl
-
-pub counts_headless : (fault : HeadFault) (old new : Counts) → head_counts fault old new → item_counts (item_fault fault) old new
-counts_headless heads.Memory old new h = h
-counts_headless heads.Disk old new h = h
-counts_headless (heads.NotPe reason offset) old new h = h
 
 pub unread : (fault : ItemFault) (entry : Result MenuItem Unfit) → IsUnread fault → FailsAs fault entry
 unread faults.Memory entry h = tt

@@ -1,5 +1,5 @@
 -- What a scan finds and reads, file by file.
-use Rattle.std.proofs.Common.{◌≡◌, ◌≤◌, ◌<◌, ◌+◌, ◌*◌, ℕ, List, [], ◌∷◌, ◌++◌, length, take, Option, Some, None, refl, sym, ap, ◌∙◌, arith, get_or, append_assoc, mul-le-mul, le_refl, option_to_list}
+use Rattle.std.proofs.Common.{◌≡◌, ◌≤◌, ◌<◌, ◌+◌, ◌*◌, ℕ, List, [], ◌∷◌, ◌++◌, length, take, Option, Some, None, refl, sym, ap, ◌∙◌, arith, get_or, append_assoc, option_to_list}
 use Rattle.std.specs.List.{cons_option, filter_map}
 use Rattle.std.proofs.lemmas.List.{take_more}
 use Rattle.std.proofs.lemmas.List.Elements.{filter_map-append}
@@ -30,9 +30,3 @@ pub taken_more : (limit i start before after : ℕ) → before ≤ start + limit
 taken_more limit i start before after first second =
     let more : limit * (i + 1) ≡ limit * i + limit = omega arith in
     omega (arith, more)
-
--- they are no more than those of all files
-pub taken_within : (limit i count start after : ℕ) → i ≤ count → after ≤ start + limit * i → after ≤ start + limit * count
-taken_within limit i count start after below taken =
-    let whole : limit * i ≤ limit * count = mul-le-mul (le_refl limit) below in
-    omega (arith, whole)

@@ -54,9 +54,6 @@ causes_push [] status old mid new same cause =
 causes_push (first ∷ statuses) status old mid new causes cause =
     (causes.0, causes.1, causes_push statuses status causes.0 mid new causes.2 cause)
 
-pub no_run : (old : State) → HasHistory [] [] old old []
-no_run old = record { runs = []; history = tt; left = refl; fed = refl; told = tt; spoken = refl; said = refl }
-
 -- what the clauses of a run say of it
 pub record IsRunBy (words : List Word) (status : ℕ) (old new : State) : Type 0 where
   pub one : status ≡ status_of (ended_of status)

@@ -2,7 +2,7 @@
 use Rattle.std.proofs.Common.{◌≡◌, inl, inr, ◌<◌, ◌≤◌, ◌+◌, ◌-◌, ℕ, List, [], ◌++◌, length, take, drop, sym, ap, ◌∙◌, arith, append_assoc, length-drop, replicate}
 use Rattle.std.proofs.Math.Seq.{take-add}
 use Rattle.std.proofs.lemmas.Bool.{cases_lt}
-use Rattle.std.proofs.lemmas.List.{take_all, drop_all, drop-drop, replicate-append-replicate}
+use Rattle.std.proofs.lemmas.List.{take_all, drop_all, replicate-append-replicate}
 use Rattle.boot_machine.specs.Prelude.{bytes_between, fill_with_zeros}
 use Rattle.boot_machine.proofs.Filling.{fill_with_zeros-inside}
 
@@ -29,28 +29,6 @@ past_add xs a b lt =
 -- bytes in two pieces
 pub fill_with_zeros-add : (xs : List ℕ) (a b : ℕ) → fill_with_zeros xs (a + b) ≡ fill_with_zeros xs a ++ fill_with_zeros (drop a xs) b
 fill_with_zeros-add xs a b = elim (cases_lt (length xs) a) [ inl lt ↦ past_add xs a b lt | inr le ↦ inside_add xs a b le ]
-
-pub between_none : (file : List ℕ) (at : ℕ) → bytes_between file at at ≡ []
-between_none file at =
-    let none : at - at ≡ 0 = omega arith in
-    ap (fill_with_zeros (drop at file)) none ∙ fill_with_zeros-inside (drop at file) 0 (omega arith)
-
-pub between_more : (file seen : List ℕ) (from at count : ℕ) → from ≤ at → seen ≡ file
-    → bytes_between file from at ++ fill_with_zeros (drop at seen) count ≡ bytes_between file from (at + count)
-between_more file seen from at count le same =
-    let all : at - from + count ≡ at + count - from = omega arith in
-    let back : at - from + from ≡ at = omega arith in
-    let rest : drop (at - from) (drop from file) ≡ drop at file = drop-drop (at - from) from file ∙ ap (λ (n : ℕ). drop n file) (omega arith) in
-    ap (λ (l : List ℕ). bytes_between file from at ++ fill_with_zeros (drop at l) count) same
-    ∙ ap (λ (l : List ℕ). bytes_between file from at ++ fill_with_zeros l count) (sym rest)
-    ∙ sym (fill_with_zeros-add (drop from file) (at - from) count)
-    ∙ ap (fill_with_zeros (drop from file)) all
-
--- up to the end, or no bytes at all
-pub between_all : (file : List ℕ) (from to at : ℕ) → from ≤ at → at - from ≤ to - from → to ≤ at → bytes_between file from at ≡ bytes_between file from to
-between_all file from to at a b c =
-    let same : at - from ≡ to - from = omega arith in
-    ap (fill_with_zeros (drop from file)) same
 
 -- all of a file
 pub between_whole : (file : List ℕ) (size : ℕ) → size ≡ length file → bytes_between file 0 size ≡ file

@@ -9,7 +9,7 @@ use Rattle.boot_base.specs.Paths.{Path, is_temp, is_normal, is_nameable, intent,
 use Rattle.boot_base.proofs.Normal.{normal-temp}
 use Rattle.boot_machine.specs.Prelude.{Files, Paths, has, view, is_recovered, is_left, intent_names, of_intent, recovered_view, is_same_path, HasNoHalfRename, IsImageOf, append_to, contents, move_in}
 use Rattle.boot_machine.specs.proofs.Maps.{cases_same, get-none, same_self, same_files, get-insert, get-insert_here, get-insert_apart, get-remove, get-remove_here, get-remove_apart, get-retain}
-use Rattle.boot_machine.proofs.Views.{get-view, shown_if_not_temp, temp_apart, get-append_to, get-view_shown, view-insert, view-remove, view-move_in}
+use Rattle.boot_machine.proofs.Views.{get-view, shown_if_not_temp, temp_apart, get-append_to, get-view_shown, view-remove, view-move_in}
 
 pub get-recovered_view : (m : Files) (q : Path) → map.get (recovered_view m) q ≡ cond (is_recovered m q) (map.get m q) None
 unfolding recovered_view
@@ -244,10 +244,6 @@ get-recovered_view_there m q calm lasts = ap (λ (v : Files). map.get v q) (reco
 
 pub has-recovered_view : (m : Files) (q : Path) → IsCalm m → is_temp q ≡ false → has (recovered_view m) q ≡ has m q
 has-recovered_view m q calm lasts = ap is_some (get-recovered_view_there m q calm lasts)
-
-pub recovered_view-insert : (m : Files) (p : Path) (v : List ℕ) → IsCalm m → is_temp p ≡ false → is_same_path intent p ≡ false → recovered_view (map.insert m p v) ≡ map.insert (recovered_view m) p v
-recovered_view-insert m p v calm lasts free =
-    recovered_view-calm (map.insert m p v) (calm-insert m p v free calm) ∙ view-insert m p v lasts ∙ ap (λ (n : Files). map.insert n p v) (sym (recovered_view-calm m calm))
 
 pub recovered_view-remove : (m : Files) (p : Path) → IsCalm m → is_temp p ≡ false → recovered_view (map.remove m p) ≡ map.remove (recovered_view m) p
 recovered_view-remove m p calm lasts = recovered_view-calm (map.remove m p) (calm-remove m p calm) ∙ view-remove m p lasts ∙ ap (λ (n : Files). map.remove n p) (sym (recovered_view-calm m calm))

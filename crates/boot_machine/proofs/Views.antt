@@ -4,7 +4,7 @@ use Rattle.std.proofs.lemmas.Bool.{cases_Bool}
 use Rattle.std.specs.FinMap as map
 use Rattle.std.specs.FinSet as set
 use Rattle.boot_base.specs.Paths.{Path, is_temp}
-use Rattle.boot_machine.specs.Prelude.{Files, Paths, has, is_shown, view, is_same_path, IsImageOf, contents, append_to, move_in}
+use Rattle.boot_machine.specs.Prelude.{Files, Paths, has, is_shown, view, is_same_path, contents, append_to, move_in}
 use Rattle.boot_machine.specs.proofs.Maps.{cases_same, same_files, get-insert, get-insert_here, get-insert_apart, get-remove, get-remove_here, get-remove_apart, get-retain}
 
 pub get-view : (m : Files) (q : Path) → map.get (view m) q ≡ cond (is_shown m q) (map.get m q) None
@@ -28,9 +28,6 @@ temp_apart q p temp not_temp = elim (cases_same q p) [ inl is ↦ absurd (cc (te
 
 pub view-insert_temp : (m : Files) (p : Path) (v : List ℕ) → is_temp p ≡ true → view (map.insert m p v) ≡ view m
 view-insert_temp m p v temp = view_from _ _ (λ q not_temp. get-insert_apart m p v q (temp_apart q p temp not_temp))
-
-pub view-remove_temp : (m : Files) (p : Path) → is_temp p ≡ true → view (map.remove m p) ≡ view m
-view-remove_temp m p temp = view_from _ _ (λ q not_temp. get-remove_apart m p q (temp_apart q p temp not_temp))
 
 pub get-append_to : (m : Files) (p : Path) (bytes : List ℕ) (q : Path) → map.get (append_to p bytes m) q ≡ cond (is_same_path q p && has m p) (Some (contents m p ++ bytes)) (map.get m q)
 unfolding append_to
@@ -65,14 +62,6 @@ view-remove m p not_temp =
       | inl one ↦ rw one (elim (cases_Bool (is_temp q)) [ inl temp ↦ rw temp refl | inr shown ↦ rw shown refl ])
       | inr two ↦ rw two refl
     ]))
-
--- a stop leaves what boot sees of the candidate
-pub view_of_image : (soft : Paths) (c m : Files) → ((q : Path) → set.contains soft q ≡ true → is_temp q ≡ true) → IsImageOf soft c m → view m ≡ view c
-view_of_image soft c m temps image =
-    view_from m c (λ q not_temp. elim (cases_Bool (set.contains soft q)) [
-      | inl is_soft ↦ absurd (cc (temps q is_soft, not_temp))
-      | inr synced ↦ image.bytes q synced
-    ])
 
 pub get-view_shown : (m : Files) (q : Path) → is_temp q ≡ false → map.get (view m) q ≡ map.get m q
 get-view_shown m q shown = rw (get-view m q, shown_if_not_temp m q, shown) refl

@@ -9,11 +9,8 @@ use Rattle.command_plans.specs.declared.outcome.Stop.{Stop}
 use Rattle.command_plans.proofs.Exits.{if_ok, if_err}
 use Rattle.boot_run.specs.History.{BreaksBehind, EndsBefore, Recovers, Runs, any_refused, printed_by, states}
 use Rattle.boot_run.specs.Lines.{is_unread, line_deed}
-use Rattle.boot_run.specs.RunBy.{CleanBehind}
 use Rattle.boot_run.specs.RunsTo.{IsSyncedBy, IsUnsynced, RunsAfresh, RunsTo}
-use Rattle.boot_run.specs.Step.{Acknowledges, replies, some_refused}
-use Rattle.boot_run.specs.declared.ended.Ended.{Ended}
-use Rattle.boot_run.specs.declared.ended.Ended.TheVariants.{Done, Refused, Usage, Disk, Pipe, Memory}
+use Rattle.boot_run.specs.Step.{some_refused}
 use Rattle.boot_run.specs.declared.line.Line.{Line}
 use Rattle.boot_run.proofs.Recovering.{broken_after, performed_not}
 use Rattle.boot_run.proofs.Running.{runs_none}
@@ -243,24 +240,3 @@ module _ {D : Type 0} (time : Timeline D) (state : D → State) (old mid new : D
         (λ (settled : IsSettled (state mid) × SameFrom time state old mid). inr (subst IsSettled (sym reads.same) settled.0, same_more settled.1))
         recovers.synced;
   }
-
--- what was acknowledged behind the recovery was acknowledged of the run
-pub clean_recovered : (old mid new : State) (lines : List Line) (ended : Ended) → mid.printed ≡ old.printed → recovered_now mid ≡ recovered_now old
-    → CleanBehind mid new lines ended → CleanBehind old new lines ended
-clean_recovered old mid new lines ended printed now clean = by_end ended clean
-  where
-    acked_mid : (k : ℕ) → Adds old.printed new.printed (λ sent. Acknowledges (replies (recovered_now old) lines) sent k)
-        → Adds mid.printed new.printed (λ sent. Acknowledges (replies (recovered_now mid) lines) sent k)
-    acked_mid k adds = (
-      adds.0,
-      adds.1 ∙ ap (λ (l : Sent). l ++ adds.0) (sym printed),
-      subst (λ x. Acknowledges (replies x lines) adds.0 k) (sym now) adds.2,
-    )
-
-    by_end : (ended : Ended) → CleanBehind mid new lines ended → CleanBehind old new lines ended
-    by_end Done clean = λ k adds. clean k (acked_mid k adds)
-    by_end Refused clean = λ k adds. clean k (acked_mid k adds)
-    by_end Usage clean = tt
-    by_end Disk clean = tt
-    by_end Pipe clean = λ k adds. clean k (acked_mid k adds)
-    by_end Memory clean = λ k adds. clean k (acked_mid k adds)

@@ -1,5 +1,5 @@
 -- The lines of a script, one after the other.
-use Rattle.std.proofs.Common.{◌≡◌, inl, inr, ℕ, suc, ◌+◌, Bool, true, false, cond, List, [], ◌∷◌, ◌++◌, length, refl, sym, ap, ◌∙◌, arith, append_assoc, append-nil, Result, Ok, Err, Option, Some, None, All, not, nat_lt, ◌&&◌, if◌then◌else◌}
+use Rattle.std.proofs.Common.{◌≡◌, inl, inr, ℕ, suc, ◌+◌, Bool, true, false, cond, List, [], ◌∷◌, ◌++◌, length, refl, sym, ap, ◌∙◌, arith, append_assoc, append-nil, Result, Ok, Err, Option, Some, None, All, nat_lt, if◌then◌else◌}
 use Rattle.std.proofs.lemmas.Bool.{cases_Bool}
 use Rattle.std.proofs.lemmas.Str.{IsUtf8-from_is_utf8}
 use Rattle.std.specs.Str.{chars, is_utf8, IsUtf8}
@@ -37,13 +37,6 @@ not_utf8 bytes isnt_utf8 = elim (cases_Bool (is_utf8 bytes)) [ inl is ↦ absurd
 
 pub none_of_bytes : (piece : List ℕ) → is_utf8 piece ≡ false → command_in piece ≡ None
 none_of_bytes piece isnt = rw isnt refl
-
-pub none_when_open : (piece : List ℕ) → is_open (chars piece) ≡ true → command_in piece ≡ None
-none_when_open piece opened = by_utf8 (is_utf8 piece)
-  where
-    by_utf8 : (utf8 : Bool) → cond (utf8 && not (is_open (chars piece))) (in_script (meaning (line_words (chars piece)))) None ≡ None
-    by_utf8 true = rw opened refl
-    by_utf8 false = refl
 
 pub command_of_words : (piece : List ℕ) → is_utf8 piece ≡ true → is_open (chars piece) ≡ false → command_in piece ≡ in_script (meaning (line_words (chars piece)))
 command_of_words piece utf8 closed = rw (utf8, closed) refl

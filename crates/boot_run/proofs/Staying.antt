@@ -1,5 +1,5 @@
 -- What stays while lines are printed and commands are carried out.
-use Rattle.std.proofs.Common.{◌≡◌, ℕ, Bool, true, false, List, take, refl, sym, ap, ◌∙◌, subst, Result, Ok, Err, OnOk, OnErr, IsErr, IsErrAnd}
+use Rattle.std.proofs.Common.{◌≡◌, ℕ, true, List, take, refl, sym, ap, ◌∙◌, subst, Result, Ok, Err, OnOk, OnErr, IsErr, IsErrAnd}
 use Rattle.std.proofs.lemmas.List.Elements.{All-weaker}
 use Rattle.boot_machine.specs.Prelude.{Files, IsRested, State, has, IsImage, with_printed}
 use Rattle.boot_base.specs.Paths.{intent}
@@ -9,7 +9,7 @@ use Rattle.command_plans.specs.Prelude.{LeavesNoTemp, LeavesRested, stop_rests, 
 use Rattle.boot_commands.proofs.Later.{tidied_later}
 use Rattle.command_plans.specs.declared.outcome.Stop.{Stop}
 use Rattle.command_plans.specs.declared.outcome.Stop.TheVariants as stops
-use Rattle.boot_run.specs.Endings.{AllTidied, UnlessDisk, ended_by}
+use Rattle.boot_run.specs.Endings.{AllTidied}
 use Rattle.boot_run.specs.Lines.{Prints, TidiedBy}
 use Rattle.boot_run.specs.RunsTo.{WherePrinted, at_part}
 use Rattle.boot_commands.specs.Commands.{LeavesTidied, TidiesTo}
@@ -128,14 +128,6 @@ leaves_more (Ok value) s t now first leaves = no_more_temps s t now first leaves
 leaves_more (Err stops.Disk) s t now first leaves = tt
 leaves_more (Err stops.Pipe) s t now first leaves = no_more_temps s t now first leaves
 leaves_more (Err stops.Memory) s t now first leaves = no_more_temps s t now first leaves
-
--- and at the end of a run
-pub unless_disk_by : (result : Result Bool Stop) (s now : State) → LeavesNoTemp result s now → UnlessDisk (ended_by result) (NoNewTemp s now)
-unless_disk_by (Ok false) s now leaves = leaves
-unless_disk_by (Ok true) s now leaves = leaves
-unless_disk_by (Err stops.Disk) s now leaves = tt
-unless_disk_by (Err stops.Pipe) s now leaves = leaves
-unless_disk_by (Err stops.Memory) s now leaves = leaves
 
 -- a folder that is tidied stays so
 line_later : (s now : State) → NoNewTemp s now → (line : Line) → TidiedBy s.files line → TidiedBy now.files line

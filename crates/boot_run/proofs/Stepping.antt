@@ -49,9 +49,6 @@ some_length (x ∷ xs) some = omega arith
 prefix_nil : (sent : Sent) → IsPrefix [] sent
 prefix_nil sent = (sent, refl)
 
-prefix_same : (sent : Sent) → IsPrefix sent sent
-prefix_same sent = ([], append-nil sent)
-
 prefix_cancel : (first a b : Sent) → IsPrefix (first ++ a) (first ++ b) → IsPrefix a b
 prefix_cancel first a b p = (p.0, append_cancel_left first _ _ (sym (append_assoc first a p.0) ∙ p.1))
 

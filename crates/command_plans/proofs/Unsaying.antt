@@ -15,7 +15,3 @@ pub says_unsaid : {X Y : Type 0} (result : Result X Unsaid) (fault : Unsaid) (vi
     → IsErrAnd result (λ e. e ≡ fault) → UnsaidFor fault meant → Says view result meant
 says_unsaid (Ok x) fault view meant failed is why = cc
 says_unsaid (Err e) fault view meant failed is why = subst (λ d. UnsaidFor d meant) (sym is) why
-
--- the same is said of what is the same
-pub says_same : {X Y : Type 0} (view : X → Y) (result : Result X Unsaid) (y z : Y) → y ≡ z → Says view result (Ok y) → Says view result (Ok z)
-says_same {X} {Y} view result y z same said = subst (λ (w : Y). Says view result (Ok w)) same said

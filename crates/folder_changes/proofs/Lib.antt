@@ -1,4 +1,3 @@
 mod Noting
 mod NoTwin
 mod Listing
-mod Saved

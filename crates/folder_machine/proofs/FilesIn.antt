@@ -1,6 +1,6 @@
 -- The files among the names of a folder, gone through in their order.
-use Rattle.std.proofs.Common.{◌≡◌, ℕ, ◌+◌, ◌<◌, Bool, true, false, ◌&&◌, cond, List, ◌∷◌, [], ◌++◌, length, map, get_or, take, sym, ap, ◌∙◌, String, Global, string_bytes, if◌then◌else◌}
-use Rattle.std.proofs.lemmas.List.{append-nil, map-append, take_more}
+use Rattle.std.proofs.Common.{◌≡◌, ℕ, ◌+◌, ◌<◌, true, ◌&&◌, cond, List, ◌∷◌, [], ◌++◌, length, map, get_or, take, sym, ap, ◌∙◌, String, Global, string_bytes, if◌then◌else◌}
+use Rattle.std.proofs.lemmas.List.{map-append, take_more}
 use Rattle.std.proofs.lemmas.List.Elements.{filter-append}
 use Rattle.boot_base.specs.Paths.{is_file_name}
 use Rattle.folder_calls.specs.Calls.{path_in}
@@ -20,14 +20,6 @@ module _ (tree : Tree) (folder : List ℕ) (names : List (String Global)) (i : �
       ∙ ap (files_in tree folder) (map-append string_bytes (take i names) (get_or names i item ∷ []))
       ∙ filter-append (is_file_in tree folder) (map string_bytes (take i names)) (string_bytes (get_or names i item) ∷ [])
       ∙ ap (λ (text : String Global). files_before tree folder names i ++ files_in tree folder (string_bytes text ∷ [])) (sym at)
-
-  -- a name more, which leads to no file
-  pub none_more : leads_to_file tree (path_in folder (string_bytes item)) ≡ false
-      → files_before tree folder names (i + 1) ≡ files_before tree folder names i
-  none_more none =
-      more_is
-      ∙ ap (λ leads. files_before tree folder names i ++ cond (leads && is_file_name (string_bytes item)) (string_bytes item ∷ []) []) none
-      ∙ append-nil (files_before tree folder names i)
 
   -- a name more, which leads to a file
   pub one_more : leads_to_file tree (path_in folder (string_bytes item)) ≡ true

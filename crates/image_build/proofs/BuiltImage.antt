@@ -1,16 +1,12 @@
 -- What a build reads, one by one.
-use Rattle.std.proofs.Common.{◌≡◌, ◌<◌, ◌≤◌, ◌+◌, ◌*◌, ◌^◌, ℕ, List, [], ◌∷◌, ◌++◌, length, map, Result, Ok, Err, sym, ap, ◌∙◌, subst, arith, All, IsErr, IsErrAnd, sum_by}
+use Rattle.std.proofs.Common.{◌≡◌, ◌≤◌, ◌+◌, ◌*◌, ℕ, List, [], ◌∷◌, ◌++◌, length, map, Result, Ok, Err, sym, ap, ◌∙◌, subst, arith, All, IsErr, IsErrAnd, sum_by}
 use Rattle.std.specs.List.{AllZip}
 use Rattle.std.proofs.lemmas.List.{map-append}
 use Rattle.std.proofs.lemmas.List.Elements.{All-append, All-cons, All-head, All-nil, All-tail}
 use Rattle.std.proofs.lemmas.List.Sums.{sum_by-cons, sum_by_push}
 use Rattle.boot_base.specs.declared.refusal.Refusal.{Refusal}
 use Rattle.boot_machine.specs.Prelude.{State}
-use Rattle.uki_parts.specs.Pieces.{total_length}
-use Rattle.uki_parts.specs.declared.part.Part.{Part}
 use Rattle.command_plans.specs.Prelude.{each, Says, UnsaidFor}
-use Rattle.image_build.specs.Reads.{PartFrom, source_limit, sources_limit}
-use Rattle.image_build.specs.declared.source.PartSources.{PartSources}
 use Rattle.image_build.specs.declared.source.Source.{Source}
 use Rattle.command_plans.specs.declared.unsaid.Unsaid.{Unsaid}
 use Rattle.command_plans.specs.declared.unsaid.Unsaid.TheVariants as unsaid
@@ -72,11 +68,3 @@ bounded f most (source ∷ found) all =
     let rest = bounded f most found (All-tail (λ s. f s ≤ most) source found all) in
     let here = All-head (λ s. f s ≤ most) source found all in
     omega (arith, sum_by-cons f source found)
-
--- few sources, of which none is long, are not long together
-pub few_are_short : (most : ℕ) (found : List Source) → All (λ source. source_limit source ≤ most) found → sources_limit found ≤ (most + 3) * length found
-few_are_short most found all = omega (arith, bounded source_limit most found all)
-
--- a part whose sources are not too long has the length of its pieces
-pub length_of_part : (from : PartSources) (part : Part) → PartFrom from part → sources_limit from.sources.items < 2 ^ 64 → part.length ≡ total_length part.pieces.items
-length_of_part from part made short = omega (arith, made.length_is, made.limit)

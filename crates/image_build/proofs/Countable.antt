@@ -42,9 +42,6 @@ limits_short : (givens : List Given) → AllByRecursion IsShortGiven givens → 
 limits_short [] short = omega arith
 limits_short (source ∷ givens) short = omega (arith, sum_by-cons given_limit source givens, limit_short source short.0, limits_short givens short.1)
 
-pub light_none : AreLight 0 []
-light_none = record { few = omega arith; light = omega arith }
-
 pub light_wanted : (kind : PartKind) (name : List ℕ) (count : ℕ) (givens : List Given) → AreShort count givens → AreLight count (optional_part kind name givens)
 light_wanted kind name count [] short = record { few = omega arith; light = omega arith }
 light_wanted kind name count (source ∷ givens) short =

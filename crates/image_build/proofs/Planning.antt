@@ -1,5 +1,5 @@
 -- The plan of what a build reads, and how many bytes its image has.
-use Rattle.std.proofs.Common.{◌≡◌, ◌≤◌, ◌^◌, ℕ, List, [], ◌∷◌, Result, Ok, Err, append-nil, length, refl, sym, true, false, ◌++◌, ap, subst, ◌∙◌, arith, All, Bool, IfOk, Option, map, option_map, sum_by}
+use Rattle.std.proofs.Common.{◌≡◌, ◌≤◌, ◌^◌, ℕ, List, [], ◌∷◌, Result, Ok, Err, append-nil, length, refl, sym, true, false, ◌++◌, ap, subst, ◌∙◌, arith, All, Bool, IfOk, map, sum_by}
 use Rattle.std.specs.List.{AllZip}
 use Rattle.std.proofs.lemmas.List.Elements.{All-cons, All-head, All-nil, All-tail}
 use Rattle.std.proofs.lemmas.List.Sums.{sum_by-cons}
@@ -30,7 +30,7 @@ use Rattle.uki_parts.specs.Pieces.{Reading}
 use Rattle.uki_parts.specs.declared.part.Part.{Part}
 use Rattle.image_build.specs.Building.{BuiltImage, build_answer, build_of, built_answer, built_line, built_text, Material, NamedFiles, contents_of, material, material_of, build_named, named_as, named_files, sbat_of}
 use Rattle.pe_builder.specs.Sizes.{size_of}
-use Rattle.image_build.specs.Imaged.{AreFound, AreOrdered, Images, IsCountable, IsOwnPlan, IsPlanOf, IsSized}
+use Rattle.image_build.specs.Imaged.{AreFound, AreOrdered, Images, IsCountable, IsOwnPlan, IsSized}
 use Rattle.image_build.proofs.Imaged.{AreRead}
 use Rattle.image_build.specs.Planning.{HasItsLength, IsPlannable, IsPlannedOn, built_as}
 use Rattle.image_build.specs.declared.planned.PlannedBuild.{PlannedBuild}
@@ -156,16 +156,6 @@ written_plan s plan target measure text makeable idle says sourced path_is text_
 pub image_meant_by : (view : Files) (meant : Path → Result BuiltImage Refusal) (image : ImagePlan) (output : Path) → Images view meant (Ok image)
     → meant output ≡ Ok (record { output = output; image = planned_image image.plan image.sources view })
 image_meant_by view meant image output images = images.1 output
-
--- a plan is its own, whatever it was made of
-pub own_plan : (image : ImagePlan) (h : Headers) (n : ℕ) (stub : Path) (parts : List Part) (in_place : Option ℕ) (sbat : List ℕ)
-    → IsPlanOf image h n stub parts in_place sbat → option_map length (sbat_if_in_place in_place sbat) ≡ in_place → IsOwnPlan image h n stub
-own_plan image h n stub parts in_place sbat is long = record {
-  in_place = in_place;
-  plans = subst (λ (l : List Part). PlansImage image.plan h n (map size_of l) in_place) (sym is.parts_are) is.plans;
-  stub_is = is.stub_is;
-  sbat_length = ap (λ (l : List ℕ). option_map length (sbat_if_in_place in_place l)) is.sbat_is ∙ long;
-}
 
 -- and of what it was made on a view
 pub planned_on : (view : Files) (built : BuildParts) (image : ImagePlan) → BuiltHasSizes (contents view) built

@@ -104,14 +104,6 @@ pub after_more_declined : (declined : Declined) (made more : Found) (xs ys : Lis
     → DeclinedFor declined (with_parts more ys) → DeclinedFor declined (with_parts made (xs ++ ys))
 after_more_declined declined made more xs ys is why = subst (DeclinedFor declined) (sym (with_more made more xs ys is)) why
 
--- all of them, behind none
-pub all_begun : (made : Found) (parts : List WantedPart) → made ≡ [] → with_parts made parts ≡ each sources_of parts
-all_begun made parts none = ap (λ (l : Found). with_parts l parts) none ∙ alone (each sources_of parts)
-  where
-    alone : (r : Result Found Refusal) → (r >>= λ l. Ok ([] ++ l)) ≡ r
-    alone (Ok l) = refl
-    alone (Err e) = refl
-
 -- rows, one by one: what is made, and what the rows that are left make behind it
 module _ (made : Found) (rows : List (PartKind × Offer)) (i : ℕ) (inside : i < length rows) (row d : PartKind × Offer) (is_row : row ≡ get_or rows i d) (more : List WantedPart) where
   split : offered_parts (drop i rows) more ≡ offered_part row ++ offered_parts (drop (i + 1) rows) more

@@ -1,10 +1,10 @@
 -- The chunks of an image are the image.
-use Rattle.std.proofs.Common.{◌≡◌, ◌<◌, ◌≤◌, ◌+◌, ◌-◌, ◌*◌, ℕ, List, [], ◌∷◌, ◌++◌, length, replicate, Ok, refl, sym, ap, subst, ◌∙◌, arith, append_assoc, append-nil, length-append, Option, Some, None, option_map, All, flat_map}
+use Rattle.std.proofs.Common.{◌≡◌, ◌<◌, ◌≤◌, ◌+◌, ◌-◌, ◌*◌, ℕ, List, [], ◌∷◌, ◌++◌, length, replicate, refl, sym, ap, subst, ◌∙◌, arith, append_assoc, append-nil, length-append, Option, Some, None, option_map, All, flat_map}
 use Rattle.std.proofs.lemmas.List.{length-replicate}
 use Rattle.byteorder.specs.Endian.{little_bytes}
 use Rattle.pe_reader.specs.declared.head.Head.{Head}
 use Rattle.pe_reader.specs.declared.section.Section.{Section}
-use Rattle.pe_reader.specs.Prelude.{Headers, pe_of, is_in_file, section_at_index, no_section}
+use Rattle.pe_reader.specs.Prelude.{Headers, is_in_file, section_at_index, no_section}
 use Rattle.pe_reader.proofs.Shape.{Shape, stages-shape, pe_of-stages}
 use Rattle.pe_reader.proofs.Tables.{at_list_all}
 use Rattle.uki_parts.specs.declared.part.Part.{Part}
@@ -15,8 +15,8 @@ use Rattle.pe_builder.specs.declared.size.PartSize.{PartSize}
 use Rattle.pe_builder.specs.Puts.{put}
 use Rattle.pe_builder.specs.Layout.{head_with, new_sections, end_after}
 use Rattle.pe_builder.specs.Replaced.{sbat_index, with_sbat_size}
-use Rattle.pe_builder.specs.Image.{section_header, with_fields, finished_image}
-use Rattle.pe_builder.specs.Planned.{PlansImage, IsPlanFor, IsFinished, replaced_by, sbat_place, sbat_if_in_place}
+use Rattle.pe_builder.specs.Image.{section_header, with_fields}
+use Rattle.pe_builder.specs.Planned.{IsPlanFor, IsFinished, replaced_by, sbat_place, sbat_if_in_place}
 use Rattle.pe_builder.proofs.Appending.{length-headers, length-sections_for}
 use Rattle.pe_builder.proofs.Fits.{HasImage, FitsSbat}
 use Rattle.pe_builder.proofs.Grown.{small_of}
@@ -264,12 +264,6 @@ pub one_image : (plan : ImageLayout) (stub sbat : List ℕ) (contents : List (Li
     → IsFinished plan stub contents sbat a → IsFinished plan stub contents sbat b → a ≡ b
 one_image plan stub sbat contents a b is first second =
     first is.headers is.sizes is.in_place is.reads is.plans is.sbat_length ∙ sym (second is.headers is.sizes is.in_place is.reads is.plans is.sbat_length)
-
-pub is_finished : (plan : ImageLayout) (stub sbat : List ℕ) (contents : List (List ℕ)) (h : Headers) (sizes : List PartSize) (in_place : Option ℕ)
-    → pe_of stub ≡ Ok h → PlansImage plan h (length stub) sizes in_place → option_map length (sbat_if_in_place in_place sbat) ≡ in_place
-    → IsFinished plan stub contents sbat (finished_image h sizes contents (sbat_if_in_place in_place sbat) stub)
-is_finished plan stub sbat contents h sizes in_place reads plans len = λ h' sizes' in_place' reads' plans' len'.
-    sym (image_by-is plan h sizes contents in_place sbat stub reads plans len) ∙ image_by-is plan h' sizes' contents in_place' sbat stub reads' plans' len'
 
 -- how many of the stub's bytes stand in a row up to the stub's end
 abbrev row_length : Head → Head → Option SbatPlace → ℕ → ℕ

@@ -12,7 +12,6 @@ use Rattle.boot_machine.proofs.Soft.{Stands, stands-appended}
 use Rattle.boot_machine.proofs.Written.{has-created, calm-written, recovered_view-written, temps-written}
 use Rattle.install_steps.specs.Appends.{with_soft_path, HasAppended, AppendsOnly, IsGrown}
 use Rattle.install_steps.specs.proofs.AppendLaws.{contents-append_to}
-use Rattle.install_steps.specs.Steps.{Keeps}
 use Rattle.install_steps.proofs.CopyLemmas.{source_stays, with_file, with_none}
 
 stands-with_soft_path : (old : State) (P : Files → Type 0) (s : State) → Stands old P s → (p : Path) → is_temp p ≡ true → Stands old P (with_soft_path p s)
@@ -86,10 +85,3 @@ pub temps_left : (m : Files) (p to : Path) (mid new : State) → is_temp p ≡ t
     → (q : Path) → is_temp q ≡ true → has (move_in p to new.files) q ≡ true → has m q ≡ true
 temps_left m p to mid new temp shown e left q q_temp there =
     temps-written m p to (contents new.files p) temp shown q q_temp (subst (λ (n : Files). has (move_in p to n) q ≡ true) (written_file m p mid new e left) there)
-
-pub keeps_more : (p : Path) (old mid new : State) → Keeps old mid → HasAppended p mid new → Keeps old new
-keeps_more p old mid new keeps (inl is) = subst (λ (v : State). Keeps old v) (sym is) keeps
-keeps_more p old mid new keeps (inr more) = record {
-  printed = ap (λ (v : State). v.printed) more.1 ∙ keeps.printed;
-  input = ap (λ (v : State). v.input) more.1 ∙ keeps.input;
-}

@@ -65,11 +65,3 @@ pub size_within : (m : Files) (q : Path) (found : Option ℕ) (size limited : �
 size_within m q found size limited calm shown small row is within =
     let long = (size_there m q found size row is).0 in
     within (omega (arith, long, small, ap length (contents-recovered_view m q calm shown))) ∙ long
-
-length_or_none : (o : Option (List ℕ)) → unwrap_or (option_map length o) 0 ≡ length (unwrap_or o [])
-length_or_none None = refl
-length_or_none (Some bytes) = refl
-
--- the size of a file that may be there
-pub size_or_none : (m : Files) (q : Path) (found : Option ℕ) → IsCalm m → is_temp q ≡ false → found ≡ option_map length (map.get m q) → unwrap_or found 0 ≡ length (contents (recovered_view m) q)
-size_or_none m q found calm shown row = ap (λ (o : Option ℕ). unwrap_or o 0) row ∙ length_or_none (map.get m q) ∙ ap length (sym (contents-recovered_view m q calm shown))

@@ -1,12 +1,12 @@
 -- What a run of calls keeps, and how much of files it takes.
-use Rattle.std.proofs.Common.{◌≡◌, ◌⊎◌, inl, inr, ℕ, ◌-◌, ◌≤◌, true, false, List, [], ◌∷◌, ⊎_elim, refl, sym, ap, ◌∙◌, arith}
+use Rattle.std.proofs.Common.{◌≡◌, ◌⊎◌, inl, inr, ℕ, ◌-◌, true, false, List, [], ◌∷◌, ⊎_elim, refl, sym, ap, ◌∙◌, arith}
 use Rattle.std.specs.FinMap as map
 use Rattle.boot_base.specs.Paths.{Path, is_temp}
-use Rattle.boot_machine.specs.Prelude.{State, Files, has, is_same_path, is_listed, TakesAtMost, append_to, contents, move_in}
+use Rattle.boot_machine.specs.Prelude.{State, Files, is_same_path, is_listed, TakesAtMost, append_to, contents, move_in}
 use Rattle.boot_machine.specs.proofs.Maps.{cases_same, get-insert_apart, get-remove_apart, same_self}
 use Rattle.boot_machine.proofs.Listing.{same_bytes}
 use Rattle.boot_machine.proofs.Views.{get-append_to}
-use Rattle.install_steps.specs.Steps.{Keeps, KeepsTempsBut, NoNewTemp}
+use Rattle.install_steps.specs.Steps.{Keeps, KeepsTempsBut}
 
 -- nothing was changed
 pub keeps_same : (s t : State) → t ≡ s → Keeps s t
@@ -55,25 +55,6 @@ others_move own m from to mine shown q temp other =
     get-insert_apart (map.remove m from) to (contents m from) q (others_apart own to q shown temp other)
     ∙ get-remove_apart m from q (others_apart own from q mine temp other)
 
--- no temporary file is there that wasn't
-pub temps_same : (s t : State) → t ≡ s → NoNewTemp s t
-temps_same s t is q temp there = ap (λ (v : State). has v.files q) (sym is) ∙ there
-
-pub temps_on : (s t u : State) → NoNewTemp s t → NoNewTemp t u → NoNewTemp s u
-temps_on s t u first second q temp there = first q temp (second q temp there)
-
 -- nothing was taken
 pub takes_nothing : (limit a b : ℕ) → b ≡ a → TakesAtMost limit a b
 takes_nothing limit a b is = omega arith
-
--- nothing was taken before
-pub takes_later : (limit a b c : ℕ) → b ≡ a → TakesAtMost limit b c → TakesAtMost limit a c
-takes_later limit a b c is most = omega arith
-
--- nothing was taken afterwards
-pub takes_first : (limit a b c : ℕ) → TakesAtMost limit a b → c ≡ b → TakesAtMost limit a c
-takes_first limit a b c most is = omega arith
-
--- no more than there is
-pub takes_part : (part limit a b : ℕ) → part ≤ limit → TakesAtMost (part - 0) a b → TakesAtMost limit a b
-takes_part part limit a b le most = omega arith

@@ -89,8 +89,3 @@ module _ {D : Type 0} (time : Timeline D) (state : D → State) (old mid new : D
   pub same_all : IsSettled (state old) → EachSince time old new (StaysOrSame (state old)) → EachSince time old new (SeesSame (state old))
   same_all settled moments = weaken time state (StaysOrSame (state old)) (SeesSame (state old)) old new
       (λ m o either. (⊎_elim (λ image. settled.images m image) (λ one. one) either.0, either.1)) moments
-
--- the moment from which on boot sees the same
-pub same_from_time : {D : Type 0} (time : Timeline D) (state : D → State) (old new : D) → SameFrom time state old new
-    → (t : ℕ) × (time.clock old ≤ t) × (t ≤ time.clock new) × ((m : Files) (o : List Printed) → time.since new t m o → SeesSame (state old) m o)
-same_from_time time state old new same = (time.clock same.synced, same.until.later, same.from.later, same.from.each)

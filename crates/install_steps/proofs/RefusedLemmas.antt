@@ -8,17 +8,8 @@ use Rattle.install_steps.specs.Steps.{after_copy, after_move}
 pub copied_there : (from to : Path) (files : Files) → has files from ≡ true → after_copy from to files ≡ map.insert files to (contents files from)
 copied_there from to files there = rw there refl
 
-pub copied_not : (from to : Path) (files : Files) → has files from ≡ false → after_copy from to files ≡ files
-copied_not from to files none = rw none refl
-
 pub moved_there : (from to : Path) (files : Files) → has files from ≡ true → has files to ≡ false → after_move from to files ≡ move_in from to files
 moved_there from to files there none = rw (there, none) refl
-
-pub moved_not_there : (from to : Path) (files : Files) → has files from ≡ false → after_move from to files ≡ files
-moved_not_there from to files none = rw none refl
-
-pub moved_over : (from to : Path) (files : Files) → has files from ≡ true → has files to ≡ true → after_move from to files ≡ files
-moved_over from to files there over = rw (there, over) refl
 
 -- a file is there where it has a size
 pub has-sized : (m : Files) (q : Path) (found : Option ℕ) → found ≡ option_map length (map.get m q) → has m q ≡ is_some found

@@ -15,9 +15,6 @@ same_is None (Some other) is = cc
 same_is (Some key) None is = cc
 same_is (Some key) (Some other) is = ap (λ (k : List ℕ). Some k) ((bytes_eq-Decides key other).0 is)
 
-pub one_if : Bool → ℕ
-one_if b = cond b 1 0
-
 pub or_end : (a b : Bool) → (a || (b || false)) ≡ (a || b)
 or_end true b = refl
 or_end false true = refl

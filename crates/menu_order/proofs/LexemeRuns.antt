@@ -7,7 +7,7 @@ use Rattle.std.specs.Char.{is_ascii_alphabetic, is_ascii_digit, digit_value}
 use Rattle.std.specs.List.{filter_map, cons_option, prefix_len, position_or_len, take_while}
 use Rattle.std.specs.Str.Parse.{AllDigits, digits_value}
 use Rattle.std.proofs.lemmas.List.Sums.{passes_at_first}
-use Rattle.menu_order.specs.VersionTokens.{Token, Letters, Number, is_one_run, join_run, runs_of, run_token, tokens_of}
+use Rattle.menu_order.specs.VersionTokens.{Letters, Number, is_one_run, join_run, runs_of, run_token, tokens_of}
 use Rattle.menu_order.specs.Lexemes.{is_of_token}
 
 -- the first run begins with the byte that was put in front
@@ -68,10 +68,6 @@ digits_run = record { agrees = λ b c e. rw (e, digit-not_letter b e) refl }
 pub runs_of-mark : (b : ℕ) (bs : List ℕ) → is_ascii_alphabetic b ≡ false → is_ascii_digit b ≡ false → runs_of (b ∷ bs) ≡ (b ∷ []) ∷ runs_of bs
 runs_of-mark b [] l d = refl
 runs_of-mark b (c ∷ cs) l d = runs_of-apart b c cs (rw (l, d) refl)
-
--- a text that begins with a mark begins with its token
-pub tokens_of-mark : (b : ℕ) (bs : List ℕ) (token : Token) → is_ascii_alphabetic b ≡ false → is_ascii_digit b ≡ false → run_token (b ∷ []) ≡ Some token → tokens_of (b ∷ bs) ≡ token ∷ tokens_of bs
-tokens_of-mark b bs token l d is = ap (filter_map run_token) (runs_of-mark b bs l d) ∙ ap (λ o. cons_option o (tokens_of bs)) is
 
 none_from_is_some : {A : Type 0} (o : Option A) → is_some o ≡ false → o ≡ None
 none_from_is_some None e = refl

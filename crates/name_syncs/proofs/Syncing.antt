@@ -2,7 +2,7 @@
 use Rattle.std.proofs.Common.{◌≡◌, inl, inr, ◌⊎◌, ℕ, Bool, true, false, not, List, [], ◌∷◌, ◌++◌, map, length, get_or, take, drop, ◌+◌, ◌<◌, refl, sym, ap, ◌∙◌, subst, append_assoc, bytes_eq, filter, All, ◌||◌, if◌then◌else◌, Result, Ok, Err, OnOk, OnErr}
 use Rattle.std.specs.declared.alloc.AllocError.{AllocError}
 use Rattle.std.proofs.lemmas.List.{append-nil, map-append, take-append-drop, take_more}
-use Rattle.std.proofs.lemmas.List.Elements.{All-nil, All-push, All-weaker, filter-append}
+use Rattle.std.proofs.lemmas.List.Elements.{All-push, All-weaker, filter-append}
 use Rattle.std.proofs.lemmas.List.Folds.{list_any-append}
 use Rattle.std.proofs.lemmas.Slice.Eq.{bytes_eq-Decides}
 use Rattle.name_syncs.specs.Paths.{has_path}
@@ -10,18 +10,12 @@ use Rattle.name_syncs.specs.Folders.{has_folder, with_folder}
 use Rattle.name_syncs.specs.Waiting.{Asks, FileAt, FolderAt, NeedsNoSync, KeepsSynced, SettlesOnly, Sync, Waiting}
 use Rattle.name_syncs.specs.declared.folders.FolderSet.{FolderSet}
 
-pub keeps_itself : (disk : Waiting) → KeepsSynced disk disk
-keeps_itself disk = record { files = λ _ same. same; folders = λ _ same. same; syncs = refl }
-
 pub keeps_then : (old between new : Waiting) → KeepsSynced old between → KeepsSynced between new → KeepsSynced old new
 keeps_then old between new first next = record {
   files = λ path synced. next.files path (first.files path synced);
   folders = λ folder synced. next.folders folder (first.folders folder synced);
   syncs = next.syncs ∙ first.syncs;
 }
-
-pub asks_none : (disk : Waiting) → Asks [] disk disk
-asks_none disk = record { kept = keeps_itself disk; asked = λ logged. (logged, sym (append-nil disk.asked)) }
 
 pub asks_then : (one more : List Sync) (old between new : Waiting) → Asks one old between → Asks more between new
     → Asks (one ++ more) old new
@@ -55,9 +49,6 @@ in_front front back path there =
 pub in_back : (front back : List (List ℕ)) (path : List ℕ) → has_path back path ≡ true → has_path (front ++ back) path ≡ true
 in_back front back path there =
     list_any-append (λ known. bytes_eq known path) front back ∙ or_second (has_path front path) (has_path back path) there
-
-pub settles_none : (disk : Waiting) (settled : FolderSet) → SettlesOnly [] disk settled settled
-settles_none disk settled folder there = inl there
 
 pub settles_then : (front back : List (List ℕ)) (old new : Waiting) (before between after : FolderSet) → KeepsSynced old new
     → SettlesOnly front old before between → SettlesOnly back new between after → SettlesOnly (front ++ back) new before after
@@ -116,14 +107,6 @@ settles_noted (Ok _) disk settled after folder ok err synced other there =
 settles_noted (Err _) disk settled after folder ok err synced other there =
     inl (subst (λ (noted : FolderSet). has_folder noted other ≡ true) err there)
 
--- a settled one stays so where others are asked for
-pub settles_kept : (folders : List (List ℕ)) (old new : Waiting) (before after : FolderSet) → KeepsSynced old new
-    → SettlesOnly folders old before after → SettlesOnly folders new before after
-settles_kept folders old new before after kept settles folder there = elim (settles folder there) [
-  | inl known ↦ inl known
-  | inr added ↦ inr (added.0, kept.folders folder added.1)
-]
-
 pub settles_more : (front back : List (List ℕ)) (disk : Waiting) (before after : FolderSet)
     → SettlesOnly front disk before after → SettlesOnly (front ++ back) disk before after
 settles_more front back disk before after settles folder there = elim (settles folder there) [
@@ -155,9 +138,6 @@ pub record FilesDone (paths : List (List ℕ)) (old new : Waiting) : Type 0 wher
   pub asks : Asks (map FileAt paths) old new
   pub synced : All (λ path. new.files path ≡ false) paths
 
-pub files_none : (disk : Waiting) → FilesDone [] disk disk
-files_none disk = record { asks = asks_none disk; synced = All-nil (λ path. disk.files path ≡ false) }
-
 pub files_push : (paths more : List (List ℕ)) (path : List ℕ) (old between new : Waiting) → more ≡ paths ++ path ∷ []
     → FilesDone paths old between → Asks (FileAt path ∷ []) between new → new.files path ≡ false → FilesDone more old new
 files_push paths more path old between new is done asks synced = record {
@@ -173,13 +153,6 @@ pub record FoldersDone (own : FolderSet) (folders : List (List ℕ)) (old new : 
   pub asks : Asks (map FolderAt folders) old new
   pub synced : All (NeedsNoSync own new) folders
   pub settles : SettlesOnly folders new before after
-
-pub folders_none : (own : FolderSet) (disk : Waiting) (settled : FolderSet) → FoldersDone own [] disk disk settled settled
-folders_none own disk settled = record {
-  asks = asks_none disk;
-  synced = All-nil (NeedsNoSync own disk);
-  settles = settles_none disk settled;
-}
 
 module _ (own : FolderSet) (folders more : List (List ℕ)) (folder : List ℕ) (old between new : Waiting) (before middle after : FolderSet) where
   pub folders_push : more ≡ folders ++ folder ∷ [] → FoldersDone own folders old between before middle
@@ -202,9 +175,6 @@ unchanged changed folders = filter (λ folder. not (has_folder changed folder)) 
 pub record SeenDone (changed : FolderSet) (folders : List (List ℕ)) (old new : Waiting) (before after : FolderSet) : Type 0 where
   pub asks : Asks (map FolderAt (unchanged changed folders)) old new
   pub settles : SettlesOnly folders new before after
-
-pub seen_none : (changed : FolderSet) (disk : Waiting) (settled : FolderSet) → SeenDone changed [] disk disk settled settled
-seen_none changed disk settled = record { asks = asks_none disk; settles = settles_none disk settled }
 
 module _ (changed : FolderSet) (folders more : List (List ℕ)) (folder : List ℕ) (is : more ≡ folders ++ folder ∷ []) where
   passed : (own : Bool) → has_folder changed folder ≡ own

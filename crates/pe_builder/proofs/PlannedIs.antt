@@ -1,5 +1,5 @@
 -- A plan that was made is that of the image.
-use Rattle.std.proofs.Common.{◌≡◌, ◌<◌, ◌≤◌, ◌+◌, ◌-◌, ◌*◌, ℕ, List, ◌++◌, length, map, replicate, Ok, refl, sym, ap, subst, ◌∙◌, arith, length-append, Option, Some, None, option_map, Result, Err, IfOk}
+use Rattle.std.proofs.Common.{◌≡◌, ◌<◌, ◌≤◌, ◌+◌, ◌-◌, ◌*◌, ℕ, List, ◌++◌, length, replicate, Ok, refl, sym, ap, subst, ◌∙◌, arith, length-append, Option, Some, None, option_map, Result, Err, IfOk}
 use Rattle.std.specs.List.{AllByRecursion, flat_map}
 use Rattle.std.specs.Int.{next_multiple_of}
 use Rattle.std.proofs.lemmas.List.{length-replicate}
@@ -17,9 +17,8 @@ use Rattle.pe_builder.specs.declared.plan.SbatPlace.{SbatPlace}
 use Rattle.pe_builder.specs.Puts.{put}
 use Rattle.pe_builder.specs.Layout.{end_after, sections_for, head_with, new_sections, length_after, FitsPart}
 use Rattle.pe_builder.specs.Replaced.{sbat_index, with_sbat_size, with_content, MayReplace}
-use Rattle.pe_builder.specs.Refusals.{IsBuildable, first_refusal, sbat_room}
+use Rattle.pe_builder.specs.Refusals.{first_refusal, sbat_room}
 use Rattle.pe_builder.specs.Image.{section_header, with_fields, with_headers, with_raw, image_with_parts, finished_image}
-use Rattle.pe_builder.specs.Laws.{HasFinished}
 use Rattle.pe_builder.specs.Planned.{PlansImage, FitsStub, FitsPlace, IsPlanFor, image_by, replaced_by, sbat_if_in_place, head_after, sbat_place}
 use Rattle.pe_builder.proofs.Appending.{end_after-append, length-sections_for}
 use Rattle.pe_builder.proofs.Putting.{length-put}
@@ -159,11 +158,3 @@ fitting plan stub sbat contents is =
       table = all.2;
       sbat = subst O (sym p.sbat_is) (fits_place h stub sbat is.in_place shape (buildable_sbat _ _ _ _ p.buildable) is.sbat_length);
     }
-
--- what a plan was made for has a finished image
-pub has_finished_by : (plan : ImageLayout) (h : Headers) (sizes : List PartSize) (contents : List (List ℕ)) (in_place : Option ℕ) (sbat stub : List ℕ)
-    → pe_of stub ≡ Ok h → PlansImage plan h (length stub) sizes in_place → map length contents ≡ map (λ p. p.length) sizes
-    → option_map length (sbat_if_in_place in_place sbat) ≡ in_place → HasFinished h sizes contents (sbat_if_in_place in_place sbat) stub
-has_finished_by plan h sizes contents in_place sbat stub e p l g =
-    let B : Option ℕ → Type 0 = λ o. IsBuildable h (length stub) sizes o in
-    record { reads = e; buildable = subst B (sym g) p.buildable; lengths = l }

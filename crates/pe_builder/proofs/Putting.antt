@@ -3,7 +3,7 @@ use Rattle.std.proofs.Common.{◌≡◌, ◌<◌, ◌≤◌, ◌+◌, ◌-◌, �
 use Rattle.std.proofs.lemmas.List.{take-append-le, drop_at, drop-drop, drop-take, take-take, length-take-le}
 use Rattle.byteorder.specs.Endian.{little_bytes}
 use Rattle.pe_reader.specs.Prelude.{u16_at, u32_at, part}
-use Rattle.pe_reader.proofs.Places.{u32_at-skip, u16_at-skip, u32_at-bytes, u16_at-bytes, u32_at-append, u16_at-append, u32_at-take, u16_at-take}
+use Rattle.pe_reader.proofs.Places.{u32_at-skip, u16_at-skip, u32_at-bytes, u16_at-bytes}
 use Rattle.pe_builder.specs.Puts.{put}
 
 pub length-put : (place : ℕ) (new bytes : List ℕ) → place + length new ≤ length bytes → length (put place new bytes) ≡ length bytes
@@ -44,24 +44,9 @@ part-put_before at count place new bytes h l =
 pub part-put_behind : (at count place : ℕ) (new bytes : List ℕ) → place + length new ≤ at → place + length new ≤ length bytes → part (put place new bytes) at count ≡ part bytes at count
 part-put_behind at count place new bytes h l = ap (take count) (drop-put at place new bytes h l)
 
--- a number that lies elsewhere
-pub u32_at-put_before : (place : ℕ) (new bytes : List ℕ) (i : ℕ) → i + 4 ≤ place → place ≤ length bytes → u32_at (put place new bytes) i ≡ u32_at bytes i
-unfolding put
-u32_at-put_before place new bytes i h l =
-    u32_at-append (take place bytes) _ i (omega (arith, length-take place bytes)) ∙ u32_at-take place bytes i h
-
-pub u16_at-put_before : (place : ℕ) (new bytes : List ℕ) (i : ℕ) → i + 2 ≤ place → place ≤ length bytes → u16_at (put place new bytes) i ≡ u16_at bytes i
-unfolding put
-u16_at-put_before place new bytes i h l =
-    u16_at-append (take place bytes) _ i (omega (arith, length-take place bytes)) ∙ u16_at-take place bytes i h
-
 pub u32_at-put_behind : (place : ℕ) (new bytes : List ℕ) (i : ℕ) → place + length new ≤ i → place + length new ≤ length bytes → u32_at (put place new bytes) i ≡ u32_at bytes i
 unfolding u32_at
 u32_at-put_behind place new bytes i h l = rw (drop-put i place new bytes h l) refl
-
-pub u16_at-put_behind : (place : ℕ) (new bytes : List ℕ) (i : ℕ) → place + length new ≤ i → place + length new ≤ length bytes → u16_at (put place new bytes) i ≡ u16_at bytes i
-unfolding u16_at
-u16_at-put_behind place new bytes i h l = rw (drop-put i place new bytes h l) refl
 
 -- the number that was written
 pub u32_at-put : (place x : ℕ) (bytes : List ℕ) → place ≤ length bytes → x < 2 ^ 32 → u32_at (put place (little_bytes 4 x) bytes) place ≡ x

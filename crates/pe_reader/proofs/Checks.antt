@@ -1,21 +1,10 @@
 -- What the checks show, and that they hold again where a file has grown.
-use Rattle.std.proofs.Common.{◌≡◌, ◌≤◌, ◌+◌, ◌*◌, ℕ, Bool, true, false, List, Ok, Err, Result, refl, arith}
+use Rattle.std.proofs.Common.{◌≡◌, ◌≤◌, ◌+◌, ◌*◌, ℕ, List, Ok, Err, Result, refl, arith}
 use Rattle.std.proofs.lemmas.Bool.Decides.{nat_tests}
-use Rattle.pe_reader.specs.declared.reason.PeReason.{PeReason}
 use Rattle.pe_reader.specs.declared.fault.FailedCheck.{FailedCheck}
 use Rattle.pe_reader.specs.declared.head.Head.{Head}
 use Rattle.pe_reader.specs.declared.head.Coff.{Coff}
-use Rattle.pe_reader.specs.Prelude.{u16_at, u32_at, check_before, ◌>>=◌, pe_place_of, coff_of, optional_of}
-
--- a check that was passed
-pub demand_ok : {A : Type 0} (b : Bool) (r : PeReason) (o : ℕ) (rest : Result A FailedCheck) (x : A)
-    → check_before b r o rest ≡ Ok x → (b ≡ true) × (rest ≡ Ok x)
-demand_ok true r o rest x e = (refl, e)
-demand_ok false r o rest x e = cc
-
-pub demand_pass : {A : Type 0} (b : Bool) (r : PeReason) (o : ℕ) (rest : Result A FailedCheck)
-    → b ≡ true → check_before b r o rest ≡ rest
-demand_pass b r o rest e = rw e refl
+use Rattle.pe_reader.specs.Prelude.{u16_at, u32_at, ◌>>=◌, pe_place_of, coff_of, optional_of}
 
 pub bind_ok : {A B : Type 0} (r : Result A FailedCheck) (f : A → Result B FailedCheck) (y : B)
     → (r >>= f) ≡ Ok y → (x : A) × (r ≡ Ok x) × (f x ≡ Ok y)

@@ -81,14 +81,6 @@ pub record AreLeft {Y X : Type 0} (P : List ℕ → X → Type 0) (all rest : Li
   pub whole : EachEntry P rest → EachEntry P all
   pub part : EachEntry P all → EachEntry P rest
 
-pub are_left : {Y X : Type 0} → (P : List ℕ → X → Type 0) (all rest later : List (String Y × X))
-    (entry : String Y × X) → rest ≡ entry ∷ later
-    → P (string_bytes entry.0) entry.1 → AreLeft P all rest → AreLeft P all later
-are_left P all rest later entry is here left = record {
-  whole = λ each. left.whole (subst (EachEntry P) (sym is) (here, each));
-  part = λ each. (subst (EachEntry P) is (left.part each)).1;
-}
-
 one_differs : {Y X : Type 0} → (P : List ℕ → X → Type 0) (all rest later : List (String Y × X))
     (entry : String Y × X) → rest ≡ entry ∷ later
     → ¬ P (string_bytes entry.0) entry.1 → AreLeft P all rest → ¬ EachEntry P all

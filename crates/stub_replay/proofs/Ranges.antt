@@ -1,11 +1,9 @@
 -- The loaded bytes of a section, by the range of the file that they stand in, and what is measured of them.
-use Rattle.std.proofs.Common.{◌≡◌, ◌<◌, ◌≤◌, ℕ, List, [], ◌∷◌, ◌++◌, length, drop, Ok, refl, sym, ap, subst, ◌∙◌, arith, Some, position}
+use Rattle.std.proofs.Common.{◌≡◌, ◌<◌, ◌≤◌, ℕ, List, [], ◌∷◌, ◌++◌, length, drop, Ok, refl, sym, ap, subst, arith, Some, position}
 use Rattle.pe_reader.specs.declared.section.LoadedRange.{LoadedRange}
 use Rattle.pe_reader.specs.Prelude.{Headers, pe_of, is_named, section_at_index, range_of, bytes_in, loaded_bytes}
 use Rattle.pe_reader.proofs.Finding.{loaded_bytes-found}
 use Rattle.pe_reader.proofs.Ranges.{length-bytes_in, range_inside}
-use Rattle.pcr_values.specs.declared.bank.Bank.{Bank}
-use Rattle.pcr_values.specs.Prelude.{digest_of, extend_data, extend_digest, extend_all}
 use Rattle.stub_replay.specs.Measured.{section_items}
 
 pub items_none : (name bytes : List ℕ) → length bytes ≡ 0 → section_items name bytes ≡ []
@@ -17,17 +15,6 @@ pub items_some : (name bytes : List ℕ) → 0 < length bytes → section_items 
 unfolding section_items
 items_some name [] some = absurd (omega (arith, some))
 items_some name (x ∷ bytes) some = refl
-
--- a register that is extended by a name with one NUL, and then by the digest of some bytes
-pub extended_by_items : (bank second third : Bank) (start name named digest last bytes : List ℕ) → second ≡ bank → third ≡ bank → 0 < length bytes
-    → named ≡ extend_data bank start (name ++ 0 ∷ []) → digest ≡ digest_of second bytes → last ≡ extend_digest third named digest
-    → last ≡ extend_all bank start (section_items name bytes)
-extended_by_items bank second third start name named digest last bytes same same_too some is_named is_digest is_last =
-    is_last
-    ∙ ap (λ (b : Bank). extend_digest b named digest) same_too
-    ∙ ap (λ (n : List ℕ). extend_digest bank n digest) is_named
-    ∙ ap (extend_digest bank (extend_data bank start (name ++ 0 ∷ []))) (is_digest ∙ ap (λ (b : Bank). digest_of b bytes) same)
-    ∙ ap (λ (items : List (List ℕ)). extend_all bank start items) (sym (items_some name bytes some))
 
 -- the loaded bytes of a name, by the range of the section that was found
 pub record IsRange (file name : List ℕ) (r : LoadedRange) : Type 0 where

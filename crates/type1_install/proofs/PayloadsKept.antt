@@ -77,9 +77,6 @@ suffix_not_payload esp path suffix has name is same =
 pub conf_name : (esp path : Path) → (conf : IsConfFile esp path) → file_name_of path ≡ conf.name
 conf_name esp path conf = ap file_name_of conf.at ∙ file_name_under (folders_at esp).entries conf.name (name_parts conf.name conf.is_name).1
 
-conf_not_payload : (esp path : Path) → IsConfFile esp path → NotPayload esp path
-conf_not_payload esp path conf = suffix_not_payload esp path Conf (ap (has_suffix Conf) (conf_name esp path conf) ∙ conf.of_type)
-
 -- no payload of any ESP is an entry's file
 pub payload_not_conf : (esp other : Path) (bytes : List ℕ) → IsConfFile esp (payload_path other bytes) → ⊥
 payload_not_conf esp other bytes conf =

@@ -1,15 +1,11 @@
 -- Two files with the same bytes, piece by piece, and a copy over a file that has these bytes already.
-use Rattle.std.proofs.Common.{◌≡◌, ◌+◌, ℕ, Bool, true, false, List, ◌++◌, Option, Some, None, Result, Ok, Err, drop, inl, inr, sym, ap, ◌∙◌, length, nat_lt, if◌then◌else◌}
+use Rattle.std.proofs.Common.{◌≡◌, ◌+◌, ℕ, List, ◌++◌, Some, drop, inl, inr, sym, ap, ◌∙◌}
 use Rattle.std.specs.FinMap as map
 use Rattle.std.specs.Cmp.Lexicographic.{nat_list_cmp_total}
-use Rattle.boot_base.specs.Limits.{file_limit}
 use Rattle.boot_base.specs.Paths.{Path}
 use Rattle.boot_machine.specs.Prelude.{Files, fill_with_zeros}
 use Rattle.boot_machine.specs.proofs.Maps.{cases_same, get-insert_apart, get-insert_here}
 use Rattle.boot_machine.proofs.Ranges.{fill_with_zeros-add}
-use Rattle.boot_base.specs.declared.refusal.Refusal.{Refusal}
-use Rattle.boot_base.specs.declared.refusal.Refusal.TheVariants as refusals
-use Rattle.command_plans.specs.Prelude.{printed_path, bytes_at, readable_bytes}
 
 -- the first bytes are the same, and those behind them
 pub alike_more : (first second : List ℕ) (done count : ℕ) → fill_with_zeros first done ≡ fill_with_zeros second done
@@ -31,16 +27,3 @@ insert_same view path bytes there =
       | inl one ↦ ap (map.get (map.insert view path bytes)) one ∙ get-insert_here view path bytes ∙ sym there ∙ ap (map.get view) (sym one)
       | inr two ↦ get-insert_apart view path bytes q two
     ])
-
-small_or : (path : Path) (large : Bool) (found bytes : List ℕ)
-    → (let read : Result (List ℕ) Refusal = if large then Err (refusals.TooLarge (printed_path path) (length found)) else Ok found in read) ≡ Ok bytes → found ≡ bytes
-small_or path true found bytes is = cc
-small_or path false found bytes is = cc
-
-read_found : (path : Path) (found : Option (List ℕ)) (bytes : List ℕ) → readable_bytes path found ≡ Ok bytes → found ≡ Some bytes
-read_found path None bytes is = cc
-read_found path (Some found) bytes is = ap (λ (l : List ℕ). Some l) (small_or path (nat_lt file_limit (length found)) found bytes is)
-
--- what is read at a path stands there
-pub stands_at : (view : Files) (path : Path) (bytes : List ℕ) → bytes_at view path ≡ Ok bytes → map.get view path ≡ Some bytes
-stands_at view path bytes is = read_found path (map.get view path) bytes is

@@ -2,7 +2,6 @@
 use Rattle.std.proofs.Common.{◌≡◌, ℕ, Bool, true, false, not, ◌||◌, cond, List, [], ◌∷◌, ◌++◌, Option, Some, None, Result, Ok, Err, map, filter, refl, sym, ap, subst, ◌∙◌, append_assoc, bytes_eq, IsErr, IsErrAnd, option_to_list}
 use Rattle.std.specs.List.{cons_option, filter_map, flat_map, list_any}
 use Rattle.std.specs.Str.{is_utf8}
-use Rattle.std.proofs.lemmas.List.{map-append}
 use Rattle.std.proofs.lemmas.List.Folds.{list_any-append}
 use Rattle.std.proofs.lemmas.List.Elements.{filter_map-append}
 use Rattle.boot_base.specs.Paths.{Path, path_below, under}
@@ -96,23 +95,5 @@ left_over esp folder items names named paths named_is paths_are =
 
 -- ---- the payloads of a folder
 
-filter_append : (p : List ℕ → Bool) (xs ys : List (List ℕ)) → filter p (xs ++ ys) ≡ filter p xs ++ filter p ys
-filter_append p [] ys = refl
-filter_append p (x ∷ xs) ys = by (p x) (filter_append p xs ys)
-  where
-    by : (b : Bool) → filter p (xs ++ ys) ≡ filter p xs ++ filter p ys → cond b (x ∷ filter p (xs ++ ys)) (filter p (xs ++ ys)) ≡ cond b (x ∷ filter p xs) (filter p xs) ++ filter p ys
-    by true is = ap (λ (l : List (List ℕ)). x ∷ l) is
-    by false is = is
-
 abbrev pub payloads_in : Path → List (List ℕ) → List Path
 payloads_in folder names = map (under folder) (filter is_payload_name names)
-
-pub payloads_append : (folder : Path) (xs ys : List (List ℕ)) → payloads_in folder (xs ++ ys) ≡ payloads_in folder xs ++ payloads_in folder ys
-payloads_append folder xs ys =
-    ap (map (under folder)) (filter_append is_payload_name xs ys) ∙ map-append (under folder) (filter is_payload_name xs) (filter is_payload_name ys)
-
-pub payload_alone : (folder name : Path) → is_payload_name name ≡ true → payloads_in folder (name ∷ []) ≡ under folder name ∷ []
-payload_alone folder name is = rw is refl
-
-pub no_payload : (folder name : Path) → is_payload_name name ≡ false → payloads_in folder (name ∷ []) ≡ []
-no_payload folder name is = rw is refl
