@@ -1,5 +1,5 @@
 -- Paths of files directly in a folder.
-use Rattle.std.proofs.Common.{◌≡◌, inl, inr, tt, IfSome, ℕ, ◌+◌, ◌-◌, ◌<◌, Bool, true, false, not, List, [], ◌∷◌, ◌++◌, Option, Some, None, length, take, drop, get_or, refl, sym, ap, ◌∙◌, arith, zero, suc, lit<, length-append, append_assoc, get_or-append-add, drop_at, ◌==◌, nat_lt, bytes_eq, if◌then◌else◌}
+use Rattle.std.proofs.Common.{◌≡◌, inl, inr, IfSome, ℕ, ◌+◌, ◌-◌, ◌<◌, Bool, true, false, not, List, [], ◌∷◌, ◌++◌, Option, Some, None, length, take, drop, get_or, refl, sym, ap, ◌∙◌, arith, zero, suc, lit<, length-append, append_assoc, get_or-append-add, drop_at, ◌==◌, nat_lt, bytes_eq, if◌then◌else◌}
 use Rattle.std.specs.List.{list_any, onto_first}
 use Rattle.std.proofs.lemmas.Bool.{cases_Bool, and_parts, or_parts, not-true, cond-true, cond-false, eqb-false}
 use Rattle.std.proofs.lemmas.Bool.Decides.{Decides-eqb}

@@ -1,5 +1,5 @@
 -- What the words of an installation say, where it isn't refused.
-use Rattle.std.proofs.Common.{◌≡◌, ◌≤◌, ℕ, Bool, true, false, ◌||◌, List, [], ◌∷◌, ◌++◌, Option, Some, None, Ok, Err, eqb, length, map, refl, sym, ap, ◌∙◌, subst, arith, length-append, All, codes, if◌then◌else◌, nat_lt, option_to_list}
+use Rattle.std.proofs.Common.{◌≡◌, ◌≤◌, ℕ, Bool, true, false, ◌||◌, List, [], ◌∷◌, ◌++◌, Option, Some, None, Ok, Err, eqb, length, map, refl, sym, ap, ◌∙◌, subst, arith, length-append, All, if◌then◌else◌, nat_lt, option_to_list}
 use Rattle.std.specs.List.{list_any}
 use Rattle.std.proofs.lemmas.Bool.{and_parts, ltb-false, not-true, or_parts}
 use Rattle.std.proofs.lemmas.List.{length-map}

@@ -1,5 +1,5 @@
 -- The commands that `type1 install` stands for on a view, or what it is refused for (profile).
-use Rattle.std.specs.Prelude.{ℕ, List, [], ◌∷◌, ◌++◌, bytes_eq, codes, length, map, nat_lt, replicate, sum_by, Some, None, Result, Ok, Err, if◌then◌else◌}
+use Rattle.std.specs.Prelude.{ℕ, List, [], ◌∷◌, ◌++◌, bytes_eq, length, map, nat_lt, replicate, sum_by, Some, None, Result, Ok, Err, if◌then◌else◌}
 use Rattle.std.specs.Option.{option_to_list}
 use Rattle.boot_base.specs.Layout.{entries_below, payloads_below}
 use Rattle.boot_base.specs.Paths.{Path, file_name_of, under}

@@ -7,6 +7,7 @@ use boot_base::{BootPath, Buffer, PIECE_SIZE};
 use boot_machine::{DiskFault, Machine, read_piece};
 
 // A piece of each of two files.
+#[derive(Drop)]
 struct Pieces {
     first: Buffer,
     second: Buffer,
