@@ -3,7 +3,7 @@
 use std::rt::Env;
 
 /// The version: the day on which it was made, behind a zero. It stands here alone.
-pub(crate) const VERSION: &str = "0.20261129";
+pub(crate) const VERSION: &str = "0.20261130";
 
 /// The commit that the program was built from. tools/build writes it here for the time of a build.
 pub(crate) const COMMIT: &str = "unknown";
