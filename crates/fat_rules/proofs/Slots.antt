@@ -6,7 +6,7 @@ use Rattle.std.proofs.lemmas.List.Elements.{All-nil, All-cons, All-head, All-tai
 use Rattle.fat_rules.specs.Sharing.{may_share}
 use Rattle.fat_rules.specs.Slots.{Slot, slot_facts, Shares, IsEmptied, has_twin, FreesNothingShared, KeepsTheLastName, ChecksOnce}
 use Rattle.fat_rules.specs.declared.recovery.Step.{Step}
-use Rattle.fat_rules.specs.declared.recovery.Step.TheVariants.{Forget, TakeAlias, AskForFolder, AskForName}
+use Rattle.fat_rules.specs.declared.recovery.Step.TheVariants.{Forget, TakeAlias, AskForCheck, AskForFolder, AskForName}
 
 pub shares_seen : (one other : Slot) → 0 < one.length → Shares one other → may_share (slot_facts one) (slot_facts other) ≡ true
 shares_seen one other some s = grind (arith, some, s.length, s.stamp)
@@ -45,21 +45,26 @@ pub checks_once : ChecksOnce
 checks_once file slot others (inl emptied) = alone slot others emptied.length
 checks_once file slot others (inr all) = all_emptied file slot others all
 
--- the folder, and whether its names are none or one
-step_cases : Bool → Bool → Bool → Step
-step_cases has_folder none one =
-    if not has_folder then AskForFolder else if none then Forget else if one then TakeAlias 0 else AskForName
+-- the folder, whether it is of FAT, and whether its names are none or one
+step_cases : Bool → Bool → Bool → Bool → Step
+step_cases has_folder is_fat none one =
+    if not has_folder then AskForFolder
+    else if none then (if is_fat then AskForCheck else Forget)
+    else if one then TakeAlias 0 else AskForName
 
-forgets : (has_folder none one : Bool) → step_cases has_folder none one ≡ Forget → (has_folder ≡ true) × (none ≡ true)
+forgets : (has_folder is_fat none one : Bool) → step_cases has_folder is_fat none one ≡ Forget
+    → (has_folder ≡ true) × ((is_fat ≡ false) × (none ≡ true))
 unfolding step_cases
-forgets false none one is = cc
-forgets true true one is = (refl, refl)
-forgets true false true is = cc
-forgets true false false is = cc
+forgets false is_fat none one is = cc
+forgets true true true one is = cc
+forgets true false true one is = (refl, (refl, refl))
+forgets true is_fat false true is = cc
+forgets true is_fat false false is = cc
 
 pub keeps_the_last_name : KeepsTheLastName
 unfolding step_cases
-keeps_the_last_name has_folder [] is = ((forgets has_folder true false is).0, refl)
-keeps_the_last_name has_folder (alias ∷ aliases) is =
-    let parts = forgets has_folder (length (alias ∷ aliases) == 0) (length (alias ∷ aliases) == 1) is in
-    absurd (grind (arith, parts.1))
+keeps_the_last_name has_folder is_fat [] is =
+    let parts = forgets has_folder is_fat true false is in (parts.0, (parts.1.0, refl))
+keeps_the_last_name has_folder is_fat (alias ∷ aliases) is =
+    let parts = forgets has_folder is_fat (length (alias ∷ aliases) == 0) (length (alias ∷ aliases) == 1) is in
+    absurd (grind (arith, parts.1.1))

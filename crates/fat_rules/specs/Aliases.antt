@@ -1,10 +1,11 @@
 -- Short names of FAT (Microsoft FAT specification, "Short Directory Entries" and "Naming Conventions"; the driver of
 -- Linux, fs/fat/namei_vfat.c), on the bytes of their UTF-8.
-use Rattle.std.specs.Prelude.{◌≡◌, ◌≢◌, ◌≤◌, ℕ, codes, ◌+◌, ◌==◌, Bool, true, false, not, ◌&&◌, ◌||◌, nat_lt, nat_le, List, ◌∷◌, ◌++◌, take, drop, map, count_by, position, Option, Some, None}
+use Rattle.std.specs.Prelude.{◌≡◌, ◌≢◌, ◌≤◌, ℕ, codes, ◌+◌, ◌==◌, Bool, true, false, not, ◌&&◌, ◌||◌, nat_lt, nat_le, List, ◌∷◌, ◌++◌, take, drop, count_by, position, Option, Some, None}
 use Rattle.std.specs.Borrow.{Bor}
-use Rattle.std.specs.Char.{is_ascii_digit, is_ascii_lowercase, to_ascii_lowercase}
+use Rattle.std.specs.Char.{is_ascii_digit, is_ascii_lowercase}
 use Rattle.std.specs.List.{list_all, list_any}
 use Rattle.std.specs.Option.{option_map}
+use Rattle.std.specs.StrCase.Upper.{str_to_uppercase}
 use Rattle.menu_order.specs.Counter.{IsCounted}
 use Rattle.menu_order.specs.declared.counted.Suffix.{Suffix}
 
@@ -65,10 +66,12 @@ is_short_name name = list_all is_short_byte name && has_short_parts name (at_dot
 abbrev pub is_alias : List ℕ → Bool
 is_alias name = is_short_name name && (has_tilde (stem_of_name name (at_dot name)) || not (has_small_letter name))
 
--- the alias is the name in capitals, and not the name itself
+-- The alias is the name in capitals, and not the name itself. A letter of another script that has no capital stays, and so
+-- does one that has two, as the sharp s.
 pub record IsInCapitals (alias name : List ℕ) : Type 0 where
   pub other : alias ≢ name
-  pub same : map to_ascii_lowercase alias ≡ map to_ascii_lowercase name
+  pub letters : letter_count alias ≡ letter_count name
+  pub same : str_to_uppercase alias ≡ str_to_uppercase name
   pub short : is_alias alias ≡ true
   pub capitals : has_small_letter alias ≡ false
 

@@ -4,7 +4,7 @@ use Rattle.fat_rules.specs.declared.facts.Facts.{Facts}
 use Rattle.fat_rules.specs.declared.recovery.Removal.{Removal}
 use Rattle.fat_rules.specs.declared.recovery.Removal.TheVariants.{Unlink, RenameOver}
 use Rattle.fat_rules.specs.declared.recovery.Step.{Step}
-use Rattle.fat_rules.specs.declared.recovery.Step.TheVariants.{Forget, TakeAlias, AskForBytes, AskForFolder, AskForName}
+use Rattle.fat_rules.specs.declared.recovery.Step.TheVariants.{Forget, TakeAlias, AskForBytes, AskForCheck, AskForFolder, AskForName}
 use Rattle.fat_rules.specs.Sharing.{same_time}
 
 -- a file is there, and has bytes
@@ -36,10 +36,11 @@ step_of_one found aliases =
     if nat_lt 0 found.length || is_none found.time then Forget
     else step_by_place (position (has_bytes_of found) aliases)
 
--- without a name the one alias that has bytes is the file's; nothing is known of a folder that isn't there
-abbrev pub step_of_none : Bool → ℕ → Step
-step_of_none has_folder alias_count =
+-- Without a name the one alias that has bytes is the file's. If there is none on FAT, a check may have put the bytes into
+-- a file of its own. Nothing is known of a folder that isn't there.
+abbrev pub step_of_none : Bool → Bool → ℕ → Step
+step_of_none has_folder is_fat alias_count =
     if not has_folder then AskForFolder
-    else if alias_count == 0 then Forget
+    else if alias_count == 0 then (if is_fat then AskForCheck else Forget)
     else if alias_count == 1 then TakeAlias 0
     else AskForName

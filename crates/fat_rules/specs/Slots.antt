@@ -65,11 +65,12 @@ KeepsTheBytesOfOne =
     → (step_of_one (slot_facts found) (map slot_facts aliases) ≡ Forget → found ≡ file)
     × ((place : ℕ) → step_of_one (slot_facts found) (map slot_facts aliases) ≡ TakeAlias place → IsEmptied file found)
 
--- A rename of which no name is left is forgotten only if its folder is there and no alias has the bytes.
+-- A rename of which no name is left is forgotten only if its folder is there, not on FAT, and no alias has the bytes.
 abbrev pub KeepsTheLastName : Type 0
 KeepsTheLastName =
-    (has_folder : Bool) (aliases : List Slot)
-    → step_of_none has_folder (length aliases) ≡ Forget → (has_folder ≡ true) × (aliases ≡ [])
+    (has_folder is_fat : Bool) (aliases : List Slot)
+    → step_of_none has_folder is_fat (length aliases) ≡ Forget
+    → (has_folder ≡ true) × ((is_fat ≡ false) × (aliases ≡ []))
 
 -- No second check is asked for: after one, two names don't have the bytes both, and no further one has them beside a name.
 abbrev pub ChecksOnce : Type 0

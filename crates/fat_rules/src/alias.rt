@@ -1,8 +1,11 @@
 //! The short names that FAT has for a file besides its own. A name of more than 8 and 3 letters gets one that its folder
 //! doesn't have yet, as `FEDORA~1.EFI`. A shorter one in small letters gets itself in capitals, as `FEDORA.EFI`.
-ghost use Rattle.std.specs.Prelude.{◌≡◌, ◌↔◌, IsTrue, option_map, position};
+ghost use Rattle.std.specs.Prelude.{◌≡◌, ◌==◌, ◌↔◌, IfOk, IsTrue, bytes_eq, option_map, position};
 ghost use Rattle.std.specs.List.{list_all, list_any};
-ghost use Rattle.fat_rules.specs.Aliases.{IsInCapitals, at_dot, cut_of_name, has_short_parts, has_small_letter, has_tilde, is_alias, is_dot, is_letter_start, is_part, is_short_byte, stem_of_name};
+ghost use Rattle.std.specs.StrCase.Upper.{str_to_uppercase};
+ghost use Rattle.fat_rules.specs.Aliases.{IsInCapitals, at_dot, cut_of_name, has_short_parts, has_small_letter, has_tilde, is_alias, is_dot, is_letter_start, is_part, is_short_byte, letter_count, stem_of_name};
+
+use std::alloc::{AllocError, Global};
 
 /// The most letters of a short name's stem.
 const STEM_LIMIT: usize = 8;
@@ -33,11 +36,18 @@ fn is_letter_start(byte: u8) -> bool
     !(128..192).contains(&byte)
 }
 
+// How many letters a text has.
+fn letter_count(text: &[u8]) -> usize
+    ensures { result ≡ letter_count text.now }
+{
+    text.iter().filter(|byte| is_letter_start(**byte)).count()
+}
+
 // Whether a part has a letter, and at most so many.
 fn is_part(text: &[u8], limit: usize) -> bool
     ensures { result ≡ is_part limit text.now }
 {
-    let count = text.iter().filter(|byte| is_letter_start(**byte)).count();
+    let count = letter_count(text);
     count > 0 && count <= limit
 }
 
@@ -106,12 +116,33 @@ pub fn is_alias(name: &str) -> bool
         && (has_tilde(stem_of(name, parts)) || !has_small_letter(name))
 }
 
-/// Whether a name is the alias of a short one in small letters: the same letters in capitals. It takes no memory.
-pub fn is_in_capitals(alias: &str, name: &str) -> bool
-    ensures { IsTrue result ↔ IsInCapitals alias.now name.now }
+/// Whether two texts are the same in capitals, by the letters of any script.
+pub fn is_same_in_capitals(alloc: Global, one: &str, other: &str) -> Result<bool, AllocError>
+    ensures { IfOk result (λ same. same ≡ bytes_eq (str_to_uppercase one.now) (str_to_uppercase other.now)) }
 {
-    alias != name
-        && alias.eq_ignore_ascii_case(name)
+    let one = one.to_uppercase(alloc)?;
+    let other = other.to_uppercase(alloc)?;
+    Ok(one.as_str() == other.as_str())
+}
+
+// Whether two texts have as many letters. One letter may have two for its capital, which FAT doesn't write.
+fn has_as_many_letters(one: &str, other: &str) -> bool
+    ensures { result ≡ (letter_count one.now == letter_count other.now) }
+{
+    letter_count(one.as_bytes()) == letter_count(other.as_bytes())
+}
+
+/// Whether a name is the alias of a short one in small letters: the same letters in capitals, as far as they have some.
+pub fn is_in_capitals(alloc: Global, alias: &str, name: &str) -> Result<bool, AllocError>
+    ensures { IfOk result (λ is. IsTrue is ↔ IsInCapitals alias.now name.now) }
+{
+    if alias != name
+        && has_as_many_letters(alias, name)
         && is_alias(alias)
         && !has_small_letter(alias.as_bytes())
+    {
+        is_same_in_capitals(alloc, alias, name)
+    } else {
+        Ok(false)
+    }
 }

@@ -14,7 +14,7 @@ mod origin;
 mod recovery;
 mod twin;
 
-pub use alias::{is_alias, is_in_capitals};
+pub use alias::{is_alias, is_in_capitals, is_same_in_capitals};
 pub use entry::{EntryName, entry_parts, is_one_entry, is_own_move};
 pub use facts::{Facts, fat_time, may_share};
 pub use laws::{alias_laws, move_laws, recovery_laws, twin_laws};

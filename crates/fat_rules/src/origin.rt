@@ -1,14 +1,19 @@
 //! Which short name can be the alias of which file.
-ghost use Rattle.std.specs.Prelude.{◌≡◌, true, IsTrue};
+ghost use Rattle.std.specs.Prelude.{◌≡◌, true, IfOk, IsTrue};
 ghost use Rattle.fat_rules.specs.Aliases.{is_alias};
 
 use crate::alias::{is_alias, is_in_capitals};
+use std::alloc::{AllocError, Global};
 
-/// Whether a name can be the alias of another one: that in capitals, or one that is numbered. It takes no memory.
-pub fn can_be_alias_of(alias: &str, name: &str) -> bool
-    ensures { IsTrue result → is_alias alias.now ≡ true }
+/// Whether a name can be the alias of another one: that in capitals, or one that is numbered.
+pub fn can_be_alias_of(alloc: Global, alias: &str, name: &str) -> Result<bool, AllocError>
+    ensures { IfOk result (λ can. IsTrue can → is_alias alias.now ≡ true) }
 {
-    is_in_capitals(alias, name) || (is_alias(alias) && is_numbered_as(alias, name))
+    if is_alias(alias) && is_numbered_as(alias, name) {
+        Ok(true)
+    } else {
+        is_in_capitals(alloc, alias, name)
+    }
 }
 
 // Whether a name with a tilde is made of a longer one.

@@ -22,6 +22,8 @@ pub enum Step {
     TakeAlias { place: usize },
     /// Nothing, and it is a fault: the bytes are under no name that is known.
     AskForBytes,
+    /// Nothing, and it is a fault: on FAT a check may have put the bytes into a file of its own.
+    AskForCheck,
     /// Nothing, and it is a fault: the folder isn't there.
     AskForFolder,
     /// Nothing, and it is a fault: more than one alias may be the file's.
@@ -83,13 +85,14 @@ pub fn step_of_one(found: &Facts, aliases: &[Facts]) -> Step
     }
 }
 
-/// The step where neither name is there, by whether their folder is, and by how many short aliases with bytes that can
-/// be the file's are in it. It takes no memory.
-pub fn step_of_none(has_folder: bool, alias_count: usize) -> Step
-    ensures { result ≡ step_of_none has_folder alias_count }
+/// The step where neither name is there, by whether their folder is, whether that may stand on FAT, and how many short
+/// aliases with bytes that can be the file's are in it. It takes no memory.
+pub fn step_of_none(has_folder: bool, is_fat: bool, alias_count: usize) -> Step
+    ensures { result ≡ step_of_none has_folder is_fat alias_count }
 {
     match alias_count {
         _ if !has_folder => Step::AskForFolder,
+        0 if is_fat => Step::AskForCheck,
         0 => Step::Forget,
         1 => Step::TakeAlias { place: 0 },
         _ => Step::AskForName,

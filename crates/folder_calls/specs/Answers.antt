@@ -57,7 +57,16 @@ says_no_syncs Unsupported = true
 says_no_syncs ReadOnlyFilesystem = true
 says_no_syncs _ = false
 
+-- this run may not open something
+abbrev pub says_closed : ErrorKind → Bool
+says_closed PermissionDenied = true
+says_closed _ = false
+
 -- what the answer to the sync of a folder means that was there
 abbrev pub folder_answer : Result (Unit {0}) Error → Result Bool (FolderFault Error)
 folder_answer (Ok synced) = Ok true
-folder_answer (Err error) = Err (record { syncs_none = says_no_syncs (error_kind error); fault = error })
+folder_answer (Err error) = Err (record {
+  syncs_none = says_no_syncs (error_kind error);
+  is_refused = says_closed (error_kind error);
+  fault = error;
+})

@@ -12,6 +12,8 @@ pub record Tree : Type 0 where
   pub leads : List ℕ → Option Found
   -- the names in a folder that are UTF-8, in the order in which it lists them
   pub names : List ℕ → List (List ℕ)
+  -- the bytes of a regular file, by the number of its file system and its own there
+  pub bytes : ℕ × ℕ → List ℕ
 
 -- a regular file
 abbrev pub is_regular : Kind → Bool
@@ -54,6 +56,10 @@ has_link None = false
 -- a regular file that may stand on FAT: FAT can keep its time
 abbrev pub is_fat_file : Found → Bool
 is_fat_file found = is_file found && is_some found.facts.time
+
+-- a folder that may be of FAT: FAT can keep its time
+abbrev pub is_fat_folder : Found → Bool
+is_fat_folder found = is_folder found && is_some found.facts.time
 
 -- the same file, by its number and that of its file system (POSIX, sys/stat.h)
 abbrev pub same_inode : Found → Found → Bool

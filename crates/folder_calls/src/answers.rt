@@ -1,7 +1,7 @@
 //! What answers of the system mean. No call is made here.
 ghost use Rattle.std.specs.Prelude.{◌≡◌};
 ghost use Rattle.std.specs.IoError.{error_kind};
-ghost use Rattle.folder_calls.specs.Answers.{done_or_refused, folder_answer, found_or_none, made_or_there, says_no_syncs, text_or_none};
+ghost use Rattle.folder_calls.specs.Answers.{done_or_refused, folder_answer, found_or_none, made_or_there, says_closed, says_no_syncs, text_or_none};
 ghost use Rattle.folder_calls.specs.Locks.{is_bad_descriptor, keeps_no_locks, lock_answer, lock_fault, says_no_locks};
 
 use crate::calls::LockFault;
@@ -115,7 +115,12 @@ pub fn folder_answer(answer: io::Result<()>) -> Result<bool, FolderFault<io::Err
         Ok(()) => Ok(true),
         Err(fault) => {
             let syncs_none = syncs_no_folders(&fault);
-            Err(FolderFault { syncs_none, fault })
+            let is_refused = is_closed(&fault);
+            Err(FolderFault {
+                syncs_none,
+                is_refused,
+                fault,
+            })
         }
     }
 }
@@ -128,4 +133,11 @@ fn syncs_no_folders(error: &io::Error) -> bool
         error.kind(),
         ErrorKind::InvalidInput | ErrorKind::Unsupported | ErrorKind::ReadOnlyFilesystem
     )
+}
+
+/// Whether a call has failed since this run may not open something.
+pub fn is_closed(error: &io::Error) -> bool
+    ensures { result ≡ says_closed (error_kind error.now) }
+{
+    matches!(error.kind(), ErrorKind::PermissionDenied)
 }

@@ -1,11 +1,12 @@
 //! The calls of the system.
-ghost use Rattle.std.specs.Prelude.{◌≡◌, ◌≤◌, [], ◌∷◌, Bool, ℕ, IfErr, IfOk, IfSome, IsTrue, List, Option, Some, None, false, true, is_some, length, map, string_bytes};
+ghost use Rattle.std.specs.Prelude.{◌≡◌, ◌≤◌, [], ◌∷◌, Bool, ℕ, IfErr, IfOk, IfSome, IsTrue, List, Option, Some, None, drop, false, true, is_some, length, map, string_bytes};
 ghost use Rattle.std.specs.Option.{option_map};
 ghost use Rattle.name_syncs.specs.Named.{NameWaits, RenameWaits};
-ghost use Rattle.name_syncs.specs.Waiting.{Asks, FileAt, FolderAt, KeepsSynced, Waiting};
+ghost use Rattle.name_syncs.specs.Waiting.{Asks, FileAt, FolderAt, IsShutOut, KeepsSynced, ListsLeft, Waiting};
 ghost use Rattle.boot_base.specs.Paths.{file_name_of};
-ghost use Rattle.folder_calls.specs.Calls.{Inode, IsOpenAt, MayGo, MayGoBut, inode_of};
-ghost use Rattle.folder_calls.specs.Tree.{Tree, has_link};
+ghost use Rattle.folder_calls.specs.Calls.{Inode, IsOpenAt, MayGo, MayGoBut, ReadsSome, inode_of};
+ghost use Rattle.folder_calls.specs.Ready.{IsRefusal, MaySync, TellsOfFile, TellsOfFolder};
+ghost use Rattle.folder_calls.specs.Tree.{Tree, has_link, is_fat_file};
 
 use crate::found::Found;
 use crate::locked::Locked;
@@ -66,11 +67,15 @@ pub trait Calls {
     fn find(&self, path: &str) -> io::Result<Option<Found>>
         ensures leads { IfOk result (λ found. IsTrue tells → found ≡ (tree self.now).leads path.now) }
         ensures itself { IfOk result (λ found. IsTrue tells → has_link ((tree self.now).stands path.now) ≡ false
-            → found ≡ (tree self.now).stands path.now) };
+            → found ≡ (tree self.now).stands path.now) }
+        ensures folder { IfOk result (λ found. IsTrue tells → TellsOfFolder (waits self.now) path.now found) }
+        ensures refused { IfErr result (λ error. IsTrue tells → IsRefusal (waits self.now) error) };
 
     /// What stands at a path itself, which may be a link.
     fn find_itself(&self, path: &str) -> io::Result<Option<Found>>
-        ensures { IfOk result (λ found. IsTrue tells → found ≡ (tree self.now).stands path.now) };
+        ensures stands { IfOk result (λ found. IsTrue tells → found ≡ (tree self.now).stands path.now) }
+        ensures file { IfOk result (λ found. IsTrue tells → TellsOfFile (waits self.now) path.now found) }
+        ensures refused { IfErr result (λ error. IsTrue tells → IsRefusal (waits self.now) error) };
 
     /// What an open file is.
     fn find_open(&self, file: &Self::File) -> io::Result<Found>
@@ -78,8 +83,11 @@ pub trait Calls {
 
     /// The names in a folder that are UTF-8, and none if it isn't there.
     fn names(&self, alloc: Global, folder: &str) -> io::Result<Vec<String>>
-        ensures { IfOk result (λ names. IsTrue tells
-            → map string_bytes names.items ≡ (tree self.now).names folder.now) };
+        ensures lists { IfOk result (λ names. IsTrue tells
+            → map string_bytes names.items ≡ (tree self.now).names folder.now) }
+        ensures left { IfOk result (λ names. IsTrue tells
+            → ListsLeft (waits self.now) folder.now (map string_bytes names.items)) }
+        ensures refused { IfErr result (λ error. IsTrue tells → IsRefusal (waits self.now) error) };
 
     /// Opens a file or a folder.
     fn open(&self, path: &str, access: Access) -> io::Result<Self::File>
@@ -88,7 +96,9 @@ pub trait Calls {
 
     /// Some of an open file's bytes from that place on, and none at its end.
     fn read(&self, file: &Self::File, at: u64, into: &mut [u8]) -> io::Result<usize>
-        ensures { IfOk result (λ n. n ≤ length into.new) };
+        ensures within { IfOk result (λ n. n ≤ length into.new) }
+        ensures bytes { IfOk result (λ n. IsTrue tells
+            → ReadsSome (drop at ((tree self.now).bytes (inode file.now))) into.new n) };
 
     /// Locks an open file or folder.
     fn lock(&self, file: &Self::File, hold: Hold) -> Result<(), LockFault>;
@@ -102,8 +112,11 @@ pub trait Calls {
         ensures same { IsTrue tells → inode file.new ≡ inode file.old }
         ensures quiet { IsTrue tells → waits self.new ≡ waits self.old };
 
-    /// Gives an open file a mode, and tells whether its file system has modes.
-    fn set_mode(&mut self, file: &Self::File, mode: u32) -> io::Result<bool>
+    /// Gives an open file a mode, and tells whether its file system has modes. FAT has none: its driver would only write the
+    /// file's entry once more.
+    fn set_mode(&mut self, file: &Self::File, found: &Found, mode: u32) -> io::Result<bool>
+        requires modes { is_fat_file found.now ≡ false }
+        requires open { IsTrue tells → inode file.now ≡ inode_of found.now }
         ensures { IsTrue tells → waits self.new ≡ waits self.old };
 
     /// Makes a folder, unless something stands there.
@@ -133,10 +146,13 @@ pub trait Calls {
         requires { IsTrue tells → MayGo (tree self.old) path.now (option_map (λ file. inode file.now) held) }
         ensures { IsTrue tells → NameWaits (waits self.old) (waits self.new) path.now };
 
-    /// Syncs the file at a path, if one is there.
-    fn sync_file(&mut self, path: &str) -> io::Result<()>
+    /// Syncs the file at a path, and tells whether one is there.
+    fn sync_file(&mut self, path: &str) -> io::Result<bool>
         ensures asks { IsTrue tells → Asks (FileAt path.now ∷ []) (waits self.old) (waits self.new) }
-        ensures synced { IfOk result (λ _. IsTrue tells → (waits self.new).files path.now ≡ false) };
+        ensures synced { IfOk result (λ is_there. IsTrue tells → is_there ≡ true
+            → (waits self.new).files path.now ≡ false) }
+        ensures left { IfOk result (λ _. IsTrue tells → (waits self.new).left (FileAt path.now) ≡ false) }
+        ensures refused { IfErr result (λ error. IsTrue tells → IsRefusal (waits self.new) error) };
 
     /// Syncs an open file, which is the one at that path or was.
     fn sync_open(&mut self, path: &str, file: &Self::File) -> io::Result<()>
@@ -146,12 +162,21 @@ pub trait Calls {
         ensures whole { IfOk result (λ _. IsTrue tells → IsOpenAt (tree self.old) path.now (inode file.now)
             → written self.new path.now ≡ false) };
 
-    /// Syncs a folder, and tells whether it was there.
+    /// Syncs a folder, and tells whether it was there. On FAT what others have left in it comes first: the start and the
+    /// length of a file in it are written with the file, and not with the folder.
     fn sync_folder(&mut self, folder: &str) -> Result<bool, FolderFault<io::Error>>
+        requires ready { IsTrue tells → MaySync (waits self.old) folder.now }
         ensures asks { IsTrue tells → Asks (FolderAt folder.now ∷ []) (waits self.old) (waits self.new) }
-        ensures synced { IfOk result (λ _. IsTrue tells → (waits self.new).folders folder.now ≡ false) }
+        ensures synced { IfOk result (λ is_there. IsTrue tells → is_there ≡ true
+            → (waits self.new).folders folder.now ≡ false) }
+        ensures left { IfOk result (λ is_there. IsTrue tells → is_there ≡ true
+            → (waits self.new).left (FolderAt folder.now) ≡ false) }
+        ensures gone { IfOk result (λ is_there. IsTrue tells → is_there ≡ false
+            → (waits self.new).opens (FolderAt folder.now) ≡ false) }
         ensures unable { IfErr result (λ failure. IsTrue tells → failure.syncs_none ≡ true
-            → (waits self.new).syncs folder.now ≡ false) };
+            → (waits self.new).syncs folder.now ≡ false) }
+        ensures refused { IfErr result (λ failure. IsTrue tells → failure.is_refused ≡ true
+            → IsShutOut (waits self.new)) };
 
     /// Whether the file system of a path that is gone can be written: a rename of the name to itself, which changes nothing.
     fn try_name(&self, path: &str) -> io::Result<()>;

@@ -1,6 +1,6 @@
 //! What the system tells of a file or a folder.
 ghost use Rattle.std.specs.Prelude.{◌≡◌};
-ghost use Rattle.folder_calls.specs.Tree.{is_fat_file, is_file, is_folder, is_link, same_inode};
+ghost use Rattle.folder_calls.specs.Tree.{is_fat_file, is_fat_folder, is_file, is_folder, is_link, same_inode};
 
 use fat_rules::Facts;
 
@@ -69,6 +69,13 @@ impl Found {
         ensures { result ≡ is_fat_file self.now }
     {
         self.is_file() && self.facts.time.is_some()
+    }
+
+    /// Whether it is a folder that may be of FAT: its time is one that FAT can keep.
+    pub fn is_fat_folder(&self) -> bool
+        ensures { result ≡ is_fat_folder self.now }
+    {
+        self.is_folder() && self.facts.time.is_some()
     }
 
     /// Whether both are one file: by its number, and that of its file system.

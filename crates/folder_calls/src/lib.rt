@@ -6,10 +6,12 @@ mod answers;
 mod calls;
 mod found;
 mod locked;
+mod reads;
 mod writes;
 
-pub use answers::{folder_answer, if_allowed, if_new, if_there, if_utf8, lock_answer};
+pub use answers::{folder_answer, if_allowed, if_new, if_there, if_utf8, is_closed, lock_answer};
 pub use calls::{Access, Calls, Hold, LockFault};
 pub use found::{Found, Kind};
 pub use locked::Locked;
+pub use reads::read_full;
 pub use writes::write_all_bytes;

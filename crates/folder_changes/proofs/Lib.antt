@@ -1,3 +1,5 @@
 mod Noting
+mod Clearing
 mod NoTwin
+mod SameStart
 mod Listing

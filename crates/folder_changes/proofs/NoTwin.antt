@@ -1,5 +1,5 @@
 -- Names that are no twins, one after the other.
-use Rattle.std.proofs.Common.{◌≡◌, ℕ, ◌+◌, ◌<◌, Bool, true, false, List, ◌∷◌, [], length, map, get_or, take, refl, sym, ap, ◌∙◌, subst, String, Global, string_bytes, All, ◌&&◌}
+use Rattle.std.proofs.Common.{◌≡◌, ℕ, ◌+◌, ◌<◌, Bool, true, false, List, ◌∷◌, [], length, map, get_or, take, refl, subst, String, Global, string_bytes, All, ◌&&◌}
 use Rattle.std.proofs.lemmas.List.{map-append, take_more}
 use Rattle.std.proofs.lemmas.List.Elements.{All-push}
 

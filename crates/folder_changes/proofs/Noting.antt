@@ -4,6 +4,7 @@ use Rattle.std.specs.declared.alloc.AllocError.{AllocError}
 use Rattle.name_syncs.specs.Named.{Covers, NameWaits, RenameWaits}
 use Rattle.name_syncs.specs.Waiting.{Waiting}
 use Rattle.name_syncs.specs.declared.named.Named.{Named}
+use Rattle.name_syncs.proofs.Syncing.{keeps_none}
 
 -- a note was made in these words, and the change behind it is covered by them
 pub note_covers : (result : Result (Unit {0}) AllocError) (before after : Bool) (noted made : Named) (new : Waiting)
@@ -20,7 +21,11 @@ if_ok (Err _) holds = tt
 
 -- nothing comes or goes
 pub name_waits_none : (waits : Waiting) (path : List ℕ) → NameWaits waits waits path
-name_waits_none waits path = record { files = λ other waiting. waiting; folders = λ folder waiting. inl waiting }
+name_waits_none waits path = record {
+  files = λ other waiting. waiting;
+  folders = λ folder waiting. inl waiting;
+  others = (keeps_none waits).others;
+}
 
 -- the same after a call that changed nothing
 pub name_waits_same : (old new : Waiting) (path : List ℕ) → new ≡ old → NameWaits old new path
@@ -28,4 +33,8 @@ name_waits_same old new path is = subst (λ (waits : Waiting). NameWaits old wai
 
 pub rename_waits_same : (old new : Waiting) (from to : List ℕ) → new ≡ old → RenameWaits old new from to
 rename_waits_same old new from to is = subst (λ (waits : Waiting). RenameWaits old waits from to) (sym is)
-    (record { files = λ path waiting. inl waiting; folders = λ folder waiting. inl waiting })
+    (record {
+      files = λ path waiting. inl waiting;
+      folders = λ folder waiting. inl waiting;
+      others = (keeps_none old).others;
+    })

@@ -1,13 +1,13 @@
 -- What is done for a file whose rename was cut, so that its bytes stand under its own name.
-use Rattle.std.specs.Prelude.{◌≡◌, ℕ, Bool, true, false, List, Option, Some, None, All, IsSomeAnd, String, is_some, map, nat_lt, slice_get, string_bytes}
+use Rattle.std.specs.Prelude.{◌≡◌, ℕ, true, false, List, Option, Some, None, All, IsSomeAnd, String, map, nat_lt, slice_get, string_bytes}
 use Rattle.std.specs.Option.{option_map}
 use Rattle.std.specs.declared.alloc.Global.{Global}
 use Rattle.name_syncs.specs.Folders.{parent_folder}
 use Rattle.fat_rules.specs.declared.recovery.Step.{Step}
-use Rattle.fat_rules.specs.declared.recovery.Step.TheVariants.{Forget, TakeAlias, AskForBytes, AskForFolder, AskForName}
-use Rattle.folder_calls.specs.Tree.{Tree, has_link, is_fat_file, is_file, is_folder}
+use Rattle.fat_rules.specs.declared.recovery.Step.TheVariants.{Forget, TakeAlias, AskForBytes, AskForCheck, AskForFolder, AskForName}
+use Rattle.folder_calls.specs.Tree.{Tree, has_link, is_fat_file, is_fat_folder, is_folder, same_inode}
 use Rattle.folder_calls.specs.declared.found.Found.{Found}
-use Rattle.folder_changes.specs.Files.{facts_there, found_as}
+use Rattle.folder_changes.specs.Files.{facts_there}
 use Rattle.folder_changes.specs.Shown.{is_shown}
 use Rattle.folder_changes.specs.declared.half.Aliases.{Aliases}
 use Rattle.folder_changes.specs.declared.half.Rescue.{Rescue}
@@ -32,6 +32,7 @@ IsRescueBy (TakeAlias place) aliases name rescue =
     IsSomeAnd (slice_get aliases place)
     (λ alias. option_map parts_of_rescue rescue ≡ Some (parts_from_alias name alias))
 IsRescueBy AskForBytes aliases name rescue = ⊥
+IsRescueBy AskForCheck aliases name rescue = ⊥
 IsRescueBy AskForFolder aliases name rescue = ⊥
 IsRescueBy AskForName aliases name rescue = ⊥
 
@@ -49,14 +50,20 @@ pub record StandsWhole (tree : Tree) (path : List ℕ) (found : Found) : Type 0 
 abbrev pub NeedsNoRescue : Tree → List ℕ → Found → Type 0
 NeedsNoRescue tree path found = is_fat_file found ≡ true → StandsWhole tree path found
 
--- a folder is there. Behind a link no clause says so.
-abbrev pub HasFolderAt : Tree → List ℕ → Type 0
-HasFolderAt tree folder =
-    has_link (tree.stands folder) ≡ false → is_some (found_as is_folder (tree.stands folder)) ≡ true
+-- what was found is a folder, and not one of FAT
+pub record IsFolderOffFat (found : Found) : Type 0 where
+  pub folder : is_folder found ≡ true
+  pub other : is_fat_folder found ≡ false
 
--- Of the two names of a rename one has a file that needs no rescue, or neither has one, and their folder is there.
+-- a folder is there, and not on FAT. Behind a link no clause says so.
+abbrev pub HasFolderOffFat : Tree → List ℕ → Type 0
+HasFolderOffFat tree folder =
+    has_link (tree.stands folder) ≡ false → IsSomeAnd (tree.stands folder) IsFolderOffFat
+
+-- Of the two names of a rename one has a file that needs no rescue, and the other may be its alias. Or neither has one, and their folder is there, but not on
+-- FAT: there a check may have put the bytes into a file of its own.
 abbrev pub IsSaved : Tree → List ℕ → List ℕ → Option Found → Option Found → Type 0
-IsSaved tree from to (Some old) (Some new) = ⊥
+IsSaved tree from to (Some old) (Some new) = (same_inode old new ≡ true) × NeedsNoRescue tree from old
 IsSaved tree from to (Some old) None = NeedsNoRescue tree from old
 IsSaved tree from to None (Some new) = NeedsNoRescue tree to new
-IsSaved tree from to None None = HasFolderAt tree (parent_folder to)
+IsSaved tree from to None None = HasFolderOffFat tree (parent_folder to)

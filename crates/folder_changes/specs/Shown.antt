@@ -1,10 +1,11 @@
 -- How a folder shows a file that is found by a name: FAT finds it in letters of either case, and by its short alias.
-use Rattle.std.specs.Prelude.{◌≡◌, ℕ, Bool, true, false, List, All, Any}
+use Rattle.std.specs.Prelude.{◌≡◌, ℕ, Bool, true, false, List, All, Any, Option, Some, None, is_some}
 use Rattle.boot_base.specs.Paths.{file_name_of}
 use Rattle.name_syncs.specs.Folders.{parent_folder}
 use Rattle.name_syncs.specs.Paths.{has_path}
 use Rattle.fat_rules.specs.Aliases.{IsInCapitals}
-use Rattle.folder_calls.specs.Tree.{Tree}
+use Rattle.folder_calls.specs.Tree.{Tree, is_file}
+use Rattle.folder_changes.specs.Files.{found_as}
 use Rattle.folder_changes.specs.declared.twins.Spelling.{Spelling}
 use Rattle.folder_changes.specs.declared.twins.Spelling.TheVariants.{AsGiven, InCapitals}
 
@@ -28,3 +29,14 @@ IsShownAs names name InCapitals = (has_path names name ≡ false) × HasCapitals
 -- it shows it in neither way
 abbrev pub IsShownOtherwise : List (List ℕ) → List ℕ → Type 0
 IsShownOtherwise names name = (has_path names name ≡ false) × HasNoCapitals names name
+
+-- it shows it in the one of the two ways, or in neither
+abbrev pub IsShownSo : List (List ℕ) → List ℕ → Option Spelling → Type 0
+IsShownSo names name None = IsShownOtherwise names name
+IsShownSo names name (Some spelling) = IsShownAs names name spelling
+
+-- a file is there, and its folder lists it, by its name or in capitals
+pub record StandsListed (tree : Tree) (path : List ℕ) : Type 0 where
+  pub there : is_some (found_as is_file (tree.stands path)) ≡ true
+  pub spelling : Spelling
+  pub listed : IsShownAs (tree.names (parent_folder path)) (file_name_of path) spelling

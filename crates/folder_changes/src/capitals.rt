@@ -1,17 +1,19 @@
 //! Files that a folder of FAT shows in capitals alone.
-ghost use Rattle.std.specs.Prelude.{◌≡◌, ◌&&◌, IfOk, IsTrue, bytes_eq, false, is_some, length, nat_lt, not, true};
+ghost use Rattle.std.specs.Prelude.{◌≡◌, IfOk, IsTrue, OnOk, Some, false, is_some, string_bytes, true};
 ghost use Rattle.folder_calls.specs.Tree.{is_fat_file, is_file};
 ghost use Rattle.folder_changes.specs.Files.{found_as};
 ghost use Rattle.folder_changes.specs.Shown.{is_shown};
+ghost use Rattle.folder_changes.specs.Ways.{HasNoOtherBytes, IsInTheWay};
 
-use crate::twins::is_shown;
-use folder_calls::{Access, Calls, Found};
+use crate::aliases::is_alias_of_listed;
+use crate::paths::path_in;
+use crate::same_bytes::has_same_bytes;
+use crate::twins::{has_name, is_shown, name_in_capitals, unlisted_fault};
+use folder_calls::{Calls, Found};
+use name_syncs::parted;
 use std::alloc::Global;
 use std::io;
 use std::io::ErrorKind;
-
-/// How many bytes of two files are compared at a time.
-const PIECE: usize = 4096;
 
 /// A file, and None for what is no regular file and for nothing.
 pub fn file_at<C: Calls>(calls: &C, path: &str) -> io::Result<Option<Found>>
@@ -40,59 +42,53 @@ fn if_fat_file(found: Option<Found>) -> Option<Found>
     found.filter(|found| found.is_fat_file())
 }
 
-/// Whether what stands at the new path of a file is to go first: what the folder shows there in capitals, since FAT would
-/// hand that spelling on. It has no bytes, or those of the file, as a cut leaves it. Otherwise it is somebody's own, and a
-/// fault.
-pub fn is_in_the_way<C: Calls>(
+/// What is to go before a file of FAT gets a new name: what the folder lists in capitals of that, since FAT would hand
+/// that spelling on, or refuse the new one. It gives the path by which that is listed.
+///
+/// # Errors
+///
+/// It has bytes of its own: then it is somebody's own file. Or what was found at the new path is listed under another name.
+pub fn path_in_the_way<C: Calls>(
     calls: &C,
     alloc: Global,
     from: &str,
     to: &str,
     replaced: Option<Found>,
-) -> io::Result<bool>
-    ensures { IfOk result (λ is_there. IsTrue C.tells
-        → is_there ≡ (is_some (found_as is_fat_file replaced) && not (is_shown (C.tree calls.now) to.now))) }
+) -> io::Result<Option<String>>
+    ensures { IfOk result (λ way. IsTrue C.tells → IsInTheWay (C.tree calls.now) from.now to.now way) }
 {
-    let Some(found) = if_fat_file(replaced) else {
-        return Ok(false);
-    };
-    if is_shown(calls, alloc, to)? {
-        return Ok(false);
+    let (folder, name) = parted(to);
+    let names = calls.names(alloc, folder)?;
+    if has_name(names.as_slice(), name) {
+        return Ok(None);
     }
-    let length = found.facts.length;
-    if length > 0 && !have_same_start(calls, from, to, length)? {
-        return Err(io::Error::other(
-            "is there in capitals: rename that in two steps, by way of another name",
-        ));
+    match name_in_capitals(alloc, names.as_slice(), name)? {
+        Some(shown) => way_at(calls, from, path_in(alloc, folder, shown)?),
+        None if if_fat_file(replaced).is_some() => Err(unlisted_fault(alloc, &names, name)?),
+        None => Ok(None),
     }
-    Ok(true)
 }
 
-// Whether two files have the same bytes up to a length.
-fn have_same_start<C: Calls>(calls: &C, path: &str, other: &str, length: u64) -> io::Result<bool> {
-    let file = calls.open(path, Access::Read)?;
-    let other = calls.open(other, Access::Read)?;
-    let (mut piece, mut other_piece) = ([0; PIECE], [0; PIECE]);
-    let mut at = 0;
-    for _ in 0..u64::MAX {
-        if at >= length {
-            break;
-        }
-        let count = calls.read(&file, at, &mut piece)?;
-        let other_count = calls.read(&other, at, &mut other_piece)?;
-        if !is_same_piece(&piece[..count], &other_piece[..other_count]) {
-            return Ok(false);
-        }
-        at = at.saturating_add(count as u64);
+// A file that is to go. It has no bytes, or those of the file that gets its name, as a cut leaves it.
+fn way_at<C: Calls>(calls: &C, from: &str, way: String) -> io::Result<Option<String>>
+    ensures way { IfOk result (λ kept. kept ≡ Some way) }
+    ensures bytes { OnOk result (IsTrue C.tells → HasNoOtherBytes (C.tree calls.now) from.now (string_bytes way)) }
+{
+    if has_no_other_bytes(calls, from, way.as_str())? {
+        return Ok(Some(way));
     }
-    Ok(true)
+    Err(io::Error::other("is there in capitals: rename that in two steps, by way of another name"))
 }
 
-// Whether a piece of a file has bytes, and the other file has the same.
-fn is_same_piece(piece: &[u8], other: &[u8]) -> bool
-    ensures { result ≡ (nat_lt 0 (length piece.now) && bytes_eq piece.now other.now) }
+fn has_no_other_bytes<C: Calls>(calls: &C, from: &str, way: &str) -> io::Result<bool>
+    ensures { IfOk result (λ has_none. IsTrue C.tells → has_none ≡ true
+        → HasNoOtherBytes (C.tree calls.now) from.now way.now) }
 {
-    !piece.is_empty() && piece == other
+    match (file_at(calls, way)?, file_at(calls, from)?) {
+        (Some(found), _) if found.facts.length == 0 => Ok(true),
+        (Some(found), Some(moved)) => has_same_bytes(calls, way, &found, from, &moved),
+        _ => Ok(false),
+    }
 }
 
 /// A file that has just got its name is shown as it is spelled.
@@ -107,8 +103,8 @@ pub fn require_spelled<C: Calls>(calls: &C, alloc: Global, path: &str) -> io::Re
     Ok(())
 }
 
-/// Whether a file that was found by a path is shown as the path spells it. In a folder that can't be listed it counts as
-/// such.
+/// Whether a file that was found by a path is shown as the path spells it, and not by another name whose alias that is. In a
+/// folder that can't be listed it counts as such.
 pub fn is_spelled<C: Calls>(calls: &C, alloc: Global, path: &str) -> io::Result<bool>
     ensures { IfOk result (λ is_spelled. IsTrue C.tells → is_spelled ≡ false
         → is_shown (C.tree calls.now) path.now ≡ false) }
@@ -116,6 +112,7 @@ pub fn is_spelled<C: Calls>(calls: &C, alloc: Global, path: &str) -> io::Result<
     match is_shown(calls, alloc, path) {
         Ok(is_shown) => Ok(is_shown),
         Err(error) if error.kind() == ErrorKind::PermissionDenied => Ok(true),
+        Err(_) if is_alias_of_listed(calls, alloc, path)? => Ok(false),
         Err(error) => Err(error),
     }
 }

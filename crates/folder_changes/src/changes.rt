@@ -3,26 +3,33 @@ ghost use Rattle.std.specs.Prelude.{◌≡◌, [], ◌∷◌, IfOk, IsTrue, None
 ghost use Rattle.std.specs.Option.{option_map};
 ghost use Rattle.boot_base.specs.Paths.{file_name_of};
 ghost use Rattle.name_syncs.specs.Folders.{parent_folder};
-ghost use Rattle.name_syncs.specs.Named.{NameWaits, NothingWaits, RenameWaits};
-ghost use Rattle.name_syncs.specs.Waiting.{Asks, FileAt, FolderAt, KeepsSynced};
-ghost use Rattle.folder_calls.specs.Calls.{MayGo, MayGoBut};
+ghost use Rattle.name_syncs.specs.Named.{Covers, NameWaits, NothingWaits, RenameWaits};
+ghost use Rattle.name_syncs.specs.Waiting.{AsksAmong, FileAt, FolderAt, IsOnDisk, KeepsSynced};
+ghost use Rattle.folder_calls.specs.Calls.{MayGo, MayGoBut, inode_of};
+ghost use Rattle.folder_calls.specs.Tree.{is_fat_file};
 
 use crate::paths::copy_path;
+use crate::ready::Ready;
 use crate::reports::Reports;
-use crate::sync::{KeptFile, Syncs, is_open_at};
-use crate::twins::{Twins, changed_fault, leave_of, twins_of};
+use crate::sync::{KeptFile, is_open_at};
+use crate::twins::{Twins, changed_fault, leave_of, shared_fault, twins_of};
 use folder_calls::{Calls, Found, Locked};
-use name_syncs::{Named, folder_of, parted, sync_names};
+use name_syncs::{Disk, Named, folder_of, parted, sync_names};
 use std::alloc::{AllocError, Global};
-use std::io;
 use std::marker::Model;
+use std::{io, mem};
 
 /// The calls, and what they leave to be synced. A clause sees the calls alone.
 #[derive(Drop)]
 pub struct Changes<C: Calls + Drop, E: Print + Drop> {
-    syncs: Syncs<C, E>,
-    alloc: Global,
+    pub(crate) alloc: Global,
+    pub(crate) calls: C,
+    pub(crate) reports: Reports<E>,
     named: Named,
+    /// the folders of which is known that they may be synced
+    pub(crate) ready: Ready,
+    /// a renamed file that is still open
+    pub(crate) moved: Option<KeptFile<C::File>>,
     /// the file that was removed last, until the names are synced
     removed: Option<String>,
     /// two names that may be of one file, for which a call has failed
@@ -34,13 +41,14 @@ pub struct Changes<C: Calls + Drop, E: Print + Drop> {
 
 impl<C: Calls + Drop, E: Print + Drop> Model for Changes<C, E> {
     ghost use Rattle.std.specs.Prelude.{IsTrue};
-    ghost use Rattle.folder_changes.specs.Noted.{IsNoted};
+    ghost use Rattle.folder_changes.specs.Noted.{IsKnown};
 
     ghost Value = { C };
 
-    ghost view = { λ changes. changes.syncs.calls };
+    ghost view = { λ changes. changes.calls };
 
-    ghost invariant = { λ changes. IsTrue C.tells → IsNoted changes.is_unsure changes.named (C.waits changes.syncs.calls) };
+    ghost invariant = { λ changes. IsTrue C.tells
+        → IsKnown changes.is_unsure changes.named changes.ready (C.waits changes.calls) };
 }
 
 // There may have been no memory for a note: then it isn't known what waits.
@@ -61,13 +69,12 @@ impl<C: Calls + Drop, E: Print + Drop> Changes<C, E> {
         ensures { result ≡ calls }
     {
         Changes {
-            syncs: Syncs {
-                calls,
-                moved: None,
-                reports: Reports::new(err),
-            },
             alloc,
+            calls,
+            reports: Reports::new(err),
             named: Named::new(alloc),
+            ready: Ready::new(alloc),
+            moved: None,
             removed: None,
             twins: None,
             is_unsure: false,
@@ -78,7 +85,7 @@ impl<C: Calls + Drop, E: Print + Drop> Changes<C, E> {
     pub fn calls(&self) -> &C
         ensures { result.now ≡ self.now }
     {
-        &self.syncs.calls
+        &self.calls
     }
 
     /// A file was looked at: a name above it that another process changed is synced too.
@@ -125,7 +132,7 @@ impl<C: Calls + Drop, E: Print + Drop> Changes<C, E> {
         ensures { IsTrue C.tells → NameWaits (C.waits self.old) (C.waits self.new) path.now }
     {
         keep_note(&mut self.is_unsure, self.named.remove(path))?;
-        self.syncs.calls.create(path, mode)
+        self.calls.create(path, mode)
     }
 
     /// Makes a folder, unless something stands there.
@@ -134,7 +141,7 @@ impl<C: Calls + Drop, E: Print + Drop> Changes<C, E> {
         ensures { IsTrue C.tells → NameWaits (C.waits self.old) (C.waits self.new) folder.now }
     {
         keep_note(&mut self.is_unsure, self.named.make(folder))?;
-        self.syncs.calls.make_folder(folder)
+        self.calls.make_folder(folder)
     }
 
     /// Writes all of the bytes behind what an open file has.
@@ -142,14 +149,16 @@ impl<C: Calls + Drop, E: Print + Drop> Changes<C, E> {
         ensures quiet { IsTrue C.tells → C.waits self.new ≡ C.waits self.old }
         ensures same { IsTrue C.tells → C.inode file.new ≡ C.inode file.old }
     {
-        file.append(&mut self.syncs.calls, bytes)
+        file.append(&mut self.calls, bytes)
     }
 
-    /// Gives an open file a mode, and tells whether its file system has modes.
-    pub fn set_mode(&mut self, file: &C::File, mode: u32) -> io::Result<bool>
+    /// Gives an open file a mode, and tells whether its file system has modes. FAT has none.
+    pub fn set_mode(&mut self, file: &C::File, found: &Found, mode: u32) -> io::Result<bool>
+        requires modes { is_fat_file found.now ≡ false }
+        requires open { IsTrue C.tells → C.inode file.now ≡ inode_of found.now }
         ensures { IsTrue C.tells → C.waits self.new ≡ C.waits self.old }
     {
-        self.syncs.calls.set_mode(file, mode)
+        self.calls.set_mode(file, found, mode)
     }
 
     /// Puts a file that this run has made in its place. What stands there goes: a file must be held, and have no twin.
@@ -169,11 +178,11 @@ impl<C: Calls + Drop, E: Print + Drop> Changes<C, E> {
     {
         let (_, name) = parted(from);
         self.require_leave(to, name, held)?;
-        if !is_open_at(&self.syncs.calls, from, made.file()) {
+        if !is_open_at(&self.calls, from, made.file()) {
             return Err(changed_fault());
         }
         keep_note(&mut self.is_unsure, self.named.rename(from, to))?;
-        self.syncs.calls.put(from, to, made, held)
+        self.calls.put(from, to, made, held)
     }
 
     /// Gives a file another path. What stands there goes: a file must be held, and have no twin.
@@ -185,7 +194,7 @@ impl<C: Calls + Drop, E: Print + Drop> Changes<C, E> {
     {
         self.require_leave(to, "", held)?;
         keep_note(&mut self.is_unsure, self.named.rename(from, to))?;
-        self.syncs.calls.rename(from, to, held)
+        self.calls.rename(from, to, held)
     }
 
     /// The same of a file that was there before the names were last synced.
@@ -202,7 +211,7 @@ impl<C: Calls + Drop, E: Print + Drop> Changes<C, E> {
     {
         self.require_leave(to, "", held)?;
         keep_note(&mut self.is_unsure, self.named.rename_known(from, to))?;
-        self.syncs.calls.rename(from, to, held)
+        self.calls.rename(from, to, held)
     }
 
     /// Removes a file: it must be held, and have no twin.
@@ -215,7 +224,7 @@ impl<C: Calls + Drop, E: Print + Drop> Changes<C, E> {
         self.require_leave(path, "", held)?;
         let removed = copy_path(self.alloc, path)?;
         keep_note(&mut self.is_unsure, self.named.remove(path))?;
-        self.syncs.calls.unlink(path, held)?;
+        self.calls.unlink(path, held)?;
         self.removed = Some(removed);
         Ok(())
     }
@@ -231,7 +240,7 @@ impl<C: Calls + Drop, E: Print + Drop> Changes<C, E> {
         ensures leave { IfOk result (λ _. IsTrue C.tells
             → MayGoBut (C.tree self.old) path.now but.now (option_map (λ file. C.inode file.now) held.entry)) }
     {
-        let twins = leave_of(&self.syncs.calls, self.alloc, path, but, held)?;
+        let twins = leave_of(&self.calls, self.alloc, path, but, held)?;
         self.require_no_twins(twins)
     }
 
@@ -245,9 +254,7 @@ impl<C: Calls + Drop, E: Print + Drop> Changes<C, E> {
             return Ok(());
         };
         self.twins = Some(twins);
-        Err(io::Error::other(
-            "may be one file under two names: run fsck.vfat -a, then this command again",
-        ))
+        Err(shared_fault())
     }
 
     /// What was found at a path is changed only if no other name may be of it too.
@@ -261,7 +268,7 @@ impl<C: Calls + Drop, E: Print + Drop> Changes<C, E> {
         let Some(found) = found else {
             return Ok(());
         };
-        let twins = twins_of(&self.syncs.calls, self.alloc, path, "", &found)?;
+        let twins = twins_of(&self.calls, self.alloc, path, "", &found)?;
         self.require_no_twins(twins)
     }
 
@@ -289,44 +296,50 @@ impl<C: Calls + Drop, E: Print + Drop> Changes<C, E> {
         require_sync_before(self.is_unsure)
     }
 
-    /// Syncs the file at a path by an open one: no other one stands there.
-    pub fn sync_file(&mut self, path: &str, file: &Locked<C::File>) -> io::Result<()>
+    /// Syncs the bytes of the file at a path by an open one, which is the one that stands there.
+    pub fn sync_bytes(&mut self, path: &str, file: &Locked<C::File>) -> io::Result<()>
         ensures { IfOk result (λ _. IsTrue C.tells → C.written self.new path.now ≡ false) }
     {
         require_sync_before(self.is_unsure)?;
-        if !is_open_at(&self.syncs.calls, path, file.file()) {
+        if !is_open_at(&self.calls, path, file.file()) {
             return Err(changed_fault());
         }
-        let answer = self.syncs.calls.sync_open(path, file.file());
+        let answer = self.calls.sync_open(path, file.file());
         self.is_unsure = answer.is_err();
         answer
     }
 
-    /// Syncs a file that has got its name, and its folder.
+    /// Syncs a file that has got its name, and its folder. Both must be there.
     pub fn sync_name(&mut self, path: &str) -> io::Result<()>
         ensures kept { IsTrue C.tells → KeepsSynced (C.waits self.old) (C.waits self.new) }
         ensures asks { IfOk result (λ _. IsTrue C.tells
-            → Asks (FileAt path.now ∷ FolderAt (parent_folder path.now) ∷ []) (C.waits self.old) (C.waits self.new)) }
+            → AsksAmong (FileAt path.now ∷ FolderAt (parent_folder path.now) ∷ []) (C.waits self.old) (C.waits self.new)) }
         ensures file { IfOk result (λ _. IsTrue C.tells → (C.waits self.new).files path.now ≡ false) }
-        ensures folder { IfOk result (λ _. IsTrue C.tells
-            → (C.waits self.new).folders (parent_folder path.now) ≡ false) }
+        ensures left { IfOk result (λ _. IsTrue C.tells → (C.waits self.new).left (FileAt path.now) ≡ false) }
+        ensures folder { IfOk result (λ _. IsTrue C.tells → IsOnDisk (C.waits self.new) (parent_folder path.now)) }
     {
-        match self.syncs.calls.sync_file(path) {
-            Ok(()) => self.sync_folder(folder_of(path)),
+        match self.calls.sync_file(path) {
+            Ok(true) => {}
+            Ok(false) => return Err(self.give_up_gone()),
             Err(fault) => {
                 self.is_unsure = true;
-                Err(fault)
+                return Err(fault);
             }
         }
+        self.named.settle_file(path);
+        self.sync_names_in(folder_of(path))
     }
 
-    /// Syncs a folder.
-    pub fn sync_folder(&mut self, folder: &str) -> io::Result<()>
-        ensures asks { IsTrue C.tells → Asks (FolderAt folder.now ∷ []) (C.waits self.old) (C.waits self.new) }
-        ensures synced { IfOk result (λ _. IsTrue C.tells → (C.waits self.new).folders folder.now ≡ false) }
+    /// Syncs the names in a folder, which must be there.
+    pub fn sync_names_in(&mut self, folder: &str) -> io::Result<()>
+        ensures kept { IsTrue C.tells → KeepsSynced (C.waits self.old) (C.waits self.new) }
+        ensures asks { IfOk result (λ _. IsTrue C.tells
+            → AsksAmong (FolderAt folder.now ∷ []) (C.waits self.old) (C.waits self.new)) }
+        ensures synced { IfOk result (λ _. IsTrue C.tells → IsOnDisk (C.waits self.new) folder.now) }
     {
-        match self.syncs.calls.sync_folder(folder) {
-            Ok(_) => Ok(()),
+        match self.sync_folder(folder) {
+            Ok(true) => Ok(()),
+            Ok(false) => Err(self.give_up_gone()),
             Err(failure) => {
                 self.is_unsure = true;
                 Err(failure.fault)
@@ -334,21 +347,39 @@ impl<C: Calls + Drop, E: Print + Drop> Changes<C, E> {
         }
     }
 
+    // What this run has changed isn't there to be synced.
+    fn give_up_gone(&mut self) -> io::Error
+        ensures { self.new ≡ self.old }
+    {
+        self.is_unsure = true;
+        self.gone()
+    }
+
     /// Syncs each renamed file, then each changed folder with those above it, and last, as far as it can be done, the
     /// folders that were looked at. After a failure all of it is still to be synced.
     pub fn sync_names(&mut self) -> io::Result<()>
         ensures { IfOk result (λ _. IsTrue C.tells → NothingWaits (C.waits self.new)) }
     {
-        self.syncs
-            .reports
-            .report("sync", ".", require_sync_before(self.is_unsure))?;
-        let answer = sync_names(&mut self.syncs, &mut self.named);
+        let answer = require_sync_before(self.is_unsure);
+        self.reports.report("sync", ".", answer)?;
+        // What a failed sync leaves is made good for by no later one.
+        self.is_unsure = true;
+        let mut named = mem::replace(&mut self.named, Named::new(self.alloc));
+        let answer = self.sync_noted(&mut named);
         self.is_unsure = answer.is_err();
+        self.named = named;
         answer?;
-        self.require_writable()?;
-        self.removed = None;
         self.named.clear();
+        self.removed = None;
         Ok(())
+    }
+
+    fn sync_noted(&mut self, named: &mut Named) -> io::Result<()>
+        ensures { IfOk result (λ _. IsTrue C.tells → Covers named.old (C.waits self.old) → NothingWaits (C.waits self.new)) }
+    {
+        sync_names(self, named)?;
+        self.sync_replaced(named)?;
+        self.require_writable()
     }
 
     // After a removal the file system must still be one that can be written: FAT's driver makes it read-only if the
@@ -358,35 +389,33 @@ impl<C: Calls + Drop, E: Print + Drop> Changes<C, E> {
             return Ok(());
         };
         let path = removed.as_str();
-        self.syncs
-            .reports
-            .report("sync", path, self.syncs.calls.try_name(path))
+        self.reports.report("sync", path, self.calls.try_name(path))
     }
 
     /// A renamed file that is held is the one at that path, until its name is synced.
     pub fn keep_moved(&mut self, moved: KeptFile<C::File>)
         ensures { self.new ≡ self.old }
     {
-        self.syncs.moved = Some(moved);
+        self.moved = Some(moved);
     }
 
     /// The renamed file that is held, and is held here no longer.
     pub fn take_moved(&mut self) -> Option<KeptFile<C::File>>
         ensures { self.new ≡ self.old }
     {
-        self.syncs.moved.take()
+        self.moved.take()
     }
 
     /// What is told on standard error.
     pub fn reports(&self) -> &Reports<E> {
-        &self.syncs.reports
+        &self.reports
     }
 
     /// Whether failures are told from now on.
     pub fn want_reports(&mut self, are_wanted: bool)
         ensures { self.new ≡ self.old }
     {
-        self.syncs.reports.want(are_wanted);
+        self.reports.want(are_wanted);
     }
 
     /// A reply is printed, or a part of one: no later command relies on a sync before it.

@@ -5,39 +5,101 @@
 ghost use Rattle.std.specs.Prelude.{◌≡◌, IfOk, IsTrue, None, OnOk, Some, false, is_some, string_bytes, true};
 ghost use Rattle.std.specs.IoError.{error_kind};
 ghost use Rattle.std.specs.declared.io.ErrorKind.TheVariants.{Other};
-ghost use Rattle.std.specs.Option.{option_map};
+ghost use Rattle.std.specs.Option.{option_map, option_map_or};
 ghost use Rattle.name_syncs.specs.Folders.{parent_folder};
 ghost use Rattle.fat_rules.specs.Recovery.{removal_of};
-ghost use Rattle.folder_calls.specs.Tree.{has_link, is_file, is_folder};
+ghost use Rattle.folder_calls.specs.Calls.{has_same_bytes, share_clusters};
+ghost use Rattle.folder_calls.specs.Tree.{is_fat_file, is_fat_folder, is_file, is_folder};
 ghost use Rattle.folder_changes.specs.Files.{facts_there, found_as};
-ghost use Rattle.folder_changes.specs.Rescues.{HasFolderAt, HaveBytes, IsRescueBy, IsSaved, NeedsNoRescue, parts_of_rescue};
-ghost use Rattle.folder_changes.specs.Shown.{is_shown};
+ghost use Rattle.folder_changes.specs.Rescues.{HasFolderOffFat, HaveBytes, IsRescueBy, IsSaved, NeedsNoRescue, parts_of_rescue};
+ghost use Rattle.folder_changes.specs.Shown.{StandsListed, is_shown};
 
-use crate::capitals::file_at;
+use crate::capitals::{fat_file_at, file_at};
 use crate::paths::{copy_path, path_in};
-use crate::twins::is_shown;
+use crate::same_bytes::has_same_bytes;
+use crate::twins::{is_shown, shared_fault, spelling_at};
 use boot_base::IntentNames;
 pub use fat_rules::Removal;
-use fat_rules::{Facts, Step, can_be_alias_of, removal_of, step_of_none, step_of_one};
+use fat_rules::{Facts, Step, can_be_alias_of, may_share, removal_of, step_of_none, step_of_one};
 use folder_calls::{Calls, Found};
 use name_syncs::{folder_of, parted};
 use std::alloc::Global;
 use std::io;
+use std::io::ErrorKind;
 
-/// How the old name goes. The two names have no clusters in common.
-pub fn removal_of_old<C: Calls>(calls: &C, names: &IntentNames) -> io::Result<Removal>
-    ensures { IfOk result (λ removal. IsTrue C.tells → removal ≡ removal_of
+/// How the old name goes. On FAT the new one must be listed: after a failed sync the system finds it by its path, though the
+/// disk hasn't got it. And the two have no clusters in common.
+pub fn removal_of_old<C: Calls>(
+    calls: &C,
+    alloc: Global,
+    names: &IntentNames,
+) -> io::Result<Removal>
+    ensures removal { IfOk result (λ removal. IsTrue C.tells → removal ≡ removal_of
         (facts_there (C.tree calls.now) names.now.from) (facts_there (C.tree calls.now) names.now.to)) }
+    ensures listed { OnOk result (IsTrue C.tells
+        → is_some (found_as is_fat_file ((C.tree calls.now).stands names.now.from)) ≡ true
+        → StandsListed (C.tree calls.now) names.now.to) }
+    ensures apart { OnOk result (IsTrue C.tells → share_clusters (C.tree calls.now)
+        (found_as is_file ((C.tree calls.now).stands names.now.from))
+        (found_as is_file ((C.tree calls.now).stands names.now.to)) ≡ false) }
 {
-    let old = facts_at(calls, names.from.as_str())?;
-    let new = facts_at(calls, names.to.as_str())?;
-    Ok(removal_of(old, new))
+    let (from, to) = (names.from.as_str(), names.to.as_str());
+    if fat_file_at(calls, from)?.is_some() {
+        require_listed(calls, alloc, to)?;
+    }
+    let (old, new) = (file_at(calls, from)?, file_at(calls, to)?);
+    require_apart(calls, from, old, to, new)?;
+    Ok(removal_of(facts_of(old), facts_of(new)))
 }
 
-fn facts_at<C: Calls>(calls: &C, path: &str) -> io::Result<Option<Facts>>
-    ensures { IfOk result (λ facts. IsTrue C.tells → facts ≡ facts_there (C.tree calls.now) path.now) }
+fn facts_of(found: Option<Found>) -> Option<Facts>
+    ensures { result ≡ option_map (λ found. found.facts) found }
 {
-    Ok(file_at(calls, path)?.map(|found| found.facts))
+    found.map(|found| found.facts)
+}
+
+// A file is there, and its folder lists it.
+fn require_listed<C: Calls>(calls: &C, alloc: Global, path: &str) -> io::Result<()>
+    ensures { OnOk result (IsTrue C.tells → StandsListed (C.tree calls.now) path.now) }
+{
+    if file_at(calls, path)?.is_none() {
+        return Err(io::Error::from(ErrorKind::NotFound));
+    }
+    spelling_at(calls, alloc, path)?;
+    Ok(())
+}
+
+// Two files don't stand over the same clusters.
+fn require_apart<C: Calls>(
+    calls: &C,
+    path: &str,
+    found: Option<Found>,
+    other_path: &str,
+    other: Option<Found>,
+) -> io::Result<()>
+    ensures { OnOk result (IsTrue C.tells → share_clusters (C.tree calls.now) found other ≡ false) }
+{
+    match (found, other) {
+        (Some(found), Some(other)) if may_share(&found.facts, &other.facts) => {
+            require_other_bytes(calls, path, &found, other_path, &other)
+        }
+        _ => Ok(()),
+    }
+}
+
+fn require_other_bytes<C: Calls>(
+    calls: &C,
+    path: &str,
+    found: &Found,
+    other_path: &str,
+    other: &Found,
+) -> io::Result<()>
+    ensures { OnOk result (IsTrue C.tells → has_same_bytes (C.tree calls.now) found.now other.now ≡ false) }
+{
+    if has_same_bytes(calls, path, found, other_path, other)? {
+        return Err(shared_fault());
+    }
+    Ok(())
 }
 
 /// A file that is found by another name than its own, or shown by its alias alone.
@@ -85,6 +147,9 @@ pub fn rescue_of<C: Calls>(
 {
     let (from, to) = (names.from.as_str(), names.to.as_str());
     match (file_at(calls, from)?, file_at(calls, to)?) {
+        (Some(found), Some(other)) if found.is_same(&other) => {
+            rescue_at(calls, alloc, from, to, &found)
+        }
         (Some(_), Some(_)) => Err(io::Error::other("names two files that are both there")),
         (Some(found), None) => rescue_at(calls, alloc, from, to, &found),
         (None, Some(found)) => rescue_at(calls, alloc, to, from, &found),
@@ -136,25 +201,28 @@ fn rescue_alias<C: Calls>(
     to: &str,
 ) -> io::Result<Option<Rescue>>
     ensures { IfOk result (λ rescue. rescue ≡ None → IsTrue C.tells
-        → HasFolderAt (C.tree calls.now) (parent_folder to.now)) }
+        → HasFolderOffFat (C.tree calls.now) (parent_folder to.now)) }
 {
-    let has_folder = is_folder(calls, folder_of(to))?;
+    let folder = calls.find(folder_of(to))?;
     let aliases = aliases_of(calls, alloc, to, from)?;
-    let step = step_of_none(has_folder, aliases.paths.len());
+    let step = step_of_none(
+        has_folder(folder),
+        has_fat_folder(folder),
+        aliases.paths.len(),
+    );
     aliases.rescue_by(alloc, step, to)
 }
 
-fn is_folder<C: Calls>(calls: &C, path: &str) -> io::Result<bool>
-    ensures { IfOk result (λ is_there. IsTrue C.tells → has_link ((C.tree calls.now).stands path.now) ≡ false
-        → is_there ≡ is_some (found_as is_folder ((C.tree calls.now).stands path.now))) }
-{
-    Ok(has_folder(calls.find(path)?))
-}
-
 fn has_folder(found: Option<Found>) -> bool
-    ensures { result ≡ is_some (found_as is_folder found) }
+    ensures { result ≡ option_map_or is_folder found false }
 {
     found.is_some_and(|found| found.is_folder())
+}
+
+fn has_fat_folder(found: Option<Found>) -> bool
+    ensures { result ≡ option_map_or is_fat_folder found false }
+{
+    found.is_some_and(|found| found.is_fat_folder())
 }
 
 /// Short aliases that have bytes.
@@ -192,6 +260,9 @@ impl Aliases {
                 None => Err(lost_fault()),
             },
             Step::AskForBytes => Err(lost_fault()),
+            Step::AskForCheck => Err(io::Error::other(
+                "names a file of which no name is left: unmount its file system, run fsck.vfat -a, look for an FSCK file with its bytes, and remove it by hand",
+            )),
             Step::AskForFolder => Err(io::Error::other(
                 "names a file in a folder that isn't there: mount its file system",
             )),
@@ -220,7 +291,7 @@ fn aliases_of<C: Calls>(calls: &C, alloc: Global, path: &str, other: &str) -> io
     };
     for alias in calls.names(alloc, folder)? {
         let alias = alias.as_str();
-        if can_be_alias_of(alias, name) || can_be_alias_of(alias, other_name) {
+        if can_be_alias_of(alloc, alias, name)? || can_be_alias_of(alloc, alias, other_name)? {
             aliases.add(calls, path_in(alloc, folder, alias)?)?;
         }
     }

@@ -2,15 +2,19 @@
 //! hold by its lock, or that another name may have.
 #![tactic(auto)]
 
+mod aliases;
 mod capitals;
 mod changes;
 mod half;
 mod paths;
+mod ready;
 mod reports;
+mod same_bytes;
 mod sync;
 mod twins;
 
-pub use capitals::{fat_file_at, file_at, is_in_the_way, is_spelled, require_spelled};
+pub use aliases::{free_alias, is_alias_of_listed};
+pub use capitals::{fat_file_at, file_at, is_spelled, path_in_the_way, require_spelled};
 pub use changes::Changes;
 pub use half::{Removal, Rescue, removal_of_old, rescue_of};
 pub use paths::{copy_path, path_in};

@@ -1,6 +1,6 @@
 //! Paths as texts.
 ghost use Rattle.std.specs.Prelude.{◌≡◌, IfOk, string_bytes};
-ghost use Rattle.folder_calls.specs.Calls.{path_in};
+ghost use Rattle.name_syncs.specs.Folders.{path_in};
 
 use std::alloc::{AllocError, Global};
 

@@ -2,8 +2,8 @@
 ghost use Rattle.std.specs.Prelude.{◌≡◌, IfSome, IsTrue, bytes_eq, string_bytes};
 ghost use Rattle.folder_calls.specs.Calls.{IsOpenAt};
 
-use crate::reports::Reports;
-use folder_calls::{Calls, Locked};
+use crate::changes::Changes;
+use folder_calls::{Calls, Locked, is_closed};
 use name_syncs::{Disk, FolderFault};
 use std::io;
 
@@ -25,31 +25,39 @@ impl<F: Drop> KeptFile<F> {
     }
 }
 
-/// The calls, as far as they sync.
-#[derive(Drop)]
-pub(crate) struct Syncs<C: Calls + Drop, E: Print + Drop> {
-    pub(crate) calls: C,
-    /// a renamed file that is still open
-    pub(crate) moved: Option<KeptFile<C::File>>,
-    pub(crate) reports: Reports<E>,
-}
-
-impl<C: Calls + Drop, E: Print + Drop> Disk for Syncs<C, E> {
+impl<C: Calls + Drop, E: Print + Drop> Disk for Changes<C, E> {
     type Fault = io::Error;
 
     ghost tells = { C.tells };
 
-    ghost state = { λ syncs. C.waits syncs.calls };
+    ghost state = { λ changes. C.waits changes };
 
-    fn sync_file(&mut self, path: &str) -> Result<(), io::Error> {
+    fn sync_file(&mut self, path: &str) -> Result<bool, io::Error> {
         match opened_at(&self.calls, path, &self.moved) {
-            Some(file) => self.calls.sync_open(path, file),
+            Some(file) => {
+                self.calls.sync_open(path, file)?;
+                Ok(true)
+            }
             None => self.calls.sync_file(path),
         }
     }
 
     fn sync_folder(&mut self, folder: &str) -> Result<bool, FolderFault<io::Error>> {
-        self.calls.sync_folder(folder)
+        match self.make_ready(folder) {
+            Ok(true) => self.calls.sync_folder(folder),
+            Ok(false) => Ok(false),
+            Err(fault) => Err(FolderFault {
+                syncs_none: false,
+                is_refused: is_closed(&fault),
+                fault,
+            }),
+        }
+    }
+
+    fn gone(&self) -> io::Error {
+        io::Error::other(
+            "isn't there any more, though this run has changed its name or one in it: mount its file system",
+        )
     }
 
     fn report(&mut self, path: &str, fault: io::Error) -> io::Error {
@@ -78,14 +86,13 @@ fn opened_at<'a, C: Calls>(
     }
 }
 
-// Whether no other file than the open one stands at a path.
+// Whether the open file stands at a path.
 pub(crate) fn is_open_at<C: Calls>(calls: &C, path: &str, file: &C::File) -> bool
     ensures { IsTrue C.tells → IsTrue result
         → IsOpenAt (C.tree calls.now) path.now (C.inode file.now) }
 {
     match (calls.find_itself(path), calls.find_open(file)) {
         (Ok(Some(found)), Ok(opened)) => opened.is_same(&found),
-        (Ok(None), Ok(_)) => true,
         _ => false,
     }
 }

@@ -4,21 +4,22 @@
 //! the new one, or a short alias whose long name isn't on the disk. Who then removes, cuts or replaces the one file frees
 //! the clusters of the other. Only a check of the file system parts them. So a file is changed only if its folder shows
 //! it as it is spelled, and no other name there may be the same file.
-ghost use Rattle.std.specs.Prelude.{◌≡◌, All, IfOk, IsTrue, MatchBool, MatchResult, None, Some, false, map, string_bytes};
+ghost use Rattle.std.specs.Prelude.{◌≡◌, All, IfOk, IfSome, IsTrue, None, Some, false, map, option_map, string_bytes, true};
 ghost use Rattle.std.specs.IoError.{error_kind};
-ghost use Rattle.std.specs.Option.{option_map};
 ghost use Rattle.boot_base.specs.Paths.{file_name_of};
 ghost use Rattle.name_syncs.specs.Folders.{parent_folder};
 ghost use Rattle.name_syncs.specs.Paths.{has_path};
-ghost use Rattle.folder_changes.specs.Shown.{HasCapitals, HasNoCapitals, IsShownAs, IsShownOtherwise, is_shown};
+ghost use Rattle.fat_rules.specs.Aliases.{IsInCapitals};
+ghost use Rattle.folder_changes.specs.Shown.{HasCapitals, HasNoCapitals, IsShownAs, IsShownSo, is_shown};
 ghost use Rattle.folder_changes.specs.Sought.{is_twins_name};
-ghost use Rattle.folder_calls.specs.Calls.{IsAloneBut, MayGoBut, inode_of, is_twin};
+ghost use Rattle.folder_calls.specs.Calls.{IsAloneBut, MayGoBut, inode_of, is_twin, looks_alike};
 
 use crate::paths::{copy_path, path_in};
-use fat_rules::{is_in_capitals, may_be_of_one_file, may_share};
+use crate::same_bytes::has_same_bytes;
+use fat_rules::{is_in_capitals, is_same_in_capitals, may_be_of_one_file, may_share};
 use folder_calls::{Calls, Found, Locked};
 use name_syncs::parted;
-use std::alloc::Global;
+use std::alloc::{AllocError, Global};
 use std::io;
 use std::io::ErrorKind;
 
@@ -85,7 +86,7 @@ fn twin_of<C: Calls>(
 {
     let (folder, name) = parted(path);
     let names = calls.names(alloc, folder)?;
-    let is_shown = spelling_in(&names, name)? == Spelling::AsGiven;
+    let is_shown = spelling_in(alloc, &names, name)? == Spelling::AsGiven;
     let sought = Sought {
         path,
         but,
@@ -120,30 +121,42 @@ fn twin_by_name<C: Calls>(
     sought: &Sought<'_>,
     other: &str,
 ) -> io::Result<Option<String>>
-    ensures { IfOk result (λ twin. twin ≡ None → IsTrue C.tells
+    ensures none { IfOk result (λ twin. twin ≡ None → IsTrue C.tells
         → is_twins_name (C.tree calls.now) sought.now other.now ≡ false) }
+    ensures some { IfOk result (λ twin. IfSome twin (λ _. IsTrue C.tells → sought.now.is_shown ≡ true
+        → is_twins_name (C.tree calls.now) sought.now other.now ≡ true)) }
 {
     let (folder, name) = parted(sought.path);
     if other == sought.but || (sought.is_shown && !may_be_of_one_file(name, other)) {
         return Ok(None);
     }
     let other = path_in(alloc, folder, other)?;
-    if is_twin(sought.found, calls.find_itself(other.as_str())?) {
+    if is_twin(calls, sought, other.as_str())? {
         Ok(Some(other))
     } else {
         Ok(None)
     }
 }
 
-fn is_twin(found: &Found, other: Option<Found>) -> bool
-    ensures { result ≡ is_twin found.now other }
+// Whether the file at a path may be the twin. Two files that only look alike differ in their bytes: two names over the
+// same clusters always read the same.
+fn is_twin<C: Calls>(calls: &C, sought: &Sought<'_>, path: &str) -> io::Result<bool>
+    ensures { IfOk result (λ is. IsTrue C.tells
+        → is ≡ is_twin (C.tree calls.now) sought.now.found.now ((C.tree calls.now).stands path.now)) }
 {
-    match other {
-        Some(other) => {
-            other.is_file() && !found.is_same(&other) && may_share(&found.facts, &other.facts)
+    match calls.find_itself(path)? {
+        Some(other) if looks_alike(sought.found, &other) => {
+            has_same_bytes(calls, sought.path, sought.found, path, &other)
         }
-        None => false,
+        _ => Ok(false),
     }
+}
+
+// Whether another file looks as if it stood over the same clusters, by what the system tells of it.
+fn looks_alike(found: &Found, other: &Found) -> bool
+    ensures { result ≡ looks_alike found.now other.now }
+{
+    other.is_file() && !found.is_same(other) && may_share(&found.facts, &other.facts)
 }
 
 // If what stands at a path may go: None if it is no regular file, or one that is held, and has no twin. One name isn't
@@ -184,6 +197,13 @@ fn require_held<C: Calls>(
     Err(changed_fault())
 }
 
+// Two names may be of one file.
+pub(crate) fn shared_fault() -> io::Error
+    ensures { error_kind result ≡ ErrorKind.Other }
+{
+    io::Error::other("may be one file under two names: run fsck.vfat -a, then this command again")
+}
+
 // What stands at a path isn't what this run holds there.
 pub(crate) fn changed_fault() -> io::Error
     ensures { error_kind result ≡ ErrorKind.WouldBlock }
@@ -204,7 +224,7 @@ pub fn spelling_at<C: Calls>(calls: &C, alloc: Global, path: &str) -> io::Result
         → IsShownAs ((C.tree calls.now).names (parent_folder path.now)) (file_name_of path.now) spelling) }
 {
     let (folder, name) = parted(path);
-    spelling_in(&calls.names(alloc, folder)?, name)
+    spelling_in(alloc, &calls.names(alloc, folder)?, name)
 }
 
 // Whether the folder of a file that is there shows it as the path spells it.
@@ -217,35 +237,81 @@ pub(crate) fn is_shown<C: Calls>(calls: &C, alloc: Global, path: &str) -> io::Re
     }
 }
 
-// How a folder with these names shows a file that is found by a name.
-fn spelling_in(names: &Vec<String>, name: &str) -> io::Result<Spelling>
-    ensures { MatchResult result (IsShownAs (map string_bytes names.now.items) name.now)
-        (λ _. IsShownOtherwise (map string_bytes names.now.items) name.now) }
+// How a folder with these names shows a file that is found by a name. It must show it.
+fn spelling_in(alloc: Global, names: &Vec<String>, name: &str) -> io::Result<Spelling>
+    ensures { IfOk result (IsShownAs (map string_bytes names.now.items) name.now) }
 {
-    if has_name(names.as_slice(), name) {
-        return Ok(Spelling::AsGiven);
+    match spelling_among(alloc, names.as_slice(), name)? {
+        Some(spelling) => Ok(spelling),
+        None => Err(unlisted_fault(alloc, names, name)?),
     }
-    if has_capitals(names.as_slice(), name) {
-        return Ok(Spelling::InCapitals);
-    }
-    Err(io::Error::other("is there under another spelling: type that, or rename it in two steps"))
 }
 
-fn has_name(names: &[String], name: &str) -> bool
+// A folder with these names doesn't show a file that is found by a name. It has another spelling, or after a failed sync
+// the system finds a name that the disk hasn't got.
+pub(crate) fn unlisted_fault(
+    alloc: Global,
+    names: &Vec<String>,
+    name: &str,
+) -> Result<io::Error, AllocError> {
+    let words = if is_other_spelling(alloc, names.as_slice(), name)? {
+        "is there under another spelling: type that, or rename it in two steps"
+    } else {
+        "isn't listed by its folder: unmount the file system, run fsck.vfat -a, then this command again"
+    };
+    Ok(io::Error::other(words))
+}
+
+// The same, and None if it shows it in neither way.
+fn spelling_among(
+    alloc: Global,
+    names: &[String],
+    name: &str,
+) -> Result<Option<Spelling>, AllocError>
+    ensures { IfOk result (IsShownSo (map string_bytes names.now) name.now) }
+{
+    if has_name(names, name) {
+        return Ok(Some(Spelling::AsGiven));
+    }
+    match name_in_capitals(alloc, names, name)? {
+        Some(_) => Ok(Some(Spelling::InCapitals)),
+        None => Ok(None),
+    }
+}
+
+pub(crate) fn has_name(names: &[String], name: &str) -> bool
     ensures { result ≡ has_path (map string_bytes names.now) name.now }
 {
     names.iter().any(|other| other.as_str() == name)
 }
 
-// Whether one of the names is that one in capitals.
-fn has_capitals(names: &[String], name: &str) -> bool
-    ensures { MatchBool result (HasCapitals (map string_bytes names.now) name.now)
-        (HasNoCapitals (map string_bytes names.now) name.now) }
+// The one of the names that is that one in capitals.
+pub(crate) fn name_in_capitals<'a>(
+    alloc: Global,
+    names: &'a [String],
+    name: &str,
+) -> Result<Option<&'a str>, AllocError>
+    ensures none { IfOk result (λ shown. shown ≡ None → HasNoCapitals (map string_bytes names.now) name.now) }
+    ensures shown { IfOk result (λ shown. IfSome shown (λ shown. IsInCapitals shown.now name.now)) }
+    ensures listed { IfOk result (λ shown. IfSome shown (λ _.
+        HasCapitals (map string_bytes names.now) name.now)) }
 {
     for other in names {
-        if is_in_capitals(other.as_str(), name) {
-            return true;
+        let other = other.as_str();
+        if is_in_capitals(alloc, other, name)? {
+            return Ok(Some(other));
         }
     }
-    false
+    Ok(None)
+}
+
+// Whether a file that is found by a name that isn't listed may have another spelling: in letters of either case, or
+// the name is its short alias.
+fn is_other_spelling(alloc: Global, names: &[String], name: &str) -> Result<bool, AllocError> {
+    for other in names {
+        if is_same_in_capitals(alloc, other.as_str(), name)? {
+            return Ok(true);
+        }
+    }
+    Ok(name.contains("~"))
 }

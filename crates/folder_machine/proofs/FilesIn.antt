@@ -3,7 +3,7 @@ use Rattle.std.proofs.Common.{◌≡◌, ℕ, ◌+◌, ◌<◌, true, ◌&&◌, 
 use Rattle.std.proofs.lemmas.List.{map-append, take_more}
 use Rattle.std.proofs.lemmas.List.Elements.{filter-append}
 use Rattle.boot_base.specs.Paths.{is_file_name}
-use Rattle.folder_calls.specs.Calls.{path_in}
+use Rattle.name_syncs.specs.Folders.{path_in}
 use Rattle.folder_calls.specs.Tree.{Tree}
 use Rattle.folder_machine.specs.Looking.{files_in, is_file_in, leads_to_file}
 

@@ -1,3 +1,4 @@
 pub mod MoreHeld
 pub mod FilesIn
 pub mod NameSteps
+mod LeftNames

@@ -1,5 +1,5 @@
 -- What a run holds, call by call.
-use Rattle.std.proofs.Common.{◌≡◌, Bool, List, [], ◌++◌, sym, ap, ◌∙◌, append_assoc, arith, IsTrue, append-nil}
+use Rattle.std.proofs.Common.{◌≡◌, Bool, List, [], ◌++◌, sym, ap, ◌∙◌, append_assoc, arith, append-nil}
 use Rattle.std.proofs.lemmas.List.Elements.{All-append}
 use Rattle.folder_calls.specs.Calls.{Inode}
 use Rattle.folder_machine.specs.Holding.{HoldsMore, IsHeldAs, TellsNewFolders}

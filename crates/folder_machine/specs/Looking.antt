@@ -5,7 +5,7 @@ use Rattle.std.specs.FinSet as set
 use Rattle.std.specs.declared.io.ErrorKind.{ErrorKind}
 use Rattle.std.specs.declared.io.ErrorKind.TheVariants.{OutOfMemory, WouldBlock}
 use Rattle.boot_base.specs.Paths.{is_file_name}
-use Rattle.folder_calls.specs.Calls.{path_in}
+use Rattle.name_syncs.specs.Folders.{path_in}
 use Rattle.folder_calls.specs.Tree.{Tree, has_link, is_file}
 use Rattle.folder_calls.specs.declared.found.Found.{Found}
 use Rattle.run_looks.specs.Standing.{RecentStand, Standing}

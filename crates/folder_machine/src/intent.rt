@@ -1,9 +1,9 @@
 //! The intent of a move: the file that names the two paths of a rename while it is made. It is locked from its creation
 //! until it is gone, and believed only if this program can have written it.
-ghost use Rattle.std.specs.Prelude.{◌≡◌, IfOk, IfSome, IsErrAnd, IsTrue, None, Ok, OnOk, Some, option_copied, true, false};
+ghost use Rattle.std.specs.Prelude.{◌≡◌, IfOk, IfSome, IsErrAnd, IsTrue, None, Ok, OnOk, Some, option_copied, option_map, take, true, false};
 ghost use Rattle.std.specs.IoError.{error_kind};
 ghost use Rattle.boot_base.specs.Intents.{names_of};
-ghost use Rattle.boot_base.specs.Paths.{intent};
+ghost use Rattle.boot_base.specs.Paths.{intent, read_intent};
 ghost use Rattle.fat_rules.specs.Entries.{is_own_move};
 ghost use Rattle.folder_calls.specs.Tree.{same_inode};
 ghost use Rattle.folder_machine.specs.Opening.{IsRead, is_plain_file};
@@ -13,7 +13,7 @@ use crate::kept::lock_file;
 use crate::opened::open_file;
 use boot_base::{INTENT, INTENT_LIMIT, IntentNames};
 use fat_rules::is_own_move;
-use folder_calls::{Calls, Found, Locked};
+use folder_calls::{Calls, Found, Locked, read_full};
 use name_syncs::FolderSet;
 use std::alloc::Global;
 use std::io;
@@ -22,12 +22,17 @@ use std::io::ErrorKind;
 /// Why the intent of another run is left as it is.
 const OTHER_MOVE: &str = "another run is moving a boot file";
 
-// The paths that an intent's file names.
+/// How many bytes of an intent are read: one more than it may have.
+const READ_LIMIT: usize = INTENT_LIMIT as usize + 1;
+
+// The paths that an intent's file names. It is read to its end, unless it is too long for one.
 fn read_from<C: Calls>(calls: &C, alloc: Global, file: &C::File) -> io::Result<Option<IntentNames>>
-    ensures { IfOk result (λ left. IfSome left IsRead) }
+    ensures read { IfOk result (λ left. IfSome left IsRead) }
+    ensures whole { IfOk result (λ left. IsTrue C.tells → option_map names_of left
+        ≡ read_intent (take 2051 ((C.tree calls.now).bytes (C.inode file.now)))) }
 {
-    let mut bytes = [0; INTENT_LIMIT as usize + 1];
-    let count = calls.read(file, 0, &mut bytes)?;
+    let mut bytes = [0; READ_LIMIT];
+    let count = read_full(calls, file, 0, &mut bytes)?;
     Ok(IntentNames::read(alloc, &bytes[..count])?)
 }
 

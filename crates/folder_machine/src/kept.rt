@@ -1,8 +1,9 @@
 //! Temporary files and their locks, and the modes of files.
-ghost use Rattle.std.specs.Prelude.{◌≡◌, IfOk, IfSome, IsTrue, is_some, true};
+ghost use Rattle.std.specs.Prelude.{◌≡◌, IfOk, IfSome, IsTrue, Some, false, is_some, true};
 ghost use Rattle.std.specs.IoError.{error_kind};
 ghost use Rattle.name_syncs.specs.Named.{NameWaits};
 ghost use Rattle.folder_calls.specs.Calls.{inode_of};
+ghost use Rattle.folder_calls.specs.Tree.{is_fat_file};
 ghost use Rattle.folder_machine.specs.Opening.{IsFileAt, stands_still};
 ghost use Rattle.folder_machine.specs.Refusing.{AnswersWith, kind_fault, replace_fault};
 
@@ -37,20 +38,20 @@ pub(crate) fn lock_file<C: Calls>(
     }
 }
 
-// Opens a temporary file that no other run holds, and locks it until it is closed. What is no regular file is never
-// opened.
+// Opens a temporary file that no other run holds, and locks it until it is closed. It gives what was opened too. What is no
+// regular file is never opened.
 pub(crate) fn open_locked<C: Calls>(
     calls: &C,
     path: &str,
     access: Access,
-) -> io::Result<Locked<C::File>>
-    ensures { IfOk result (λ locked. IsTrue C.tells → IsFileAt (C.tree calls.now) path.now (C.inode locked)) }
+) -> io::Result<(Locked<C::File>, Found)>
+    ensures { IfOk result (λ opened. IsTrue C.tells → IsFileAt (C.tree calls.now) path.now (C.inode opened.0)) }
 {
     require_file(calls.find_itself(path)?)?;
     let file = calls.open(path, access)?;
     let opened = calls.find_open(&file)?;
     match lock_named(calls, path, file, &opened)? {
-        Some(file) => Ok(file),
+        Some(file) => Ok((file, opened)),
         None => Err(held_fault()),
     }
 }
@@ -97,11 +98,11 @@ fn lock_named<C: Calls>(
 pub(crate) struct Created<F: Drop> {
     pub(crate) file: Locked<F>,
     pub(crate) found: Found,
-    /// the mode that the system gave it before it was for its owner alone; None on a file system without modes
-    pub(crate) given: Option<u32>,
+    /// the same, with the mode that the system gave it before it was for its owner alone; None on a file system without modes
+    pub(crate) given: Option<Found>,
 }
 
-// Makes a temporary file, and locks it. Another run may take a file for a leftover before it is locked, so if it is gone
+// Makes a temporary file, and locks it. Where there are modes it is for its owner alone. Another run may take a file for a leftover before it is locked, so if it is gone
 // it is made once more.
 #[tactic(auto, using(crate::proofs::NameSteps::name_waits_twice, crate::proofs::NameSteps::name_waits_none))]
 pub(crate) fn create_locked<C: Calls + Drop, E: Print + Drop>(
@@ -112,20 +113,45 @@ pub(crate) fn create_locked<C: Calls + Drop, E: Print + Drop>(
     ensures same { IfOk result (λ made. IsTrue C.tells → C.inode made.file ≡ inode_of made.found) }
     ensures stands { IfOk result (λ made. IsTrue C.tells
         → stands_still (C.tree changes.new) path.now made.found ≡ true) }
-    ensures given { IfOk result (λ made. IfSome made.given (λ mode. mode ≡ made.found.mode)) }
+    ensures given { IfOk result (λ made. IfSome made.given (λ found. found ≡ made.found)) }
+    ensures modes { IfOk result (λ made. IfSome made.given (λ found. is_fat_file found ≡ false)) }
+    ensures open { IfOk result (λ made. IfSome made.given (λ found. IsTrue C.tells
+        → C.inode made.file ≡ inode_of found)) }
     ensures waits { IsTrue C.tells → NameWaits (C.waits changes.old) (C.waits changes.new) path.now }
-    ensures private { IfOk result (λ made. made.found.mode ≡ PRIVATE → made.given ≡ Some PRIVATE) }
+    ensures private { IfOk result (λ made. is_fat_file made.found ≡ false → made.found.mode ≡ PRIVATE
+        → made.given ≡ Some made.found) }
 {
     for _ in 0..2 {
         let file = create_anew(changes, path, mode)?;
         let found = changes.calls().find_open(&file)?;
-        let has_modes = found.mode == PRIVATE || changes.set_mode(&file, PRIVATE)?;
+        let has_modes = make_private(changes, &file, &found)?;
         if let Some(file) = lock_named(changes.calls(), path, file, &found)? {
-            let given = if has_modes { Some(found.mode) } else { None };
+            let given = if has_modes { Some(found) } else { None };
             return Ok(Created { file, found, given });
         }
     }
     Err(held_fault())
+}
+
+// Makes a new file one for its owner alone, and tells whether its file system has modes. FAT has none.
+fn make_private<C: Calls + Drop, E: Print + Drop>(
+    changes: &mut Changes<C, E>,
+    file: &C::File,
+    found: &Found,
+) -> io::Result<bool>
+    requires { IsTrue C.tells → C.inode file.now ≡ inode_of found.now }
+    ensures modes { IfOk result (λ has_modes. has_modes ≡ true → is_fat_file found.now ≡ false) }
+    ensures private { IfOk result (λ has_modes. is_fat_file found.now ≡ false → found.now.mode ≡ PRIVATE
+        → has_modes ≡ true) }
+    ensures quiet { IsTrue C.tells → C.waits changes.new ≡ C.waits changes.old }
+{
+    if found.is_fat_file() {
+        return Ok(false);
+    }
+    if found.mode == PRIVATE {
+        return Ok(true);
+    }
+    changes.set_mode(file, found, PRIVATE)
 }
 
 // A leftover goes first: it may have another owner, and a second name.
@@ -139,7 +165,7 @@ fn create_anew<C: Calls + Drop, E: Print + Drop>(
 {
     match changes.create(path, mode) {
         Err(error) if error.kind() == ErrorKind::AlreadyExists => {
-            let held = open_locked(changes.calls(), path, Access::Append)?;
+            let (held, _) = open_locked(changes.calls(), path, Access::Append)?;
             changes.unlink(path, Some(&held))?;
             changes.create(path, mode)
         }

@@ -2,7 +2,8 @@
 //!
 //! What is no regular file, after links, isn't there, and is never opened. "Not a directory", "is a
 //! directory" and a loop of links mean that no such file is there.
-ghost use Rattle.std.specs.Prelude.{◌≡◌, ◌≤◌, ◌⊎◌, ◌++◌, false, true, length, IfOk, IsSomeAnd, IsTrue, None, OnOk, is_some, string_bytes};
+ghost use Rattle.std.specs.Prelude.{◌≡◌, ◌≤◌, ◌⊎◌, ◌++◌, false, true, length, IfOk, IfSome, IsSomeAnd, IsTrue, None, OnOk, is_some, string_bytes};
+ghost use Rattle.std.specs.Option.{ForSome};
 ghost use Rattle.boot_base.specs.Paths.{intent, temp_end};
 ghost use Rattle.name_syncs.specs.Folders.{parent_folder};
 ghost use Rattle.name_syncs.specs.Named.{NameWaits, NothingWaits};
@@ -24,8 +25,8 @@ use crate::opened::{open_file, open_known};
 use boot_base::{FileName, INTENT, TEMP_SUFFIX, ends_as_temp};
 use folder_calls::{Access, Calls, Found, Hold, Locked};
 use folder_changes::{
-    Changes, KeptFile, Reports, Twins, copy_path, fat_file_at, file_at, is_in_the_way, is_spelled,
-    path_in, require_spelled,
+    Changes, KeptFile, Reports, Twins, copy_path, fat_file_at, file_at, is_alias_of_listed,
+    is_spelled, path_in, path_in_the_way, require_spelled,
 };
 use name_syncs::{FolderSet, folder_of};
 use run_looks::RunLooks;
@@ -33,6 +34,7 @@ use std::alloc::Global;
 use std::io::ErrorKind;
 use std::{io, mem};
 
+mod moving;
 mod recovery;
 
 /// The file that was read last.
@@ -44,11 +46,15 @@ struct LookedFile<F: Drop> {
 
 /// The temporary file that is written, with its lock.
 #[derive(Drop)]
-struct Written<F: Drop> {
-    kept: KeptFile<F>,
-    /// the mode that it gets in its place if it replaces no file; None if this run hasn't made it, or its file system has
-    /// no modes
-    mode: Option<u32>,
+struct Written<C: Calls + Drop> {
+    kept: KeptFile<C::File>,
+    /// what was found of it as it was made, with the mode that it gets in its place if it replaces no file; None if this run
+    /// hasn't made it, or its file system has no modes
+    made: Option<Found>,
+    /// whether it may stand on FAT
+    is_fat: bool,
+    ghost modes: { ForSome made (λ found. is_fat_file found ≡ false) },
+    ghost open: { ForSome made (λ found. IsTrue C.tells → C.inode kept.file ≡ inode_of found) },
 }
 
 /// The files below the folder that the program starts in.
@@ -62,7 +68,7 @@ pub(crate) struct System<C: Calls + Drop, E: Print + Drop> {
     intent: Option<HeldIntent<C::File>>,
     /// the temporary files beside payloads that were listed since the last sync of names
     leftovers: Vec<String>,
-    written: Option<Written<C::File>>,
+    written: Option<Written<C>>,
     looked: Option<LookedFile<C::File>>,
 }
 
@@ -139,10 +145,14 @@ impl<C: Calls + Drop, E: Print + Drop> System<C, E> {
         if is_payload(path) {
             self.require_one_name(path)?;
         }
-        if !found.is_fat_file() || self.is_left(path) || self.looks.has_listed(path) {
+        if !found.is_fat_file() || self.looks.has_listed(path) {
             return Ok(true);
         }
-        is_spelled(self.changes.calls(), self.alloc, path)
+        let calls = self.changes.calls();
+        if self.is_left(path) {
+            return Ok(!is_alias_of_listed(calls, self.alloc, path)?);
+        }
+        is_spelled(calls, self.alloc, path)
     }
 
     // This stands at a path, or nothing. Its folder is to be synced, unless it was after a look that found the same.
@@ -268,7 +278,7 @@ impl<C: Calls + Drop, E: Print + Drop> System<C, E> {
             return Ok(None);
         }
         self.require_one_name(path)?;
-        let file = open_locked(self.changes.calls(), path, Access::Read)?;
+        let (file, _) = open_locked(self.changes.calls(), path, Access::Read)?;
         Ok(Some(file))
     }
 
@@ -330,7 +340,8 @@ impl<C: Calls + Drop, E: Print + Drop> System<C, E> {
                 file: created.file,
                 is_made: true,
             },
-            mode: created.given,
+            made: created.given,
+            is_fat: created.found.is_fat_file(),
         });
         Ok(())
     }
@@ -339,13 +350,16 @@ impl<C: Calls + Drop, E: Print + Drop> System<C, E> {
     // the disk until then, so nothing else is to be written before.
     fn make_temp(&mut self, path: &str, mode: u32) -> io::Result<Created<C::File>>
         ensures same { IfOk result (λ made. IsTrue C.tells → C.inode made.file ≡ inode_of made.found) }
+        ensures modes { IfOk result (λ made. IfSome made.given (λ found. is_fat_file found ≡ false)) }
+        ensures open { IfOk result (λ made. IfSome made.given (λ found. IsTrue C.tells
+            → C.inode made.file ≡ inode_of found)) }
         ensures waits { IsTrue C.tells → NameWaits (C.waits self.old.changes) (C.waits self.new.changes) path.now }
         ensures grown { IfOk result (λ made. IsTrue C.tells → is_fat_file made.found ≡ true
             → (C.waits self.new.changes).folders (parent_folder path.now) ≡ false) }
     {
         let created = create_locked(&mut self.changes, path, mode)?;
         if created.found.is_fat_file() {
-            self.changes.sync_folder(folder_of(path))?;
+            self.changes.sync_names_in(folder_of(path))?;
         }
         Ok(created)
     }
@@ -366,13 +380,13 @@ impl<C: Calls + Drop, E: Print + Drop> System<C, E> {
     {
         self.changes.require_sure()?;
         let written = self.take_written(path)?;
-        let answer = self.changes.sync_file(path, &written.kept.file);
+        let answer = self.changes.sync_bytes(path, &written.kept.file);
         self.written = Some(written);
         answer
     }
 
     // The temporary file that is written, with its lock.
-    fn take_written(&mut self, path: &str) -> io::Result<Written<C::File>>
+    fn take_written(&mut self, path: &str) -> io::Result<Written<C>>
         ensures still { self.new.changes ≡ self.old.changes }
         ensures looks { self.new.looks ≡ self.old.looks }
         ensures at { IfOk result (λ written. string_bytes written.kept.path ≡ path.now) }
@@ -383,20 +397,21 @@ impl<C: Calls + Drop, E: Print + Drop> System<C, E> {
         }
     }
 
-    fn open_written(&self, path: &str) -> io::Result<Written<C::File>>
+    fn open_written(&self, path: &str) -> io::Result<Written<C>>
         ensures at { IfOk result (λ written. string_bytes written.kept.path ≡ path.now) }
         ensures file { IfOk result (λ written. IsTrue C.tells
             → IsFileAt (C.tree self.now.changes) path.now (C.inode written.kept.file)) }
     {
         let kept = copy_path(self.alloc, path)?;
-        let file = open_locked(self.changes.calls(), path, Access::Append)?;
+        let (file, found) = open_locked(self.changes.calls(), path, Access::Append)?;
         Ok(Written {
             kept: KeptFile {
                 path: kept,
                 file,
                 is_made: false,
             },
-            mode: None,
+            made: None,
+            is_fat: found.is_fat_file(),
         })
     }
 
@@ -414,7 +429,7 @@ impl<C: Calls + Drop, E: Print + Drop> System<C, E> {
         }
         let replaced = self.changes.calls().find_itself(to)?;
         self.give_mode(&written, to, replaced)?;
-        self.put(from, to, &written.kept, replaced)?;
+        self.put(from, to, &written, replaced)?;
         self.changes.keep_moved(KeptFile {
             path: kept,
             ..written.kept
@@ -444,18 +459,18 @@ impl<C: Calls + Drop, E: Print + Drop> System<C, E> {
     // What is put in place was for its owner alone. It has the mode of the file that it replaces.
     fn give_mode(
         &mut self,
-        written: &Written<C::File>,
+        written: &Written<C>,
         to: &str,
         replaced: Option<Found>,
     ) -> io::Result<()>
         ensures { IsTrue C.tells → C.waits self.new.changes ≡ C.waits self.old.changes }
     {
-        let Some(new_mode) = written.mode else {
+        let Some(made) = &written.made else {
             return Ok(());
         };
-        let mode = mode_in_place(new_mode, replaced);
+        let mode = mode_in_place(made.mode, replaced);
         if !is_private(to) && mode != PRIVATE {
-            self.changes.set_mode(written.kept.file.file(), mode)?;
+            self.changes.set_mode(written.kept.file.file(), made, mode)?;
         }
         Ok(())
     }
@@ -465,8 +480,11 @@ impl<C: Calls + Drop, E: Print + Drop> System<C, E> {
         ensures stand { IfOk result (λ _. IsTrue C.tells → LooksStand (C.tree self.old.changes) self.old.looks) }
     {
         self.begin_move(from, to)?;
-        self.make_room(from, to)?;
-        self.rename_known(from, to)
+        let is_fat = fat_file_at(self.changes.calls(), from)?.is_some();
+        if is_fat {
+            self.make_room(to)?;
+        }
+        self.rename_known(from, to, is_fat)
     }
 
     // The same before a boot file is moved, and before the intent that says so.
@@ -484,29 +502,18 @@ impl<C: Calls + Drop, E: Print + Drop> System<C, E> {
         self.begin_change(to)
     }
 
-    // On FAT the folder grows for a new name before that comes, if it has to: an empty file with a longer name comes and
+    // A folder of FAT grows for a new name before that comes, if it has to: an empty file with a longer name comes and
     // goes. A leftover stays as it is.
-    fn make_room(&mut self, from: &str, to: &str) -> io::Result<()>
+    fn make_room(&mut self, to: &str) -> io::Result<()>
         ensures { IsTrue C.tells → NameWaits (C.waits self.old.changes) (C.waits self.new.changes) (to.now ++ temp_end) }
     {
         let temp = temp_of(self.alloc, to)?;
         let temp = temp.as_str();
-        let calls = self.changes.calls();
-        if fat_file_at(calls, from)?.is_none() || calls.find_itself(temp)?.is_some() {
+        if self.changes.calls().find_itself(temp)?.is_some() {
             return Ok(());
         }
         let created = self.make_temp(temp, PRIVATE)?;
         self.changes.unlink(temp, Some(&created.file))
-    }
-
-    // Renames a file that was there before the names were last synced.
-    fn rename_known(&mut self, from: &str, to: &str) -> io::Result<()> {
-        self.changes.change_near(to)?;
-        let replaced = self.changes.calls().find_itself(to)?;
-        let replaced = self.make_way(from, to, replaced)?;
-        let held = self.locks.lock_of(replaced);
-        self.changes.rename_known(from, to, held)?;
-        self.end_rename(from, to)
     }
 
     // Puts a temporary file in its place. One that this run has made may look like what it replaces.
@@ -514,25 +521,26 @@ impl<C: Calls + Drop, E: Print + Drop> System<C, E> {
         &mut self,
         from: &str,
         to: &str,
-        written: &KeptFile<C::File>,
+        written: &Written<C>,
         replaced: Option<Found>,
     ) -> io::Result<()> {
-        let replaced = self.make_way(from, to, replaced)?;
+        let replaced = self.make_way(from, to, written.is_fat, replaced)?;
         let held = self.locks.lock_of(replaced);
-        if written.is_made {
-            self.changes.put(from, to, &written.file, held)?;
+        if written.kept.is_made {
+            self.changes.put(from, to, &written.kept.file, held)?;
         } else {
             self.changes.rename(from, to, held)?;
         }
         self.end_rename(from, to)
     }
 
-    // Before a file gets a name its folders are made if they are missing, and what FAT shows there in capitals goes. It
-    // gives what the file will replace.
+    // Before a file gets a name its folders are made if they are missing, and what a folder of FAT lists there in capitals
+    // goes. It gives what the file will replace.
     fn make_way(
         &mut self,
         from: &str,
         to: &str,
+        is_fat: bool,
         replaced: Option<Found>,
     ) -> io::Result<Option<Found>>
         ensures may { OnOk result (replace_fault replaced ≡ None) }
@@ -545,11 +553,23 @@ impl<C: Calls + Drop, E: Print + Drop> System<C, E> {
         self.make_folders(to)?;
         self.looks.forget(from);
         self.looks.forget(to);
-        if !is_in_the_way(self.changes.calls(), self.alloc, from, to, replaced)? {
+        if !is_fat {
             return Ok(replaced);
         }
-        self.changes.unlink(to, self.locks.lock_of(replaced))?;
+        let Some(way) = path_in_the_way(self.changes.calls(), self.alloc, from, to, replaced)?
+        else {
+            return Ok(replaced);
+        };
+        self.clear_way(way.as_str())?;
         self.changes.calls().find_itself(to)
+    }
+
+    // Removes what is in the way of a new name, by a lock on it. The new name may not lead to it.
+    fn clear_way(&mut self, way: &str) -> io::Result<()>
+        ensures { IsTrue C.tells → NameWaits (C.waits self.old.changes) (C.waits self.new.changes) way.now }
+    {
+        self.locks.hold_changed(self.changes.calls(), way)?;
+        self.unlink_held(way)
     }
 
     // What was renamed is held by its old path no longer, and is shown by its new one.
@@ -582,7 +602,7 @@ impl<C: Calls + Drop, E: Print + Drop> System<C, E> {
     {
         match self.written.take() {
             Some(written) if written.kept.is_at(path) => Ok(written.kept.file),
-            _ => open_locked(self.changes.calls(), path, Access::Read),
+            _ => Ok(open_locked(self.changes.calls(), path, Access::Read)?.0),
         }
     }
 
@@ -649,13 +669,20 @@ impl<C: Calls + Drop, E: Print + Drop> System<C, E> {
         Ok(())
     }
 
-    #[tactic(auto, using(crate::proofs::NameSteps::name_waits_none))]
+    // Makes a folder, unless something stands there. On FAT the folder above is synced at once: a new folder's first bytes
+    // are written with that one.
+    #[tactic(auto, using(crate::proofs::NameSteps::name_waits_none, crate::proofs::NameSteps::name_waits_synced))]
     fn make_folder(&mut self, folder: &str) -> io::Result<()>
         ensures { IsTrue C.tells → NameWaits (C.waits self.old.changes) (C.waits self.new.changes) folder.now }
     {
-        if self.changes.calls().find(folder)?.is_none() {
-            self.looks.forget_name(folder);
-            self.changes.make_folder(folder)?;
+        if self.changes.calls().find(folder)?.is_some() {
+            return Ok(());
+        }
+        self.looks.forget_name(folder);
+        self.changes.make_folder(folder)?;
+        let made = self.changes.calls().find(folder)?;
+        if made.is_some_and(|made| made.is_fat_folder()) {
+            self.changes.sync_names_in(folder_of(folder))?;
         }
         Ok(())
     }

@@ -1,8 +1,10 @@
 // Whole commands on a folder that several runs share.
 mod failing;
+mod fat;
 mod handle;
 mod meeting;
 mod shelf;
+mod syncs;
 
 use boot_base::{INTENT, TEMP_SUFFIX};
 use boot_commands::demo_image;

@@ -6,11 +6,20 @@ use Rattle.folder_calls.specs.Tree.{Tree}
 
 -- a folder of which no clause says what stands there
 abbrev pub tree_untold : Tree
-tree_untold = record { stands = λ _. None; leads = λ _. None; names = λ _. [] }
+tree_untold = record { stands = λ _. None; leads = λ _. None; names = λ _. []; bytes = λ _. [] }
 
 -- a disk of which no clause says what waits
 abbrev pub waits_untold : Waiting
-waits_untold = record { files = λ _. false; folders = λ _. false; syncs = λ _. false; asked = []; logged = false }
+waits_untold = record {
+  files = λ _. false;
+  folders = λ _. false;
+  left = λ _. false;
+  fat = λ _. false;
+  syncs = λ _. false;
+  opens = λ _. false;
+  asked = [];
+  logged = false;
+}
 
 -- the number of a file of which no clause says which it is
 abbrev pub inode_untold : Inode

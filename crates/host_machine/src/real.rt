@@ -6,15 +6,18 @@ use crate::answers::{read_once, read_once_at, repeated};
 use crate::found::found_of;
 use crate::streams::StandIns;
 use folder_calls::{
-    Access, Calls, Found, Hold, Kind, LockFault, Locked, folder_answer, if_allowed, if_new,
-    if_there, if_utf8, lock_answer, write_all_bytes,
+    Access, Calls, Found, Hold, LockFault, Locked, folder_answer, if_allowed, if_new, if_there,
+    if_utf8, lock_answer, write_all_bytes,
 };
 use name_syncs::FolderFault;
 use std::alloc::Global;
-use std::fs::{File, OpenOptions, Permissions};
-use std::os::unix::fs::{OpenOptionsExt, PermissionsExt};
+use std::fs::{DirBuilder, File, OpenOptions, Permissions};
+use std::os::unix::fs::{DirBuilderExt, OpenOptionsExt, PermissionsExt};
 use std::rt::Runtime;
 use std::{fs, io};
+
+/// The mode of a new folder, of which the system takes what the umask says.
+const FOLDER_MODE: u32 = 0o755;
 
 /// The folder that the program starts in, as the root of all paths, and the standard streams.
 #[derive(Drop)]
@@ -32,10 +35,10 @@ impl<R: Runtime<File = File> + AllocGlobal> RealFolder<R> {
         }
     }
 
-    // Opens what stands at a path to sync it, if it is of that kind. What is something else is never opened.
-    fn open_as(&self, path: &str, kind: Kind) -> io::Result<Option<File>> {
+    // Opens the file at a path to sync it. What is something else is never opened.
+    fn open_file(&self, path: &str) -> io::Result<Option<File>> {
         match self.find(path)? {
-            Some(found) if found.kind == kind => if_there(fs::open(&self.rt, system_path(path))),
+            Some(found) if found.is_file() => if_there(fs::open(&self.rt, system_path(path))),
             _ => Ok(None),
         }
     }
@@ -114,12 +117,14 @@ impl<R: Runtime<File = File> + AllocGlobal> Calls for RealFolder<R> {
         write_all_bytes(file, bytes)
     }
 
-    fn set_mode(&mut self, file: &File, mode: u32) -> io::Result<bool> {
+    fn set_mode(&mut self, file: &File, _found: &Found, mode: u32) -> io::Result<bool> {
         if_allowed(file.set_permissions(Permissions::from_mode(mode)))
     }
 
     fn make_folder(&mut self, folder: &str) -> io::Result<()> {
-        if_new(repeated(|| fs::create_dir(&self.rt, folder)))
+        let mut how = DirBuilder::new();
+        how.mode(FOLDER_MODE);
+        if_new(repeated(|| how.create(&self.rt, folder)))
     }
 
     fn rename(&mut self, from: &str, to: &str, _held: Option<&Locked<File>>) -> io::Result<()> {
@@ -140,10 +145,13 @@ impl<R: Runtime<File = File> + AllocGlobal> Calls for RealFolder<R> {
         repeated(|| fs::remove_file(&self.rt, path))
     }
 
-    fn sync_file(&mut self, path: &str) -> io::Result<()> {
-        match self.open_as(path, Kind::File)? {
-            Some(file) => file.sync_all(),
-            None => Ok(()),
+    fn sync_file(&mut self, path: &str) -> io::Result<bool> {
+        match self.open_file(path)? {
+            Some(file) => {
+                file.sync_all()?;
+                Ok(true)
+            }
+            None => Ok(false),
         }
     }
 
@@ -152,7 +160,7 @@ impl<R: Runtime<File = File> + AllocGlobal> Calls for RealFolder<R> {
     }
 
     fn sync_folder(&mut self, folder: &str) -> Result<bool, FolderFault<io::Error>> {
-        match self.open_as(folder, Kind::Folder) {
+        match if_there(fs::open(&self.rt, system_path(folder))) {
             Ok(Some(file)) => folder_answer(file.sync_all()),
             Ok(None) => Ok(false),
             Err(fault) => folder_answer(Err(fault)),

@@ -3,8 +3,8 @@ use Rattle.std.proofs.Common.{◌≡◌, inl, inr, ◌⊎◌, ℕ, Bool, true, f
 use Rattle.std.proofs.lemmas.Bool.{cases_Bool}
 use Rattle.std.proofs.lemmas.List.Folds.{list_any-append}
 use Rattle.std.proofs.lemmas.Slice.Eq.{bytes_eq-Decides}
-use Rattle.name_syncs.specs.Paths.{has_path, with_path}
-use Rattle.memory_folder.specs.Paths.{AddsNone, AddsOnly, paths_without}
+use Rattle.name_syncs.specs.Paths.{has_path, paths_without, with_path}
+use Rattle.memory_folder.specs.Paths.{AddsNone, AddsOnly}
 
 pub unlike : false ≡ true → ⊥
 unlike is = cc

@@ -1,7 +1,7 @@
 -- What stands in a folder in memory.
-use Rattle.std.specs.Prelude.{ℕ, bytes_eq, List, [], ◌∷◌, filter, map, Option, Some, pos, vec_len}
+use Rattle.std.specs.Prelude.{ℕ, ◌==◌, bytes_eq, List, [], ◌∷◌, filter, map, Option, Some, pos, vec_len}
 use Rattle.std.specs.List.{find}
-use Rattle.std.specs.Option.{option_map}
+use Rattle.std.specs.Option.{option_map, option_map_or}
 use Rattle.boot_base.specs.Paths.{file_name_of}
 use Rattle.name_syncs.specs.Folders.{parent_folder}
 use Rattle.folder_calls.specs.Tree.{Tree}
@@ -44,10 +44,19 @@ abbrev pub names_in_folder : List ℕ → List Entry → List (List ℕ)
 names_in_folder folder entries =
     map (λ entry. file_name_of entry.path) (filter (λ entry. bytes_eq (parent_folder entry.path) folder) entries)
 
+-- the first entry of that number
+abbrev pub first_entry_of : List Entry → ℕ → Option Entry
+first_entry_of entries number = find (λ entry. entry.inode == number) entries
+
+-- its bytes
+abbrev pub bytes_of_number : List Entry → ℕ → List ℕ
+bytes_of_number entries number = option_map_or (λ entry. entry.bytes.items) (first_entry_of entries number) []
+
 -- the entries as a folder with all that is below it
 abbrev pub tree_of_entries : List Entry → Tree
 tree_of_entries entries = record {
   stands = found_at entries;
   leads = found_at entries;
   names = λ folder. names_in_folder folder entries;
+  bytes = λ inode. bytes_of_number entries inode.1;
 }

@@ -1,5 +1,5 @@
 -- What of a folder in memory waits for the disk.
-use Rattle.std.specs.Prelude.{◌≡◌, ℕ, true, List, [], ◌∷◌, ◌++◌, map}
+use Rattle.std.specs.Prelude.{◌≡◌, ℕ, false, true, List, [], ◌∷◌, ◌++◌, map}
 use Rattle.name_syncs.specs.Paths.{has_path}
 use Rattle.name_syncs.specs.Waiting.{FileAt, FolderAt, Sync, Waiting}
 use Rattle.memory_folder.specs.declared.notes.Notes.{Notes}
@@ -22,12 +22,16 @@ abbrev pub LogsIn : Sync → SyncLog → SyncLog → Type 0
 LogsIn sync old new =
     new.is_whole ≡ true → (old.is_whole ≡ true) × (syncs_of new.asked.items ≡ syncs_of old.asked.items ++ sync ∷ [])
 
--- what waits by the notes. Each folder can be synced.
+-- What waits by the notes. Nobody else leaves anything in a folder in memory, and it isn't of FAT. Each folder can be synced,
+-- and nothing is told of what may be opened.
 abbrev pub noted_waits : Notes → Waiting
 noted_waits notes = record {
   files = has_path notes.files;
   folders = has_path notes.folders;
+  left = λ _. false;
+  fat = λ _. false;
   syncs = λ _. true;
+  opens = λ _. false;
   asked = syncs_of notes.log.asked.items;
   logged = notes.log.is_whole;
 }

@@ -1,6 +1,6 @@
 //! What stands in a folder in memory.
-ghost use Rattle.std.specs.Prelude.{◌≡◌, IfOk, map, option_map, string_bytes};
-ghost use Rattle.memory_folder.specs.Entries.{first_entry_at, found_at, found_of_entry};
+ghost use Rattle.std.specs.Prelude.{◌≡◌, IfOk, IfSome, map, option_map, string_bytes};
+ghost use Rattle.memory_folder.specs.Entries.{first_entry_at, first_entry_of, found_at, found_of_entry};
 ghost use Rattle.memory_folder.specs.Entries.{found_of_start, found_with, names_in_folder};
 
 use boot_base::Text;
@@ -59,6 +59,14 @@ fn entry_at<'a>(entries: &'a [Entry], path: &str) -> Option<&'a Entry>
     ensures { option_map (λ entry. entry.now) result ≡ first_entry_at entries.now path.now }
 {
     entries.iter().find(|entry| entry.path.as_str() == path)
+}
+
+// The first entry of that number.
+pub(crate) fn entry_of(entries: &[Entry], inode: u64) -> Option<&Entry>
+    ensures first { option_map (λ entry. entry.now) result ≡ first_entry_of entries.now inode }
+    ensures number { IfSome result (λ entry. entry.now.inode ≡ inode) }
+{
+    entries.iter().find(|entry| entry.inode == inode)
 }
 
 // What stands at a path.

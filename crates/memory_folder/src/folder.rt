@@ -1,12 +1,12 @@
 //! The calls on a folder in memory.
-ghost use Rattle.std.specs.Prelude.{◌≡◌, IfOk, IfSome, None, Some, false, option_map, true, vec_len};
+ghost use Rattle.std.specs.Prelude.{◌≡◌, ◌≤◌, IfOk, None, Some, drop, false, length, option_map, true, vec_len};
 ghost use Rattle.name_syncs.specs.Named.{NameWaits, NothingWaits, RenameWaits};
-ghost use Rattle.folder_calls.specs.Calls.{IsOpenAt, inode_of};
+ghost use Rattle.folder_calls.specs.Calls.{IsOpenAt, ReadsSome, inode_of};
 ghost use Rattle.folder_calls.specs.Tree.{is_file};
 ghost use Rattle.memory_folder.specs.Entries.{found_with};
 ghost use Rattle.memory_folder.specs.Folder.{inode_of_file, memory_tree, memory_waits, memory_written};
 
-use crate::entry::{Entry, found_at, found_of_start, names_in_folder};
+use crate::entry::{Entry, entry_of, found_at, found_of_start, names_in_folder};
 use crate::notes::Notes;
 use boot_base::{Text, copy_from};
 use folder_calls::{Access, Calls, Found, Hold, Kind, LockFault, Locked};
@@ -30,6 +30,14 @@ pub struct MemoryFolder {
     /// How many files and folders have come so far.
     count: u64,
     notes: Notes,
+}
+
+// Puts bytes from a place on into a buffer, as many as there are and it has room for.
+fn copy_some(bytes: &[u8], at: usize, into: &mut [u8]) -> usize
+    ensures within { result ≤ length into.new }
+    ensures some { ReadsSome (drop at bytes.now) into.new result }
+{
+    copy_from(bytes, at, into)
 }
 
 impl MemoryFolder {
@@ -102,6 +110,14 @@ impl MemoryFolder {
         }
     }
 
+    // Whether a file stands there.
+    fn has_file(&self, path: &str) -> bool {
+        match self.found_at(path) {
+            Some(found) => found.is_file(),
+            None => false,
+        }
+    }
+
     // Nothing stands there, in a folder that is there.
     fn require_new(&self, path: &str) -> io::Result<()>
         ensures { IfOk result (λ _. (memory_tree self.now).stands path.now ≡ None) }
@@ -150,26 +166,19 @@ impl MemoryFolder {
         Ok(())
     }
 
-    // What is open.
-    fn entry_of(&self, file: &MemoryFile) -> Option<&Entry>
-        ensures { IfSome result (λ entry. entry.now.inode ≡ file.now.inode) }
-    {
-        self.entries.iter().find(|entry| entry.inode == file.inode)
-    }
-
-    // Whether no other file than the open one stands at a path.
+    // Whether the open file stands at a path.
     fn is_open_at(&self, path: &str, file: &MemoryFile) -> bool
         ensures { IsOpenAt (memory_tree self.now) path.now (inode_of_file file.now) → result ≡ true }
     {
         match self.found_at(path) {
             Some(found) => found.inode == file.inode,
-            None => true,
+            None => false,
         }
     }
 }
 
 impl Calls for MemoryFolder {
-    ghost use Rattle.std.specs.Prelude.{◌≤◌, length, true};
+    ghost use Rattle.std.specs.Prelude.{true};
     ghost use Rattle.memory_folder.specs.Folder.{inode_of_file, memory_tree, memory_waits, memory_written};
 
     type File = MemoryFile;
@@ -196,7 +205,7 @@ impl Calls for MemoryFolder {
         if file.inode == 0 {
             return Ok(found_of_start());
         }
-        match self.entry_of(file) {
+        match entry_of(&self.entries, file.inode) {
             Some(entry) => Ok(entry.found()),
             None => Err(io::Error::from(ErrorKind::NotFound)),
         }
@@ -218,8 +227,8 @@ impl Calls for MemoryFolder {
     }
 
     fn read(&self, file: &MemoryFile, at: u64, into: &mut [u8]) -> io::Result<usize> {
-        match self.entry_of(file) {
-            Some(entry) => Ok(copy_from(&entry.bytes, at as usize, into)),
+        match entry_of(&self.entries, file.inode) {
+            Some(entry) => Ok(copy_some(&entry.bytes, at as usize, into)),
             None => Err(io::Error::from(ErrorKind::NotFound)),
         }
     }
@@ -246,7 +255,7 @@ impl Calls for MemoryFolder {
         Ok(())
     }
 
-    fn set_mode(&mut self, _file: &MemoryFile, _mode: u32) -> io::Result<bool> {
+    fn set_mode(&mut self, _file: &MemoryFile, _found: &Found, _mode: u32) -> io::Result<bool> {
         Ok(true)
     }
 
@@ -289,9 +298,9 @@ impl Calls for MemoryFolder {
         Ok(())
     }
 
-    fn sync_file(&mut self, path: &str) -> io::Result<()> {
+    fn sync_file(&mut self, path: &str) -> io::Result<bool> {
         self.notes.sync_file(path);
-        Ok(())
+        Ok(self.has_file(path))
     }
 
     fn sync_open(&mut self, path: &str, file: &MemoryFile) -> io::Result<()> {

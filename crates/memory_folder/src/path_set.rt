@@ -1,7 +1,7 @@
 //! Paths that are noted, and struck out again.
 ghost use Rattle.std.specs.Prelude.{◌≡◌, [], OnOk, OnErr, false};
-ghost use Rattle.name_syncs.specs.Paths.{has_path, with_path};
-ghost use Rattle.memory_folder.specs.Paths.{AddsNone, AddsOnly, paths_without};
+ghost use Rattle.name_syncs.specs.Paths.{has_path, paths_without, with_path};
+ghost use Rattle.memory_folder.specs.Paths.{AddsNone, AddsOnly};
 
 use boot_base::Text;
 use std::alloc::{AllocError, Global};

@@ -1,17 +1,17 @@
 -- Which folders are noted, and that nothing else waits.
-use Rattle.std.proofs.Common.{◌≡◌, inl, inr, ◌⊎◌, ℕ, Bool, true, false, List, [], ◌∷◌, ◌++◌, map, refl, sym, ap, ◌∙◌, subst, bytes_eq, All, if◌then◌else◌, Result, Ok, Err, IfOk}
+use Rattle.std.proofs.Common.{◌≡◌, inl, inr, ◌⊎◌, ℕ, Bool, true, false, not, List, [], ◌∷◌, ◌++◌, map, refl, sym, ap, ◌∙◌, subst, bytes_eq, All, if◌then◌else◌, Result, Ok, Err, IfOk}
 use Rattle.std.proofs.lemmas.Bool.{cases_Bool, eqb-true}
-use Rattle.std.proofs.lemmas.List.Elements.{All-head, All-tail}
+use Rattle.std.proofs.lemmas.List.Elements.{All-append, All-cons, All-head, All-nil, All-tail, All-weaker}
 use Rattle.std.proofs.lemmas.List.Folds.{list_any-append}
 use Rattle.std.proofs.lemmas.Slice.Eq.{bytes_eq-Decides}
 use Rattle.boot_base.specs.Paths.{is_slash}
-use Rattle.name_syncs.specs.Paths.{has_path, with_path}
+use Rattle.name_syncs.specs.Paths.{has_path, paths_without, with_path}
 use Rattle.name_syncs.specs.Folders.{FoldersAreAbove, IsAbove, NotedAreListed, folders_above, has_folder, listed, nearest, parent_folder, parts_before_slashes, unsettled, unsettled_above, with_folder, with_folders}
-use Rattle.name_syncs.specs.Named.{Covers, IsSynced, NameWaits, NamesAreCovered, NothingWaits, RenameWaits, RenamesAreCovered, owned, renamed_with}
-use Rattle.name_syncs.specs.Waiting.{NeedsNoSync, KeepsSynced, Waiting}
+use Rattle.name_syncs.specs.Named.{Covers, IsSynced, NameWaits, NamesAreCovered, NothingWaits, RenameWaits, RenamesAreCovered, SettledAreCovered, owned, renamed_with}
+use Rattle.name_syncs.specs.Waiting.{KeepsSynced, NeedsNoSync, ShowsTruth, Waiting}
 use Rattle.name_syncs.specs.declared.folders.FolderSet.{FolderSet}
 use Rattle.name_syncs.specs.declared.named.Named.{Named}
-use Rattle.name_syncs.proofs.Syncing.{either, in_back, in_front, itself}
+use Rattle.name_syncs.proofs.Syncing.{either, in_back, in_front, itself, needs_shows, shows_still, unchanged}
 
 unlike : false ≡ true → ⊥
 unlike is = cc
@@ -249,9 +249,33 @@ renames_are_covered named old new from to covers waits = (
       (parent_unsettled named.settled to) (parent_unsettled named.settled from) covers waits,
 )
 
+-- a path that is taken away takes no other one with it
+without_kept : (paths : List (List ℕ)) (path other : List ℕ) → (path ≡ other → ⊥) → has_path paths other ≡ true
+    → has_path (paths_without paths path) other ≡ true
+without_kept [] path other unlike_path there = there
+without_kept (known ∷ paths) path other unlike_path there =
+    by_test (bytes_eq known path) refl (split (known ∷ []) paths other there) (without_kept paths path other unlike_path)
+  where
+    by_test : (same : Bool) → bytes_eq known path ≡ same → (has_path (known ∷ []) other ≡ true) ⊎ (has_path paths other ≡ true)
+        → (has_path paths other ≡ true → has_path (paths_without paths path) other ≡ true)
+        → has_path (if not same then known ∷ paths_without paths path else paths_without paths path) other ≡ true
+    by_test true same (inl here) later =
+        absurd (unlike_path (sym ((bytes_eq-Decides known path).0 same) ∙ alone known other here))
+    by_test true same (inr below) later = later below
+    by_test false same (inl here) later = in_front (known ∷ []) (paths_without paths path) other here
+    by_test false same (inr below) later = in_back (known ∷ []) (paths_without paths path) other (later below)
+
+pub settled_are_covered : SettledAreCovered
+settled_are_covered named disk path covers synced = record {
+  files = λ other waiting. without_kept named.renamed path other
+      (λ same. unlike (sym synced ∙ ap disk.files same ∙ waiting)) (covers.files other waiting);
+  folders = covers.folders;
+  own = covers.own;
+}
+
 -- ---- nothing waits
 
-all_there : (P : List ℕ → Type 0) (paths : List (List ℕ)) (path : List ℕ) → All P paths → has_path paths path ≡ true → P path
+pub all_there : (P : List ℕ → Type 0) (paths : List (List ℕ)) (path : List ℕ) → All P paths → has_path paths path ≡ true → P path
 all_there P [] path all there = absurd (unlike there)
 all_there P (known ∷ paths) path all there = elim (split (known ∷ []) paths path there) [
   | inl here ↦ subst P (alone known path here) (All-head P known paths all)
@@ -262,7 +286,7 @@ all_there P (known ∷ paths) path all there = elim (split (known ∷ []) paths 
 done_folder : (own : FolderSet) (old new : Waiting) (folder : List ℕ) → KeepsSynced old new
     → ((other : List ℕ) → old.folders other ≡ true → has_folder own other ≡ true) → old.folders folder ≡ true
     → NeedsNoSync own new folder → new.folders folder ≡ false
-done_folder own old new folder kept owns waiting (inl synced) = synced
+done_folder own old new folder kept owns waiting (inl on) = on.names
 done_folder own old new folder kept owns waiting (inr unable) = absurd (unlike (sym unable.0 ∙ owns folder waiting))
 
 pub nothing_waits : (named : Named) (old new : Waiting) → KeepsSynced old new → IsSynced named new → Covers named old
@@ -285,3 +309,49 @@ pub if_nothing_waits : {F : Type 0} (result : Result (Unit {0}) F) (tells : Type
     → IfOk result (λ _. tells → Covers named old → NothingWaits new)
 if_nothing_waits (Ok _) tells named old new kept synced = λ told. nothing_waits named old new (kept told) (synced told)
 if_nothing_waits (Err _) tells named old new kept synced = synced
+
+-- ---- what the folders show is on the disk
+
+-- a folder that is among some is gone through
+has_listed : (folders : FolderSet) (folder : List ℕ) → has_folder folders folder ≡ true → has_path (listed folders) folder ≡ true
+has_listed folders [] there = rw there (in_back folders.below ([] ∷ []) [] (itself []))
+has_listed folders (byte ∷ folder) there =
+    in_front folders.below (if folders.has_root then [] ∷ [] else []) (byte ∷ folder) there
+
+-- those that were changed show the truth, and so do the others of these
+seen_show : (changed : FolderSet) (disk : Waiting) (folders : List (List ℕ)) → All (ShowsTruth disk) (listed changed)
+    → All (ShowsTruth disk) (unchanged changed folders) → All (ShowsTruth disk) folders
+seen_show changed disk [] changes others = All-nil (ShowsTruth disk)
+seen_show changed disk (folder ∷ folders) changes others =
+    by_test (has_folder changed folder) refl others (seen_show changed disk folders changes)
+  where
+    by_test : (own : Bool) → has_folder changed folder ≡ own
+        → All (ShowsTruth disk) (if not own then (folder ∷ unchanged changed folders) else unchanged changed folders)
+        → (All (ShowsTruth disk) (unchanged changed folders) → All (ShowsTruth disk) folders)
+        → All (ShowsTruth disk) (folder ∷ folders)
+    by_test true own others later = All-cons (ShowsTruth disk) folder folders
+        (all_there (ShowsTruth disk) (listed changed) folder changes (has_listed changed folder own)) (later others)
+    by_test false own others later = All-cons (ShowsTruth disk) folder folders
+        (All-head (ShowsTruth disk) folder (unchanged changed folders) others)
+        (later (All-tail (ShowsTruth disk) folder (unchanged changed folders) others))
+
+-- behind the sync of what has changed and that of what was seen
+pub all_show : (named : Named) (between new : Waiting) → KeepsSynced between new → IsSynced named between
+    → All (ShowsTruth new) (unchanged named.changed (listed named.seen))
+    → All (ShowsTruth new) (listed named.changed ++ listed named.seen)
+all_show named between new kept synced seen =
+    let changed = All-weaker (NeedsNoSync named.own between) (ShowsTruth new)
+    (λ folder needs. shows_still between new kept folder (needs_shows named.own between folder needs)) (listed named.changed) synced.folders in
+    All-append (ShowsTruth new) (listed named.changed) (listed named.seen) changed
+    (seen_show named.changed new (listed named.seen) changed seen)
+
+-- the same of an answer that may be a fault
+pub if_all_show : {F : Type 0} (result : Result (Unit {0}) F) (tells : Type 0) (named again : Named) (between new : Waiting)
+    → again.changed ≡ named.changed → again.seen ≡ named.seen
+    → (tells → KeepsSynced between new) → (tells → IsSynced named between)
+    → IfOk result (λ _. tells → All (ShowsTruth new) (unchanged again.changed (listed again.seen)))
+    → IfOk result (λ _. tells → All (ShowsTruth new) (listed named.changed ++ listed named.seen))
+if_all_show (Ok _) tells named again between new changed seen kept synced shown = λ told.
+    let others = rw (changed, seen) at (shown told) in
+    all_show named between new (kept told) (synced told) others
+if_all_show (Err _) tells named again between new changed seen kept synced shown = shown

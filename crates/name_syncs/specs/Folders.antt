@@ -1,7 +1,7 @@
 -- The folders above a path, and sets of folders. The folder of no name is the one that the program starts in.
 use Rattle.std.specs.Prelude.{◌≡◌, ◌⊎◌, ◌↔◌, ℕ, Bool, true, false, ◌&&◌, List, [], ◌∷◌, ◌++◌, map, if◌then◌else◌}
 use Rattle.std.specs.List.{list_any}
-use Rattle.boot_base.specs.Paths.{is_slash}
+use Rattle.boot_base.specs.Paths.{is_slash, under}
 use Rattle.name_syncs.specs.Paths.{has_path, with_path}
 use Rattle.name_syncs.specs.declared.folders.FolderSet.{FolderSet}
 
@@ -23,6 +23,11 @@ nearest (folder ∷ higher) = folder
 -- the folder that a path is in
 abbrev pub parent_folder : List ℕ → List ℕ
 parent_folder path = nearest (parts_before_slashes path)
+
+-- the path of a name in a folder
+abbrev pub path_in : List ℕ → List ℕ → List ℕ
+path_in [] name = name
+path_in (byte ∷ folder) name = under (byte ∷ folder) name
 
 -- a path is cut at its last slash
 pub record IsCut (path folder name : List ℕ) : Type 0 where

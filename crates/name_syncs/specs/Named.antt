@@ -1,8 +1,8 @@
 -- What a run has named since its names were last synced.
-use Rattle.std.specs.Prelude.{◌≡◌, ◌⊎◌, ℕ, true, false, not, List, ◌∷◌, ◌++◌, map, filter, All, if◌then◌else◌}
-use Rattle.name_syncs.specs.Paths.{has_path, with_path}
+use Rattle.std.specs.Prelude.{◌≡◌, ◌⊎◌, ℕ, true, false, List, ◌∷◌, ◌++◌, map, All, if◌then◌else◌}
+use Rattle.name_syncs.specs.Paths.{has_path, paths_without, with_path}
 use Rattle.name_syncs.specs.Folders.{parent_folder, folders_above, has_folder, listed, unsettled, with_folder, with_folders}
-use Rattle.name_syncs.specs.Waiting.{FileAt, FolderAt, NeedsNoSync, Sync, Waiting}
+use Rattle.name_syncs.specs.Waiting.{AsksAmong, FileAt, FolderAt, LeavesNoMore, NeedsNoSync, Waiting, those_that_sync}
 use Rattle.name_syncs.specs.declared.named.Named.{Named}
 
 -- a file was looked at: the folders above it were seen
@@ -53,13 +53,14 @@ renamed_known named from to =
     renamed_with named from to
     (unsettled named.settled (folders_above to) ++ unsettled named.settled (folders_above from))
 
--- the syncs of what was changed, in their order: each renamed file, and then the folders
-abbrev pub changed_syncs : Named → List Sync
-changed_syncs named = map FileAt named.renamed ++ map FolderAt (listed named.changed)
+-- a file that got a new name was synced by it
+abbrev pub settled_at : Named → List ℕ → Named
+settled_at named path = record named { renamed = paths_without named.renamed path }
 
--- the syncs of the folders that were only seen
-abbrev pub seen_syncs : Named → List Sync
-seen_syncs named = map FolderAt (filter (λ folder. not (has_folder named.changed folder)) (listed named.seen))
+-- the syncs of what was changed were asked for, in this order: each renamed file, and then the folders that can be synced
+abbrev pub AsksChanged : Named → Waiting → Waiting → Type 0
+AsksChanged named old new =
+    AsksAmong (map FileAt named.renamed ++ map FolderAt (those_that_sync old (listed named.changed))) old new
 
 -- nothing that was changed waits for the disk
 pub record IsSynced (named : Named) (disk : Waiting) : Type 0 where
@@ -72,7 +73,7 @@ pub record Covers (named : Named) (disk : Waiting) : Type 0 where
   pub folders : (folder : List ℕ) → disk.folders folder ≡ true → has_path (listed named.changed) folder ≡ true
   pub own : (folder : List ℕ) → disk.folders folder ≡ true → has_folder named.own folder ≡ true
 
--- nothing waits for the disk
+-- nothing that this run has changed waits for the disk
 pub record NothingWaits (disk : Waiting) : Type 0 where
   pub files : (path : List ℕ) → disk.files path ≡ false
   pub folders : (folder : List ℕ) → disk.folders folder ≡ false
@@ -81,12 +82,14 @@ pub record NothingWaits (disk : Waiting) : Type 0 where
 pub record NameWaits (old new : Waiting) (path : List ℕ) : Type 0 where
   pub files : (other : List ℕ) → new.files other ≡ true → old.files other ≡ true
   pub folders : (folder : List ℕ) → new.folders folder ≡ true → (old.folders folder ≡ true) ⊎ (folder ≡ parent_folder path)
+  pub others : LeavesNoMore old new
 
 -- a rename makes the file wait at its new name, and both folders
 pub record RenameWaits (old new : Waiting) (from to : List ℕ) : Type 0 where
   pub files : (path : List ℕ) → new.files path ≡ true → (old.files path ≡ true) ⊎ (path ≡ to)
   pub folders : (folder : List ℕ) → new.folders folder ≡ true
       → (old.folders folder ≡ true) ⊎ ((folder ≡ parent_folder to) ⊎ (folder ≡ parent_folder from))
+  pub others : LeavesNoMore old new
 
 -- If all that waited was noted, so is all that waits after a name that comes, that of a folder or one that goes.
 abbrev pub NamesAreCovered : Type 0
@@ -99,3 +102,9 @@ abbrev pub RenamesAreCovered : Type 0
 RenamesAreCovered =
     (named : Named) (old new : Waiting) (from to : List ℕ) → Covers named old → RenameWaits old new from to
     → Covers (renamed_to named from to) new × Covers (renamed_known named from to) new
+
+-- the same of a file that doesn't wait any more
+abbrev pub SettledAreCovered : Type 0
+SettledAreCovered =
+    (named : Named) (disk : Waiting) (path : List ℕ) → Covers named disk → disk.files path ≡ false
+    → Covers (settled_at named path) disk

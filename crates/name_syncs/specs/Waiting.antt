@@ -1,6 +1,8 @@
 -- What waits for the disk: changes that a power cut may still undo (POSIX, fsync).
-use Rattle.std.specs.Prelude.{◌≡◌, ◌⊎◌, ℕ, Bool, true, false, List, ◌++◌}
-use Rattle.name_syncs.specs.Folders.{has_folder}
+use Rattle.std.specs.Prelude.{◌≡◌, ◌⊎◌, ℕ, Bool, true, false, ◌&&◌, List, [], ◌∷◌, ◌++◌, filter, map}
+use Rattle.std.specs.List.{list_any}
+use Rattle.boot_base.specs.Paths.{is_slash, is_temp}
+use Rattle.name_syncs.specs.Folders.{has_folder, path_in}
 use Rattle.name_syncs.specs.Paths.{has_path}
 use Rattle.name_syncs.specs.declared.folders.FolderSet.{FolderSet}
 
@@ -11,22 +13,36 @@ pub data Sync : Type 0 where
 
 -- a disk by what of it waits
 pub record Waiting : Type 0 where
-  -- the file at a path has got that name since it was synced last
+  -- the file at a path has got that name in this run since it was synced last
   pub files : List ℕ → Bool
-  -- the names in a folder wait
+  -- names have come or gone in a folder in this run since it was synced last
   pub folders : List ℕ → Bool
+  -- Somebody else may have left a file or a folder so: an earlier run that was killed, or another program.
+  pub left : Sync → Bool
+  -- A folder is of FAT: the start and the length of a file in it stand in the folder, and are written with the file
+  -- (Microsoft FAT specification, "FAT Directory Structure"; the vfat driver of Linux).
+  pub fat : List ℕ → Bool
   -- the file system of a folder syncs folders
   pub syncs : List ℕ → Bool
+  -- the file or the folder at a path is known to be there, and open to this run
+  pub opens : Sync → Bool
   -- the syncs that were asked for so far, in their order
   pub asked : List Sync
   -- there was memory to keep each of them
   pub logged : Bool
 
+-- what nobody else had left isn't left now
+pub record LeavesNoMore (old new : Waiting) : Type 0 where
+  pub left : (sync : Sync) → old.left sync ≡ false → new.left sync ≡ false
+  pub fat : new.fat ≡ old.fat
+
 -- what didn't wait doesn't wait now
 pub record KeepsSynced (old new : Waiting) : Type 0 where
   pub files : (path : List ℕ) → old.files path ≡ false → new.files path ≡ false
   pub folders : (folder : List ℕ) → old.folders folder ≡ false → new.folders folder ≡ false
+  pub others : LeavesNoMore old new
   pub syncs : new.syncs ≡ old.syncs
+  pub opens : new.opens ≡ old.opens
 
 -- if each sync so far was kept, these were asked for behind those before
 abbrev pub Logs : List Sync → Waiting → Waiting → Type 0
@@ -37,11 +53,61 @@ pub record Asks (syncs : List Sync) (old new : Waiting) : Type 0 where
   pub kept : KeepsSynced old new
   pub asked : Logs syncs old new
 
--- The folder doesn't wait. Only one in which the run has changed no name of its own may wait still, if its file system
--- syncs no folders: nobody can have changed a name there that a power cut would undo.
+-- these stand in a list, in their order
+abbrev pub StandWithin : List Sync → List Sync → Type 0
+StandWithin [] more = Unit {0}
+StandWithin (sync ∷ rest) [] = ⊥
+StandWithin (sync ∷ rest) (other ∷ more) = ((sync ≡ other) × StandWithin rest more) ⊎ StandWithin (sync ∷ rest) more
+
+-- These syncs were asked for, in their order. On FAT others may have come before each: those of what somebody else has
+-- left.
+pub record AsksAmong (syncs : List Sync) (old new : Waiting) : Type 0 where
+  pub all : List Sync
+  pub asks : Asks all old new
+  pub within : StandWithin syncs all
+
+-- those of some folders that are open to this run, on a file system that syncs folders
+abbrev pub those_that_sync : Waiting → List (List ℕ) → List (List ℕ)
+those_that_sync disk folders = filter (λ folder. disk.opens (FolderAt folder) && disk.syncs folder) folders
+
+-- The syncs of these folders were asked for, in their order, but for those that can't be synced.
+abbrev pub AsksFolders : List (List ℕ) → Waiting → Waiting → Type 0
+AsksFolders folders old new = AsksAmong (map FolderAt (those_that_sync old folders)) old new
+
+-- of the files in a folder of FAT nobody has left one, but for temporary files, which may have any bytes
+abbrev pub HasNoneLeft : Waiting → List ℕ → Type 0
+HasNoneLeft disk folder =
+    disk.fat folder ≡ true → (name : List ℕ) → list_any is_slash name ≡ false → is_temp name ≡ false
+    → disk.left (FileAt (path_in folder name)) ≡ false
+
+-- a folder of FAT lists, among these names, each file that somebody has left in it
+abbrev pub ListsLeft : Waiting → List ℕ → List (List ℕ) → Type 0
+ListsLeft disk folder names =
+    disk.fat folder ≡ true → (name : List ℕ) → list_any is_slash name ≡ false
+    → disk.left (FileAt (path_in folder name)) ≡ true → has_path names name ≡ true
+
+-- what a folder shows is on the disk: its names, and before them the files in it
+pub record IsOnDisk (disk : Waiting) (folder : List ℕ) : Type 0 where
+  pub names : disk.folders folder ≡ false
+  pub left : disk.left (FolderAt folder) ≡ false
+  pub files : HasNoneLeft disk folder
+
+-- nothing of a folder can be synced: none is there, or its file system syncs none
+abbrev pub HasNoSync : Waiting → List ℕ → Type 0
+HasNoSync disk folder = (disk.opens (FolderAt folder) ≡ false) ⊎ (disk.syncs folder ≡ false)
+
+-- What a folder shows is on the disk. Only one in which the run has changed no name of its own may wait still, if nothing
+-- of it can be synced: nobody can have changed a name there that a power cut would undo.
 abbrev pub NeedsNoSync : FolderSet → Waiting → List ℕ → Type 0
-NeedsNoSync own disk folder =
-    (disk.folders folder ≡ false) ⊎ ((has_folder own folder ≡ false) × (disk.syncs folder ≡ false))
+NeedsNoSync own disk folder = IsOnDisk disk folder ⊎ ((has_folder own folder ≡ false) × HasNoSync disk folder)
+
+-- there is a file or a folder that this run may not open
+abbrev pub IsShutOut : Waiting → Type 0
+IsShutOut disk = (sync : Sync) × (disk.opens sync ≡ false)
+
+-- The same of a folder that was only looked at. It may wait as well if this run may not open what comes before it.
+abbrev pub ShowsTruth : Waiting → List ℕ → Type 0
+ShowsTruth disk folder = IsOnDisk disk folder ⊎ (HasNoSync disk folder ⊎ IsShutOut disk)
 
 -- A folder is settled only if it was so before, or is among these and doesn't wait.
 abbrev pub SettlesOnly : List (List ℕ) → Waiting → FolderSet → FolderSet → Type 0

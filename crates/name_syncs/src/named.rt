@@ -21,7 +21,7 @@ pub struct Named {
 
 impl Named {
     ghost use Rattle.std.specs.Prelude.{◌≡◌, [], false, OnOk};
-    ghost use Rattle.name_syncs.specs.Named.{changed_at, looked_again, looked_at, looked_into, made_at, removed_at, renamed_known, renamed_to, renamed_with};
+    ghost use Rattle.name_syncs.specs.Named.{changed_at, looked_again, looked_at, looked_into, made_at, removed_at, renamed_known, renamed_to, renamed_with, settled_at};
     ghost use Rattle.name_syncs.specs.Folders.{listed};
 
     /// Nothing. It takes no memory.
@@ -123,6 +123,13 @@ impl Named {
     {
         self.own.add(folder_of(path))?;
         self.changed.add_unsettled(path, &self.settled)
+    }
+
+    /// A file that got a new name was synced by it, and needs no second sync.
+    pub fn settle_file(&mut self, path: &str)
+        ensures { self.new ≡ settled_at self.old path.now }
+    {
+        self.renamed.remove(path);
     }
 
     /// All of it is synced.

@@ -1,6 +1,6 @@
 //! Paths, each once.
 ghost use Rattle.std.specs.Prelude.{◌≡◌, [], OnOk, OnErr};
-ghost use Rattle.name_syncs.specs.Paths.{has_path, with_path};
+ghost use Rattle.name_syncs.specs.Paths.{has_path, paths_without, with_path};
 
 use boot_base::Text;
 use std::alloc::{AllocError, Global};
@@ -53,6 +53,13 @@ impl Paths {
             self.items.push(path)?;
         }
         Ok(())
+    }
+
+    /// Takes a path away. It takes no memory.
+    pub fn remove(&mut self, path: &str)
+        ensures { self.new ≡ paths_without self.old path.now }
+    {
+        self.items.retain(|known| known.as_str() != path);
     }
 
     /// Leaves none of them.

@@ -1,38 +1,42 @@
 //! The sync of names: each renamed file, then each changed folder with those above it, then what was looked at.
-ghost use Rattle.std.specs.Prelude.{◌≡◌, [], ◌∷◌, All, IfErr, IfOk, IsTrue, false, true, filter, map, not};
+ghost use Rattle.std.specs.Prelude.{◌≡◌, ◌++◌, [], ◌∷◌, All, IfErr, IfOk, IsTrue, false, true, filter, map, not};
 ghost use Rattle.name_syncs.specs.Folders.{has_folder, listed};
-ghost use Rattle.name_syncs.specs.Named.{Covers, IsSynced, NothingWaits, changed_syncs, seen_syncs};
-ghost use Rattle.name_syncs.specs.Waiting.{Asks, FileAt, FolderAt, NeedsNoSync, KeepsSynced, SettlesOnly};
+ghost use Rattle.name_syncs.specs.Named.{AsksChanged, Covers, IsSynced, NothingWaits};
+ghost use Rattle.name_syncs.specs.Waiting.{Asks, AsksAmong, AsksFolders, FileAt, FolderAt, IsOnDisk, IsShutOut, KeepsSynced, NeedsNoSync, SettlesOnly, ShowsTruth};
 
 use crate::disk::{Disk, FolderFault};
 use crate::folders::FolderSet;
 use crate::named::Named;
 use boot_base::Text;
 
-/// Syncs what has changed, and then, as far as it can be done, what was only looked at: nothing waits any more.
+/// Syncs what has changed, and then what was only looked at: nothing that this run has changed waits any more, and what
+/// the folders show that it has looked at is on the disk.
 ///
 /// # Errors
 ///
-/// The first sync of what has changed that fails ends it, and all of it is still to be synced.
+/// The first sync that fails ends it, and all of it is still to be synced. So does a renamed file, or a folder in which
+/// this run has changed a name, that isn't there any more. A folder that was only looked at may be one that this run may
+/// not open.
 pub fn sync_names<D: Disk>(disk: &mut D, named: &mut Named) -> Result<(), D::Fault>
-    ensures { IfOk result (λ _. IsTrue D.tells → Covers named.old (D.state disk.old) → NothingWaits (D.state disk.new)) }
+    ensures waits { IfOk result (λ _. IsTrue D.tells → Covers named.old (D.state disk.old)
+        → NothingWaits (D.state disk.new)) }
+    ensures shown { IfOk result (λ _. IsTrue D.tells
+        → All (ShowsTruth (D.state disk.new)) (listed named.old.changed ++ listed named.old.seen)) }
 {
     sync_changed(disk, named)?;
-    sync_seen(disk, named);
-    Ok(())
+    sync_seen(disk, named)
 }
 
-/// Syncs the renamed files, and then the changed folders. What isn't there any longer needs no sync.
+/// Syncs the renamed files, and then the changed folders.
 ///
 /// # Errors
 ///
 /// The first sync that fails ends it, and all of it is still to be synced. A folder in which this run has changed no name
-/// may be of a file system that syncs no folders.
+/// may be gone, or of a file system that syncs no folders.
 pub fn sync_changed<D: Disk>(disk: &mut D, named: &mut Named) -> Result<(), D::Fault>
     ensures kept { IsTrue D.tells → KeepsSynced (D.state disk.old) (D.state disk.new) }
     ensures synced { IfOk result (λ _. IsTrue D.tells → IsSynced named.old (D.state disk.new)) }
-    ensures order { IfOk result (λ _. IsTrue D.tells →
-        Asks (changed_syncs named.old) (D.state disk.old) (D.state disk.new)) }
+    ensures order { IfOk result (λ _. IsTrue D.tells → AsksChanged named.old (D.state disk.old) (D.state disk.new)) }
     ensures all { IfOk result (λ _. IsTrue D.tells →
         Covers named.old (D.state disk.old) → NothingWaits (D.state disk.new)) }
     ensures noted { named.new ≡ record named.old { settled = named.new.settled } }
@@ -46,8 +50,7 @@ pub fn sync_changed<D: Disk>(disk: &mut D, named: &mut Named) -> Result<(), D::F
 fn sync_noted<D: Disk>(disk: &mut D, named: &mut Named) -> Result<(), D::Fault>
     ensures kept { IsTrue D.tells → KeepsSynced (D.state disk.old) (D.state disk.new) }
     ensures synced { IfOk result (λ _. IsTrue D.tells → IsSynced named.old (D.state disk.new)) }
-    ensures order { IfOk result (λ _. IsTrue D.tells →
-        Asks (changed_syncs named.old) (D.state disk.old) (D.state disk.new)) }
+    ensures order { IfOk result (λ _. IsTrue D.tells → AsksChanged named.old (D.state disk.old) (D.state disk.new)) }
     ensures noted { named.new ≡ record named.old { settled = named.new.settled } }
     ensures settled { IsTrue D.tells
         → SettlesOnly (listed named.old.changed) (D.state disk.new) named.old.settled named.new.settled }
@@ -73,12 +76,22 @@ fn sync_files<D: Disk>(disk: &mut D, paths: &[Text]) -> Result<(), D::Fault>
         → Asks (map FileAt paths.now) (D.state disk.old) (D.state disk.new)) }
 {
     for path in paths {
-        let path = path.as_str();
-        if let Err(fault) = disk.sync_file(path) {
-            return Err(disk.report(path, fault));
-        }
+        sync_renamed(disk, path.as_str())?;
     }
     Ok(())
+}
+
+// Syncs a file that this run has renamed.
+fn sync_renamed<D: Disk>(disk: &mut D, path: &str) -> Result<(), D::Fault>
+    ensures asks { IsTrue D.tells → Asks (FileAt path.now ∷ []) (D.state disk.old) (D.state disk.new) }
+    ensures synced { IfOk result (λ _. IsTrue D.tells → (D.state disk.new).files path.now ≡ false) }
+{
+    let failure = match disk.sync_file(path) {
+        Ok(true) => return Ok(()),
+        Ok(false) => disk.gone(),
+        Err(failure) => failure,
+    };
+    Err(disk.report(path, failure))
 }
 
 // Syncs these folders, of which each that was there is settled then.
@@ -91,7 +104,7 @@ fn sync_folders<D: Disk>(
     ensures kept { IsTrue D.tells → KeepsSynced (D.state disk.old) (D.state disk.new) }
     ensures synced { IfOk result (λ _. IsTrue D.tells → All (NeedsNoSync own.now (D.state disk.new)) folders.now) }
     ensures order { IfOk result (λ _. IsTrue D.tells
-        → Asks (map FolderAt folders.now) (D.state disk.old) (D.state disk.new)) }
+        → AsksFolders folders.now (D.state disk.old) (D.state disk.new)) }
     ensures settled { IsTrue D.tells → SettlesOnly folders.now (D.state disk.new) settled.old settled.new }
 {
     for folder in folders {
@@ -100,25 +113,34 @@ fn sync_folders<D: Disk>(
     Ok(())
 }
 
-// Syncs a folder, and notes it if it was there. If there is no memory for the note the folder is synced once more.
+// Syncs a folder, tells whether it was there, and notes it then. If there is no memory for the note the folder is synced
+// once more.
 fn settle<D: Disk>(
     disk: &mut D,
     folder: &str,
     settled: &mut FolderSet,
-) -> Result<(), FolderFault<D::Fault>>
-    ensures asks { IsTrue D.tells → Asks (FolderAt folder.now ∷ []) (D.state disk.old) (D.state disk.new) }
-    ensures synced { IfOk result (λ _. IsTrue D.tells → (D.state disk.new).folders folder.now ≡ false) }
+) -> Result<bool, FolderFault<D::Fault>>
+    ensures others { IsTrue D.tells → AsksAmong [] (D.state disk.old) (D.state disk.new) }
+    ensures asks { IfOk result (λ is_there. IsTrue D.tells → is_there ≡ true
+        → AsksAmong (FolderAt folder.now ∷ []) (D.state disk.old) (D.state disk.new)) }
+    ensures synced { IfOk result (λ is_there. IsTrue D.tells → is_there ≡ true
+        → IsOnDisk (D.state disk.new) folder.now) }
+    ensures gone { IfOk result (λ is_there. IsTrue D.tells → is_there ≡ false
+        → (D.state disk.new).opens (FolderAt folder.now) ≡ false) }
     ensures unable { IfErr result (λ failure. IsTrue D.tells → failure.syncs_none ≡ true
         → (D.state disk.new).syncs folder.now ≡ false) }
+    ensures refused { IfErr result (λ failure. IsTrue D.tells → failure.is_refused ≡ true
+        → IsShutOut (D.state disk.new)) }
     ensures settled { IsTrue D.tells → SettlesOnly (folder.now ∷ []) (D.state disk.new) settled.old settled.new }
 {
-    if disk.sync_folder(folder)? {
+    let is_there = disk.sync_folder(folder)?;
+    if is_there {
         let _ = settled.add(folder);
     }
-    Ok(())
+    Ok(is_there)
 }
 
-// The same of a changed folder. One in which this run has changed no name may be of a file system that syncs no
+// Syncs a changed folder. One in which this run has changed no name may be gone, or of a file system that syncs no
 // folders.
 fn settle_changed<D: Disk>(
     disk: &mut D,
@@ -126,20 +148,32 @@ fn settle_changed<D: Disk>(
     own: &FolderSet,
     settled: &mut FolderSet,
 ) -> Result<(), D::Fault>
-    ensures asks { IsTrue D.tells → Asks (FolderAt folder.now ∷ []) (D.state disk.old) (D.state disk.new) }
+    ensures others { IsTrue D.tells → AsksAmong [] (D.state disk.old) (D.state disk.new) }
+    ensures asks { IfOk result (λ _. IsTrue D.tells
+        → AsksFolders (folder.now ∷ []) (D.state disk.old) (D.state disk.new)) }
     ensures synced { IfOk result (λ _. IsTrue D.tells → NeedsNoSync own.now (D.state disk.new) folder.now) }
     ensures settled { IsTrue D.tells → SettlesOnly (folder.now ∷ []) (D.state disk.new) settled.old settled.new }
 {
-    match settle(disk, folder, settled) {
-        Ok(()) => Ok(()),
-        Err(failure) if failure.syncs_none && !own.has(folder) => Ok(()),
-        Err(failure) => Err(disk.report(folder, failure.fault)),
-    }
+    let failure = match settle(disk, folder, settled) {
+        Ok(true) => return Ok(()),
+        Ok(false) if !own.has(folder) => return Ok(()),
+        Ok(false) => disk.gone(),
+        Err(failure) if failure.syncs_none && !own.has(folder) => return Ok(()),
+        Err(failure) => failure.fault,
+    };
+    Err(disk.report(folder, failure))
 }
 
-/// Syncs the folders that were only looked at, as far as that can be done.
-pub fn sync_seen<D: Disk>(disk: &mut D, named: &mut Named)
-    ensures order { IsTrue D.tells → Asks (seen_syncs named.old) (D.state disk.old) (D.state disk.new) }
+/// Syncs the folders that were only looked at.
+///
+/// # Errors
+///
+/// The first sync that fails ends it. A folder may be gone, of a file system that syncs no folders, or one that this run
+/// may not open.
+pub fn sync_seen<D: Disk>(disk: &mut D, named: &mut Named) -> Result<(), D::Fault>
+    ensures kept { IsTrue D.tells → KeepsSynced (D.state disk.old) (D.state disk.new) }
+    ensures shown { IfOk result (λ _. IsTrue D.tells → All (ShowsTruth (D.state disk.new))
+        (filter (λ folder. not (has_folder named.old.changed folder)) (listed named.old.seen))) }
     ensures noted { named.new ≡ record named.old { settled = named.new.settled } }
     ensures settled { IsTrue D.tells
         → SettlesOnly (listed named.old.seen) (D.state disk.new) named.old.settled named.new.settled }
@@ -149,10 +183,11 @@ pub fn sync_seen<D: Disk>(disk: &mut D, named: &mut Named)
         named.seen.below.as_slice(),
         &named.changed,
         &mut named.settled,
-    );
+    )?;
     if named.seen.has_root && !named.changed.has_root {
-        let _ = settle(disk, "", &mut named.settled);
+        settle_looked(disk, "", &mut named.settled)?;
     }
+    Ok(())
 }
 
 // Syncs those of these folders that weren't changed.
@@ -161,16 +196,34 @@ fn settle_seen<D: Disk>(
     folders: &[Text],
     changed: &FolderSet,
     settled: &mut FolderSet,
-)
-    ensures order { IsTrue D.tells → Asks
-        (map FolderAt (filter (λ folder. not (has_folder changed.now folder)) folders.now))
-        (D.state disk.old) (D.state disk.new) }
+) -> Result<(), D::Fault>
+    ensures kept { IsTrue D.tells → KeepsSynced (D.state disk.old) (D.state disk.new) }
+    ensures shown { IfOk result (λ _. IsTrue D.tells → All (ShowsTruth (D.state disk.new))
+        (filter (λ folder. not (has_folder changed.now folder)) folders.now)) }
     ensures settled { IsTrue D.tells → SettlesOnly folders.now (D.state disk.new) settled.old settled.new }
 {
     for folder in folders {
         let folder = folder.as_str();
         if !changed.has(folder) {
-            let _ = settle(disk, folder, settled);
+            settle_looked(disk, folder, settled)?;
         }
+    }
+    Ok(())
+}
+
+// Syncs a folder that was only looked at.
+fn settle_looked<D: Disk>(
+    disk: &mut D,
+    folder: &str,
+    settled: &mut FolderSet,
+) -> Result<(), D::Fault>
+    ensures kept { IsTrue D.tells → KeepsSynced (D.state disk.old) (D.state disk.new) }
+    ensures shown { IfOk result (λ _. IsTrue D.tells → ShowsTruth (D.state disk.new) folder.now) }
+    ensures settled { IsTrue D.tells → SettlesOnly (folder.now ∷ []) (D.state disk.new) settled.old settled.new }
+{
+    match settle(disk, folder, settled) {
+        Ok(_) => Ok(()),
+        Err(failure) if failure.syncs_none || failure.is_refused => Ok(()),
+        Err(failure) => Err(disk.report(folder, failure.fault)),
     }
 }

@@ -1,13 +1,16 @@
 //! What becomes of a rename that a stop has left half done.
 ghost use Rattle.std.specs.Option.{option_map_or};
-ghost use Rattle.std.specs.Prelude.{◌≡◌, IfOk, IsTrue, None, OnOk, false, option_copied, string_bytes};
-ghost use Rattle.folder_machine.specs.Moving.{NameIsSynced, left_names, names_path};
+ghost use Rattle.std.specs.Prelude.{◌≡◌, IfOk, IsTrue, None, OnOk, false, true, option_copied, string_bytes};
+ghost use Rattle.name_syncs.specs.Waiting.{KeepsSynced};
+ghost use Rattle.folder_machine.specs.Moving.{LeftAreSynced, NameIsSynced, left_names, names_path};
 
 use super::System;
 use crate::intent::HeldIntent;
 use boot_base::{INTENT, IntentNames};
 use folder_calls::Calls;
-use folder_changes::{Removal, Rescue, copy_path, removal_of_old, rescue_of};
+use folder_changes::{
+    Removal, Rescue, copy_path, fat_file_at, is_alias_of_listed, removal_of_old, rescue_of,
+};
 use std::io;
 
 impl<C: Calls + Drop, E: Print + Drop> System<C, E> {
@@ -20,6 +23,7 @@ impl<C: Calls + Drop, E: Print + Drop> System<C, E> {
             self.changes.give_up();
         }
         answer?;
+        self.sync_left()?;
         if self.intent.is_none() {
             self.keep_intent();
         }
@@ -30,6 +34,36 @@ impl<C: Calls + Drop, E: Print + Drop> System<C, E> {
         self.locks.close_file(INTENT);
         self.intent = None;
         Ok(())
+    }
+
+    // Syncs the file of a half done rename by the name that it has, and its folder: the run that has renamed it may not have
+    // done so, and the bytes must be on the disk before the intent goes.
+    fn sync_left(&mut self) -> io::Result<()>
+        ensures { IfOk result (λ _. IsTrue C.tells
+            → LeftAreSynced (C.tree self.old.changes) (C.waits self.new.changes) (left_names self.old.intent)) }
+    {
+        let alloc = self.alloc;
+        let Some(names) = self.left_names() else {
+            return Ok(());
+        };
+        let from = copy_path(alloc, names.from.as_str())?;
+        let to = copy_path(alloc, names.to.as_str())?;
+        let has_old = fat_file_at(self.changes.calls(), from.as_str())?.is_some();
+        let has_new = fat_file_at(self.changes.calls(), to.as_str())?.is_some();
+        self.sync_name_if(has_old, from.as_str())?;
+        self.sync_name_if(has_new, to.as_str())
+    }
+
+    // Syncs a file and its folder, if it is there.
+    fn sync_name_if(&mut self, is_there: bool, path: &str) -> io::Result<()>
+        ensures kept { IsTrue C.tells → KeepsSynced (C.waits self.old.changes) (C.waits self.new.changes) }
+        ensures synced { IfOk result (λ _. IsTrue C.tells → is_there ≡ true
+            → NameIsSynced (C.waits self.new.changes) path.now) }
+    {
+        if !is_there {
+            return Ok(());
+        }
+        self.changes.sync_name(path)
     }
 
     // Gives the file of a half done rename the name that it is to have, if it has another one.
@@ -71,6 +105,9 @@ impl<C: Calls + Drop, E: Print + Drop> System<C, E> {
         let from = copy_path(alloc, names.from.as_str())?;
         let to = copy_path(alloc, names.to.as_str())?;
         self.require_one_name(from.as_str())?;
+        if is_alias_of_listed(self.changes.calls(), alloc, to.as_str())? {
+            return Ok(());
+        }
         self.require_one_name(to.as_str())
     }
 
@@ -80,7 +117,8 @@ impl<C: Calls + Drop, E: Print + Drop> System<C, E> {
     {
         self.locks.hold_changed(self.changes.calls(), from)?;
         self.locks.hold_changed(self.changes.calls(), to)?;
-        self.rename_known(from, to)?;
+        let is_fat = fat_file_at(self.changes.calls(), from)?.is_some();
+        self.rename_known(from, to, is_fat)?;
         self.changes.sync_name(to)
     }
 
@@ -108,7 +146,7 @@ impl<C: Calls + Drop, E: Print + Drop> System<C, E> {
         if names.from.as_str() != path {
             return Ok(None);
         }
-        match removal_of_old(self.changes.calls(), names)? {
+        match removal_of_old(self.changes.calls(), self.alloc, names)? {
             Removal::RenameOver => Ok(Some(copy_path(self.alloc, names.to.as_str())?)),
             Removal::Unlink => Ok(None),
         }
@@ -117,6 +155,7 @@ impl<C: Calls + Drop, E: Print + Drop> System<C, E> {
     // Renames the old name of a half done rename over the new one, which has lost its bytes.
     pub(super) fn rename_emptied(&mut self, from: &str, to: &str) -> io::Result<()> {
         self.locks.hold_changed(self.changes.calls(), to)?;
-        self.rename_known(from, to)
+        let is_fat = fat_file_at(self.changes.calls(), from)?.is_some();
+        self.rename_known(from, to, is_fat)
     }
 }

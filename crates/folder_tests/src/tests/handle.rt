@@ -4,7 +4,7 @@ ghost use Rattle.std.specs.Prelude.{◌≤◌, length, IfOk};
 use super::shelf::{Kept, OpenFile, Shelf};
 use boot_base::copy_from;
 use boot_run::run;
-use folder_calls::{Access, Calls, Found, Hold, LockFault, Locked};
+use folder_calls::{Access, Calls, Found, Hold, LockFault, Locked, folder_answer};
 use folder_machine::FolderMachine;
 use name_syncs::FolderFault;
 use std::alloc::{AllocError, Global};
@@ -43,6 +43,16 @@ struct Notes {
 }
 
 impl Notes {
+    // Nothing is read, called or printed.
+    fn new(alloc: Global, input: &str) -> Result<Self, AllocError> {
+        Ok(Notes {
+            input: input.as_bytes().to_vec(alloc)?,
+            read: Cell::new(0),
+            calls: Cell::new(0),
+            said: RefCell::new(Vec::new(alloc)),
+        })
+    }
+
     fn count(&self) -> u64 {
         self.calls.set(self.calls.get().saturating_add(1));
         self.calls.get()
@@ -96,8 +106,8 @@ struct Handle<T: Trouble + Drop> {
     trouble: T,
 }
 
-// The folder, if no call is at it.
-fn at_work(shelf: &RefCell<Shelf>) -> io::Result<RefMut<'_, Shelf>> {
+/// The folder, if no call is at it.
+pub(crate) fn at_work(shelf: &RefCell<Shelf>) -> io::Result<RefMut<'_, Shelf>> {
     match shelf.try_borrow_mut() {
         Ok(shelf) => Ok(shelf),
         Err(_) => Err(io::Error::other("in use")),
@@ -110,6 +120,23 @@ impl<T: Trouble + Drop> Handle<T> {
         self.trouble.come(self.notes.count(), &self.shelf)?;
         at_work(&self.shelf)
     }
+
+    // A call begins that changes, syncs or prints something.
+    fn act(&self, call: &str, path: &str) -> io::Result<RefMut<'_, Shelf>> {
+        let mut shelf = self.begin()?;
+        shelf.log_call(call, path)?;
+        Ok(shelf)
+    }
+
+    // Syncs a folder, if it is there.
+    fn try_sync(&self, folder: &str) -> io::Result<bool> {
+        let shelf = self.act("sync folder", folder)?;
+        if !shelf.has_folder(folder) {
+            return Ok(false);
+        }
+        shelf.sync(folder)?;
+        Ok(true)
+    }
 }
 
 impl<T: Trouble + Drop> Calls for Handle<T> {
@@ -119,9 +146,18 @@ impl<T: Trouble + Drop> Calls for Handle<T> {
 
     ghost tells = { false };
 
-    ghost tree = { λ _. record { stands = λ _. None; leads = λ _. None; names = λ _. [] } };
+    ghost tree = { λ _. record { stands = λ _. None; leads = λ _. None; names = λ _. []; bytes = λ _. [] } };
 
-    ghost waits = { λ _. record { files = λ _. false; folders = λ _. false; syncs = λ _. false; asked = []; logged = false } };
+    ghost waits = { λ _. record {
+      files = λ _. false;
+      folders = λ _. false;
+      left = λ _. false;
+      fat = λ _. false;
+      syncs = λ _. false;
+      opens = λ _. false;
+      asked = [];
+      logged = false;
+    } };
 
     ghost written = { λ _ _. false };
 
@@ -159,24 +195,24 @@ impl<T: Trouble + Drop> Calls for Handle<T> {
     }
 
     fn create(&mut self, path: &str, mode: u32) -> io::Result<OpenFile> {
-        self.begin()?.create(path, mode)
+        self.act("create", path)?.create(path, mode)
     }
 
     fn append(&mut self, file: &mut OpenFile, bytes: &[u8]) -> io::Result<()> {
-        self.begin()?.append(file, bytes)
+        self.act("append", "")?.append(file, bytes)
     }
 
-    fn set_mode(&mut self, file: &OpenFile, mode: u32) -> io::Result<bool> {
-        self.begin()?.set_mode(file, mode);
+    fn set_mode(&mut self, file: &OpenFile, _found: &Found, mode: u32) -> io::Result<bool> {
+        self.act("set mode", "")?.set_mode(file, mode);
         Ok(true)
     }
 
     fn make_folder(&mut self, folder: &str) -> io::Result<()> {
-        self.begin()?.make_folder(folder)
+        self.act("make folder", folder)?.make_folder(folder)
     }
 
     fn rename(&mut self, from: &str, to: &str, _held: Option<&Locked<OpenFile>>) -> io::Result<()> {
-        self.begin()?.rename(from, to)
+        self.act("rename to", to)?.rename(from, to)
     }
 
     fn put(
@@ -186,30 +222,31 @@ impl<T: Trouble + Drop> Calls for Handle<T> {
         _made: &Locked<OpenFile>,
         _held: Option<&Locked<OpenFile>>,
     ) -> io::Result<()> {
-        self.begin()?.rename(from, to)
+        self.act("rename to", to)?.rename(from, to)
     }
 
     fn unlink(&mut self, path: &str, _held: Option<&Locked<OpenFile>>) -> io::Result<()> {
-        self.begin()?.unlink(path)
+        self.act("unlink", path)?.unlink(path)
     }
 
-    fn sync_file(&mut self, _path: &str) -> io::Result<()> {
-        self.begin()?;
-        Ok(())
+    fn sync_file(&mut self, path: &str) -> io::Result<bool> {
+        let shelf = self.act("sync file", path)?;
+        if !shelf.has_file(path) {
+            return Ok(false);
+        }
+        shelf.sync(path)?;
+        Ok(true)
     }
 
-    fn sync_open(&mut self, _path: &str, _file: &OpenFile) -> io::Result<()> {
-        self.begin()?;
+    fn sync_open(&mut self, path: &str, _file: &OpenFile) -> io::Result<()> {
+        self.act("sync file", path)?;
         Ok(())
     }
 
     fn sync_folder(&mut self, folder: &str) -> Result<bool, FolderFault<io::Error>> {
-        match self.begin() {
-            Ok(shelf) => Ok(shelf.has_folder(folder)),
-            Err(fault) => Err(FolderFault {
-                syncs_none: false,
-                fault,
-            }),
+        match self.try_sync(folder) {
+            Ok(is_there) => Ok(is_there),
+            Err(fault) => folder_answer(Err(fault)),
         }
     }
 
@@ -219,7 +256,7 @@ impl<T: Trouble + Drop> Calls for Handle<T> {
     }
 
     fn print(&self, bytes: &[u8]) -> io::Result<()> {
-        self.begin()?;
+        self.act("print", "")?;
         self.notes.say(bytes)
     }
 
@@ -254,24 +291,18 @@ fn words_of(alloc: Global, line: &str) -> Result<Vec<String>, AllocError> {
     Ok(words)
 }
 
-/// Runs the program whole on the folder. It reads what stands behind the first line.
-pub(crate) fn run_with<T: Trouble + Drop>(
+/// Runs the program whole on the folder. It reads what stands behind the first line, and may tell on standard error of
+/// each call that fails.
+fn run_told<T: Trouble + Drop>(
     alloc: Global,
     shelf: &SharedShelf,
     line: &str,
     trouble: T,
+    are_told: bool,
 ) -> io::Result<Ran> {
     let (line, input) = line.split_once('\n').unwrap_or((line, ""));
     let words = words_of(alloc, line)?;
-    let notes = Rc::new(
-        alloc,
-        Notes {
-            input: input.as_bytes().to_vec(alloc)?,
-            read: Cell::new(0),
-            calls: Cell::new(0),
-            said: RefCell::new(Vec::new(alloc)),
-        },
-    )?;
+    let notes = Rc::new(alloc, Notes::new(alloc, input)?)?;
     let err = Said {
         alloc,
         notes: notes.clone()?,
@@ -281,7 +312,7 @@ pub(crate) fn run_with<T: Trouble + Drop>(
         notes: notes.clone()?,
         trouble,
     };
-    let mut machine = FolderMachine::new(alloc, calls, err);
+    let mut machine = FolderMachine::new(alloc, calls, err).with_reports(are_told);
     let status = run(alloc, &words, &mut machine);
     drop(machine);
     let Ok(said) = notes.said.try_replace(Vec::new(alloc)) else {
@@ -295,7 +326,22 @@ pub(crate) fn run_with<T: Trouble + Drop>(
     })
 }
 
+/// The same, and nothing is told of failures.
+pub(crate) fn run_with<T: Trouble + Drop>(
+    alloc: Global,
+    shelf: &SharedShelf,
+    line: &str,
+    trouble: T,
+) -> io::Result<Ran> {
+    run_told(alloc, shelf, line, trouble, false)
+}
+
 /// The same without trouble.
 pub(crate) fn run_line(alloc: Global, shelf: &SharedShelf, line: &str) -> io::Result<Ran> {
     run_with(alloc, shelf, line, Peace)
+}
+
+/// The same without trouble, but each failure is told.
+pub(crate) fn run_telling(alloc: Global, shelf: &SharedShelf, line: &str) -> io::Result<Ran> {
+    run_told(alloc, shelf, line, Peace, true)
 }

@@ -8,6 +8,7 @@ use super::{
 use std::alloc::Global;
 use std::cell::RefCell;
 use std::io;
+use std::process::Abort;
 use std::rc::Rc;
 use std::test::Fail;
 
@@ -105,6 +106,9 @@ const ROWS: [(&str, &str, &str); 56] = [
     ("type1 of gone", "cleanup", "2gr1"),
 ];
 
+/// How many tests share the rows.
+const TESTS: usize = 8;
+
 /// Two commands, and what comes of both in the one order and in the other: first the one that runs first.
 #[derive(Drop)]
 struct Pair<'a> {
@@ -198,13 +202,55 @@ fn letters_of(alloc: Global, pair: &Pair<'_>) -> io::Result<String> {
     Ok(turns_of(alloc, letters.as_slice())?)
 }
 
-#[test]
-fn two_runs_are_as_one_behind_the_other(rt: HostRuntime) -> Result<(), Fail> {
-    let alloc = rt.alloc();
-    for (first, second, wanted) in ROWS {
-        let pair = pair_of(alloc, command_of(first)?, command_of(second)?)?;
-        let letters = letters_of(alloc, &pair)?;
-        assert_eq!(rt; letters.as_str(), wanted, "{first}, and then {second}");
+// The rows of one of the tests that share them: a test has a minute.
+fn compare_rows(rt: &impl Abort, alloc: Global, test: usize) -> Result<(), Fail> {
+    for (row, line) in ROWS.iter().enumerate() {
+        if row % TESTS == test {
+            let (first, second, wanted) = *line;
+            let pair = pair_of(alloc, command_of(first)?, command_of(second)?)?;
+            let letters = letters_of(alloc, &pair)?;
+            assert_eq!(rt; letters.as_str(), wanted, "{first}, and then {second}");
+        }
     }
     Ok(())
+}
+
+#[test]
+fn two_runs_are_as_one_behind_the_other_0(rt: HostRuntime) -> Result<(), Fail> {
+    compare_rows(&rt, rt.alloc(), 0)
+}
+
+#[test]
+fn two_runs_are_as_one_behind_the_other_1(rt: HostRuntime) -> Result<(), Fail> {
+    compare_rows(&rt, rt.alloc(), 1)
+}
+
+#[test]
+fn two_runs_are_as_one_behind_the_other_2(rt: HostRuntime) -> Result<(), Fail> {
+    compare_rows(&rt, rt.alloc(), 2)
+}
+
+#[test]
+fn two_runs_are_as_one_behind_the_other_3(rt: HostRuntime) -> Result<(), Fail> {
+    compare_rows(&rt, rt.alloc(), 3)
+}
+
+#[test]
+fn two_runs_are_as_one_behind_the_other_4(rt: HostRuntime) -> Result<(), Fail> {
+    compare_rows(&rt, rt.alloc(), 4)
+}
+
+#[test]
+fn two_runs_are_as_one_behind_the_other_5(rt: HostRuntime) -> Result<(), Fail> {
+    compare_rows(&rt, rt.alloc(), 5)
+}
+
+#[test]
+fn two_runs_are_as_one_behind_the_other_6(rt: HostRuntime) -> Result<(), Fail> {
+    compare_rows(&rt, rt.alloc(), 6)
+}
+
+#[test]
+fn two_runs_are_as_one_behind_the_other_7(rt: HostRuntime) -> Result<(), Fail> {
+    compare_rows(&rt, rt.alloc(), 7)
 }

@@ -1,5 +1,6 @@
 //! A folder in memory that several runs share, and the locks on what is open. It is one of FAT: each file has a time that
-//! FAT can keep, and no two have the same.
+//! FAT can keep, and no two have the same. As on one that is mounted with `iocharset=utf8`, a file is found by its own spelling
+//! alone, and another spelling of it can't be made.
 ghost use Rattle.std.specs.Prelude.{◌≤◌, length, IfOk};
 
 use boot_base::copy_from;
@@ -19,12 +20,25 @@ struct Node {
     bytes: Vec<u8>,
     mode: u32,
     time: u64,
+    is_listed: bool,
+    /// why it can't be synced, if it can't
+    sync_fault: Option<ErrorKind>,
 }
 
 impl Node {
     fn is_at(&self, path: &str) -> bool {
         match &self.path {
             Some(own) => own.as_str() == path,
+            None => false,
+        }
+    }
+
+    fn is_below(&self, folder: &str) -> bool {
+        match &self.path {
+            Some(own) => own
+                .as_str()
+                .strip_prefix(folder)
+                .is_some_and(|rest| rest.starts_with('/')),
             None => false,
         }
     }
@@ -61,6 +75,8 @@ pub(crate) struct Shelf {
     locks: Vec<Lock>,
     /// How often something has come, was changed or was opened.
     clock: u64,
+    /// The calls that change, sync or print something, in their order: what each does, and the path if it is given one.
+    log: Vec<String>,
 }
 
 fn require(holds: bool, kind: ErrorKind) -> io::Result<()> {
@@ -68,6 +84,13 @@ fn require(holds: bool, kind: ErrorKind) -> io::Result<()> {
         Ok(())
     } else {
         Err(io::Error::from(kind))
+    }
+}
+
+fn require_no_fault(fault: Option<ErrorKind>) -> io::Result<()> {
+    match fault {
+        Some(kind) => Err(io::Error::from(kind)),
+        None => Ok(()),
     }
 }
 
@@ -87,6 +110,7 @@ impl Shelf {
             nodes: Vec::new(alloc),
             locks: Vec::new(alloc),
             clock: 0,
+            log: Vec::new(alloc),
         };
         shelf.put("", Kind::Folder, Vec::new(alloc), 0o755)?;
         Ok(shelf)
@@ -106,6 +130,8 @@ impl Shelf {
             bytes,
             mode,
             time,
+            is_listed: true,
+            sync_fault: None,
         })?;
         Ok(())
     }
@@ -113,6 +139,70 @@ impl Shelf {
     /// Puts a file there.
     pub(crate) fn put_file(&mut self, path: &str, bytes: Vec<u8>) -> Result<(), AllocError> {
         self.put(path, Kind::File, bytes, 0o644)
+    }
+
+    /// The bytes of a file.
+    pub(crate) fn bytes_of(&self, alloc: Global, path: &str) -> io::Result<Vec<u8>> {
+        match self.node_at(path).and_then(|place| self.nodes.get(place)) {
+            Some(node) => Ok(node.bytes.as_slice().to_vec(alloc)?),
+            None => Err(io::Error::from(ErrorKind::NotFound)),
+        }
+    }
+
+    /// What stands at a path is found there still, but its folder doesn't list it.
+    pub(crate) fn hide(&mut self, path: &str) {
+        if let Some(place) = self.node_at(path)
+            && let Some(node) = self.nodes.get_mut(place)
+        {
+            node.is_listed = false;
+        }
+    }
+
+    /// What stands at a path can't be synced from now on.
+    pub(crate) fn spoil(&mut self, path: &str, fault: ErrorKind) {
+        if let Some(place) = self.node_at(path)
+            && let Some(node) = self.nodes.get_mut(place)
+        {
+            node.sync_fault = Some(fault);
+        }
+    }
+
+    /// A folder isn't there any more, and nothing that was in it.
+    pub(crate) fn take_away(&mut self, folder: &str) {
+        for node in &mut self.nodes {
+            if node.is_at(folder) || node.is_below(folder) {
+                node.path = None;
+            }
+        }
+    }
+
+    /// A call that changes, syncs or prints something goes into the log.
+    pub(crate) fn log_call(&mut self, call: &str, path: &str) -> Result<(), AllocError> {
+        let line = format!(in self.alloc; "{call} {path}")?;
+        self.log.push(line)?;
+        Ok(())
+    }
+
+    /// The log.
+    pub(crate) fn log(&self) -> &[String] {
+        self.log.as_slice()
+    }
+
+    /// Gives a file another time of change.
+    pub(crate) fn give_time(&mut self, path: &str, time: u64) {
+        if let Some(place) = self.node_at(path)
+            && let Some(node) = self.nodes.get_mut(place)
+        {
+            node.time = time;
+        }
+    }
+
+    // Whether a name that is found by its own spelling alone has letters of the other case of this one.
+    fn has_other_case(&self, path: &str) -> bool {
+        self.nodes.iter().any(|node| match &node.path {
+            Some(own) => own.as_str() != path && own.as_str().eq_ignore_ascii_case(path),
+            None => false,
+        })
     }
 
     fn node_at(&self, path: &str) -> Option<usize> {
@@ -150,6 +240,10 @@ impl Shelf {
         self.find(path).is_some_and(|found| found.is_folder())
     }
 
+    pub(crate) fn has_file(&self, path: &str) -> bool {
+        self.find(path).is_some_and(|found| found.is_file())
+    }
+
     // What stands at a path gets another one, or none.
     fn give_path(&mut self, path: &str, new: Option<String>) {
         if let Some(place) = self.node_at(path)
@@ -165,12 +259,20 @@ impl Shelf {
         require(!self.has_folder(path), ErrorKind::IsADirectory)
     }
 
+    /// Syncs what is found at a path.
+    pub(crate) fn sync(&self, path: &str) -> io::Result<()> {
+        match self.node_at(path).and_then(|place| self.nodes.get(place)) {
+            Some(node) => require_no_fault(node.sync_fault),
+            None => Err(io::Error::from(ErrorKind::NotFound)),
+        }
+    }
+
     pub(crate) fn names(&self, alloc: Global, folder: &str) -> io::Result<Vec<String>> {
         let mut names = Vec::new(alloc);
         for node in &self.nodes {
             if let Some(path) = &node.path {
                 let (above, name) = parted(path.as_str());
-                if above == folder && !name.is_empty() {
+                if above == folder && !name.is_empty() && node.is_listed {
                     names.push(String::from_str(alloc, name)?)?;
                 }
             }
@@ -224,6 +326,7 @@ impl Shelf {
 
     pub(crate) fn create(&mut self, path: &str, mode: u32) -> io::Result<OpenFile> {
         require(self.node_at(path).is_none(), ErrorKind::AlreadyExists)?;
+        require(!self.has_other_case(path), ErrorKind::AlreadyExists)?;
         self.require_room(path)?;
         self.put(path, Kind::File, Vec::new(self.alloc), mode)?;
         self.open(path, Access::Append)
@@ -256,6 +359,7 @@ impl Shelf {
         self.require_room(from)?;
         self.require_room(to)?;
         require(self.node_at(from).is_some(), ErrorKind::NotFound)?;
+        require(!self.has_other_case(to), ErrorKind::AlreadyExists)?;
         let path = String::from_str(self.alloc, to)?;
         if from != to {
             self.give_path(to, None);

@@ -1,4 +1,4 @@
-use Rattle.name_syncs.proofs.Noted.{folders_are_above, names_are_covered, noted_are_listed, renames_are_covered}
+use Rattle.name_syncs.proofs.Noted.{folders_are_above, names_are_covered, noted_are_listed, renames_are_covered, settled_are_covered}
 use Rattle.name_syncs.proofs.laws.note_laws.Goals as goal
 
 pub returns : goal.returns
@@ -7,4 +7,5 @@ returns c = record {
   listed = noted_are_listed;
   names = names_are_covered;
   renames = renames_are_covered;
+  settled = settled_are_covered;
 }

@@ -22,4 +22,4 @@ returns-in_err-settle_changed-clause-settled g c tells =
     settles_some folders i folder (g.D.Disk.state c.loop-folder.disk) (g.D.Disk.state c.settle_changed.new.disk)
     c.args.settled.now c.loop-folder.settled c.settle_changed.new.settled
     (one_more folders i c.folder-item.result folder c.loop-folder-test.true c.folder-item.is c.as_str.ensures)
-    (c.in_err-settle_changed.ensures.asks tells).kept (c.loop-folder.invariant tells).settles (c.in_err-settle_changed.ensures.settled tells)
+    (c.in_err-settle_changed.ensures.others tells).asks.kept (c.loop-folder.invariant tells).settles (c.in_err-settle_changed.ensures.settled tells)

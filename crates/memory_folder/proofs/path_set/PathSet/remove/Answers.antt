@@ -1,6 +1,6 @@
 use Rattle.std.proofs.Common.{◌≡◌, ◌∙◌, ℕ, List, ap, not, rules, bytes_eq}
 use Rattle.std.proofs.lemmas.Fn.{filter_same}
-use Rattle.memory_folder.specs.Paths.{paths_without}
+use Rattle.name_syncs.specs.Paths.{paths_without}
 use Rattle.memory_folder.proofs.Sets.{without_adds, without_gone}
 use Rattle.memory_folder.proofs.path_set.PathSet.remove.Goals as goal
 

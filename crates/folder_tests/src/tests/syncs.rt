@@ -1,0 +1,257 @@
+//! Which syncs a command makes on FAT, and in which order. On FAT the bytes of a renamed file are written with the file,
+//! and not with its folder.
+use super::fat::{NEW, OLD, has, put_intent};
+use super::handle::{Ran, SharedShelf, Trouble, at_work, run_line, run_telling, run_with};
+use super::start;
+use boot_base::INTENT;
+use std::alloc::Global;
+use std::io;
+use std::io::ErrorKind;
+use std::test::Fail;
+
+const IMAGES: &str = "efi/EFI/Linux";
+
+const GOOD: &str = "bless good EFI/Linux/one+2-1.efi";
+
+/// Commands that look and change elsewhere than in some of the folders in which this program replaces files.
+const ELSEWHERE: [&str; 2] = ["loader set-timeout 7", "bootctl unlink five.efi"];
+
+/// The folders in which this program replaces files.
+const REPLACED: [&str; 3] = [IMAGES, "efi/loader", "efi/loader/entries"];
+
+/// Files in these folders.
+const LEFT: [&str; 5] = [
+    "efi/EFI/Linux/one+2-1.efi",
+    "efi/EFI/Linux/two+1-2.efi",
+    "efi/EFI/Linux/five.efi",
+    "efi/loader/loader.conf",
+    "efi/loader/entries/old.conf",
+];
+
+/// Folders that `bootctl list` only looks at.
+const LOOKED_AT: [&str; 3] = [IMAGES, "efi/loader/entries", "efi/loader"];
+
+/// A folder that was only looked at may have these: this run may not open it, or its file system syncs no folders.
+const PASSED_OVER: [ErrorKind; 4] = [
+    ErrorKind::PermissionDenied,
+    ErrorKind::InvalidInput,
+    ErrorKind::Unsupported,
+    ErrorKind::ReadOnlyFilesystem,
+];
+
+/// A folder is taken away behind the call whose line in the log is the last one.
+#[derive(Drop)]
+struct TakesAway<'a> {
+    behind: &'a str,
+    folder: &'a str,
+}
+
+impl Trouble for TakesAway<'_> {
+    fn come(&self, _call: u64, shelf: &SharedShelf) -> io::Result<()> {
+        let mut shelf = at_work(shelf)?;
+        let is_behind = shelf
+            .log()
+            .last()
+            .is_some_and(|line| line.as_str() == self.behind);
+        if is_behind {
+            shelf.take_away(self.folder);
+        }
+        Ok(())
+    }
+}
+
+// The log of the folder.
+fn log_of(alloc: Global, shelf: &SharedShelf) -> io::Result<Vec<String>> {
+    let shelf = at_work(shelf)?;
+    let mut log = Vec::new(alloc);
+    for line in shelf.log() {
+        log.push(line.clone()?)?;
+    }
+    Ok(log)
+}
+
+// The place of the first line that is this one.
+fn place_of(log: &[String], line: &str) -> Option<usize> {
+    log.iter().position(|logged| logged.as_str() == line)
+}
+
+// The place of the first line that begins so.
+fn place_of_any(log: &[String], beginning: &str) -> Option<usize> {
+    log.iter()
+        .position(|logged| logged.as_str().starts_with(beginning))
+}
+
+// The first line behind a place that isn't the sync of a file.
+fn next_but_files(log: &[String], place: usize) -> Option<&str> {
+    log.iter()
+        .skip(place.saturating_add(1))
+        .map(|line| line.as_str())
+        .find(|line| !line.starts_with("sync file "))
+}
+
+// Whether both are there, and the first one comes first.
+fn is_before(first: Option<usize>, second: Option<usize>) -> bool {
+    match (first, second) {
+        (Some(first), Some(second)) => first < second,
+        _ => false,
+    }
+}
+
+// Whether a run has said these words.
+fn says(alloc: Global, ran: &Ran, words: &str) -> io::Result<bool> {
+    let said = String::from_utf8(ran.said.as_slice().to_vec(alloc)?);
+    Ok(said.is_ok_and(|said| said.as_str().contains(words)))
+}
+
+// A kill has left the intent of a counted boot behind the rename.
+fn start_behind_rename(alloc: Global) -> io::Result<SharedShelf> {
+    let shelf = start(alloc)?;
+    put_intent(alloc, &shelf)?;
+    at_work(&shelf)?.rename(OLD, NEW)?;
+    Ok(shelf)
+}
+
+// A killed run has renamed a file, and hasn't synced it. The next one dropped the intent, synced the folder alone, and a
+// cut left the entry with 0 bytes: its new name was on the disk, and its start and length weren't.
+#[test]
+fn an_intent_goes_behind_the_sync_of_its_file(rt: HostRuntime) -> Result<(), Fail> {
+    let alloc = rt.alloc();
+    let shelf = start_behind_rename(alloc)?;
+    let ran = run_line(alloc, &shelf, "bootctl list")?;
+    assert_eq!(rt; ran.status, 0);
+    let log = log_of(alloc, &shelf)?;
+    let log = log.as_slice();
+    let file = place_of(log, "sync file efi/EFI/Linux/one+1-2.efi");
+    let folder = place_of(log, "sync folder efi/EFI/Linux");
+    let gone = place_of(log, "unlink boot_tools.intent");
+    assert!(rt; is_before(file, folder));
+    assert!(rt; is_before(folder, gone));
+    Ok(())
+}
+
+// A kill behind a rename over a file has freed the old file's clusters in the table, and each sync on that file system
+// writes the table. So a command that looks elsewhere emptied the file that was to be replaced.
+#[test]
+fn files_that_may_be_replaced_are_synced_first(rt: HostRuntime) -> Result<(), Fail> {
+    let alloc = rt.alloc();
+    for line in ELSEWHERE {
+        let shelf = start(alloc)?;
+        let ran = run_line(alloc, &shelf, line)?;
+        assert_eq!(rt; ran.status, 0, "{line}");
+        let log = log_of(alloc, &shelf)?;
+        let log = log.as_slice();
+        let first = place_of_any(log, "sync folder ");
+        for path in LEFT {
+            let synced = format!(in alloc; "sync file {path}")?;
+            assert!(rt;
+                is_before(place_of(log, synced.as_str()), first),
+                "{line}: {path}"
+            );
+        }
+    }
+    Ok(())
+}
+
+// The names of these files were left to the next command that looks there, though the table was written.
+#[test]
+fn folders_of_files_that_may_be_replaced_are_synced(rt: HostRuntime) -> Result<(), Fail> {
+    let alloc = rt.alloc();
+    for line in ELSEWHERE {
+        let shelf = start(alloc)?;
+        let ran = run_line(alloc, &shelf, line)?;
+        assert_eq!(rt; ran.status, 0, "{line}");
+        let log = log_of(alloc, &shelf)?;
+        let log = log.as_slice();
+        let reply = place_of(log, "print ");
+        for folder in REPLACED {
+            let synced = format!(in alloc; "sync folder {folder}")?;
+            assert!(rt;
+                is_before(place_of(log, synced.as_str()), reply),
+                "{line}: {folder}"
+            );
+        }
+    }
+    Ok(())
+}
+
+// The first bytes of a new folder are written with the folder above it. Behind a kill the next command wrote the new
+// folder's name alone, and a cut then left old bytes of the disk for its names.
+#[test]
+fn a_new_folder_is_synced_with_the_one_above(rt: HostRuntime) -> Result<(), Fail> {
+    let alloc = rt.alloc();
+    let shelf = start(alloc)?;
+    at_work(&shelf)?.take_away("efi/boot_tools");
+    let ran = run_line(alloc, &shelf, "type1 install new --linux=in/kernel")?;
+    assert_eq!(rt; ran.status, 0);
+    let log = log_of(alloc, &shelf)?;
+    let log = log.as_slice();
+    let made = place_of(log, "make folder efi/boot_tools");
+    let next = made.and_then(|made| next_but_files(log, made));
+    assert!(rt; next == Some("sync folder efi"));
+    Ok(())
+}
+
+// After a failed sync the system finds a folder that the disk hasn't got. Its sync says Ok, and what is in it goes with
+// the next unmounting.
+#[test]
+fn a_folder_that_is_not_listed_is_a_fault(rt: HostRuntime) -> Result<(), Fail> {
+    let alloc = rt.alloc();
+    let shelf = start(alloc)?;
+    at_work(&shelf)?.hide(IMAGES);
+    let ran = run_telling(alloc, &shelf, "bootctl list")?;
+    assert_eq!(rt; ran.status, 3);
+    assert!(rt;
+        says(
+            alloc,
+            &ran,
+            "efi/EFI/Linux: isn't listed by the folder above it"
+        )?
+    );
+    Ok(())
+}
+
+// The file system was unmounted between a rename and the sync of its folder, so what a failed write has left of it in
+// memory is gone. The run said that the entry is good, and its intent went.
+#[test]
+fn a_changed_folder_that_is_gone_is_a_fault(rt: HostRuntime) -> Result<(), Fail> {
+    let alloc = rt.alloc();
+    let shelf = start(alloc)?;
+    let trouble = TakesAway {
+        behind: "sync file efi/EFI/Linux/one.efi",
+        folder: IMAGES,
+    };
+    let ran = run_with(alloc, &shelf, GOOD, trouble)?;
+    assert_eq!(rt; ran.status, 3);
+    assert!(rt; ran.said.is_empty());
+    assert!(rt; has(&ran, INTENT));
+    Ok(())
+}
+
+// An error of the device is told once, to who syncs next. A command that only looks passed it over, so what the failed
+// one had changed was taken to be on the disk.
+#[test]
+fn an_error_of_a_folder_that_was_looked_at_is_a_fault(rt: HostRuntime) -> Result<(), Fail> {
+    let alloc = rt.alloc();
+    for folder in LOOKED_AT {
+        let shelf = start(alloc)?;
+        at_work(&shelf)?.spoil(folder, ErrorKind::Other);
+        let ran = run_line(alloc, &shelf, "bootctl list")?;
+        assert_eq!(rt; ran.status, 3, "{folder}");
+    }
+    Ok(())
+}
+
+// But a partition that is mounted read-only, or a folder that this run may not open, can be listed.
+#[test]
+fn a_folder_that_can_not_be_synced_is_listed(rt: HostRuntime) -> Result<(), Fail> {
+    let alloc = rt.alloc();
+    let usual = run_line(alloc, &start(alloc)?, "bootctl list")?;
+    for kind in PASSED_OVER {
+        let shelf = start(alloc)?;
+        at_work(&shelf)?.spoil(IMAGES, kind);
+        let ran = run_line(alloc, &shelf, "bootctl list")?;
+        assert_eq!(rt; ran.status, 0);
+        assert!(rt; ran.said == usual.said);
+    }
+    Ok(())
+}
