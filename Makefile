@@ -8,6 +8,7 @@ ZSHDIR ?= $(PREFIX)/share/zsh/$(if $(and $(filter /usr,$(PREFIX)),$(wildcard /et
 FISHDIR ?= $(if $(filter /usr,$(PREFIX)),/usr/share/fish/vendor_completions.d,/etc/fish/completions)
 HOOKDIR ?= $(if $(filter /usr,$(PREFIX)),/usr/lib,/etc)/kernel/install.d
 DOCDIR ?= $(PREFIX)/share/doc/boot-tools
+HOOKS = 60-boot_tools.install 80-boot_tools.install 90-boot_tools.install
 PAGES = README.md docs/DISK.md docs/REFUSALS.md docs/SYSTEMD.md docs/TASKS.md
 WANTED = $(DESTDIR)/etc/systemd/system/basic.target.wants/boot_tools-bless.service
 SHOWN = measure calculate --linux=data/k --bank=sha256 --phase=
@@ -31,10 +32,12 @@ install:
 	install -D -m 644 -t $(DESTDIR)$(ZSHDIR) share/completions/_boot_tools
 	install -D -m 644 -t $(DESTDIR)$(FISHDIR) share/completions/boot_tools.fish
 	ln -sf boot_tools.fish $(DESTDIR)$(FISHDIR)/espctl.fish
-	install -D -m 755 -t $(DESTDIR)$(HOOKDIR) share/kernel-install/60-boot_tools.install share/kernel-install/90-boot_tools.install
+	install -D -m 755 -t $(DESTDIR)$(HOOKDIR) $(addprefix share/kernel-install/,$(HOOKS))
 	install -D -m 755 -t $(DESTDIR)$(PREFIX)/lib/boot_tools share/systemd/bless-boot share/lib/sign-values
+	install -D -m 644 -t $(DESTDIR)$(PREFIX)/lib/boot_tools share/lib/hook-functions
 	install -D -m 644 -t $(DESTDIR)$(PREFIX)/lib/systemd/system share/systemd/boot_tools-bless.service
-	sed -i 's|/usr/lib/boot_tools|$(PREFIX)/lib/boot_tools|' $(DESTDIR)$(PREFIX)/lib/systemd/system/boot_tools-bless.service
+	sed -i 's|/usr/lib/boot_tools|$(PREFIX)/lib/boot_tools|' $(DESTDIR)$(PREFIX)/lib/systemd/system/boot_tools-bless.service \
+	  $(DESTDIR)$(PREFIX)/lib/boot_tools/bless-boot $(addprefix $(DESTDIR)$(HOOKDIR)/,$(HOOKS))
 	install -D -m 644 -t $(DESTDIR)$(DOCDIR) $(PAGES)
 	sed -i 's|/usr/share/doc/boot-tools|$(DOCDIR)|; s|/usr/lib/boot_tools|$(PREFIX)/lib/boot_tools|' $(DESTDIR)$(PREFIX)/share/man/man1/*.1
 uninstall:
@@ -42,8 +45,8 @@ uninstall:
 	rm -f $(addprefix $(DESTDIR)$(PREFIX)/share/man/man1/,boot_tools.1 espctl.1 sign-values.1)
 	rm -f $(DESTDIR)$(PREFIX)/share/bash-completion/completions/boot_tools $(DESTDIR)$(PREFIX)/share/bash-completion/completions/espctl
 	rm -f $(DESTDIR)$(ZSHDIR)/_boot_tools $(DESTDIR)$(FISHDIR)/boot_tools.fish $(DESTDIR)$(FISHDIR)/espctl.fish
-	rm -f $(DESTDIR)$(HOOKDIR)/60-boot_tools.install $(DESTDIR)$(HOOKDIR)/90-boot_tools.install
-	rm -f $(DESTDIR)$(PREFIX)/lib/boot_tools/bless-boot $(DESTDIR)$(PREFIX)/lib/boot_tools/sign-values
+	rm -f $(addprefix $(DESTDIR)$(HOOKDIR)/,$(HOOKS))
+	rm -f $(addprefix $(DESTDIR)$(PREFIX)/lib/boot_tools/,bless-boot sign-values hook-functions)
 	rm -f $(DESTDIR)$(PREFIX)/lib/systemd/system/boot_tools-bless.service $(WANTED)
 	rm -f $(addprefix $(DESTDIR)$(DOCDIR)/,$(notdir $(PAGES)))
 	rmdir --ignore-fail-on-non-empty $(wildcard $(DESTDIR)$(PREFIX)/lib/boot_tools $(DESTDIR)$(DOCDIR))
