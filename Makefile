@@ -16,6 +16,7 @@ SHOWN = measure calculate --linux=data/k --bank=sha256 --phase=
 all:
 	tools/build $(SHOWN)
 try:
+	@echo "make try: builds the program unproved, in some two minutes, and runs: boot_tools $(SHOWN)"
 	cd crates/boot_tools && rt try --data data/k=data/k -- $(SHOWN)
 	@echo "make try: this was built unproved, and is gone again; make proves it and keeps it"
 check:
@@ -49,7 +50,7 @@ uninstall:
 	rm -f $(addprefix $(DESTDIR)$(PREFIX)/lib/boot_tools/,bless-boot sign-values hook-functions)
 	rm -f $(DESTDIR)$(PREFIX)/lib/systemd/system/boot_tools-bless.service $(WANTED)
 	rm -f $(addprefix $(DESTDIR)$(DOCDIR)/,$(notdir $(PAGES)))
-	rmdir --ignore-fail-on-non-empty $(wildcard $(DESTDIR)$(PREFIX)/lib/boot_tools $(DESTDIR)$(DOCDIR))
+	for it in $(DESTDIR)$(PREFIX)/lib/boot_tools $(DESTDIR)$(DOCDIR); do [ ! -d $$it ] || rmdir --ignore-fail-on-non-empty $$it; done
 	@! grep -qs '^uki_generator=.*boot_tools' $(DESTDIR)/etc/kernel/install.conf || echo "make uninstall: $(DESTDIR)/etc/kernel/install.conf \
 	still has uki_generator=boot_tools. New kernels get no entry until that line and layout=uki are gone"
 dist:

@@ -1,31 +1,37 @@
 # Completion of boot_tools, and of its front espctl, for fish.
 #
-# A row is `WORDS|OPERANDS|OPTIONS`: the operands by their kinds, each option as `TEXT:TAKEN:KIND`.
+# A row is `WORDS|OPERANDS|OPTIONS|TEXT`: the operands by their kinds, each option as `TEXT:TAKEN:KIND`, and what the command does.
 
 # --- rows: written by tools/completions
 set -g __boot_tools_rows \
-    'ukify build||--stub:required:file --linux:required:file --output:required:file --os-release:once:text-or-file --cmdline:once:text-or-file --devicetree:once:file --uname:once:text --splash:once:file --pcrpkey:once:file --initrd:repeated:file --microcode:once:file --section:repeated:section --sbat:once:text-or-file --measure:flag:' \
-    'ukify inspect|file|--json:flag:' \
-    'measure calculate||--linux:required:file --osrel:once:file --cmdline:once:file --initrd:once:file --ucode:once:file --splash:once:file --dtb:once:file --uname:once:file --sbat:once:file --pcrpkey:once:file --bank:repeated:bank --phase:repeated:phase --json:flag:' \
-    'measure image|file|--bank:repeated:bank --phase:repeated:phase --json:flag:' \
-    'bootctl list||--esp-path:once:folder --json:flag:' \
-    'bootctl unlink|entry|--esp-path:once:folder' \
-    'bootctl kernel-identify|file|' \
-    'tidy||--esp-path:once:folder' \
-    'install|file image-name|--tries:once:number --esp-path:once:folder' \
-    'boot||--esp-path:once:folder' \
-    'bless good|counted-path|--esp-path:once:folder' \
-    'bless bad|counted-path|--esp-path:once:folder' \
-    'bless indeterminate|counted-path|--esp-path:once:folder' \
-    'bless status|counted-path|--esp-path:once:folder' \
-    'loader show||--esp-path:once:folder' \
-    'loader set-default|id|--esp-path:once:folder' \
-    'loader set-timeout|timeout|--esp-path:once:folder' \
-    'type1 install|entry-name|--linux:required:file --initrd:repeated:file --title:once:text --version:once:text --machine-id:once:text --sort-key:once:text --options:once:text --esp-path:once:folder' \
-    'type1 cleanup||--esp-path:once:folder' \
-    'keep|number|--per-key:flag: --dry-run:flag: --esp-path:once:folder' \
-    'script||' \
-    'demo|seed number|'
+    'ukify build||--stub:required:file --linux:required:file --output:required:file --os-release:once:text-or-file --cmdline:once:text-or-file --devicetree:once:file --uname:once:text --splash:once:file --pcrpkey:once:file --initrd:repeated:file --microcode:once:file --section:repeated:section --sbat:once:text-or-file --measure:flag:|builds an image of a stub, a kernel and further parts' \
+    'ukify inspect|file|--json:flag:|prints the sections of an image, with their sizes and digests' \
+    'measure calculate||--linux:required:file --osrel:once:file --cmdline:once:file --initrd:once:file --ucode:once:file --splash:once:file --dtb:once:file --uname:once:file --sbat:once:file --pcrpkey:once:file --bank:repeated:bank --phase:repeated:phase --json:flag:|predicts PCR 11 from the files of the parts' \
+    'measure image|file|--bank:repeated:bank --phase:repeated:phase --json:flag:|prints the values of PCR 11 of an image' \
+    'bootctl list||--esp-path:once:folder --json:flag:|prints the boot entries in the order of the menu' \
+    'bootctl unlink|entry|--esp-path:once:folder|removes the file of an entry' \
+    'bootctl kernel-identify|file||prints uki, pe or unknown' \
+    'tidy||--esp-path:once:folder|removes temporary files that a stopped run has left among entries and images' \
+    'install|file image-name|--tries:once:number --esp-path:once:folder|puts an image among the entries' \
+    'boot||--esp-path:once:folder|counts a boot of the first entry, as the boot loader does; never on a live partition' \
+    'bless good|counted-path|--esp-path:once:folder|takes the counter off an entry' \
+    'bless bad|counted-path|--esp-path:once:folder|leaves an entry no tries' \
+    'bless indeterminate|counted-path|--esp-path:once:folder|takes good or bad back' \
+    'bless status|counted-path|--esp-path:once:folder|prints good, bad or indeterminate' \
+    'loader show||--esp-path:once:folder|prints which entry the loader takes, and the timeout of the menu' \
+    'loader set-default|id|--esp-path:once:folder|makes an entry the default, by a pattern as NAME[.+]*' \
+    'loader set-timeout|timeout|--esp-path:once:folder|changes how many seconds the menu waits' \
+    'type1 install|entry-name|--linux:required:file --initrd:repeated:file --title:once:text --version:once:text --machine-id:once:text --sort-key:once:text --options:once:text --esp-path:once:folder|copies a kernel and its initrds, and writes the entry that names them' \
+    'type1 cleanup||--esp-path:once:folder|removes the copied kernels and initrds that no entry names' \
+    'keep|number|--per-key:flag: --dry-run:flag: --esp-path:once:folder|keeps the first N entries of the menu, and removes the files of all others' \
+    'script|||carries out the lines of standard input' \
+    'demo|seed number||carries out N random commands in memory'
+set -g __boot_tools_front_rows \
+    'bootctl list||--esp-path:once:folder --json:flag: --short:flag:|prints the boot entries in the order of the menu' \
+    'keep|number|--per-key:flag: --dry-run:flag: --esp-path:once:folder --force:flag:|keeps the first N entries of the menu, and removes the files of all others' \
+    'status||--esp-path:once:folder|prints the partitions, the booted entry, the default, and what a stopped run has left' \
+    'cmdline|file||prints the command line of an image' \
+    'help|||lists the commands, or tells of one'
 set -g __boot_tools_banks \
     'sha1' \
     'sha256' \
@@ -36,11 +42,49 @@ set -g __boot_tools_phases \
     'enter-initrd:leave-initrd' \
     'enter-initrd:leave-initrd:sysinit' \
     'enter-initrd:leave-initrd:sysinit:ready'
+set -g __boot_tools_option_texts \
+    '--stub|the stub of systemd' \
+    '--linux|the kernel' \
+    '--output|where the image is written' \
+    '--os-release|a text with the title, or @ and the path of its file' \
+    '--osrel|the file with the title' \
+    '--cmdline|the command line of the kernel' \
+    '--devicetree|the devicetree' \
+    '--dtb|the devicetree' \
+    '--uname|the release of the kernel' \
+    '--splash|the picture' \
+    '--pcrpkey|the public key of signed values' \
+    '--initrd|an initrd' \
+    '--microcode|microcode, for stubs from 256 on' \
+    '--ucode|microcode' \
+    '--section|a further section, NAME:TEXT or NAME:@FILE' \
+    '--sbat|SBAT lines' \
+    '--measure|print the values of PCR 11 too' \
+    '--bank|one bank alone' \
+    '--phase|one phase alone' \
+    '--json|one line of JSON' \
+    '--esp-path|where the partition is mounted' \
+    '--tries|how often the loader tries it' \
+    '--title|the title in the menu' \
+    '--version|the version, by which the menu goes' \
+    '--machine-id|the machine ID' \
+    '--sort-key|the sort-key, by which the menu goes first' \
+    '--options|the command line of the kernel' \
+    '--per-key|by the menu of each sort-key' \
+    '--dry-run|print what would go, and change nothing' \
+    '--short|a line an entry, with a mark at the default' \
+    '--force|also if an entry that boots would go for one that does not'
 # --- end of rows
+
+# The rows there are, the front's own before those of the program.
+function __boot_tools_all_rows
+    __boot_tools_is_front; and printf '%s\n' $__boot_tools_front_rows
+    printf '%s\n' $__boot_tools_rows
+end
 
 # The row of a command, by its words.
 function __boot_tools_row_of
-    for row in $__boot_tools_rows
+    for row in (__boot_tools_all_rows)
         if string match -q -- "$argv[1]|*" $row
             echo $row
             return
@@ -80,13 +124,14 @@ function __boot_tools_files
     end
 end
 
-# What may stand for a value: its kind, what stands before it in the word, the value as far as it is typed, and the folder of boot files.
+# What may stand for a value: its kind, what stands before it in the word, the value as far as it is typed, and the folders of boot files.
 function __boot_tools_value
-    set -l esp $argv[4]
-    __boot_tools_is_front; or set esp ./(string replace -r '^/' '' -- $argv[4])
     set -l files
-    for it in $esp/EFI/Linux/*.efi $esp/loader/entries/*.conf
-        test -f $it; and set -a files (string sub -s (math (string length -- $esp) + 1) -- $it)
+    for esp in $argv[4..]
+        __boot_tools_is_front; or set esp ./(string replace -r '^/' '' -- $esp)
+        for it in $esp/EFI/Linux/*.efi $esp/loader/entries/*.conf
+            test -f $it; and set -a files (string sub -s (math (string length -- $esp) + 1) -- $it)
+        end
     end
     set -l names (string replace -r '.*/' '' -- $files)
     switch "$argv[1]"
@@ -111,7 +156,7 @@ function __boot_tools_value
         case counted-path
             string match -r -- '.*\+[0-9]+(?:-[0-9]+)?\.[a-z]+$' $files
         case id
-            string replace -r -- '\+[0-9]+(?:-[0-9]+)?(\.[a-z]+)$' '$1' $names | sort -u
+            string replace -r -- '\+[0-9]+(?:-[0-9]+)?\.[a-z]+$' '[.+]*' $names | sort -u
         case image-name
             string match -- '*.efi' $names | string replace -r -- '(\+[0-9]+(-[0-9]+)?)?\.[a-z]+$' '' | sort -u
         case entry-name
@@ -128,17 +173,35 @@ function __boot_tools_options
         if test "$parts[2]" != repeated; and contains -- $parts[1] $given
             continue
         end
-        test "$parts[2]" = flag; and echo $parts[1]; or echo $parts[1]=
+        set -l text (string match -- "$parts[1]|*" $__boot_tools_option_texts | string replace -r '^[^|]*\|' '')
+        test "$parts[2]" = flag; or set parts[1] $parts[1]=
+        printf '%s\t%s\n' $parts[1] "$text"
     end
 end
 
-# The folder of boot files that the words name, without a slash behind it. The front takes the mounted partition otherwise.
+# The first words of all commands, or the verbs of the command that is named, with what each does.
+function __boot_tools_commands
+    for row in (__boot_tools_all_rows)
+        set -l word (string replace -r '\|.*' '' -- $row)
+        set -l text (string replace -r '.*\|' '' -- $row)
+        if set -q argv[1]
+            string match -q -- "$argv[1] *" $word; and printf '%s\t%s\n' (string replace -r '^\S+ ' '' -- $word) $text
+        else if not string match -q -- '* *' $word
+            printf '%s\t%s\n' $word $text
+        else
+            set -l verbs (__boot_tools_all_rows | string match -- (string replace -r ' .*' ' *' -- $word) | string replace -r '^\S+ ([^|]*).*' '$1' | sort -u)
+            printf '%s\t%s\n' (string replace -r ' .*' '' -- $word) (string join ', ' $verbs)
+        end
+    end | sort -u
+end
+
+# The folder of boot files that the words name, without a slash behind it. The front takes the mounted partitions otherwise.
 function __boot_tools_esp
     set -l esp efi
     if __boot_tools_is_front
+        set esp
         for it in /efi /boot /boot/efi
-            set esp $it
-            test "$(stat -f -c %T $it 2>/dev/null)" = msdos; and break
+            test "$(stat -f -c %T $it 2>/dev/null)" = msdos; and set -a esp $it
         end
     end
     for at in (seq (count $argv))
@@ -158,10 +221,10 @@ function __boot_tools_complete
     set -l cur (commandline -ct)
     set -l first 3
     if test (count $words) -eq 1
-        string replace -r '[ |].*' '' -- $__boot_tools_rows | sort -u
+        __boot_tools_commands
         if __boot_tools_is_front
             printf '%s\n' --help --version
-            string match -- 'bootctl *' $__boot_tools_rows | string replace -r '^\S+ ([^|]*).*' '$1'
+            __boot_tools_commands bootctl # the front lets one leave that word out
         end
         return
     end
@@ -171,7 +234,7 @@ function __boot_tools_complete
     set -l row (__boot_tools_row_of $words[2])
     if test -z "$row"
         if test (count $words) -eq 2
-            string match -- "$words[2] *" $__boot_tools_rows | string replace -r '^\S+ ([^|]*).*' '$1'
+            __boot_tools_commands $words[2]
             return
         end
         set row (__boot_tools_row_of "$words[2] $words[3]"); or return
