@@ -40,6 +40,7 @@ install:
 	sed -i 's|/usr/lib/boot_tools|$(PREFIX)/lib/boot_tools|' $(DESTDIR)$(PREFIX)/lib/systemd/system/boot_tools-bless.service \
 	  $(DESTDIR)$(PREFIX)/lib/boot_tools/bless-boot $(addprefix $(DESTDIR)$(HOOKDIR)/,$(HOOKS))
 	install -D -m 644 -t $(DESTDIR)$(DOCDIR) $(PAGES)
+	sed -i 's|](docs/|](|g' $(DESTDIR)$(DOCDIR)/README.md
 	sed -i 's|/usr/share/doc/boot-tools|$(DOCDIR)|; s|/usr/lib/boot_tools|$(PREFIX)/lib/boot_tools|' $(DESTDIR)$(PREFIX)/share/man/man1/*.1
 uninstall:
 	rm -f $(DESTDIR)$(PREFIX)/bin/boot_tools $(DESTDIR)$(PREFIX)/bin/espctl
