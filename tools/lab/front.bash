@@ -320,6 +320,21 @@ says_what_boots() {
   says "give 'NAME[.+]*'"
 }
 
+# An image has a section that the values don't have: the front says so, as it builds it and as it measures it, and of no other image.
+tells_of_newer_sections() {
+  prepare_menu
+  ends 0 front /var/tmp/at ukify build --stub=stub --linux=kernel --os-release=ID=x --output=plain
+  same '' "$(cat "$room/err")"
+  ends 0 front /var/tmp/at ukify build --stub=stub --linux=kernel --os-release=ID=x --section .profile:ID=a --section=.hwids:b --output=newer
+  says 'the image has .profile, which'
+  says 'the image has .hwids, which'
+  ends 0 front /var/tmp/at measure image newer --bank=sha256
+  says '/var/tmp/at/newer has .profile, which'
+  says '/var/tmp/at/newer has .hwids, which'
+  ends 0 front /var/tmp/at measure image plain --bank=sha256
+  same '' "$(cat "$room/err")"
+}
+
 # What may help stands behind a refusal, and what is hardly meant so is told; the status stays.
 gives_hints() {
   prepare_menu
