@@ -54,12 +54,12 @@ static GONE: [Step; 9] = [
     Does("x/a", Create),
     Does("x/a", Append(b"abc")),
     Beside(RemoveFolder("x")),
-    Does("x/a", SyncFile),
-    Faults(0),
-    Fails("x/a", RenameTemp),
+    Fails("x/a", SyncFile),
     Faults(1),
-    Fails("x/b", Unlink),
+    Fails("x/a", RenameTemp),
     Faults(2),
+    Fails("x/b", Unlink),
+    Faults(3),
 ];
 
 #[test]
