@@ -1,9 +1,10 @@
 //! Names of files.
-ghost use Rattle.std.specs.Prelude.{◌≡◌, true, None, Some, IfOk, if◌then◌else◌};
+ghost use Rattle.std.specs.Prelude.{◌≡◌, false, true, IfOk};
 ghost use Rattle.boot_base.specs.Paths.{is_file_name};
 
 use crate::components::{has_nul, is_one_component};
-use std::alloc::{AllocError, Global};
+use crate::path::PathFault;
+use std::alloc::Global;
 use std::marker::Model;
 
 /// The most bytes of a file's name.
@@ -27,16 +28,21 @@ impl Model for FileName {
 }
 
 impl FileName {
-    /// The name with this text. None exactly if the text is empty, `.` or `..`, holds `/` or NUL, or has more than 255
-    /// bytes.
-    pub fn read(alloc: Global, text: &str) -> Result<Option<FileName>, AllocError>
-        ensures { IfOk result (λ name. name ≡ (if is_file_name text.now then Some text.now else None)) }
+    /// The name with this text.
+    ///
+    /// # Errors
+    ///
+    /// `BadPath` exactly if the text is empty, `.` or `..`, holds `/` or NUL, or has more than 255 bytes; `Memory` if
+    /// there is no memory.
+    pub fn read(alloc: Global, text: &str) -> Result<FileName, PathFault>
+        ensures ok { IfOk result (λ name. (is_file_name text.now ≡ true) × (name ≡ text.now)) }
+        ensures bad { result ≡ Err PathFault.BadPath → is_file_name text.now ≡ false }
     {
         if !is_name(text) {
-            return Ok(None);
+            return Err(PathFault::BadPath);
         }
         let text = String::from_str(alloc, text)?;
-        Ok(Some(FileName { text }))
+        Ok(FileName { text })
     }
 
     /// The name's text.

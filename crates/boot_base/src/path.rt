@@ -13,9 +13,32 @@ use std::alloc::{AllocError, Global};
 use std::cmp::Ordering;
 use std::marker::Model;
 use std::{fmt, str};
+use thiserror::Error;
 
 /// The most bytes of a path.
 const PATH_LIMIT: usize = 1024;
+
+/// Why there is no path or name.
+#[derive(Clone, Copy, Debug, PartialEq, Eq, Error)]
+pub enum PathFault {
+    /// There was no memory for it.
+    #[error("out of memory")]
+    Memory,
+    /// The text is no path, or no name.
+    #[error("not a path")]
+    BadPath,
+}
+
+impl From<AllocError> for PathFault {
+    ghost use Rattle.std.specs.Prelude.{◌≡◌};
+    ghost use Rattle.boot_base.specs.declared.path.PathFault.TheVariants.{Memory};
+
+    ghost from_gives = { λ _ fault. fault ≡ Memory };
+
+    fn from(_error: AllocError) -> PathFault {
+        PathFault::Memory
+    }
+}
 
 /// A path that a command may name: that of a file or folder below the folder that the machine stands on, and not the
 /// intent's. It doesn't end in `.tmp`.
@@ -36,22 +59,26 @@ impl Model for BootPath {
 }
 
 impl BootPath {
-    /// The path that a word names: its components without the empty ones and `.`, joined by `/`. None exactly if a
-    /// component is `..` or has more than 251 bytes, a NUL is there, or what is left is empty, has more than 1,024
-    /// bytes, ends in `.tmp` or is `boot_tools.intent`.
-    pub fn read(alloc: Global, text: &str) -> Result<Option<BootPath>, AllocError>
-        ensures { IfOk result (λ path. path ≡ path_of text.now) }
+    /// The path that a word names: its components without the empty ones and `.`, joined by `/`.
+    ///
+    /// # Errors
+    ///
+    /// `BadPath` exactly if a component is `..` or has more than 251 bytes, a NUL is there, or what is left is empty,
+    /// has more than 1,024 bytes, ends in `.tmp` or is `boot_tools.intent`; `Memory` if there is no memory.
+    pub fn read(alloc: Global, text: &str) -> Result<BootPath, PathFault>
+        ensures ok { IfOk result (λ path. path_of text.now ≡ Some path) }
+        ensures bad { result ≡ Err PathFault.BadPath → path_of text.now ≡ None }
     {
         if has_nul(text) || has_refused_component(text) {
-            return Ok(None);
+            return Err(PathFault::BadPath);
         }
         let text = normal_text(alloc, text)?;
         if !is_boot_text(text.as_str()) {
-            return Ok(None);
+            return Err(PathFault::BadPath);
         }
-        Ok(Some(BootPath {
+        Ok(BootPath {
             file: FilePath::of(text),
-        }))
+        })
     }
 
     /// The path whose text these bytes are, and None if they aren't the normal form of a path that a word may name.
@@ -62,13 +89,16 @@ impl BootPath {
         let Ok(text) = str::from_utf8(bytes) else {
             return Ok(None);
         };
-        let Some(path) = BootPath::read(alloc, text)? else {
-            return Ok(None);
-        };
-        if path.as_str() == text {
-            return Ok(Some(path));
+        match BootPath::read(alloc, text) {
+            Ok(path) => {
+                if path.as_str() == text {
+                    return Ok(Some(path));
+                }
+                Ok(None)
+            }
+            Err(PathFault::BadPath) => Ok(None),
+            Err(PathFault::Memory) => Err(AllocError),
         }
-        Ok(None)
     }
 
     /// The same path as a machine's calls take it. It is neither that of a temporary file nor the intent's.
@@ -107,29 +137,33 @@ impl BootPath {
         }
     }
 
-    /// The path that `read` gives for the folder's text, `/` and what is below it. None also if `below` has no
-    /// component.
-    pub fn under(
-        alloc: Global,
-        folder: &BootPath,
-        below: &str,
-    ) -> Result<Option<BootPath>, AllocError>
-        ensures { IfOk result (λ path. path ≡ path_below folder.now below.now) }
+    /// The path that `read` gives for the folder's text, `/` and what is below it.
+    ///
+    /// # Errors
+    ///
+    /// As of `read`; a `below` without a component is no path.
+    pub fn under(alloc: Global, folder: &BootPath, below: &str) -> Result<BootPath, PathFault>
+        ensures ok { IfOk result (λ path. path_below folder.now below.now ≡ Some path) }
+        ensures bad { result ≡ Err PathFault.BadPath → path_below folder.now below.now ≡ None }
     {
         if !has_component(below) {
-            return Ok(None);
+            return Err(PathFault::BadPath);
         }
         let joined = joined_with(alloc, folder.as_str(), "/", below)?;
         BootPath::read(alloc, joined.as_str())
     }
 
-    /// The path of the file of that name in the same folder: the last component replaced by `name`. None exactly if
-    /// `name` is empty, is `.` or holds `/`, or `read` gives no path of the new text.
-    pub fn sibling(&self, alloc: Global, name: &str) -> Result<Option<BootPath>, AllocError>
-        ensures { IfOk result (λ path. path ≡ sibling_of self.now name.now) }
+    /// The path of the file of that name in the same folder: the last component replaced by `name`.
+    ///
+    /// # Errors
+    ///
+    /// `BadPath` exactly if `name` is empty, is `.` or holds `/`, or the new text is no path by `read`.
+    pub fn sibling(&self, alloc: Global, name: &str) -> Result<BootPath, PathFault>
+        ensures ok { IfOk result (λ path. sibling_of self.now name.now ≡ Some path) }
+        ensures bad { result ≡ Err PathFault.BadPath → sibling_of self.now name.now ≡ None }
     {
         if !is_one_component(name) {
-            return Ok(None);
+            return Err(PathFault::BadPath);
         }
         let text = self.beside(alloc, name)?;
         BootPath::read(alloc, text.as_str())

@@ -10,5 +10,7 @@ pub mod Replies
 pub mod Sparing
 mod Temps
 mod Tidies
+mod Swept
+pub mod SweptTemps
 mod Turning
 pub mod Unrefused

@@ -15,7 +15,7 @@ use Rattle.boot_commands.specs.Commands.{MayOwn, TidiesThere}
 
 -- nothing was changed
 pub spares_same : (meant : Answer) (old new : State) → new ≡ old → SparesTemps meant old.files new.files
-spares_same meant old new same q temp quiet apart = ap (λ (s : State). map.get s.files q) same
+spares_same meant old new same q temp spared = ap (λ (s : State). map.get s.files q) same
 
 -- the plan that was carried out is what the command comes to
 pub spares_after : (plan : Plan) (meant : Answer) (old mid : State) (new : Files) → mid ≡ old → answer_of_plan (seen old) plan ≡ meant → SparesTemps (answer_of_plan (seen mid) plan) mid.files new

@@ -9,6 +9,7 @@ use Rattle.tool_words.specs.declared.action.Action.{Action}
 use Rattle.tool_words.specs.declared.action.Action.TheVariants as action
 use Rattle.command_plans.specs.Deeds.{Deed, deed_of_answer}
 use Rattle.command_plans.specs.Performs.{CountsStop, LeavesNoTemp}
+use Rattle.command_plans.specs.Plans.{IsSparedBy}
 use Rattle.command_plans.specs.declared.outcome.Stop.{Stop}
 use Rattle.command_plans.specs.declared.outcome.Stop.TheVariants as stops
 use Rattle.command_plans.specs.Folders.{folders_of}
@@ -56,6 +57,12 @@ MayOwn c temps = Unit {0}
 -- a tidying leaves the temporary files elsewhere than in its two folders as they are
 abbrev pub TidiesThere : One → Files → Files → Type 0
 TidiesThere c old new = (esp : List ℕ) → c ≡ one.Tidy esp → KeepsElsewhere esp old new
+
+-- The command leaves this temporary file of a machine that shows this view as it is: a tidying each that stands elsewhere
+-- than in its two folders, and any other command what its answer spares.
+abbrev pub OneSpares : Files → One → Path → Type 0
+OneSpares view (one.Tidy esp) q = StandsAt (folders_of esp) q → ⊥
+OneSpares view c q = IsSparedBy (one_reply view c) q
 
 -- How a command behaves, however it ends: it takes no input, it leaves no new temporary file unless the disk failed, and a
 -- fault has its cause.

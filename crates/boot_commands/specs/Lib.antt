@@ -8,3 +8,4 @@ pub mod Expanding
 pub mod Expansions
 pub mod Replies
 pub mod Sparing
+pub mod Sweeps

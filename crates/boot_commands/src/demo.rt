@@ -65,7 +65,7 @@ fn demo_file(alloc: Global, name: &str, digit: u64) -> Result<MemFile, AllocErro
     ensures path { IfOk result (λ file. path_of name.now ≡ Some file.path) }
     ensures bytes { IfOk result (λ file. file.bytes.items ≡ demo_image digit) }
 {
-    let Some(path) = BootPath::read(alloc, name)? else {
+    let Ok(path) = BootPath::read(alloc, name) else {
         return Err(AllocError);
     };
     let bytes = demo_image(alloc, digit)?;

@@ -11,8 +11,10 @@ mod demo_turns;
 mod draws;
 mod expanding;
 mod ones;
+mod sweeping;
 
 pub use actions::run_action;
 pub use demo_images::demo_image;
 pub use expanding::expand;
 pub use ones::run_one;
+pub use sweeping::find_leftovers;

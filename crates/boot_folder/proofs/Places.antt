@@ -1,5 +1,5 @@
 -- Paths of files directly in a folder.
-use Rattle.std.proofs.Common.{◌≡◌, inl, inr, IfSome, ℕ, ◌+◌, ◌-◌, ◌<◌, Bool, true, false, not, List, [], ◌∷◌, ◌++◌, Option, Some, None, length, take, drop, get_or, refl, sym, ap, ◌∙◌, arith, zero, suc, lit<, length-append, append_assoc, get_or-append-add, drop_at, ◌==◌, nat_lt, bytes_eq, if◌then◌else◌}
+use Rattle.std.proofs.Common.{◌≡◌, inl, inr, ℕ, ◌+◌, ◌-◌, ◌<◌, Bool, true, false, not, List, [], ◌∷◌, ◌++◌, Option, Some, None, length, take, drop, get_or, refl, sym, ap, ◌∙◌, arith, zero, suc, lit<, length-append, append_assoc, get_or-append-add, drop_at, ◌==◌, nat_lt, bytes_eq, if◌then◌else◌}
 use Rattle.std.specs.List.{list_any, onto_first}
 use Rattle.std.proofs.lemmas.Bool.{cases_Bool, and_parts, or_parts, not-true, cond-true, cond-false, eqb-false}
 use Rattle.std.proofs.lemmas.Bool.Decides.{Decides-eqb}
@@ -122,10 +122,6 @@ own_is text path is = own_read text path (path_of text) refl is
 -- the last component of a path that was read for a file's name is that name
 pub named_own : (folder name path : List ℕ) → is_file_name name ≡ true → own_path (under folder name) ≡ Some path → file_name_of path ≡ name
 named_own folder name path is read = ap file_name_of (own_is (under folder name) path read).1 ∙ file_name_under folder name (name_parts name is).1
-
-pub if_named_own : (folder name : List ℕ) → is_file_name name ≡ true → (path : Option Path) → path ≡ own_path (under folder name) → IfSome path (λ path. file_name_of path ≡ name)
-if_named_own folder name is None read = tt
-if_named_own folder name is (Some path) read = named_own folder name path is (sym read)
 
 -- no path is that of a temporary file
 pub path_shown : (path : Path) → path_of path ≡ Some path → is_temp path ≡ false

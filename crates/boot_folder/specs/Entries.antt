@@ -2,7 +2,8 @@
 use Rattle.std.specs.Prelude.{◌≡◌, ℕ, true, false, Bool, ◌&&◌, ◌+◌, List, bytes_eq, count_by, Option, Some, None, option_and_then, if◌then◌else◌}
 use Rattle.std.specs.List.{filter_map}
 use Rattle.std.specs.FinMap as map
-use Rattle.boot_base.specs.Paths.{Path, path_of, under, file_name_of, is_file_name}
+use Rattle.boot_base.specs.Layout.{entries_below, images_below}
+use Rattle.boot_base.specs.Paths.{Path, path_of, path_below, under, file_name_of, is_file_name}
 use Rattle.menu_order.specs.Splits.{has_suffix}
 use Rattle.menu_order.specs.declared.counted.Suffix.{Suffix}
 use Rattle.menu_order.specs.declared.counted.Suffix.TheVariants.{Conf, Efi}
@@ -15,6 +16,16 @@ use Rattle.boot_folder.specs.declared.folders.Folders.{Folders}
 -- the most entry files of both folders together
 abbrev pub entry_limit : ℕ
 entry_limit = 4096
+
+-- the two folders, if both have paths
+abbrev pub folders_from : Option Path → Option Path → Option Folders
+folders_from None images = None
+folders_from (Some entries) None = None
+folders_from (Some entries) (Some images) = Some (record { entries = entries; images = images })
+
+-- the two folders of an EFI system partition, if both are paths
+abbrev pub esp_folders : Path → Option Folders
+esp_folders esp = folders_from (path_below esp entries_below) (path_below esp images_below)
 
 -- the folder of the files of a type
 abbrev pub folder_of : Folders → Suffix → Path

@@ -1,8 +1,10 @@
 -- What a scan of the boot folders answers.
-use Rattle.std.specs.Prelude.{◌≡◌, ◌↔◌, ◌+◌, ◌*◌, ℕ, true, List, length, nat_le, bytes_eq, Contains, Option, Some, None, Result, MatchResult, if◌then◌else◌}
+use Rattle.std.specs.Prelude.{◌≡◌, ◌↔◌, ◌+◌, ◌*◌, ℕ, true, List, length, nat_le, bytes_eq, Contains, Option, Some, None, IsSome, Result, MatchResult, if◌then◌else◌}
 use Rattle.std.specs.List.{IsDistinct, filter_map}
 use Rattle.boot_base.specs.Limits.{text_limit}
 use Rattle.boot_base.specs.Paths.{Path, is_file_name, under}
+use Rattle.boot_base.specs.declared.path.PathFault.{PathFault}
+use Rattle.boot_base.specs.declared.path.PathFault.TheVariants as paths
 use Rattle.menu_order.specs.Splits.{has_suffix}
 use Rattle.menu_order.specs.declared.counted.Suffix.{Suffix}
 use Rattle.menu_order.specs.declared.counted.Suffix.TheVariants.{Conf, Efi}
@@ -15,8 +17,10 @@ use Rattle.boot_machine.specs.declared.fault.ReadFault.TheVariants as reads
 use Rattle.menu_order.specs.declared.item.MenuItem.{MenuItem}
 use Rattle.pe_reader.specs.Reads.{head_limit}
 use Rattle.boot_folder.specs.Entries.{entry_if, type_count}
+use Rattle.boot_folder.specs.declared.fault.MenuFault.{MenuFault}
+use Rattle.boot_folder.specs.declared.fault.MenuFault.TheVariants as menus
 use Rattle.boot_folder.specs.declared.fault.ScanFault.{ScanFault}
-use Rattle.boot_folder.specs.declared.fault.ScanFault.TheVariants as faults
+use Rattle.boot_folder.specs.declared.fault.ScanFault.TheVariants as scans
 use Rattle.boot_folder.specs.declared.folders.Folders.{Folders}
 
 -- a name of a file directly in a folder that has the suffix
@@ -52,26 +56,71 @@ abbrev pub scan_limit : Files → Folders → ℕ
 scan_limit files folders =
     read_limit Conf * type_count files folders Conf + read_limit Efi * type_count files folders Efi
 
--- the same of a scan
-abbrev pub scan_counts : ScanFault → Counts → Counts → Type 0
-scan_counts faults.Memory old new = new ≡ old
-scan_counts faults.Disk old new = DiskFailed old new
-scan_counts (faults.TooMany count) old new = new ≡ old
+-- the most bytes that are read for the menu of a partition: none if its folders are no paths
+abbrev pub esp_limit : Files → Option Folders → ℕ
+esp_limit files None = 0
+esp_limit files (Some folders) = scan_limit files folders
 
--- the counts after a scan: a fault of the disk has its cause, and every other answer leaves them
+-- the counts after a fault of a menu: a fault of the disk has its cause, and every other one leaves them
+abbrev pub menu_counts : MenuFault → Counts → Counts → Type 0
+menu_counts menus.Memory old new = new ≡ old
+menu_counts menus.Disk old new = DiskFailed old new
+menu_counts (menus.TooMany count) old new = new ≡ old
+
+-- the counts after the menu of two folders was asked for
+abbrev pub CountsMenu : {X : Type 0} → Result X MenuFault → Counts → Counts → Type 0
+CountsMenu result old new = MatchResult result (λ _. new ≡ old) (λ fault. menu_counts fault old new)
+
+-- what a fault says of the number of entry files, where it tells that they are too many
+abbrev pub menu_many : MenuFault → (ℕ → Type 0) → Type 0
+menu_many menus.Memory P = Unit {0}
+menu_many menus.Disk P = Unit {0}
+menu_many (menus.TooMany count) P = P count
+
+-- what a fault of reading comes to
+abbrev pub menu_fault : ReadFault → MenuFault
+menu_fault reads.Memory = menus.Memory
+menu_fault reads.Disk = menus.Disk
+
+-- what a fault of the menu of two folders comes to for a partition
+abbrev pub fault_of_menu : MenuFault → ScanFault
+fault_of_menu menus.Memory = scans.Memory
+fault_of_menu menus.Disk = scans.Disk
+fault_of_menu (menus.TooMany count) = scans.TooMany count
+
+-- what it comes to that a folder of a partition is no path
+abbrev pub fault_of_path : PathFault → ScanFault
+fault_of_path paths.Memory = scans.Memory
+fault_of_path paths.BadPath = scans.LongEsp
+
+-- the counts after a fault of a scan
+abbrev pub scan_counts : ScanFault → Counts → Counts → Type 0
+scan_counts scans.Memory old new = new ≡ old
+scan_counts scans.Disk old new = DiskFailed old new
+scan_counts scans.LongEsp old new = new ≡ old
+scan_counts (scans.TooMany count) old new = new ≡ old
+
+-- the counts after a scan
 abbrev pub CountsScan : {X : Type 0} → Result X ScanFault → Counts → Counts → Type 0
 CountsScan result old new = MatchResult result (λ _. new ≡ old) (λ fault. scan_counts fault old new)
 
--- what a fault says of the number of entry files, where it tells that they are too many
-abbrev pub fault_many : ScanFault → (ℕ → Type 0) → Type 0
-fault_many faults.Memory P = Unit {0}
-fault_many faults.Disk P = Unit {0}
-fault_many (faults.TooMany count) P = P count
+-- what a fault says of the folders of a partition: that they are paths, or that one isn't; nothing for want of memory
+abbrev pub fault_folders : ScanFault → Option Folders → Type 0
+fault_folders scans.Memory folders = Unit {0}
+fault_folders scans.Disk folders = IsSome folders
+fault_folders scans.LongEsp folders = folders ≡ None
+fault_folders (scans.TooMany count) folders = IsSome folders
 
--- what a fault of reading comes to in a scan
-abbrev pub scan_fault : ReadFault → ScanFault
-scan_fault reads.Memory = faults.Memory
-scan_fault reads.Disk = faults.Disk
+-- the folders of a partition are paths, or the answer says that they aren't
+abbrev pub FindsFolders : {X : Type 0} → Result X ScanFault → Option Folders → Type 0
+FindsFolders result folders = MatchResult result (λ _. IsSome folders) (λ fault. fault_folders fault folders)
+
+-- what a fault of a scan says of the number of entry files, where it tells that they are too many
+abbrev pub scan_many : ScanFault → (ℕ → Type 0) → Type 0
+scan_many scans.Memory P = Unit {0}
+scan_many scans.Disk P = Unit {0}
+scan_many scans.LongEsp P = Unit {0}
+scan_many (scans.TooMany count) P = P count
 
 -- entries in the order of their paths
 abbrev pub path_order : MenuItem → MenuItem → Ordering

@@ -1,5 +1,5 @@
 //! The entry of one file of a boot folder.
-ghost use Rattle.std.specs.Prelude.{◌≡◌, ◌≤◌, IfOk, IfSome, IsTrue, Result, length, true};
+ghost use Rattle.std.specs.Prelude.{◌≡◌, ◌≤◌, IfOk, IfSome, IsTrue, None, Result, Some, length, true};
 ghost use Rattle.std.specs.FinMap.{get};
 ghost use Rattle.boot_base.specs.Limits.{text_limit};
 ghost use Rattle.boot_base.specs.Paths.{file_name_of, under};
@@ -15,7 +15,7 @@ ghost use Rattle.menu_order.specs.declared.item.MenuItem.{MenuItem};
 use crate::fault::ItemFault;
 use crate::name::split_name;
 use crate::uki::uki_item;
-use boot_base::{BootPath, FILE_LIMIT, FileName, TEXT_LIMIT};
+use boot_base::{BootPath, FILE_LIMIT, FileName, PathFault, TEXT_LIMIT};
 use boot_machine::{DiskFault, Machine, ReadFault, read_part, zeros};
 use boot_texts::{EntryFault, Type1};
 use menu_order::{MenuItem, Suffix};
@@ -139,17 +139,32 @@ fn image_at<M: Machine>(
     keep_entry(uki_item(alloc, machine, &file, size, path))
 }
 
-// The path of a file of that name directly in a folder, None where it is no path of a boot file.
-fn path_of_name(
-    alloc: Global,
-    folder: &BootPath,
-    name: &FileName,
-) -> Result<Option<BootPath>, AllocError>
-    ensures path { IfOk result (λ path. path ≡ own_path (under folder.now name.now)) }
-    ensures name { IfOk result (λ path. IfSome path (λ path. file_name_of path ≡ name.now)) }
+// The path of a file of that name directly in a folder, unless it is no path of a boot file.
+fn path_of_name(alloc: Global, folder: &BootPath, name: &FileName) -> Result<BootPath, PathFault>
+    ensures path { IfOk result (λ path. own_path (under folder.now name.now) ≡ Some path) }
+    ensures name { IfOk result (λ path. file_name_of path ≡ name.now) }
+    ensures bad { result ≡ Err PathFault.BadPath → own_path (under folder.now name.now) ≡ None }
 {
     folder.know_normal();
     BootPath::under(alloc, folder, name.as_str())
+}
+
+// The entry of the file of a type at a path, None where there is no valid one.
+fn entry_at<M: Machine>(
+    alloc: Global,
+    machine: &mut M,
+    suffix: Suffix,
+    path: BootPath,
+) -> Result<Option<MenuItem>, ReadFault>
+    requires { has_suffix suffix (file_name_of path) ≡ true }
+    ensures exact { IfOk result (λ item. IsTrue M.tells → item ≡ entry_at suffix (M.state machine.old).files path) }
+    ensures looks { Looks M.tells M.time M.state M.counts (CountsRead result) machine.old machine.new }
+    ensures taken { IsTrue M.tells → TakesAtMost (read_limit suffix) (M.taken machine.old) (M.taken machine.new) }
+{
+    match suffix {
+        Suffix::Conf => text_at(alloc, machine, path),
+        Suffix::Efi => image_at(alloc, machine, path),
+    }
 }
 
 /// The entry of the file of that name directly in the folder of its type, None where it is no entry.
@@ -166,11 +181,9 @@ pub(crate) fn entry_named<M: Machine>(
     ensures looks { Looks M.tells M.time M.state M.counts (CountsRead result) machine.old machine.new }
     ensures taken { IsTrue M.tells → TakesAtMost (read_limit suffix) (M.taken machine.old) (M.taken machine.new) }
 {
-    let Some(path) = path_of_name(alloc, folder, name)? else {
-        return Ok(None);
-    };
-    match suffix {
-        Suffix::Conf => text_at(alloc, machine, path),
-        Suffix::Efi => image_at(alloc, machine, path),
+    match path_of_name(alloc, folder, name) {
+        Ok(path) => entry_at(alloc, machine, suffix, path),
+        Err(PathFault::BadPath) => Ok(None),
+        Err(PathFault::Memory) => Err(ReadFault::Memory),
     }
 }

@@ -2,10 +2,11 @@
 ghost use Rattle.std.specs.Prelude.{◌≡◌};
 ghost use Rattle.boot_folder.specs.Items.{item_fault};
 ghost use Rattle.boot_folder.specs.Missing.{missing_text};
-ghost use Rattle.boot_folder.specs.Scanning.{scan_fault};
+ghost use Rattle.boot_folder.specs.Scanning.{fault_of_menu, fault_of_path, menu_fault};
 ghost use Rattle.boot_folder.specs.declared.fault.ItemFault.TheVariants as faults;
-ghost use Rattle.boot_folder.specs.declared.fault.ScanFault.TheVariants as scans;
+ghost use Rattle.boot_folder.specs.declared.fault.MenuFault.TheVariants as menus;
 
+use boot_base::PathFault;
 use boot_machine::{DiskFault, ReadFault};
 use pe_reader::{HeadFault, PeReason};
 use std::alloc::AllocError;
@@ -88,9 +89,9 @@ impl From<HeadFault> for ItemFault {
     }
 }
 
-/// Why there is no menu.
+/// Why there is no menu of two folders.
 #[derive(Clone, Copy, Debug, PartialEq, Eq, Error)]
-pub enum ScanFault {
+pub enum MenuFault {
     /// There was no memory for the menu.
     #[error("out of memory")]
     Memory,
@@ -102,21 +103,61 @@ pub enum ScanFault {
     TooMany { count: u64 },
 }
 
-impl From<AllocError> for ScanFault {
-    ghost from_gives = { λ _ fault. fault ≡ scans.Memory };
+impl From<AllocError> for MenuFault {
+    ghost from_gives = { λ _ fault. fault ≡ menus.Memory };
 
-    fn from(_error: AllocError) -> ScanFault {
-        ScanFault::Memory
+    fn from(_error: AllocError) -> MenuFault {
+        MenuFault::Memory
     }
 }
 
-impl From<ReadFault> for ScanFault {
-    ghost from_gives = { λ error fault. fault ≡ scan_fault error };
+impl From<ReadFault> for MenuFault {
+    ghost from_gives = { λ error fault. fault ≡ menu_fault error };
 
-    fn from(error: ReadFault) -> ScanFault {
+    fn from(error: ReadFault) -> MenuFault {
         match error {
-            ReadFault::Memory => ScanFault::Memory,
-            ReadFault::Disk => ScanFault::Disk,
+            ReadFault::Memory => MenuFault::Memory,
+            ReadFault::Disk => MenuFault::Disk,
+        }
+    }
+}
+
+/// Why there is no menu of a partition.
+#[derive(Clone, Copy, Debug, PartialEq, Eq, Error)]
+pub enum ScanFault {
+    /// There was no memory for the menu.
+    #[error("out of memory")]
+    Memory,
+    /// The disk failed, and the machine has counted it.
+    #[error("disk fault")]
+    Disk,
+    /// A folder of its entries has no path.
+    #[error("the folders of entries have no path")]
+    LongEsp,
+    /// There are more entry files than are read, and how many there are.
+    #[error("{count} entries")]
+    TooMany { count: u64 },
+}
+
+impl From<PathFault> for ScanFault {
+    ghost from_gives = { λ error fault. fault ≡ fault_of_path error };
+
+    fn from(error: PathFault) -> ScanFault {
+        match error {
+            PathFault::Memory => ScanFault::Memory,
+            PathFault::BadPath => ScanFault::LongEsp,
+        }
+    }
+}
+
+impl From<MenuFault> for ScanFault {
+    ghost from_gives = { λ error fault. fault ≡ fault_of_menu error };
+
+    fn from(error: MenuFault) -> ScanFault {
+        match error {
+            MenuFault::Memory => ScanFault::Memory,
+            MenuFault::Disk => ScanFault::Disk,
+            MenuFault::TooMany { count } => ScanFault::TooMany { count },
         }
     }
 }

@@ -17,9 +17,9 @@ mod scanning;
 mod uki;
 
 pub use choice::choose_entry;
-pub use fault::{ItemFault, Missing, ScanFault};
+pub use fault::{ItemFault, MenuFault, Missing, ScanFault};
 pub use folders::Folders;
 pub use laws::entries_laws;
 pub use listing::{join_texts, list_text, status_text, title};
-pub use scanning::scan;
+pub use scanning::{scan, scan_folders};
 pub use uki::uki_item;

@@ -4,10 +4,10 @@ ghost use Rattle.std.specs.List.{IsDistinct};
 ghost use Rattle.menu_order.specs.Splits.{has_suffix};
 ghost use Rattle.menu_order.specs.declared.counted.Suffix.TheVariants.{Conf, Efi};
 ghost use Rattle.boot_folder.specs.Entries.{entry_count, entry_limit};
-ghost use Rattle.boot_folder.specs.Scanning.{AreEntryNames, CountsScan, fault_many};
+ghost use Rattle.boot_folder.specs.Scanning.{AreEntryNames, CountsMenu, menu_many};
 ghost use Rattle.boot_machine.specs.Prelude.{Looks, CountsRead};
 
-use crate::fault::ScanFault;
+use crate::fault::MenuFault;
 use crate::folders::Folders;
 use crate::once::each_name_once;
 use boot_base::{BootPath, FileName};
@@ -59,7 +59,7 @@ pub(crate) fn entry_names<M: Machine>(
     alloc: Global,
     machine: &mut M,
     folders: &Folders,
-) -> Result<EntryNames, ScanFault>
+) -> Result<EntryNames, MenuFault>
     ensures texts { IfOk result (λ names. IsTrue M.tells
         → AreEntryNames (M.state machine.old).files folders.now.entries Conf names.texts.items) }
     ensures images { IfOk result (λ names. IsTrue M.tells
@@ -69,16 +69,16 @@ pub(crate) fn entry_names<M: Machine>(
     ensures text_once { IfOk result (λ names. IsDistinct bytes_eq names.texts.items) }
     ensures image_once { IfOk result (λ names. IsDistinct bytes_eq names.images.items) }
     ensures few { IfOk result (λ names. IsTrue M.tells → entry_count (M.state machine.old).files folders.now ≤ 4096) }
-    ensures many { IfErr result (λ fault. fault_many fault (λ count.
+    ensures many { IfErr result (λ fault. menu_many fault (λ count.
         (entry_limit < count) × (IsTrue M.tells → entry_count (M.state machine.old).files folders.now ≡ count))) }
-    ensures looks { Looks M.tells M.time M.state M.counts (CountsScan result) machine.old machine.new }
+    ensures looks { Looks M.tells M.time M.state M.counts (CountsMenu result) machine.old machine.new }
     ensures taken { IsTrue M.tells → M.taken machine.new ≡ M.taken machine.old }
 {
     let texts = names_with(alloc, machine, &folders.entries, Suffix::Conf)?;
     let images = names_with(alloc, machine, &folders.images, Suffix::Efi)?;
     let count = texts.len() as u64 + images.len() as u64;
     if count > ENTRY_LIMIT {
-        return Err(ScanFault::TooMany { count });
+        return Err(MenuFault::TooMany { count });
     }
     Ok(EntryNames { texts, images })
 }

@@ -1,16 +1,16 @@
 //! The menu of the boot folders.
-ghost use Rattle.std.specs.Prelude.{◌≡◌, ◌≤◌, ◌<◌, ◌*◌, ◌++◌, ◌↔◌, All, Contains, IfErr, IfOk, IsTrue, OnOk, option_to_list, length, true};
+ghost use Rattle.std.specs.Prelude.{◌≡◌, ◌≤◌, ◌<◌, ◌*◌, ◌++◌, ◌↔◌, All, Contains, IfErr, IfOk, IfSome, IsTrue, OnOk, option_to_list, length, true};
 ghost use Rattle.boot_base.specs.Paths.{under};
 ghost use Rattle.menu_order.specs.Splits.{has_suffix};
 ghost use Rattle.menu_order.specs.declared.counted.Suffix.TheVariants.{Conf, Efi};
-ghost use Rattle.boot_folder.specs.Entries.{IsEntry, boot_menu, entry_count, entry_if, entry_limit};
-ghost use Rattle.boot_folder.specs.Scanning.{AreEntryNames, CountsScan, entries_named, fault_many, read_limit, scan_limit};
+ghost use Rattle.boot_folder.specs.Entries.{IsEntry, boot_menu, entry_count, entry_if, entry_limit, esp_folders};
+ghost use Rattle.boot_folder.specs.Scanning.{AreEntryNames, CountsMenu, CountsScan, FindsFolders, entries_named, esp_limit, menu_many, read_limit, scan_limit, scan_many};
 ghost use Rattle.boot_machine.specs.Prelude.{Looks, TakesAtMost, seen, CountsRead};
 ghost use Rattle.menu_order.specs.Menu.{HaveOwnPaths, IsMenu};
 ghost use Rattle.menu_order.specs.declared.item.MenuItem.{MenuItem};
 
 use crate::entry::entry_named;
-use crate::fault::ScanFault;
+use crate::fault::{MenuFault, ScanFault};
 use crate::folders::Folders;
 use crate::names::{EntryNames, entry_names};
 use crate::once::menu_of;
@@ -18,6 +18,38 @@ use boot_base::{BootPath, FileName};
 use boot_machine::{Machine, ReadFault};
 use menu_order::{MenuItem, Suffix};
 use std::alloc::{AllocError, Global};
+
+/// No command calls it: the menu of the EFI system partition at a path, for who doesn't know its folders. It is that of
+/// `scan_folders`, and it reads no more.
+///
+/// # Errors
+///
+/// `LongEsp` exactly if one of the folders has no path; the others as of `scan_folders`.
+pub fn scan<M: Machine>(
+    alloc: Global,
+    machine: &mut M,
+    esp: &BootPath,
+) -> Result<Vec<MenuItem>, ScanFault>
+    ensures folders { FindsFolders result (esp_folders esp.now) }
+    ensures menu { IfOk result (λ menu. IsTrue M.tells → IfSome (esp_folders esp.now)
+        (λ folders. IsMenu (IsEntry (M.state machine.old).files folders) menu.items)) }
+    ensures value { IfOk result (λ menu. IsTrue M.tells → IfSome (esp_folders esp.now)
+        (λ folders. menu.items ≡ boot_menu (seen (M.state machine.old)) folders)) }
+    ensures few { IfOk result (λ _. IsTrue M.tells → IfSome (esp_folders esp.now)
+        (λ folders. entry_count (M.state machine.old).files folders ≤ 4096)) }
+    ensures many { IfErr result (λ fault. scan_many fault (λ count. (entry_limit < count)
+        × (IsTrue M.tells → IfSome (esp_folders esp.now)
+        (λ folders. entry_count (M.state machine.old).files folders ≡ count)))) }
+    ensures own_paths { IfOk result (λ menu. HaveOwnPaths menu.items) }
+    ensures unread { IfErr result (λ fault. scan_many fault (λ _. IsTrue M.tells
+        → M.taken machine.new ≡ M.taken machine.old)) }
+    ensures looks { Looks M.tells M.time M.state M.counts (CountsScan result) machine.old machine.new }
+    ensures taken { IsTrue M.tells → TakesAtMost
+        (esp_limit (M.state machine.old).files (esp_folders esp.now)) (M.taken machine.old) (M.taken machine.new) }
+{
+    let folders = Folders::of(alloc, esp)?;
+    Ok(scan_folders(alloc, machine, &folders)?)
+}
 
 /// The menu of the files in the two folders of boot entries: the entries of these files, in the order of the menu. A
 /// file that is no valid entry is passed over. It reads at most 65,536 bytes of each file of type 1 and 134,999 of each
@@ -27,22 +59,22 @@ use std::alloc::{AllocError, Global};
 ///
 /// `TooMany` exactly if they have more than 4,096 entry files; `Disk` only if the machine has counted a fault of the
 /// disk; `Memory` if there is no memory.
-pub fn scan<M: Machine>(
+pub fn scan_folders<M: Machine>(
     alloc: Global,
     machine: &mut M,
     folders: &Folders,
-) -> Result<Vec<MenuItem>, ScanFault>
+) -> Result<Vec<MenuItem>, MenuFault>
     ensures menu { IfOk result (λ menu. IsTrue M.tells
         → IsMenu (IsEntry (M.state machine.old).files folders.now) menu.items) }
     ensures value { IfOk result (λ menu. IsTrue M.tells
         → menu.items ≡ boot_menu (seen (M.state machine.old)) folders.now) }
     ensures few { IfOk result (λ _. IsTrue M.tells → entry_count (M.state machine.old).files folders.now ≤ 4096) }
-    ensures many { IfErr result (λ fault. fault_many fault (λ count.
+    ensures many { IfErr result (λ fault. menu_many fault (λ count.
         (entry_limit < count) × (IsTrue M.tells → entry_count (M.state machine.old).files folders.now ≡ count))) }
     ensures own_paths { IfOk result (λ menu. HaveOwnPaths menu.items) }
-    ensures unread { IfErr result (λ fault. fault_many fault (λ _. IsTrue M.tells
+    ensures unread { IfErr result (λ fault. menu_many fault (λ _. IsTrue M.tells
         → M.taken machine.new ≡ M.taken machine.old)) }
-    ensures looks { Looks M.tells M.time M.state M.counts (CountsScan result) machine.old machine.new }
+    ensures looks { Looks M.tells M.time M.state M.counts (CountsMenu result) machine.old machine.new }
     ensures taken { IsTrue M.tells → TakesAtMost
         (scan_limit (M.state machine.old).files folders.now) (M.taken machine.old) (M.taken machine.new) }
 {

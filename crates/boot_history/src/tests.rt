@@ -74,9 +74,7 @@ fn a_run_prints_nothing_that_is_stopped_at_once(rt: HostRuntime) -> Result<(), F
 
 // A machine with one file, whose nine bytes are an entry.
 fn machine_with(alloc: Global, path: &str) -> Result<MemMachine, Fail> {
-    let path = BootPath::read(alloc, path)?
-        .ok_or("not a path")?
-        .into_file();
+    let path = BootPath::read(alloc, path)?.into_file();
     let bytes = b"linux /k\n".to_vec(alloc)?;
     Ok(MemMachine::new(alloc, vec![in alloc; MemFile { path, bytes }]?)?)
 }
@@ -104,7 +102,7 @@ fn what_a_command_comes_to_is_found_once(rt: HostRuntime) -> Result<(), Fail> {
         (entry, "keep 1", 8, 0, 9),
         (entry, "keep 1 --dry-run", 8, 0, 9),
         (entry, "keep x", 4, 1, 0),
-        (entry, "type1 cleanup", 9, 0, 9),
+        (entry, "type1 cleanup", 10, 0, 9),
         (entry, "type1 install b --linux=k", 5, 1, 0),
         ("k", "type1 install b --linux=k", 22, 0, 18),
     ] {

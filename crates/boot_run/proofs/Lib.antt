@@ -8,6 +8,8 @@ mod Running
 pub mod ScriptLines
 mod Staying
 pub mod Stepping
+mod Spared
+mod Sweeping
 mod Synced
 mod Taken
 mod Topping

@@ -18,6 +18,11 @@ latest_left old (Numbered number command) = refl
 latest_left old (Unread number) = refl
 latest_left old TooLong = refl
 
+-- the view that lines leave is the last one of the state that they leave
+pub states-is : (old : List Files) (lines : List Line) → latest_view (states old lines) ≡ view_after (latest_view old) lines
+states-is old [] = refl
+states-is old (line ∷ lines) = states-is (left_by (line_deed (latest_view old) line) old) lines ∙ ap (λ v. view_after v lines) (latest_left old line)
+
 -- a line settles, or is unread and leaves the state
 settles_or : (old : List Files) (line : Line)
     → (left_by (line_deed (latest_view old) line) old ≡ (line_deed (latest_view old) line).after ∷ []) ⊎

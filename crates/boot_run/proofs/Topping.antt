@@ -26,7 +26,7 @@ use Rattle.boot_run.proofs.Replying.{none_empty}
 use Rattle.boot_run.proofs.Running.{printed_by-is}
 use Rattle.boot_run.proofs.Synced.{unsynced_yet, weaken_after}
 use Rattle.boot_run.proofs.Taken.{but_disk, unless_disk}
-use Rattle.boot_run.proofs.Stepping.{latest_left, one_view_after, step_of, leaves_of_run}
+use Rattle.boot_run.proofs.Stepping.{latest_left, one_view_after, states-is, step_of, leaves_of_run}
 
 step : (old : List Files) (lines : List Line) (new : List Files) (sent : Sent) (end : End) → Runs old lines new sent end → Step old lines new sent end
 step old lines new sent end runs = step_of old lines new sent end (none_empty (latest_view old) lines) runs
@@ -67,10 +67,6 @@ all_runs old lines new is = record {
 }
 
 -- what a run over lines comes to, in the words of the reference
-states-is : (old : List Files) (lines : List Line) → latest_view (states old lines) ≡ view_after (latest_view old) lines
-states-is old [] = refl
-states-is old (line ∷ lines) = states-is (left_by (line_deed (latest_view old) line) old) lines ∙ ap (λ v. view_after v lines) (latest_left old line)
-
 pub refused-is : (old : List Files) (lines : List Line) → any_refused old lines ≡ some_refused (latest_view old) lines
 refused-is old [] = refl
 refused-is old (line ∷ lines) =

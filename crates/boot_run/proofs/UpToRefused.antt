@@ -1,5 +1,5 @@
 -- A run that ends at the first refused line.
-use Rattle.std.proofs.Common.{◌≡◌, ◌⊎◌, inl, inr, ℕ, zero, suc, ◌+◌, ◌≤◌, ◌<◌, Bool, true, false, cond, ◌||◌, List, [], ◌∷◌, length, map, drop, get_or, refl, sym, ap, ◌∙◌, subst, arith, Result, Ok, Err, IsErr, IsErrAnd, if◌then◌else◌}
+use Rattle.std.proofs.Common.{◌≡◌, ◌⊎◌, inl, inr, ℕ, zero, suc, ◌+◌, ◌≤◌, ◌<◌, Bool, true, false, cond, ◌||◌, List, [], ◌∷◌, length, map, drop, take, get_or, refl, sym, ap, ◌∙◌, subst, arith, Result, Ok, Err, IsErr, IsErrAnd, if◌then◌else◌}
 use Rattle.std.proofs.lemmas.Bool.{cond-true, cond-false}
 use Rattle.std.proofs.lemmas.List.{drop_all, drop_more}
 use Rattle.boot_base.specs.declared.refusal.Refusal.{Refusal}
@@ -14,12 +14,14 @@ use Rattle.boot_commands.specs.Replies.{action_reply}
 use Rattle.boot_commands.specs.Expanding.{NoneRefused, RefusedOrDone}
 use Rattle.boot_run.specs.Lines.{is_unread, line_deed}
 use Rattle.boot_run.specs.RunsTo.{RunsTo}
+use Rattle.boot_run.specs.Spared.{AllKeep, LineKeeps}
 use Rattle.boot_run.specs.Step.{some_refused}
 use Rattle.boot_run.specs.UpToRefused.{up_to_refused}
 use Rattle.boot_run.specs.declared.line.Line.{Line}
 use Rattle.boot_run.specs.declared.line.Line.TheVariants.{Part}
 use Rattle.boot_run.proofs.Recovering.{performed_plain}
 use Rattle.boot_run.proofs.Running.{SoFar, finished, gives_up, goes_on, started}
+use Rattle.boot_run.proofs.Spared.{keeps_more}
 use Rattle.boot_run.proofs.Synced.{command_settles}
 
 -- where actions aren't refused, a run does them all
@@ -141,6 +143,13 @@ module _ {D : Type 0} (time : Timeline D) (state : D → State) where
     next outcome performs =
         goes_on time state old mid new (lines_done old lines) i false line place.0 place.1 before.so_far outcome
         (performed_plain time state mid new deed (Ok outcome) performs)
+
+    -- the line leaves the temporary files that it spares
+    pub keeps_next : AllKeep (recovered_now (state old)) (take i (lines_done old lines)) (state old).files (state mid).files
+        → LineKeeps (recovered_now (state mid)) line (state mid).files (state new).files
+        → AllKeep (recovered_now (state old)) (take (i + 1) (lines_done old lines)) (state old).files (state new).files
+    keeps_next kept keeps =
+        keeps_more (state old) (state mid) (state new) (lines_done old lines) i line place.0 place.1 before.so_far.all.state kept keeps
 
     -- it is refused
     pub ends_at : (outcome : Outcome) → Performs time state end_of mid new deed (Ok outcome) → is_refusal outcome ≡ true

@@ -12,6 +12,7 @@ use Rattle.boot_run.specs.Endings.{AllTidied, TakesInput, ended_by}
 use Rattle.boot_run.specs.Lines.{has_command}
 use Rattle.boot_run.specs.RunBy.{CleanBehind}
 use Rattle.boot_run.specs.RunsTo.{IsSyncedBy, RunsTo}
+use Rattle.boot_run.specs.Spared.{RunSpares}
 
 -- what the run of a command comes to, by the lines that it has on the views at its start
 pub record RunsCommand {D : Type 0} (tells : Bool) (time : Timeline D) (state : D → State) (counts : D → Counts)
@@ -25,4 +26,5 @@ pub record RunsCommand {D : Type 0} (tells : Bool) (time : Timeline D) (state : 
       → CleanBehind (state old) (state new) (lines_at (state old) command) (ended_by result)
   pub input : IsTrue tells → TakesInput (Ok command) (ended_by result) (state old).input (state new).input
   pub temps : IsTrue tells → LeavesNoTemp result (state old) (state new)
+  pub spares : IsTrue tells → IsFirm (state old) → RunSpares command (state old) (state new)
   pub counted : CountsStop result (counts old) (counts new)

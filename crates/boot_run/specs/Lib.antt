@@ -5,5 +5,6 @@ pub mod Lines
 pub mod RunBy
 pub mod RunsTo
 pub mod Step
+pub mod Spared
 pub mod CommandRuns
 pub mod UpToRefused

@@ -1,26 +1,50 @@
 //! A command of several actions, which are found and then done.
-ghost use Rattle.std.specs.Prelude.{◌≡◌, false, All, IfOk, IsTrue, OnOk, map};
-ghost use Rattle.boot_machine.specs.Prelude.{HasOneCandidate, IsFirm, IsRested, recovered_now};
+ghost use Rattle.std.specs.Prelude.{◌≡◌, false, true, All, IfOk, IsTrue, OnOk, bytes_eq, map};
+ghost use Rattle.std.specs.List.{IsDistinct};
+ghost use Rattle.boot_machine.specs.Prelude.{CountsDisk, HasOneCandidate, IsFirm, IsRested, has, recovered_now};
 ghost use Rattle.boot_commands.specs.Commands.{Behaves};
 ghost use Rattle.boot_commands.specs.Expanding.{StandsFor};
+ghost use Rattle.boot_commands.specs.Sweeps.{KeepsUnswept, SweptBy};
 ghost use Rattle.install_steps.specs.Recovery.{RecoversTo, SameFrom};
-ghost use Rattle.install_steps.specs.Steps.{Keeps, NoNewTemp};
+ghost use Rattle.install_steps.specs.Steps.{CanStep, Keeps, Lacks, LeavesAlone, NoNewTemp, StepsTo};
 ghost use Rattle.command_plans.specs.Prelude.{CountsStop, LeavesRested, is_refusal};
 ghost use Rattle.boot_run.specs.Lines.{is_unread};
 ghost use Rattle.boot_run.specs.RunsTo.{RunsTo};
+ghost use Rattle.boot_run.specs.Spared.{AllKeep};
 ghost use Rattle.boot_run.specs.UpToRefused.{up_to_refused};
 ghost use Rattle.boot_run.specs.declared.line.Line.TheVariants.{Part};
 
 use crate::line::Line;
 use crate::lines::run_line;
 use crate::recovery::recover_rename;
-use boot_commands::expand;
-use boot_machine::Machine;
+use boot_base::TempPath;
+use boot_commands::{expand, find_leftovers};
+use boot_machine::{DiskFault, Machine};
 use command_plans::{Outcome, Stop};
+use install_steps::drop_leftovers;
 use std::alloc::{AllocError, Global};
 use tool_words::{Action, Several};
 
-/// The actions of a command. Before they are looked for, what a stop has left is finished.
+// Takes these temporary files away, if there are any. Boot sees the same all the while.
+fn sweep<M: Machine>(temps: &[TempPath], machine: &mut M) -> Result<(), DiskFault>
+    requires ready { IsTrue M.tells → CanStep (M.state machine.old) }
+    requires distinct { IsDistinct bytes_eq temps.now }
+    requires there { IsTrue M.tells → All (λ temp. has (M.state machine.old).files temp ≡ true) temps.now }
+    ensures step { IsTrue M.tells → IsFirm (M.state machine.old) → StepsTo M.time M.state
+        (recovered_now (M.state machine.old)) machine.old machine.new }
+    ensures gone { OnOk result (IsTrue M.tells
+        → Lacks temps.now (M.state machine.old).files (M.state machine.new).files) }
+    ensures next { OnOk result (IsTrue M.tells → CanStep (M.state machine.new)) }
+    ensures alone { LeavesAlone M.tells M.time M.state M.counts (CountsDisk result) temps.now machine.old machine.new }
+{
+    if temps.is_empty() {
+        return Ok(());
+    }
+    drop_leftovers(machine, temps)
+}
+
+/// The actions of a command. Before they are looked for, what a stop has left is finished. The temporary files that go
+/// with the command are taken away before its first action.
 pub fn find_actions<M: Machine>(
     alloc: Global,
     command: &Several,
@@ -35,10 +59,17 @@ pub fn find_actions<M: Machine>(
     ensures rests { OnOk result (IsTrue M.tells → IsRested (M.state machine.new)) }
     ensures keeps { IsTrue M.tells → Keeps (M.state machine.old) (M.state machine.new) }
     ensures temps { IsTrue M.tells → NoNewTemp (M.state machine.old) (M.state machine.new) }
+    ensures spares { IsTrue M.tells
+        → KeepsUnswept command.now (M.state machine.old).files (M.state machine.new).files }
+    ensures swept { IfOk result (λ actions. IsTrue M.tells
+        → SweptBy command.now actions.items (M.state machine.new).files) }
     ensures counts { CountsStop result (M.counts machine.old) (M.counts machine.new) }
 {
     recover_rename(alloc, machine)?;
-    expand(alloc, command, machine)
+    let actions = expand(alloc, command, machine)?;
+    let temps = find_leftovers(alloc, command, actions.as_slice(), machine)?;
+    sweep(temps.as_slice(), machine)?;
+    Ok(actions)
 }
 
 /// A line for each of these actions.
@@ -69,6 +100,9 @@ pub fn run_actions<M: Machine>(alloc: Global, lines: &[Line], machine: &mut M) -
     ensures runs { IsTrue M.tells → IsFirm (M.state machine.old)
         → RunsTo M.time M.state machine.old machine.new
         (up_to_refused (recovered_now (M.state machine.old)) lines.now) result }
+    ensures spares { IsTrue M.tells → IsFirm (M.state machine.old) → AllKeep (recovered_now (M.state machine.old))
+        (up_to_refused (recovered_now (M.state machine.old)) lines.now) (M.state machine.old).files
+        (M.state machine.new).files }
     ensures rests { IsTrue M.tells → LeavesRested result (M.state machine.new) }
     ensures behaves { Behaves M.tells M.state M.counts machine.old machine.new result }
 {

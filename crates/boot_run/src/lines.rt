@@ -9,6 +9,8 @@ ghost use Rattle.boot_run.specs.Endings.{AllTidied, ended_by};
 ghost use Rattle.boot_run.specs.Lines.{Prints, TidiedBy, with_acknowledgement, acknowledgement, acknowledgement_in, has_command, is_unread, line_deed, no_command_text, too_long_text, unread_deed};
 ghost use Rattle.boot_run.specs.RunBy.{CleanBehind};
 ghost use Rattle.boot_run.specs.RunsTo.{IsSyncedBy, OnlyPrints, PerformsBehind, RunsTo, SyncsFirst, WherePrinted};
+ghost use Rattle.boot_run.specs.Spared.{AllKeep, LineKeeps};
+ghost use Rattle.boot_run.specs.declared.line.Line.TheVariants.{Numbered};
 
 use crate::input::SCRIPT_LIMIT;
 use crate::line::Line;
@@ -92,6 +94,8 @@ fn run_numbered<M: Machine>(
         (with_acknowledgement number (one_deed (seen (M.state machine.old)) command.now)) result }
     ensures tidies { IsTrue M.tells → WherePrinted result (M.state machine.old) (M.state machine.new)
         (LeavesTidied command.now (M.state machine.new).files) }
+    ensures spares { IsTrue M.tells → LineKeeps (seen (M.state machine.old)) (Numbered number command.now)
+        (M.state machine.old).files (M.state machine.new).files }
     ensures rests { IsTrue M.tells → LeavesRested result (M.state machine.new) }
     ensures behaves { Behaves M.tells M.state M.counts machine.old machine.new result }
 {
@@ -161,6 +165,8 @@ pub fn run_line<M: Machine>(alloc: Global, line: &Line, machine: &mut M) -> Resu
         (line_deed (recovered_now (M.state machine.old)) line.now).sent }
     ensures tidies { IsTrue M.tells → WherePrinted result (M.state machine.old) (M.state machine.new)
         (TidiedBy (M.state machine.new).files line.now) }
+    ensures spares { IsTrue M.tells → LineKeeps (recovered_now (M.state machine.old)) line.now
+        (M.state machine.old).files (M.state machine.new).files }
     ensures rests { IsTrue M.tells → IsRested (M.state machine.old) → LeavesRested result (M.state machine.new) }
     ensures behaves { Behaves M.tells M.state M.counts machine.old machine.new result }
 {
@@ -184,6 +190,9 @@ fn first_command<M: Machine>(alloc: Global, line: &Line, machine: &mut M) -> Res
         (line_deed (recovered_now (M.state machine.old)) line.now) result }
     ensures tidies { IsTrue M.tells → WherePrinted result (M.state machine.old) (M.state machine.new)
         (TidiedBy (M.state machine.new).files line.now) }
+    ensures spares { IsTrue M.tells → IsFirm (M.state machine.old)
+        → LineKeeps (recovered_now (M.state machine.old)) line.now (M.state machine.old).files
+        (M.state machine.new).files }
     ensures rests { IsTrue M.tells → WherePrinted result (M.state machine.old) (M.state machine.new)
         (IsRested (M.state machine.new)) }
     ensures behaves { Behaves M.tells M.state M.counts machine.old machine.new result }
@@ -211,6 +220,9 @@ fn next_line<M: Machine>(
         (line_deed (recovered_now (M.state machine.old)) line.now) result }
     ensures tidies { IsTrue M.tells → WherePrinted result (M.state machine.old) (M.state machine.new)
         (TidiedBy (M.state machine.new).files line.now) }
+    ensures spares { IsTrue M.tells → IsFirm (M.state machine.old)
+        → LineKeeps (recovered_now (M.state machine.old)) line.now (M.state machine.old).files
+        (M.state machine.new).files }
     ensures rests { IsTrue M.tells → WherePrinted result (M.state machine.old) (M.state machine.new)
         ((rested || not (is_unread line.now)) ≡ true → IsRested (M.state machine.new)) }
     ensures still { IsTrue M.tells → rested ≡ true → LeavesRested result (M.state machine.new) }
@@ -250,6 +262,8 @@ pub fn run_lines<M: Machine>(alloc: Global, lines: &[Line], machine: &mut M) -> 
     ensures rests { OnOk result (IsTrue M.tells → has_command lines.now ≡ true → IsRested (M.state machine.new)) }
     ensures behind { IsTrue M.tells → IsFirm (M.state machine.old)
         → CleanBehind (M.state machine.old) (M.state machine.new) lines.now (ended_by result) }
+    ensures spares { IsTrue M.tells → IsFirm (M.state machine.old) → AllKeep (recovered_now (M.state machine.old))
+        lines.now (M.state machine.old).files (M.state machine.new).files }
     ensures behaves { Behaves M.tells M.state M.counts machine.old machine.new result }
 {
     let mut refused = false;

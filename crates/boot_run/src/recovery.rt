@@ -1,8 +1,8 @@
 //! The recovery with which a run begins, before its first command.
-ghost use Rattle.std.specs.Prelude.{◌≡◌, IsTrue, OnOk};
+ghost use Rattle.std.specs.Prelude.{[], ◌≡◌, IsTrue, OnOk};
 ghost use Rattle.boot_machine.specs.Prelude.{HasOneCandidate, IsFirm, IsRested};
 ghost use Rattle.install_steps.specs.Recovery.{RecoversTo, SameFrom};
-ghost use Rattle.install_steps.specs.Steps.{Keeps, NoNewTemp};
+ghost use Rattle.install_steps.specs.Steps.{Keeps, KeepsTempsBut, NoNewTemp};
 ghost use Rattle.command_plans.specs.Prelude.{CountsStop};
 
 use boot_base::FilePath;
@@ -22,6 +22,7 @@ pub fn recover_rename<M: Machine>(alloc: Global, machine: &mut M) -> Result<(), 
     ensures rests { OnOk result (IsTrue M.tells → IsRested (M.state machine.new)) }
     ensures keeps { IsTrue M.tells → Keeps (M.state machine.old) (M.state machine.new) }
     ensures temps { IsTrue M.tells → NoNewTemp (M.state machine.old) (M.state machine.new) }
+    ensures spares { IsTrue M.tells → KeepsTempsBut [] (M.state machine.old).files (M.state machine.new).files }
     ensures counts { CountsStop result (M.counts machine.old) (M.counts machine.new) }
 {
     let intent = FilePath::intent(alloc)?;

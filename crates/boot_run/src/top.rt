@@ -5,12 +5,14 @@ ghost use Rattle.boot_machine.specs.declared.machine.Channel.TheVariants.{Err as
 ghost use Rattle.install_steps.specs.Steps.{NoNewTemp};
 ghost use Rattle.command_plans.specs.Prelude.{CountsStop, Stopped};
 ghost use Rattle.tool_words.specs.Meaning.{meaning};
+ghost use Rattle.tool_words.specs.declared.command.Command.{Command};
 ghost use Rattle.tool_words.specs.declared.fault.UsageReason.{UsageReason};
 ghost use Rattle.boot_run.specs.CommandRuns.{RunsCommand};
 ghost use Rattle.boot_run.specs.AskedLines.{asked_lines_of, lines_in, usage_line};
 ghost use Rattle.boot_run.specs.Endings.{AllTidied, AnswersRefusals, AnswersUsage, AtEnd, FitsWords, HasCause, TakesInput, UnlessDisk, end_at, ended_of, status_of};
 ghost use Rattle.boot_run.specs.Lines.{has_command, script_limit};
 ghost use Rattle.boot_run.specs.RunBy.{AllPrinted, CleanBehind, LeavesFromSync, RunsBy, RunsUsage};
+ghost use Rattle.boot_run.specs.Spared.{RunSpares};
 ghost use Rattle.boot_run.specs.Step.{Leads, Leaves, SeesBegun, some_refused};
 ghost use Rattle.boot_run.specs.declared.line.Line.{Line};
 
@@ -121,6 +123,9 @@ fn run_to_end<M: Machine>(alloc: Global, words: &Vec<String>, machine: &mut M) -
         → TakesInput (meaning (map string_bytes words.now.items)) result
         (M.state machine.old).input (M.state machine.new).input }
     ensures temps { IsTrue M.tells → UnlessDisk result (NoNewTemp (M.state machine.old) (M.state machine.new)) }
+    ensures spares { IsTrue M.tells → IsFirm (M.state machine.old) → (command : Command)
+        → meaning (map string_bytes words.now.items) ≡ Ok command
+        → RunSpares command (M.state machine.old) (M.state machine.new) }
     ensures causes { HasCause result (M.counts machine.old) (M.counts machine.new) }
 {
     match Command::read(alloc, words) {
@@ -195,6 +200,11 @@ pub fn run<M: Machine>(alloc: Global, words: &Vec<String>, machine: &mut M) -> u
     // No temporary file is left that wasn't there, and at 0 and 1 none in a folder that was tidied.
     ensures temps { IsTrue M.tells
         → UnlessDisk (ended_of result) (NoNewTemp (M.state machine.old) (M.state machine.new)) }
+    // Each temporary file is as it was, but one beside a file that stands after a line, the one beside the intent, those in
+    // the folders of a tidying, and with a cleanup those beside payloads.
+    ensures spares { IsTrue M.tells → IsFirm (M.state machine.old) → (command : Command)
+        → meaning (map string_bytes words.now.items) ≡ Ok command
+        → RunSpares command (M.state machine.old) (M.state machine.new) }
     ensures tidied { IsTrue M.tells
         → (lines : List Line) → asked_lines_of (map string_bytes words.now.items) (M.state machine.old) ≡ Ok lines
         → AtEnd (ended_of result) (AllTidied lines (M.state machine.new)) }

@@ -1,4 +1,5 @@
 //! Why a story isn't told to its end, or a line of it isn't understood.
+use boot_base::PathFault;
 use boot_machine::{DiskFault, ReadFault};
 use std::alloc::{AllocError, AllocFailed};
 use std::io;
@@ -25,6 +26,15 @@ impl From<AllocError> for StoryFault {
 impl<T: Drop> From<AllocFailed<T>> for StoryFault {
     fn from(_: AllocFailed<T>) -> Self {
         StoryFault::Memory
+    }
+}
+
+impl From<PathFault> for StoryFault {
+    fn from(fault: PathFault) -> Self {
+        match fault {
+            PathFault::Memory => StoryFault::Memory,
+            PathFault::BadPath => StoryFault::Unclear,
+        }
     }
 }
 

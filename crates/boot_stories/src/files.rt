@@ -19,23 +19,9 @@ pub(crate) const CALLS_OF_PUT_INTENT: u64 = 6;
 /// How many calls of the machine `leave` makes.
 pub(crate) const CALLS_OF_LEAVE: u64 = 2;
 
-/// The path of that text.
-pub(crate) fn path_of(alloc: Global, text: &str) -> Result<BootPath, StoryFault> {
-    BootPath::read(alloc, text)?.ok_or(StoryFault::Unclear)
-}
-
-/// The path of what is below a folder.
-pub(crate) fn path_under(
-    alloc: Global,
-    folder: &BootPath,
-    below: &str,
-) -> Result<BootPath, StoryFault> {
-    BootPath::under(alloc, folder, below)?.ok_or(StoryFault::Unclear)
-}
-
 // Where the file at a path is to stand.
 fn target(alloc: Global, path: &str) -> Result<Target, StoryFault> {
-    let path = path_of(alloc, path)?;
+    let path = BootPath::read(alloc, path)?;
     Ok(Target::of(alloc, path)?)
 }
 
@@ -104,7 +90,7 @@ pub(crate) fn bytes_of(
     machine: &mut MemMachine,
     path: &str,
 ) -> Result<Option<Vec<u8>>, StoryFault> {
-    let path = path_of(alloc, path)?;
+    let path = BootPath::read(alloc, path)?;
     bytes_at(alloc, machine, path.file())
 }
 
@@ -142,7 +128,7 @@ pub(crate) fn file_text(
     folder: &BootPath,
     name: &str,
 ) -> Result<String, StoryFault> {
-    let path = path_under(alloc, folder, name)?;
+    let path = BootPath::under(alloc, folder, name)?;
     let content = content_at(alloc, machine, samples, &path)?;
     Ok(format!(in alloc; "{name} {content}")?)
 }
@@ -184,7 +170,7 @@ pub(crate) fn folder_text(
     samples: &[Sample],
     folder: &str,
 ) -> Result<String, StoryFault> {
-    let folder = path_of(alloc, folder)?;
+    let folder = BootPath::read(alloc, folder)?;
     let text = lines_in(alloc, machine, samples, &folder)?;
     Ok(or_none(text)?)
 }

@@ -1,7 +1,7 @@
 //! All files that a machine has.
 use crate::contents::content_text;
 use crate::fault::StoryFault;
-use crate::files::{bytes_at, bytes_of, file_text, names_in, path_of};
+use crate::files::{bytes_at, bytes_of, file_text, names_in};
 use crate::known::Known;
 use crate::samples::{Sample, sample_of};
 use boot_base::{BootPath, FilePath, ends_as_temp};
@@ -135,7 +135,7 @@ fn tell_files(
     told: &mut Told,
 ) -> Result<(), StoryFault> {
     for folder in FOLDERS {
-        let folder = path_of(alloc, folder)?;
+        let folder = BootPath::read(alloc, folder)?;
         add_folder(alloc, machine, known.samples.as_slice(), &folder, told)?;
     }
     add_files(alloc, machine, known, told)

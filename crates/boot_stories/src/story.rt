@@ -1,8 +1,8 @@
 //! The machine of a story.
 use crate::fault::StoryFault;
 use crate::files::{
-    CALLS_OF_LEAVE, CALLS_OF_PUT, CALLS_OF_PUT_INTENT, bytes_at, bytes_of, leave, names_in,
-    path_of, path_under, put, put_intent,
+    CALLS_OF_LEAVE, CALLS_OF_PUT, CALLS_OF_PUT_INTENT, bytes_at, bytes_of, leave, names_in, put,
+    put_intent,
 };
 use crate::known::Known;
 use crate::left::FOLDERS;
@@ -42,7 +42,7 @@ fn add_folder(
     let names = names_in(alloc, machine, folder)?;
     for name in &names {
         if !ends_as_temp(name.as_str()) {
-            let path = path_under(alloc, folder, name.as_str())?;
+            let path = BootPath::under(alloc, folder, name.as_str())?;
             known.add(alloc, path.as_str())?;
         }
     }
@@ -110,7 +110,7 @@ impl Story {
     // Finds the files that the runs have written.
     fn find_paths(&mut self, alloc: Global) -> Result<(), StoryFault> {
         for folder in FOLDERS {
-            let folder = path_of(alloc, folder)?;
+            let folder = BootPath::read(alloc, folder)?;
             add_folder(alloc, &mut self.machine, &folder, &mut self.known)?;
         }
         Ok(())
@@ -160,7 +160,7 @@ impl Story {
     fn copy_to(&mut self, alloc: Global, copy: &mut MemMachine) -> Result<u64, StoryFault> {
         let mut calls = self.copy_files(alloc, copy)?;
         for folder in FOLDERS {
-            let folder = path_of(alloc, folder)?;
+            let folder = BootPath::read(alloc, folder)?;
             calls = calls.saturating_add(self.copy_leftovers(alloc, &folder, copy)?);
         }
         Ok(calls.saturating_add(self.copy_intent(alloc, copy)?))

@@ -1,10 +1,10 @@
 //! The lines of a story that write files.
 use crate::fault::StoryFault;
-use crate::files::{bytes_of, leave, path_of, put_intent};
+use crate::files::{bytes_of, leave, put_intent};
 use crate::lines::{number, parted_or_whole, split_at_space, unescape};
 use crate::samples::image_of;
 use crate::story::Story;
-use boot_base::TempPath;
+use boot_base::{BootPath, TempPath};
 use std::alloc::{AllocError, Global};
 
 // The length is a variable, so that no proof writes out a list of that many bytes.
@@ -124,7 +124,7 @@ fn write_crowd(alloc: Global, story: &mut Story, rest: &str) -> Result<(), Story
 }
 
 fn leave_temp(alloc: Global, story: &mut Story, path: &str) -> Result<(), StoryFault> {
-    let temp = TempPath::of(alloc, path_of(alloc, path)?.file())?;
+    let temp = TempPath::of(alloc, BootPath::read(alloc, path)?.file())?;
     leave(&mut story.machine, &temp)?;
     Ok(())
 }

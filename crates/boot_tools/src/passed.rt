@@ -97,7 +97,7 @@ fn reason_of<M: Machine>(
     if !name.ends_with(suffix.as_str()) {
         return said(alloc, "its suffix has capitals");
     }
-    let Some(path) = BootPath::under(alloc, folder, name)? else {
+    let Ok(path) = BootPath::under(alloc, folder, name) else {
         return said(alloc, "its name is too long");
     };
     let found = match fs::metadata(&rt, path.as_str()) {

@@ -5,12 +5,12 @@ use Rattle.boot_base.specs.declared.refusal.Refusal.TheVariants as refusals
 use Rattle.boot_machine.specs.Prelude.{Files, view}
 use Rattle.menu_order.specs.declared.item.MenuItem.{MenuItem}
 use Rattle.boot_folder.specs.Entries.{boot_menu, entry_count}
-use Rattle.boot_folder.specs.Scanning.{fault_many}
-use Rattle.boot_folder.specs.declared.fault.ScanFault.{ScanFault}
-use Rattle.boot_folder.specs.declared.fault.ScanFault.TheVariants as scans
+use Rattle.boot_folder.specs.Scanning.{menu_many}
+use Rattle.boot_folder.specs.declared.fault.MenuFault.{MenuFault}
+use Rattle.boot_folder.specs.declared.fault.MenuFault.TheVariants as menus
 use Rattle.boot_folder.specs.declared.folders.Folders.{Folders}
 use Rattle.boot_folder.proofs.EntryFiles.{view_count}
-use Rattle.command_plans.specs.Prelude.{UnsaidFor, menu_at, scan_unsaid}
+use Rattle.command_plans.specs.Prelude.{UnsaidFor, menu_at, menu_unsaid}
 
 not_many : (n : ℕ) → n ≤ 4096 → nat_lt 4096 n ≡ false
 not_many n few = grind (arith, nat_tests)
@@ -30,9 +30,9 @@ pub many_said : (files : Files) (folders : Folders) (count : ℕ) → 4096 < cou
 many_said files folders count many is = rw (view_count files folders, is, are_many count many) refl
 
 -- what a fault of the scan is told as
-pub unsaid_menu : (Told : Type 0) (files : Files) (folders : Folders) (fault : ScanFault) → Told
-    → fault_many fault (λ count. (4096 < count) × (Told → entry_count files folders ≡ count))
-    → UnsaidFor (scan_unsaid fault) (menu_at (view files) folders)
-unsaid_menu Told files folders scans.Memory told many = tt
-unsaid_menu Told files folders scans.Disk told many = tt
-unsaid_menu Told files folders (scans.TooMany count) told many = many_said files folders count many.0 (many.1 told)
+pub unsaid_menu : (Told : Type 0) (files : Files) (folders : Folders) (fault : MenuFault) → Told
+    → menu_many fault (λ count. (4096 < count) × (Told → entry_count files folders ≡ count))
+    → UnsaidFor (menu_unsaid fault) (menu_at (view files) folders)
+unsaid_menu Told files folders menus.Memory told many = tt
+unsaid_menu Told files folders menus.Disk told many = tt
+unsaid_menu Told files folders (menus.TooMany count) told many = many_said files folders count many.0 (many.1 told)

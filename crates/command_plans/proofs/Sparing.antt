@@ -31,4 +31,4 @@ off_own view (Copy from target gone) text q makeable says quiet apart = not_list
 off_own view (Move from to moved gone exists) text q makeable says quiet apart = not_listed moved.temp q (λ is. (apart intent (sym is ∙ makeable.0.2)).1 refl)
 
 pub spares : (view old new : Files) (plan : Plan) → KeepsTempsBut (own_temps plan.change) old new → SparesTemps (answer_of_plan view plan) old new
-spares view old new plan kept q temp quiet apart = kept q temp (off_own view plan.change plan.text q plan.makeable plan.says quiet apart)
+spares view old new plan kept q temp spared = kept q temp (off_own view plan.change plan.text q plan.makeable plan.says spared.0 spared.1)

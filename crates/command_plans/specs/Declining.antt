@@ -1,6 +1,8 @@
 -- What a command's words are refused for, before the boot files are looked at.
 use Rattle.std.specs.Prelude.{◌≡◌, ℕ, List, ◌∷◌, Option, Some, None, Result, Ok, Err, MatchResult, if◌then◌else◌}
 use Rattle.boot_base.specs.Paths.{Path, path_of, path_below, under}
+use Rattle.boot_base.specs.declared.path.PathFault.{PathFault}
+use Rattle.boot_base.specs.declared.path.PathFault.TheVariants as paths
 use Rattle.boot_base.specs.declared.refusal.Refusal.{Refusal}
 use Rattle.boot_base.specs.declared.refusal.Refusal.TheVariants as refusals
 use Rattle.menu_order.specs.InstallNames.{is_install_name}
@@ -35,6 +37,11 @@ path_under folder below = path_or (under folder below) (path_below folder below)
 abbrev pub DeclinedFor : {X : Type 0} → Declined → Result X Refusal → Type 0
 DeclinedFor declines.Memory meant = Unit {0}
 DeclinedFor (declines.Refused why) meant = meant ≡ Err why
+
+-- why a text has no path: it is refused, unless memory ran out
+abbrev pub declined_path : List ℕ → PathFault → Declined
+declined_path text paths.Memory = declines.Memory
+declined_path text paths.BadPath = declines.Refused (refusals.BadPath text)
 
 -- what was made, seen by view, is what is meant, or the refusal is
 abbrev pub Means : {X Y : Type 0} → (X → Y) → Result X Declined → Result Y Refusal → Type 0

@@ -6,8 +6,8 @@ use Rattle.boot_machine.specs.Disk.{Files}
 use Rattle.menu_order.specs.declared.item.MenuItem.{MenuItem}
 use Rattle.boot_folder.specs.Entries.{boot_menu, entry_count, entry_limit}
 use Rattle.boot_folder.specs.Scanning.{scan_limit}
-use Rattle.boot_folder.specs.declared.fault.ScanFault.{ScanFault}
-use Rattle.boot_folder.specs.declared.fault.ScanFault.TheVariants as scans
+use Rattle.boot_folder.specs.declared.fault.MenuFault.{MenuFault}
+use Rattle.boot_folder.specs.declared.fault.MenuFault.TheVariants as menus
 use Rattle.boot_folder.specs.declared.folders.Folders.{Folders}
 use Rattle.command_plans.specs.declared.unsaid.Unsaid.{Unsaid}
 use Rattle.command_plans.specs.declared.unsaid.Unsaid.TheVariants as unsaid
@@ -19,10 +19,10 @@ menu_at view folders =
     else Ok (boot_menu view folders)
 
 -- why nothing is said of folders that have no menu
-abbrev pub scan_unsaid : ScanFault → Unsaid
-scan_unsaid scans.Memory = unsaid.Memory
-scan_unsaid scans.Disk = unsaid.Disk
-scan_unsaid (scans.TooMany count) = unsaid.Refused (refusals.TooMany count)
+abbrev pub menu_unsaid : MenuFault → Unsaid
+menu_unsaid menus.Memory = unsaid.Memory
+menu_unsaid menus.Disk = unsaid.Disk
+menu_unsaid (menus.TooMany count) = unsaid.Refused (refusals.TooMany count)
 
 -- the most bytes that a command reads for the menu of the folders of a word: as many as a scan of them, none where the
 -- word is refused

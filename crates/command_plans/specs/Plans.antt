@@ -111,9 +111,12 @@ pub record Plans (s : State) (plan : Plan) (answer : Answer) : Type 0 where
   pub answer_is : answer_of_plan (seen s) plan ≡ answer
   pub can_make : CanMake s plan.change
 
--- A command leaves each temporary file as it is, but the one beside a file that stands after it and the one beside the
--- intent, unless it says that it cleaned.
+-- A command that answers so leaves this temporary file as it is: it doesn't say that it cleaned, and the file stands
+-- neither beside one that stands after it nor beside the intent.
+abbrev pub IsSparedBy : Answer → Path → Type 0
+IsSparedBy answer q = (bytes_eq answer.text cleaned_text ≡ false)
+    × ((p : Path) → q ≡ p ++ temp_end → (has answer.after p ≡ false) × (p ≢ intent))
+
+-- it leaves each such file
 abbrev pub SparesTemps : Answer → Files → Files → Type 0
-SparesTemps answer old new = (q : Path) → is_temp q ≡ true → bytes_eq answer.text cleaned_text ≡ false
-    → ((p : Path) → q ≡ p ++ temp_end → (has answer.after p ≡ false) × (p ≢ intent))
-    → get new q ≡ get old q
+SparesTemps answer old new = (q : Path) → is_temp q ≡ true → IsSparedBy answer q → get new q ≡ get old q

@@ -1,9 +1,9 @@
 //! Words that are refused, and what refusals say of paths.
 ghost use Rattle.std.specs.Prelude.{◌≡◌, IfOk};
 ghost use Rattle.boot_base.specs.Paths.{under};
-ghost use Rattle.command_plans.specs.Prelude.{Means, install_name, path_in, path_under, printed_path};
+ghost use Rattle.command_plans.specs.Prelude.{Means, declined_path, install_name, path_in, path_under, printed_path};
 
-use boot_base::{BootPath, Refusal, Text};
+use boot_base::{BootPath, PathFault, Refusal, Text};
 use menu_order::{Suffix, is_install_name};
 use std::alloc::{AllocError, Global};
 
@@ -31,31 +31,35 @@ impl From<AllocError> for Declined {
 pub fn path_in(alloc: Global, word: &str) -> Result<BootPath, Declined>
     ensures { Means (λ path. path) result (path_in word.now) }
 {
-    match BootPath::read(alloc, word)? {
-        Some(path) => Ok(path),
-        None => Err(bad_path(alloc, word)?),
+    match BootPath::read(alloc, word) {
+        Ok(path) => Ok(path),
+        Err(fault) => Err(declined_path(alloc, fault, word)?),
     }
 }
 
-fn bad_path(alloc: Global, text: &str) -> Result<Declined, AllocError>
-    ensures { IfOk result (λ declined. declined ≡ Declined.Refused (Refusal.BadPath text.now)) }
+// Why there is no path of this text: it is refused, unless memory ran out.
+fn declined_path(alloc: Global, fault: PathFault, text: &str) -> Result<Declined, AllocError>
+    ensures { IfOk result (λ declined. declined ≡ declined_path text.now fault) }
 {
-    let text = Text::of(alloc, text)?;
-    Ok(Declined::Refused(Refusal::BadPath { text }))
+    match fault {
+        PathFault::Memory => Ok(Declined::Memory),
+        PathFault::BadPath => {
+            let text = Text::of(alloc, text)?;
+            Ok(Declined::Refused(Refusal::BadPath { text }))
+        }
+    }
 }
 
 /// The path of what is below a folder, or the refusal of the joined text.
 pub fn path_under(alloc: Global, folder: &BootPath, below: &str) -> Result<BootPath, Declined>
     ensures { Means (λ path. path) result (path_under folder.now below.now) }
 {
-    match BootPath::under(alloc, folder, below)? {
-        Some(path) => Ok(path),
-        None => {
+    match BootPath::under(alloc, folder, below) {
+        Ok(path) => Ok(path),
+        Err(fault) => {
             let folder = folder.as_str();
             let joined = format!(in alloc; "{folder}/{below}")?;
-            Err(Declined::Refused(Refusal::BadPath {
-                text: Text::from(joined),
-            }))
+            Err(declined_path(alloc, fault, joined.as_str())?)
         }
     }
 }

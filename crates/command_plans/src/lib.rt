@@ -32,7 +32,7 @@ pub use declined::{
 pub use files::{
     file_bytes, file_part, head_of_size, image_head, not_pe, readable_size, sized_head, too_large,
 };
-pub use lists::push;
+pub use lists::{each_once, push};
 pub use menus::{folders_in, menu_at};
 pub use outcome::{MachineFault, Outcome, Stop};
 pub use performing::perform;

@@ -3,13 +3,13 @@ ghost use Rattle.std.specs.Prelude.{◌≡◌, IfOk, IsTrue};
 ghost use Rattle.boot_folder.specs.Entries.{IsEntry};
 ghost use Rattle.boot_folder.specs.Scanning.{scan_limit};
 ghost use Rattle.boot_machine.specs.Prelude.{Looks, TakesAtMost, seen};
-ghost use Rattle.command_plans.specs.Prelude.{CountsUnsaid, Says, Means, folders_of, menu_at, scan_unsaid};
+ghost use Rattle.command_plans.specs.Prelude.{CountsUnsaid, Says, Means, folders_of, menu_at, menu_unsaid};
 ghost use Rattle.menu_order.specs.Menu.{IsMenu};
 
 use crate::declined::{Declined, path_in, path_under};
 use crate::unsaid::Unsaid;
 use boot_base::{ENTRIES, IMAGES, Refusal};
-use boot_folder::{Folders, ScanFault, scan};
+use boot_folder::{Folders, MenuFault, scan_folders};
 use boot_machine::Machine;
 use menu_order::MenuItem;
 use std::alloc::Global;
@@ -25,13 +25,13 @@ pub fn folders_in(alloc: Global, esp: &str) -> Result<Folders, Declined>
 }
 
 // Why nothing is said of folders that have no menu.
-fn scan_unsaid(fault: ScanFault) -> Unsaid
-    ensures { result ≡ scan_unsaid fault }
+fn menu_unsaid(fault: MenuFault) -> Unsaid
+    ensures { result ≡ menu_unsaid fault }
 {
     match fault {
-        ScanFault::Memory => Unsaid::Memory,
-        ScanFault::Disk => Unsaid::Disk,
-        ScanFault::TooMany { count } => Unsaid::Refused(Refusal::TooMany { count }),
+        MenuFault::Memory => Unsaid::Memory,
+        MenuFault::Disk => Unsaid::Disk,
+        MenuFault::TooMany { count } => Unsaid::Refused(Refusal::TooMany { count }),
     }
 }
 
@@ -49,8 +49,8 @@ pub fn menu_at<M: Machine>(
     ensures taken { IsTrue M.tells → TakesAtMost
         (scan_limit (M.state machine.old).files folders.now) (M.taken machine.old) (M.taken machine.new) }
 {
-    match scan(alloc, machine, folders) {
+    match scan_folders(alloc, machine, folders) {
         Ok(menu) => Ok(menu),
-        Err(fault) => Err(scan_unsaid(fault)),
+        Err(fault) => Err(menu_unsaid(fault)),
     }
 }

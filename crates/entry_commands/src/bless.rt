@@ -8,7 +8,7 @@ ghost use Rattle.command_plans.specs.Prelude.{CountsStop, CountsUnsaid, Declines
 ghost use Rattle.entry_commands.specs.Blessing.{bad_name_in, bless_answer, bless_entry, bless_result, blessed_by, blessed_from, blessed_text, entry_paths, good_name_in, name_or, path_at, present_at, reported_paths, status_by, status_result, verb_text};
 
 use crate::moves::{is_there, plan_move, plan_nothing};
-use boot_base::{BootPath, Refusal, Text};
+use boot_base::{BootPath, PathFault, Refusal, Text};
 use boot_machine::{DiskFault, Machine};
 use command_plans::{
     Declined, Plan, Stop, Unsaid, answer_or_refusal, path_in, path_under, printed_path,
@@ -69,9 +69,10 @@ fn path_beside(alloc: Global, path: &BootPath, name: &str) -> Result<BootPath, A
     requires { sibling_of path.now name.now ≡ Some (beside path.now name.now) }
     ensures { IfOk result (λ other. other ≡ beside path.now name.now) }
 {
-    match path.sibling(alloc, name)? {
-        Some(other) => Ok(other),
-        None => unreachable!(),
+    match path.sibling(alloc, name) {
+        Ok(other) => Ok(other),
+        Err(PathFault::Memory) => Err(AllocError),
+        Err(PathFault::BadPath) => unreachable!(),
     }
 }
 

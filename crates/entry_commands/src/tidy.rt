@@ -1,7 +1,6 @@
 //! `tidy`.
-ghost use Rattle.std.specs.Prelude.{◌≡◌, All, Contains, IfOk, IsTrue, Ok, bytes_eq, true};
+ghost use Rattle.std.specs.Prelude.{◌≡◌, All, IfOk, IsTrue, Ok, bytes_eq, true};
 ghost use Rattle.std.specs.List.{IsDistinct};
-ghost use Rattle.boot_base.specs.Paths.{Path};
 ghost use Rattle.boot_machine.specs.Prelude.{Files, Looks, State, TakesAtMost, has, seen};
 ghost use Rattle.command_plans.specs.Prelude.{CountsStop, Drops, Plans, RefusesWords, folders_of, own_temps, unless_refused};
 ghost use Rattle.entry_commands.specs.Tidying.{AreClean, HasLeftovers, IsDirectlyIn, IsTidied, StandsAt, leftovers_among, tidy_answer};
@@ -9,7 +8,7 @@ ghost use Rattle.entry_commands.specs.Tidying.{AreClean, HasLeftovers, IsDirectl
 use boot_base::{BootPath, Bytes, FileName, TempPath};
 use boot_folder::Folders;
 use boot_machine::Machine;
-use command_plans::{Change, Outcome, Plan, Stop, Unsaid, folders_in, plan_unsaid};
+use command_plans::{Change, Outcome, Plan, Stop, Unsaid, each_once, folders_in, plan_unsaid};
 use std::alloc::{AllocError, Global};
 
 // The paths of the temporary files among these names of a folder.
@@ -45,17 +44,6 @@ fn leftovers_in<M: Machine>(
 {
     let names = machine.names(alloc, folder)?;
     Ok(leftovers_among(alloc, folder, names.as_slice())?)
-}
-
-// The same paths, each once.
-fn each_once(mut temps: Vec<TempPath>) -> Vec<TempPath>
-    ensures distinct { IsDistinct bytes_eq result.items }
-    ensures among { (temp : Path) → Contains result.items temp → Contains temps.items temp }
-    ensures all { (temp : Path) → Contains temps.items temp → Contains result.items temp }
-{
-    temps.sort_unstable();
-    temps.dedup();
-    temps
 }
 
 // The temporary files directly in the folders, each once.

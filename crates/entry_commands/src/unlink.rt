@@ -4,7 +4,7 @@ ghost use Rattle.boot_machine.specs.Prelude.{Looks, TakesAtMost, seen};
 ghost use Rattle.command_plans.specs.Prelude.{CountsStop, Means, Plans, RefusesWords, unless_refused, unlink_answer};
 ghost use Rattle.entry_commands.specs.Unlinking.{entry_folder, entry_path, entry_under, is_entry_name, is_type1_name};
 
-use boot_base::{BootPath, ENTRIES, FileName, IMAGES, Refusal, Text};
+use boot_base::{BootPath, ENTRIES, FileName, IMAGES, PathFault, Refusal, Text};
 use boot_machine::Machine;
 use command_plans::{Declined, Plan, Stop, Unsaid, file_under, path_in, plan_removal, plan_unsaid};
 use std::alloc::{AllocError, Global};
@@ -18,8 +18,11 @@ fn is_type1_name(name: &str) -> bool
 fn is_entry_name(alloc: Global, name: &str) -> Result<bool, AllocError>
     ensures { IfOk result (λ is. is ≡ is_entry_name name.now) }
 {
-    let is_file_name = FileName::read(alloc, name)?.is_some();
-    Ok(is_file_name && (is_type1_name(name) || name.as_bytes().ends_with(b".efi")))
+    match FileName::read(alloc, name) {
+        Ok(_) => Ok(is_type1_name(name) || name.as_bytes().ends_with(b".efi")),
+        Err(PathFault::BadPath) => Ok(false),
+        Err(PathFault::Memory) => Err(AllocError),
+    }
 }
 
 // The folder of an entry of that name, below an EFI system partition.

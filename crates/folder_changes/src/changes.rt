@@ -358,7 +358,8 @@ impl<C: Calls + Drop, E: Print + Drop> Changes<C, E> {
     /// Syncs each renamed file, then each changed folder with those above it, and last, as far as it can be done, the
     /// folders that were looked at. After a failure all of it is still to be synced.
     pub fn sync_names(&mut self) -> io::Result<()>
-        ensures { IfOk result (λ _. IsTrue C.tells → NothingWaits (C.waits self.new)) }
+        ensures kept { IsTrue C.tells → KeepsSynced (C.waits self.old) (C.waits self.new) }
+        ensures waits { IfOk result (λ _. IsTrue C.tells → NothingWaits (C.waits self.new)) }
     {
         let answer = require_sync_before(self.is_unsure);
         self.reports.report("sync", ".", answer)?;
@@ -375,7 +376,9 @@ impl<C: Calls + Drop, E: Print + Drop> Changes<C, E> {
     }
 
     fn sync_noted(&mut self, named: &mut Named) -> io::Result<()>
-        ensures { IfOk result (λ _. IsTrue C.tells → Covers named.old (C.waits self.old) → NothingWaits (C.waits self.new)) }
+        ensures kept { IsTrue C.tells → KeepsSynced (C.waits self.old) (C.waits self.new) }
+        ensures waits { IfOk result (λ _. IsTrue C.tells
+            → Covers named.old (C.waits self.old) → NothingWaits (C.waits self.new)) }
     {
         sync_names(self, named)?;
         self.sync_replaced(named)?;

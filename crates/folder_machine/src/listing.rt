@@ -4,7 +4,7 @@ ghost use Rattle.std.specs.IoError.{error_kind};
 ghost use Rattle.boot_base.specs.Paths.{is_file_name};
 ghost use Rattle.folder_machine.specs.Looking.{files_in, leads_to_file};
 
-use boot_base::FileName;
+use boot_base::{FileName, PathFault};
 use folder_calls::Calls;
 use folder_changes::path_in;
 use std::alloc::Global;
@@ -48,8 +48,9 @@ fn add_name(alloc: Global, names: &mut Vec<FileName>, text: &str) -> io::Result<
     ensures err { OnErr result (names.new.items ≡ names.old.items) }
     ensures memory { IfErr result (λ error. error_kind error ≡ ErrorKind.OutOfMemory) }
 {
-    if let Some(name) = FileName::read(alloc, text)? {
-        names.push(name)?;
+    match FileName::read(alloc, text) {
+        Ok(name) => Ok(names.push(name)?),
+        Err(PathFault::BadPath) => Ok(()),
+        Err(PathFault::Memory) => Err(io::Error::from(ErrorKind::OutOfMemory)),
     }
-    Ok(())
 }

@@ -95,6 +95,7 @@ impl<C: Calls + Drop, E: Print + Drop> Machine for FolderMachine<C, E> {
     ghost use Rattle.std.specs.Prelude.{◌≤◌, ◌⊎◌, IsTrue, false, length};
     ghost use Rattle.boot_base.specs.Paths.{intent};
     ghost use Rattle.name_syncs.specs.Named.{NothingWaits};
+    ghost use Rattle.name_syncs.specs.Waiting.{KeepsSynced};
     ghost use Rattle.boot_machine.specs.Prelude.{CountsDisk, CountsPipe, CountsRead, Timeline};
     ghost use Rattle.folder_machine.specs.Looking.{LooksStand};
     ghost use Rattle.folder_machine.specs.Told.{counts_of, no_state, CountsCall, CountsDiskOnce, CountsPipeOnce, CountsNamesOnce};
@@ -207,6 +208,7 @@ impl<C: Calls + Drop, E: Print + Drop> Machine for FolderMachine<C, E> {
 
     fn sync_names(&mut self) -> Result<(), DiskFault>
         ensures call { CountsCall (CountsDisk result) (CountsDiskOnce result) self.old.faults self.new.faults }
+        ensures kept { IsTrue C.tells → KeepsSynced (C.waits self.old.system.changes) (C.waits self.new.system.changes) }
         ensures waits { IfOk result (λ _. IsTrue C.tells → NothingWaits (C.waits self.new.system.changes)) }
     {
         let answer = self.system.sync_names();

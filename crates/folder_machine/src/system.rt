@@ -7,6 +7,7 @@ ghost use Rattle.std.specs.Option.{ForSome};
 ghost use Rattle.boot_base.specs.Paths.{intent, temp_end};
 ghost use Rattle.name_syncs.specs.Folders.{parent_folder};
 ghost use Rattle.name_syncs.specs.Named.{NameWaits, NothingWaits};
+ghost use Rattle.name_syncs.specs.Waiting.{KeepsSynced};
 ghost use Rattle.folder_calls.specs.Calls.{inode_of};
 ghost use Rattle.folder_calls.specs.Tree.{is_fat_file};
 ghost use Rattle.folder_machine.specs.Looking.{LooksStand};
@@ -19,20 +20,19 @@ use crate::kept::{
     Created, PRIVATE, PUBLIC, create_locked, open_locked, require_not_written, require_replaceable,
 };
 use crate::listing::files_among;
-use crate::locks::{Locks, is_payload, is_payload_folder};
+use crate::locks::{Locks, is_payload};
 use crate::looks::{hold_looks, identity_of, look_answer, require_all_same, require_same};
 use crate::opened::{open_file, open_known};
-use boot_base::{FileName, INTENT, TEMP_SUFFIX, ends_as_temp};
+use boot_base::{FileName, INTENT, TEMP_SUFFIX};
 use folder_calls::{Access, Calls, Found, Hold, Locked};
 use folder_changes::{
-    Changes, KeptFile, Reports, Twins, copy_path, fat_file_at, file_at, is_alias_of_listed,
-    is_spelled, path_in, path_in_the_way, require_spelled,
+    Changes, KeptFile, Reports, Twins, copy_path, fat_file_at, is_alias_of_listed, is_spelled,
+    path_in_the_way, require_spelled,
 };
 use name_syncs::{FolderSet, folder_of};
 use run_looks::RunLooks;
 use std::alloc::Global;
-use std::io::ErrorKind;
-use std::{io, mem};
+use std::io;
 
 mod moving;
 mod recovery;
@@ -66,8 +66,6 @@ pub(crate) struct System<C: Calls + Drop, E: Print + Drop> {
     locks: Locks<C::File>,
     /// the intent of this run's move, or the one that a stop has left, with its lock
     intent: Option<HeldIntent<C::File>>,
-    /// the temporary files beside payloads that were listed since the last sync of names
-    leftovers: Vec<String>,
     written: Option<Written<C>>,
     looked: Option<LookedFile<C::File>>,
 }
@@ -82,7 +80,6 @@ impl<C: Calls + Drop, E: Print + Drop> System<C, E> {
             looks: RunLooks::new(alloc),
             locks: Locks::new(alloc),
             intent: None,
-            leftovers: Vec::new(alloc),
             written: None,
             looked: None,
         }
@@ -242,44 +239,9 @@ impl<C: Calls + Drop, E: Print + Drop> System<C, E> {
         let names = self.changes.calls().names(self.alloc, folder)?;
         let files = files_among(self.changes.calls(), alloc, folder, names.as_slice())?;
         self.require_no_other_move()?;
-        note_leftovers(self.alloc, &mut self.leftovers, folder, names.as_slice())?;
         let answer = self.looks.add_names(folder, names);
         look_answer(self.alloc, folder, answer)?;
         Ok(files)
-    }
-
-    // Removes the temporary files beside payloads that were listed, unless another run is at work there.
-    fn remove_leftovers(&mut self) -> io::Result<()> {
-        let leftovers = mem::replace(&mut self.leftovers, Vec::new(self.alloc));
-        for path in leftovers.as_slice() {
-            let path = path.as_str();
-            let answer = self.remove_leftover(path);
-            self.changes.reports().report("remove", path, answer)?;
-        }
-        Ok(())
-    }
-
-    fn remove_leftover(&mut self, path: &str) -> io::Result<()> {
-        match self.take_leftover(path) {
-            Ok(Some(held)) => self.unlink(path, &held),
-            Ok(None) => Ok(()),
-            Err(error) if error.kind() == ErrorKind::WouldBlock => Ok(()),
-            Err(error) => Err(error),
-        }
-    }
-
-    // Holds a temporary file beside payloads. Who writes one holds their folder.
-    fn take_leftover(&mut self, path: &str) -> io::Result<Option<Locked<C::File>>>
-        ensures still { self.new.changes ≡ self.old.changes }
-    {
-        self.locks
-            .hold_folder(self.changes.calls(), folder_of(path), Hold::Alone)?;
-        if file_at(self.changes.calls(), path)?.is_none() {
-            return Ok(None);
-        }
-        self.require_one_name(path)?;
-        let (file, _) = open_locked(self.changes.calls(), path, Access::Read)?;
-        Ok(Some(file))
     }
 
     // Before a change at a path this run takes its locks, and what it has looked at must still be the same.
@@ -688,15 +650,15 @@ impl<C: Calls + Drop, E: Print + Drop> System<C, E> {
     }
 
     // Syncs each renamed file, then each changed folder with those above it, and last, as far as it can be
-    // done, the folders that were looked at. After a failure all of it is still to be synced.
+    // done, the folders that were looked at. After a failure all of it is still to be synced. No name comes or goes by it.
     pub(crate) fn sync_names(&mut self) -> io::Result<()>
-        ensures { IfOk result (λ _. IsTrue C.tells → NothingWaits (C.waits self.new.changes)) }
+        ensures kept { IsTrue C.tells → KeepsSynced (C.waits self.old.changes) (C.waits self.new.changes) }
+        ensures waits { IfOk result (λ _. IsTrue C.tells → NothingWaits (C.waits self.new.changes)) }
     {
         self.looked = None;
         let answer = self.changes.require_sure();
         self.changes.reports().report("sync", ".", answer)?;
         let has_changed_nothing = self.changes.has_changed_nothing();
-        self.remove_leftovers()?;
         self.changes.sync_names()?;
         if has_changed_nothing && self.looks.has_unchecked() {
             let answer = require_same(self.changes.calls(), self.alloc, &mut self.looks);
@@ -747,22 +709,6 @@ fn mode_in_place(new_mode: u32, replaced: Option<Found>) -> u32
         Some(found) if found.is_file() => found.mode,
         _ => new_mode,
     }
-}
-
-// The temporary files among the names of a folder of payloads. A cleanup alone lists such a folder.
-fn note_leftovers(
-    alloc: Global,
-    leftovers: &mut Vec<String>,
-    folder: &str,
-    names: &[String],
-) -> io::Result<()> {
-    for name in names {
-        let name = name.as_str();
-        if ends_as_temp(name) && is_payload_folder(folder) {
-            leftovers.push(path_in(alloc, folder, name)?)?;
-        }
-    }
-    Ok(())
 }
 
 // The path of a file's temporary file.

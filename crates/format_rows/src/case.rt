@@ -3,7 +3,7 @@ ghost use Rattle.std.specs.Prelude.{◌≤◌, length};
 ghost use Rattle.boot_base.specs.Limits.{file_limit};
 
 use crate::fault::RowFault;
-use boot_base::{BootPath, FILE_LIMIT};
+use boot_base::{BootPath, FILE_LIMIT, PathFault};
 use memory_machine::{FailMode, MemFile, MemMachine};
 use std::alloc::Global;
 
@@ -18,8 +18,8 @@ pub(crate) struct Case {
 }
 
 /// Where the file stands in a machine.
-pub(crate) fn file_path(alloc: Global) -> Result<BootPath, RowFault> {
-    BootPath::read(alloc, "u.efi")?.ok_or(RowFault::Unclear)
+pub(crate) fn file_path(alloc: Global) -> Result<BootPath, PathFault> {
+    BootPath::read(alloc, "u.efi")
 }
 
 impl Case {

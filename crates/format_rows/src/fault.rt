@@ -1,4 +1,5 @@
 //! Why the rows aren't told to their end, or one of them isn't understood.
+use boot_base::PathFault;
 use pe_builder::LayoutFault;
 use pe_reader::PeFault;
 use std::alloc::{AllocError, AllocFailed};
@@ -25,6 +26,15 @@ impl From<AllocError> for RowFault {
 impl<T: Drop> From<AllocFailed<T>> for RowFault {
     fn from(_: AllocFailed<T>) -> Self {
         RowFault::Memory
+    }
+}
+
+impl From<PathFault> for RowFault {
+    fn from(fault: PathFault) -> Self {
+        match fault {
+            PathFault::Memory => RowFault::Memory,
+            PathFault::BadPath => RowFault::Unclear,
+        }
     }
 }
 

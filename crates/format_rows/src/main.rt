@@ -19,7 +19,8 @@
 //!
 //! Rows without a file: `digest BANK:BYTES`, `pieces BANK:BYTES|..`, `extend BANK:BYTES|..`,
 //! `extend_digest BANK:BYTES`, `heading PATH`, `name TEXT`, `cmdline TEXT`, `initrds SIZE..`, `merge STUB|GIVEN`,
-//! `sections NAME:SIZE:BYTES..`: the JSON of sections with such names and sizes and the digests of these bytes.
+//! `sections NAME:SIZE:BYTES..`: the JSON of sections with such names and sizes and the digests of these bytes,
+//! `scan BYTES`: the menu of the partition at that path on a machine with one entry, in `efi`.
 //!
 //! In bytes a backslash and a letter stand for one as in C, `\s` for a space, `TEXT*COUNT` for so many texts, and `+`
 //! stands between pieces. Lines that begin with `#` are comments. A line that isn't understood is told behind `? `.
@@ -32,6 +33,7 @@ mod file;
 mod image;
 mod json;
 mod measure;
+mod menu;
 mod parts;
 mod read;
 mod refusal;

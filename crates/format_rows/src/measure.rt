@@ -4,12 +4,11 @@ use crate::fault::RowFault;
 use crate::read::{head_there, machine_head_text};
 use crate::words::bank_of;
 use boot_base::{BootPath, Buffer, PIECE_SIZE};
-use boot_machine::ReadFault;
 use memory_machine::{MemMachine, ReadSeen};
 use pcr_values::{Bank, Pcr};
 use pe_reader::{HeadFault, Pe};
 use std::alloc::{AllocError, Global};
-use stub_replay::{replay_all, replay_bytes};
+use stub_replay::{replay, replay_bytes};
 
 /// The register of a bank after the image with the file's bytes.
 pub(crate) fn replay_text(alloc: Global, case: &Case, bank: &str) -> Result<String, RowFault> {
@@ -26,18 +25,10 @@ fn piece_buffer() -> Buffer {
 }
 
 // The register of SHA-256 after that file.
-fn replay_file(
-    alloc: Global,
-    machine: &mut MemMachine,
-    path: &BootPath,
-) -> Result<Vec<Pcr>, HeadFault> {
+fn replay_file(alloc: Global, machine: &mut MemMachine, path: &BootPath) -> Result<Pcr, HeadFault> {
     let head = head_there(alloc, machine, path)?;
-    let banks = [Bank::Sha256];
-    match replay_all(alloc, machine, path, &head, &banks, &mut piece_buffer()) {
-        Ok(pcrs) => Ok(pcrs),
-        Err(ReadFault::Memory) => Err(HeadFault::Memory),
-        Err(ReadFault::Disk) => Err(HeadFault::Disk),
-    }
+    let pcr = replay(machine, path, &head, Bank::Sha256, &mut piece_buffer())?;
+    Ok(pcr)
 }
 
 // The register after the image by reads of a machine.
@@ -47,10 +38,7 @@ fn machine_replay_text(
     path: &BootPath,
 ) -> Result<String, AllocError> {
     match replay_file(alloc, machine, path) {
-        Ok(pcrs) => match pcrs.first() {
-            Some(pcr) => hex::encode(alloc, pcr.bytes()),
-            None => Err(AllocError),
-        },
+        Ok(pcr) => hex::encode(alloc, pcr.bytes()),
         Err(fault) => format!(in alloc; "{fault}"),
     }
 }

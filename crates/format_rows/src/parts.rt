@@ -43,7 +43,7 @@ fn count_bytes(alloc: Global, count: u64, bytes: &[u8]) -> Result<String, AllocE
 // An initrd of that size.
 fn initrd_of(alloc: Global, size: &str) -> Result<Piece, RowFault> {
     let size = number(size)?;
-    let path = BootPath::read(alloc, "initrd")?.ok_or(RowFault::Unclear)?;
+    let path = BootPath::read(alloc, "initrd")?;
     Ok(Piece::File { path, size })
 }
 

@@ -6,6 +6,7 @@ use crate::file::{bytes_text, fields_text, fill, set_demo, sha256_text};
 use crate::image::set_image;
 use crate::json::sections_text;
 use crate::measure::{machine_text, replay_text};
+use crate::menu::scan_text;
 use crate::parts::{cmdline_text, initrds_text, merge_text, name_text};
 use crate::read::{headers_text, range_text, read_text};
 use crate::refusal::refusal_text;
@@ -26,6 +27,7 @@ fn told_alone(alloc: Global, verb: &str, rest: &str) -> Result<String, RowFault>
         "initrds" => initrds_text(alloc, rest),
         "merge" => merge_text(alloc, rest),
         "sections" => sections_text(alloc, rest),
+        "scan" => scan_text(alloc, rest),
         _ => Err(RowFault::Unclear),
     }
 }

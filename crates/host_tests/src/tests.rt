@@ -99,16 +99,12 @@ fn remove_own_folder(rt: &HostRuntime) -> io::Result<()> {
     fs::remove_dir_all(rt, own_folder(rt)?.as_str())
 }
 
-fn boot_path(alloc: Global, text: &str) -> Result<BootPath, Fail> {
-    Ok(BootPath::read(alloc, text)?.ok_or("not a path")?)
-}
-
 // The path of a file, which may be the intent.
 fn path_of(alloc: Global, path: &str) -> Result<FilePath, Fail> {
     if path == INTENT {
         return Ok(FilePath::intent(alloc)?);
     }
-    Ok(boot_path(alloc, path)?.into_file())
+    Ok(BootPath::read(alloc, path)?.into_file())
 }
 
 // The path of a file, and where it is written first.
@@ -131,8 +127,8 @@ fn is_renamed<R: Runtime<File = File> + AllocGlobal, E: Print + Drop>(
     from: &str,
     to: &str,
 ) -> Result<bool, Fail> {
-    let from = boot_path(alloc, from)?;
-    let to = boot_path(alloc, to)?;
+    let from = BootPath::read(alloc, from)?;
+    let to = BootPath::read(alloc, to)?;
     Ok(machine.rename_name(&from, &to).is_ok())
 }
 
@@ -219,7 +215,7 @@ fn count_names<R: Runtime<File = File> + AllocGlobal>(
     alloc: Global,
     folder: &str,
 ) -> Result<usize, Fail> {
-    let folder = boot_path(alloc, folder)?;
+    let folder = BootPath::read(alloc, folder)?;
     Ok(machine.names(alloc, &folder)?.len())
 }
 

@@ -1,5 +1,5 @@
 //! A list of files, which contracts see as the map from each path to its bytes.
-ghost use Rattle.std.specs.Prelude.{◌≡◌, ◌++◌, [], ◌∷◌, true, length, position, bytes_eq, drop, vec_len, vec_capacity, if◌then◌else◌, ◌≤◌, IfOk, OnOk, OnErr, MatchOption, ◌≢◌, List, ℕ, IsTrue, option_map};
+ghost use Rattle.std.specs.Prelude.{◌≡◌, ◌++◌, [], ◌∷◌, true, length, position, bytes_eq, drop, vec_len, vec_capacity, if◌then◌else◌, ◌≤◌, IfOk, OnOk, OnErr, ◌≢◌, List, ℕ, IsTrue, option_map};
 ghost use Rattle.std.specs.Prelude.{map as all};
 ghost use Rattle.std.specs.FinMap as map;
 ghost use Rattle.boot_base.specs.Paths.{under, is_file_name};
@@ -12,7 +12,7 @@ ghost use Rattle.memory_machine.specs.Stops.{IsFilled};
 
 use crate::MemFile;
 use crate::event::Event;
-use boot_base::{FileName, Text, copy_from, ends_as_temp};
+use boot_base::{FileName, PathFault, Text, copy_from, ends_as_temp};
 use std::alloc::{AllocError, Global};
 use std::marker::Model;
 
@@ -72,17 +72,17 @@ fn drop_all(entries: &mut Vec<Entry>, path: &str)
     }
 }
 
-// The name of the file at that path, if it is directly in the folder.
-fn name_in(alloc: Global, folder: &str, path: &str) -> Result<Option<FileName>, AllocError>
-    ensures { IfOk result (λ name. MatchOption name
-        ((other : List ℕ) → is_file_name other ≡ true → path.now ≢ under folder.now other)
-        (λ name. (is_file_name name ≡ true) × (path.now ≡ under folder.now name))) }
+// The name of the file at that path. There is none unless it is directly in the folder.
+fn name_in(alloc: Global, folder: &str, path: &str) -> Result<FileName, PathFault>
+    ensures name { IfOk result (λ name. (is_file_name name ≡ true) × (path.now ≡ under folder.now name)) }
+    ensures none { result ≡ Err PathFault.BadPath
+        → (other : List ℕ) → is_file_name other ≡ true → path.now ≢ under folder.now other }
 {
     let Some(rest) = path.strip_prefix(folder) else {
-        return Ok(None);
+        return Err(PathFault::BadPath);
     };
     let Some(name) = rest.strip_prefix('/') else {
-        return Ok(None);
+        return Err(PathFault::BadPath);
     };
     FileName::read(alloc, name)
 }
@@ -103,14 +103,16 @@ fn add_name(
     ensures { OnOk result ((before : List Entry) → IsNamesOf (files_of before) folder.now names.old.items
         → IsNamesOf (files_of (before ++ entry.now ∷ [])) folder.now names.new.items) }
 {
-    let Some(name) = name_in(alloc, folder, entry.path.as_str())? else {
-        return Ok(());
-    };
-    if is_among(names, name.as_str()) {
-        return Ok(());
+    match name_in(alloc, folder, entry.path.as_str()) {
+        Ok(name) => {
+            if is_among(names, name.as_str()) {
+                return Ok(());
+            }
+            Ok(names.push(name)?)
+        }
+        Err(PathFault::BadPath) => Ok(()),
+        Err(PathFault::Memory) => Err(AllocError),
     }
-    names.push(name)?;
-    Ok(())
 }
 
 // The names of the entries' files directly in the folder, each once.

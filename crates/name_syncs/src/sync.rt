@@ -10,7 +10,7 @@ use crate::named::Named;
 use boot_base::Text;
 
 /// Syncs what has changed, and then what was only looked at: nothing that this run has changed waits any more, and what
-/// the folders show that it has looked at is on the disk.
+/// the folders show that it has looked at is on the disk. No name comes or goes by it.
 ///
 /// # Errors
 ///
@@ -18,6 +18,7 @@ use boot_base::Text;
 /// this run has changed a name, that isn't there any more. A folder that was only looked at may be one that this run may
 /// not open.
 pub fn sync_names<D: Disk>(disk: &mut D, named: &mut Named) -> Result<(), D::Fault>
+    ensures kept { IsTrue D.tells → KeepsSynced (D.state disk.old) (D.state disk.new) }
     ensures waits { IfOk result (λ _. IsTrue D.tells → Covers named.old (D.state disk.old)
         → NothingWaits (D.state disk.new)) }
     ensures shown { IfOk result (λ _. IsTrue D.tells

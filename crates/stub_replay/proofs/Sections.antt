@@ -4,10 +4,10 @@ use Rattle.std.specs.List.{AllZip}
 use Rattle.pe_reader.specs.declared.section.LoadedRange.{LoadedRange}
 use Rattle.pe_reader.specs.Prelude.{Headers, pe_of, is_named, section_at_index, range_of, bytes_in, loaded_bytes}
 use Rattle.pcr_values.specs.declared.bank.Bank.{Bank}
-use Rattle.pcr_values.specs.Prelude.{HoldsData}
+use Rattle.pcr_values.specs.Prelude.{fold_of, HoldsData, pcr_bank, pcr_bytes}
 use Rattle.stub_replay.specs.declared.register.Register.{Register}
 use Rattle.stub_replay.specs.Measured.{found_raw_length, named_raw_length, section_items, measured_names, measured_by, measured_list}
-use Rattle.stub_replay.specs.Registers.{AllHold, Holds, Takes}
+use Rattle.stub_replay.specs.Registers.{AllHold, Holds, Takes, Extends}
 use Rattle.stub_replay.specs.Taking.{TakesWhere, ExtendsWhere, AreBetween}
 use Rattle.pe_reader.proofs.Finding.{find-position, loaded_bytes-none}
 use Rattle.stub_replay.proofs.Measuring.{extends_none, extends_more, between_after}
@@ -76,6 +76,17 @@ between_on P items xs ys between extends = between_after extends.0 xs ys between
 -- registers at the start
 pub all_between : (banks : List Bank) (first xs : List Register) → AllHold first banks [] [] → xs ≡ first → AreBetween xs
 all_between banks first xs began same = let S = λ (l : List Register). AllHold l banks [] [] in (banks, [], subst S (sym same) began)
+
+pub one_held : (register : Register) (bank : Bank) → Holds register bank [] [] → AllHold (register ∷ []) (bank ∷ []) [] []
+one_held register bank holds = (holds, tt)
+
+-- what one register has after all of them
+pub one_after : (P : Type 0) (items : List (List ℕ)) (old : Register) (xs ys : List Register) (bank : Bank) → Holds old bank [] [] → xs ≡ old ∷ [] → ExtendsWhere P items xs ys
+    → (pcr_bank (slice_index_or ys 0 old).pcr ≡ bank) × (P → pcr_bytes (slice_index_or ys 0 old).pcr ≡ fold_of bank items)
+one_after P items old xs ys bank holds one extends =
+    let S = λ (l : List Register). AllZip (Extends extends.0) l ys in
+    let after = first_related (λ (r : Register). Holds r bank extends.0 []) (Extends extends.0) old ys (λ r extended. extended bank [] holds) (subst S one extends.1) in
+    (after.is_of, λ told. after.value ∙ ap (fold_of bank) (extends.2 told))
 
 -- what the hash of one register has taken
 pub one_taken : (P : Type 0) (bytes : List ℕ) (old : Register) (xs ys : List Register) (bank : Bank) → Holds old bank [] [] → xs ≡ old ∷ [] → TakesWhere P bytes xs ys

@@ -2,7 +2,7 @@
 ghost use Rattle.std.specs.Prelude.{◌≡◌, ◌+◌, ◌<◌, ◌≤◌, ◌^◌, Ok, length, drop, map, IfOk, IsTrue, OnOk};
 ghost use Rattle.boot_machine.specs.Prelude.{CountsDisk, Looks, TakesAtMost, contents, CountsRead};
 ghost use Rattle.pe_reader.specs.Prelude.{pe_of, loaded_bytes, bytes_in, headers_of};
-ghost use Rattle.pcr_values.specs.Prelude.{digest_of, fold_pcr, bank_of, bytes_of_digest, pcr_bank, pcr_value};
+ghost use Rattle.pcr_values.specs.Prelude.{digest_of, fold_of, fold_pcr, bank_of, bytes_of_digest, pcr_bank, pcr_bytes, pcr_value};
 ghost use Rattle.stub_replay.specs.Measured.{measured_list, measured_raw_length, named_raw_length, section_items};
 ghost use Rattle.stub_replay.specs.Taking.{AreBetween, ExtendsWhere};
 
@@ -17,6 +17,35 @@ use pcr_values::{Bank, Digest, Pcr};
 use pe_reader::{LoadedRange, Pe};
 use std::alloc::Global;
 use std::slice;
+
+/// No command calls it: the register after a stub has measured the image in that file, before any word of a phase path.
+/// It is one of those of `replay_all`, and takes no memory. `head` is what the file's bytes read as. Only the raw data of
+/// the measured sections are read, through the buffer, and nothing is changed; afterwards the buffer holds anything.
+///
+/// # Errors
+///
+/// Only if the machine has counted a fault of the disk.
+pub fn replay<M: Machine>(
+    machine: &mut M,
+    path: &BootPath,
+    head: &Pe,
+    bank: Bank,
+    buffer: &mut Buffer,
+) -> Result<Pcr, DiskFault>
+    requires { IsTrue M.tells → pe_of (contents (M.state machine.old).files path.now) ≡ Ok (headers_of head.now) }
+    ensures bank { IfOk result (λ pcr. pcr_bank pcr ≡ bank) }
+    ensures value { IfOk result (λ pcr. IsTrue M.tells
+        → pcr_bytes pcr ≡ fold_of bank (measured_list (contents (M.state machine.old).files path.now))) }
+    ensures looks { Looks M.tells M.time M.state M.counts (CountsDisk result) machine.old machine.new }
+    ensures taken { IsTrue M.tells
+        → TakesAtMost (measured_raw_length (contents (M.state machine.old).files path.now)) (M.taken machine.old)
+        (M.taken machine.new) }
+{
+    let mut register = Register::new(bank);
+    let registers = slice::from_mut(&mut register);
+    measure_sections(registers, machine, path, head, buffer)?;
+    Ok(register.pcr)
+}
 
 /// The register of each bank, in the order of the banks, after a stub has measured the image in that file, before any
 /// word of a phase path. `head` is what the file's bytes read as. The raw data of the measured sections alone are read,

@@ -17,7 +17,7 @@ mod prediction;
 mod register;
 
 pub use bytes::replay_bytes;
-pub use file::{range_digest, replay_all};
+pub use file::{range_digest, replay, replay_all};
 pub use laws::{
     image_shows_its_parts, prediction_is_replay, prediction_of_ordered_parts,
     prediction_of_parts_is_replay,

@@ -1,4 +1,5 @@
 //! What a call refuses, or why a row isn't told.
+use boot_base::PathFault;
 use boot_texts::EntryFault;
 use std::alloc::{AllocError, AllocFailed};
 use std::io;
@@ -11,7 +12,7 @@ pub(crate) enum RowFault {
     Unclear,
     #[error("out of memory")]
     Memory,
-    #[error("not a path")]
+    #[error("{}", PathFault::BadPath)]
     BadPath,
     #[error("{}", EntryFault::TooLong)]
     TooLong,
@@ -42,6 +43,15 @@ impl From<AllocError> for RowFault {
 impl<T: Drop> From<AllocFailed<T>> for RowFault {
     fn from(_: AllocFailed<T>) -> Self {
         RowFault::Memory
+    }
+}
+
+impl From<PathFault> for RowFault {
+    fn from(fault: PathFault) -> Self {
+        match fault {
+            PathFault::Memory => RowFault::Memory,
+            PathFault::BadPath => RowFault::BadPath,
+        }
     }
 }
 

@@ -2,16 +2,8 @@
 use crate::fault::RowFault;
 use crate::row::Row;
 use crate::texts::{text_of_value, text_or_none};
-use boot_base::{BootPath, FileName, FilePath, Target, TempPath};
+use boot_base::{BootPath, FileName, FilePath, PathFault, Target, TempPath};
 use std::alloc::{AllocError, Global};
-
-fn read_path(alloc: Global, text: &str) -> Result<BootPath, RowFault> {
-    BootPath::read(alloc, text)?.ok_or(RowFault::BadPath)
-}
-
-fn read_name(alloc: Global, text: &str) -> Result<FileName, RowFault> {
-    FileName::read(alloc, text)?.ok_or(RowFault::BadPath)
-}
 
 // The path's text, how it is printed, or its last component.
 fn path_text(alloc: Global, call: &str, path: &BootPath) -> Result<String, AllocError> {
@@ -23,7 +15,7 @@ fn path_text(alloc: Global, call: &str, path: &BootPath) -> Result<String, Alloc
 }
 
 pub(crate) fn path(alloc: Global, row: &Row<'_>) -> Result<String, RowFault> {
-    let path = read_path(alloc, row.text(0)?)?;
+    let path = BootPath::read(alloc, row.text(0)?)?;
     Ok(path_text(alloc, row.call, &path)?)
 }
 
@@ -50,22 +42,22 @@ fn join_path(
     call: &str,
     path: &BootPath,
     name: &str,
-) -> Result<Option<BootPath>, AllocError> {
+) -> Result<BootPath, PathFault> {
     match call {
         "sibling" => path.sibling(alloc, name),
         _ => BootPath::under(alloc, path, name),
     }
 }
 
-fn join_text(alloc: Global, call: &str, path: &str, name: &str) -> Result<String, RowFault> {
-    let path = read_path(alloc, path)?;
-    let joined = join_path(alloc, call, &path, name)?.ok_or(RowFault::BadPath)?;
+fn join_text(alloc: Global, call: &str, path: &str, name: &str) -> Result<String, PathFault> {
+    let path = BootPath::read(alloc, path)?;
+    let joined = join_path(alloc, call, &path, name)?;
     Ok(String::from_str(alloc, joined.as_str())?)
 }
 
 /// A path beside another one, or below it.
 pub(crate) fn other_path(alloc: Global, row: &Row<'_>) -> Result<String, RowFault> {
-    join_text(alloc, row.call, row.text(0)?, row.text(1)?)
+    Ok(join_text(alloc, row.call, row.text(0)?, row.text(1)?)?)
 }
 
 // The path of a file, and where it is written first.
@@ -75,12 +67,12 @@ fn target_text(alloc: Global, target: &Target) -> Result<String, RowFault> {
 }
 
 pub(crate) fn target(alloc: Global, row: &Row<'_>) -> Result<String, RowFault> {
-    let target = Target::of(alloc, read_path(alloc, row.text(0)?)?)?;
+    let target = Target::of(alloc, BootPath::read(alloc, row.text(0)?)?)?;
     target_text(alloc, &target)
 }
 
 pub(crate) fn name(alloc: Global, row: &Row<'_>) -> Result<String, RowFault> {
-    let name = read_name(alloc, row.text(0)?)?;
+    let name = FileName::read(alloc, row.text(0)?)?;
     Ok(String::from_str(alloc, name.as_str())?)
 }
 
@@ -92,12 +84,12 @@ fn temp_text(alloc: Global, folder: &BootPath, name: &FileName) -> Result<String
     }
 }
 
-fn leftover_text(alloc: Global, folder: &str, name: &str) -> Result<String, RowFault> {
-    let folder = read_path(alloc, folder)?;
-    let name = read_name(alloc, name)?;
+fn leftover_text(alloc: Global, folder: &str, name: &str) -> Result<String, PathFault> {
+    let folder = BootPath::read(alloc, folder)?;
+    let name = FileName::read(alloc, name)?;
     Ok(temp_text(alloc, &folder, &name)?)
 }
 
 pub(crate) fn leftover(alloc: Global, row: &Row<'_>) -> Result<String, RowFault> {
-    leftover_text(alloc, row.text(0)?, row.text(1)?)
+    Ok(leftover_text(alloc, row.text(0)?, row.text(1)?)?)
 }

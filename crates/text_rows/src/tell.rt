@@ -71,11 +71,11 @@ fn row_text(alloc: Global, line: &str, told: &[u8]) -> Result<String, AllocError
     format!(in alloc; "> {line}\n{told}\n")
 }
 
-// A line, and below it the fault that is the answer; or a line that isn't understood.
+// A line, and below it the name of the fault that is the answer; or a line that isn't understood.
 fn fault_text(alloc: Global, line: &str, fault: RowFault) -> Result<String, RowFault> {
     match fault {
         RowFault::Unclear => Ok(format!(in alloc; "? {line}\n")?),
-        _ if fault.is_answer() => Ok(format!(in alloc; "> {line}\n{fault}\n")?),
+        _ if fault.is_answer() => Ok(format!(in alloc; "> {line}\n{fault:?}\n")?),
         _ => Err(fault),
     }
 }

@@ -14,3 +14,4 @@ mod Ordered
 mod Expanding
 mod Fields
 mod Standing
+mod Leftovers

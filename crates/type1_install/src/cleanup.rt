@@ -16,8 +16,8 @@ use menu_order::MenuItem;
 use std::alloc::{AllocError, Global};
 use tool_words::Action;
 
-// The names of the files directly in a folder.
-fn names_in<M: Machine>(
+/// The names of the files directly in a folder.
+pub(crate) fn names_in<M: Machine>(
     alloc: Global,
     folder: &BootPath,
     machine: &mut M,

@@ -13,7 +13,9 @@ mod naming;
 mod payload;
 mod place;
 mod placing;
+mod sweeping;
 
 pub use cleanup::{cleanup_expansion, removals};
 pub use installation::install_expansion;
 pub use placing::{plan_enter, plan_put, plan_remove};
+pub use sweeping::payload_leftovers;

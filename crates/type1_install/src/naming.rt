@@ -9,7 +9,7 @@ ghost use Rattle.type1_install.specs.Payloads.{HasRoom, path_of_value};
 ghost use Rattle.type1_install.specs.Unnamed.{paths_named_by, unnamed_among};
 
 use crate::place::payload_path;
-use boot_base::{BootPath, Bytes, FileName};
+use boot_base::{BootPath, Bytes, FileName, PathFault};
 use boot_texts::is_payload_name;
 use menu_order::MenuItem;
 use std::alloc::{AllocError, Global};
@@ -27,10 +27,11 @@ fn add_value(
     let Ok(below) = str::from_utf8(value.as_slice()) else {
         return Ok(());
     };
-    if let Some(path) = BootPath::under(alloc, esp, below)? {
-        named.push(path)?;
+    match BootPath::under(alloc, esp, below) {
+        Ok(path) => Ok(named.push(path)?),
+        Err(PathFault::BadPath) => Ok(()),
+        Err(PathFault::Memory) => Err(AllocError),
     }
-    Ok(())
 }
 
 fn add_given(

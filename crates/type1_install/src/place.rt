@@ -6,7 +6,7 @@ ghost use Rattle.command_plans.specs.Prelude.{Means, path_under};
 ghost use Rattle.type1_install.specs.Installing.{payload_probe};
 ghost use Rattle.type1_install.specs.Payloads.{HasRoom, payload_folder};
 
-use boot_base::{BootPath, PAYLOADS};
+use boot_base::{BootPath, PAYLOADS, PathFault};
 use command_plans::{Declined, file_under};
 use std::alloc::{AllocError, Global};
 
@@ -31,9 +31,10 @@ fn folder_below(alloc: Global, esp: &BootPath) -> Result<BootPath, AllocError>
     ensures { IfOk result (λ folder. folder ≡ payload_folder esp.now) }
 {
     esp.know_normal();
-    match BootPath::under(alloc, esp, PAYLOADS)? {
-        Some(folder) => Ok(folder),
-        None => unreachable!(),
+    match BootPath::under(alloc, esp, PAYLOADS) {
+        Ok(folder) => Ok(folder),
+        Err(PathFault::Memory) => Err(AllocError),
+        Err(PathFault::BadPath) => unreachable!(),
     }
 }
 
@@ -48,8 +49,9 @@ pub(crate) fn payload_path(
     ensures { IfOk result (λ path. path ≡ under folder.now name.now) }
 {
     folder.know_normal();
-    match BootPath::under(alloc, folder, name)? {
-        Some(path) => Ok(path),
-        None => unreachable!(),
+    match BootPath::under(alloc, folder, name) {
+        Ok(path) => Ok(path),
+        Err(PathFault::Memory) => Err(AllocError),
+        Err(PathFault::BadPath) => unreachable!(),
     }
 }

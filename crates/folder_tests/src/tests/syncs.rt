@@ -60,8 +60,11 @@ impl Trouble for TakesAway<'_> {
     }
 }
 
-// The log of the folder.
-fn log_of(alloc: Global, shelf: &SharedShelf) -> io::Result<Vec<String>> {
+// The log of the folder once a command has ended with 0 on it.
+fn log_behind(alloc: Global, shelf: &SharedShelf, line: &str) -> io::Result<Vec<String>> {
+    if run_line(alloc, shelf, line)?.status != 0 {
+        return Err(io::Error::other("the command didn't end with 0"));
+    }
     let shelf = at_work(shelf)?;
     let mut log = Vec::new(alloc);
     for line in shelf.log() {
@@ -117,9 +120,7 @@ fn start_behind_rename(alloc: Global) -> io::Result<SharedShelf> {
 fn an_intent_goes_behind_the_sync_of_its_file(rt: HostRuntime) -> Result<(), Fail> {
     let alloc = rt.alloc();
     let shelf = start_behind_rename(alloc)?;
-    let ran = run_line(alloc, &shelf, "bootctl list")?;
-    assert_eq!(rt; ran.status, 0);
-    let log = log_of(alloc, &shelf)?;
+    let log = log_behind(alloc, &shelf, "bootctl list")?;
     let log = log.as_slice();
     let file = place_of(log, "sync file efi/EFI/Linux/one+1-2.efi");
     let folder = place_of(log, "sync folder efi/EFI/Linux");
@@ -135,10 +136,7 @@ fn an_intent_goes_behind_the_sync_of_its_file(rt: HostRuntime) -> Result<(), Fai
 fn files_that_may_be_replaced_are_synced_first(rt: HostRuntime) -> Result<(), Fail> {
     let alloc = rt.alloc();
     for line in ELSEWHERE {
-        let shelf = start(alloc)?;
-        let ran = run_line(alloc, &shelf, line)?;
-        assert_eq!(rt; ran.status, 0, "{line}");
-        let log = log_of(alloc, &shelf)?;
+        let log = log_behind(alloc, &start(alloc)?, line)?;
         let log = log.as_slice();
         let first = place_of_any(log, "sync folder ");
         for path in LEFT {
@@ -157,10 +155,7 @@ fn files_that_may_be_replaced_are_synced_first(rt: HostRuntime) -> Result<(), Fa
 fn folders_of_files_that_may_be_replaced_are_synced(rt: HostRuntime) -> Result<(), Fail> {
     let alloc = rt.alloc();
     for line in ELSEWHERE {
-        let shelf = start(alloc)?;
-        let ran = run_line(alloc, &shelf, line)?;
-        assert_eq!(rt; ran.status, 0, "{line}");
-        let log = log_of(alloc, &shelf)?;
+        let log = log_behind(alloc, &start(alloc)?, line)?;
         let log = log.as_slice();
         let reply = place_of(log, "print ");
         for folder in REPLACED {
@@ -181,9 +176,7 @@ fn a_new_folder_is_synced_with_the_one_above(rt: HostRuntime) -> Result<(), Fail
     let alloc = rt.alloc();
     let shelf = start(alloc)?;
     at_work(&shelf)?.take_away("efi/boot_tools");
-    let ran = run_line(alloc, &shelf, "type1 install new --linux=in/kernel")?;
-    assert_eq!(rt; ran.status, 0);
-    let log = log_of(alloc, &shelf)?;
+    let log = log_behind(alloc, &shelf, "type1 install new --linux=in/kernel")?;
     let log = log.as_slice();
     let made = place_of(log, "make folder efi/boot_tools");
     let next = made.and_then(|made| next_but_files(log, made));

@@ -117,17 +117,22 @@ const PAYLOAD: &str =
 const LEFT: &str =
     "efi/boot_tools/6923dd1bc0460082c5d55a831908c24a282860b7f1cd6c2b79cf1bc8857c639c.tmp";
 
-static PAYLOAD_LEFT: [Step; 10] = [
+static PAYLOAD_LEFT: [Step; 14] = [
     Beside(MakeFolder("efi/loader/entries")),
     Beside(Write("linux", b"kernel")),
     Runs("type1 install a --linux=linux --esp-path=efi", 0),
     Beside(Write(LEFT, b"ker")),
+    // these are somebody else's
+    Beside(Write("efi/boot_tools/foo.tmp", b"foo")),
+    Beside(Write("efi/boot_tools/notes.txt.tmp", b"notes")),
     // who only looks takes nothing
     Runs("bootctl list --esp-path=efi", 0),
     Holds(LEFT, b"ker"),
     Runs("type1 cleanup --esp-path=efi", 0),
     Lacks(LEFT),
     Holds(PAYLOAD, b"kernel"),
+    Holds("efi/boot_tools/foo.tmp", b"foo"),
+    Holds("efi/boot_tools/notes.txt.tmp", b"notes"),
     Runs("type1 cleanup --esp-path=efi", 0),
 ];
 

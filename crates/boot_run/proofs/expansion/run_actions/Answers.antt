@@ -1,10 +1,12 @@
-use Rattle.std.proofs.Common.{◌≡◌, ◌∙◌, false, refl, sym, subst, rules}
+use Rattle.std.proofs.Common.{◌≡◌, ◌+◌, ◌∙◌, false, refl, sym, subst, rules}
 use Rattle.std.proofs.lemmas.List.Elements.{All-get_or}
+use Rattle.boot_machine.specs.Prelude.{recovered_now}
 use Rattle.boot_machine.proofs.Seeing.{sees}
 use Rattle.boot_run.specs.Lines.{is_unread}
 use Rattle.boot_run.specs.declared.line.Line.{Line}
 use Rattle.boot_run.proofs.Staying.{leaves_more, leaves_so, no_more_temps, rested_so}
-use Rattle.boot_run.proofs.UpToRefused.{all_done, ends_at, goes_behind, none_yet, stops_in}
+use Rattle.boot_run.proofs.Spared.{keeps_front}
+use Rattle.boot_run.proofs.UpToRefused.{all_done, ends_at, goes_behind, keeps_next, lines_done, none_yet, stops_in}
 use Rattle.boot_run.proofs.expansion.run_actions.Given as given
 use Rattle.boot_run.proofs.expansion.run_actions.Goals.{After-run_line}
 use Rattle.boot_run.proofs.expansion.run_actions.Goals as goal
@@ -22,6 +24,7 @@ loop-line-init g c = record {
   rests = c.requires.rested;
   input = λ told. refl;
   temps = λ told q temp there. there;
+  spares = λ told firm q temp spared. refl;
   counts = refl;
 }
 
@@ -85,9 +88,34 @@ loop-line-preserved g c = record {
   temps =
       λ told. no_more_temps (g.M.Machine.state c.args.machine.now) (g.M.Machine.state c.loop-line.machine) (g.M.Machine.state c.run_line.new.machine)
       (c.loop-line.invariant.temps told) (c.in_ok-outcome.ensures.behaves.temps told);
+  spares = λ told firm.
+      let before = c.loop-line.invariant.told told firm in
+      let command = is_command g (goal.at.loop-line-preserved g c).After-run_line in
+      keeps_next g.M.Machine.time g.M.Machine.state _ _ _ _ _ _ c.loop-line-test.true (sym c.line-item.is) command before (c.loop-line.invariant.spares told firm) (c.run_line.ensures.spares told);
   counts = c.in_ok-outcome.ensures.behaves.counted ∙ c.loop-line.invariant.counts;
 }
 
 pub returns-clause-runs : goal.returns-clause-runs
 returns-clause-runs g c told firm =
     all_done g.M.Machine.time g.M.Machine.state c.args.machine.now c.loop-line.machine c.args.lines.now c.loop-line.line-index c.loop-line-test.false (c.loop-line.invariant.told told firm)
+
+-- ---- the temporary files of others
+
+pub returns-in_err-outcome-clause-spares : goal.returns-in_err-outcome-clause-spares
+returns-in_err-outcome-clause-spares g c told firm =
+    let before = c.loop-line.invariant.told told firm in
+    let command = is_command g (goal.at.returns-in_err-outcome-clause-spares g c).After-run_line in
+    keeps_front (recovered_now (g.M.Machine.state c.args.machine.now)) (lines_done g.M.Machine.time g.M.Machine.state c.args.machine.now c.args.lines.now) (c.loop-line.line-index + 1) _ _
+    (keeps_next g.M.Machine.time g.M.Machine.state _ _ _ _ _ _ c.loop-line-test.true (sym c.line-item.is) command before (c.loop-line.invariant.spares told firm) (c.run_line.ensures.spares told))
+
+pub returns-then-is_refused-clause-spares : goal.returns-then-is_refused-clause-spares
+returns-then-is_refused-clause-spares g c told firm =
+    let before = c.loop-line.invariant.told told firm in
+    let command = is_command g (goal.at.returns-then-is_refused-clause-spares g c).After-run_line in
+    keeps_front (recovered_now (g.M.Machine.state c.args.machine.now)) (lines_done g.M.Machine.time g.M.Machine.state c.args.machine.now c.args.lines.now) (c.loop-line.line-index + 1) _ _
+    (keeps_next g.M.Machine.time g.M.Machine.state _ _ _ _ _ _ c.loop-line-test.true (sym c.line-item.is) command before (c.loop-line.invariant.spares told firm) (c.run_line.ensures.spares told))
+
+pub returns-clause-spares : goal.returns-clause-spares
+returns-clause-spares g c told firm =
+    keeps_front (recovered_now (g.M.Machine.state c.args.machine.now)) (lines_done g.M.Machine.time g.M.Machine.state c.args.machine.now c.args.lines.now) c.loop-line.line-index _ _
+    (c.loop-line.invariant.spares told firm)

@@ -1,8 +1,10 @@
-use Rattle.std.proofs.Common.{◌∙◌, subst, rules}
+use Rattle.std.proofs.Common.{◌∙◌, refl, subst, rules}
 use Rattle.boot_machine.specs.Prelude.{Files, IsRested, recovered_now}
 use Rattle.command_plans.specs.Prelude.{Performs, end_of}
 use Rattle.boot_run.specs.Lines.{line_deed}
+use Rattle.boot_run.specs.Spared.{LineKeeps}
 use Rattle.boot_run.proofs.Recovering.{performed_after, performed_failed, synced_after, synced_failed}
+use Rattle.boot_run.proofs.Spared.{behind_keeps}
 use Rattle.boot_run.proofs.Staying.{leaves_more, leaves_none, where_more, where_none, where_rested}
 use Rattle.boot_run.proofs.Synced.{command_settles}
 use Rattle.boot_run.proofs.lines.first_command.Goals as goal
@@ -83,3 +85,16 @@ returns-clause-rests g c told =
     let now = g.M.Machine.state c.run_line.new.machine in
     where_more c.run_line.result (g.M.Machine.state c.args.machine.now) mid now (IsRested now) (IsRested now) (c.recover_rename.ensures.keeps told).printed (λ p. p)
     (where_rested c.run_line.result mid now (c.run_line.ensures.rests told (c.in_ok-recover_rename.ensures.rests told)))
+
+-- ---- the temporary files of others
+
+pub returns-in_err-recover_rename-clause-spares : goal.returns-in_err-recover_rename-clause-spares
+returns-in_err-recover_rename-clause-spares g c told firm q temp spared = c.recover_rename.ensures.spares told q temp refl
+
+pub returns-clause-spares : goal.returns-clause-spares
+returns-clause-spares g c told firm =
+    let old = g.M.Machine.state c.args.machine.now in
+    let mid = g.M.Machine.state c.recover_rename.new.machine in
+    let now = g.M.Machine.state c.run_line.new.machine in
+    behind_keeps (recovered_now old) c.args.line.now old.files mid.files now.files (c.recover_rename.ensures.spares told)
+    (subst (λ (v : Files). LineKeeps v c.args.line.now mid.files now.files) (c.recover_rename.ensures.recovers told firm).files (c.run_line.ensures.spares told))

@@ -2,9 +2,11 @@ use Rattle.std.proofs.Common.{ap, sym, subst, ◌∙◌, rules}
 use Rattle.boot_machine.specs.Prelude.{recovered_now, seen}
 use Rattle.boot_run.specs.Lines.{TidiedBy, is_unread, line_deed}
 use Rattle.boot_run.specs.RunsTo.{OnlyPrints, WherePrinted}
+use Rattle.boot_run.specs.Spared.{LineKeeps}
 use Rattle.command_plans.specs.Prelude.{Performs, end_of}
 use Rattle.boot_run.proofs.Recovering.{performed_rested}
 use Rattle.boot_run.proofs.Staying.{files_stay, input_stays, leaves_none, leaves_rested, rested_stays, temps_stay, where_so, where_tidied}
+use Rattle.boot_run.proofs.Spared.{one_keeps, rested_keeps, same_keeps}
 use Rattle.boot_run.proofs.lines.run_line.Goals as goal
 
 pub returns-in-Plain-clause-performs : goal.returns-in-Plain-clause-performs
@@ -113,3 +115,33 @@ returns-in-TooLong-clause-tidies g c told =
     let now = g.M.Machine.state c.too_long.new.machine in
     subst (λ line. WherePrinted c.too_long.result (g.M.Machine.state c.args.machine.now) now (TidiedBy now.files line)) (sym c.in-TooLong.is)
     (where_so c.too_long.result (g.M.Machine.state c.args.machine.now) now Unit tt)
+
+-- ---- the temporary files of others
+
+pub returns-in-Plain-clause-spares : goal.returns-in-Plain-clause-spares
+returns-in-Plain-clause-spares g c told =
+    let old = g.M.Machine.state c.args.machine.now in
+    let now = g.M.Machine.state c.run_one.new.machine in
+    rested_keeps old now c.args.line.now (c.requires.rested told (ap is_unread c.in-Plain.is))
+    (subst (λ line. LineKeeps (seen old) line old.files now.files) (sym c.in-Plain.is)
+    (one_keeps c.in-Plain.command (seen old) old.files now.files (c.run_one.ensures.spares told) (c.run_one.ensures.there told)))
+
+pub returns-in-Part-clause-spares : goal.returns-in-Part-clause-spares
+returns-in-Part-clause-spares g c told =
+    let old = g.M.Machine.state c.args.machine.now in
+    let now = g.M.Machine.state c.run_action.new.machine in
+    rested_keeps old now c.args.line.now (c.requires.rested told (ap is_unread c.in-Part.is))
+    (subst (λ line. LineKeeps (seen old) line old.files now.files) (sym c.in-Part.is) (c.run_action.ensures.spares told))
+
+pub returns-in-Numbered-clause-spares : goal.returns-in-Numbered-clause-spares
+returns-in-Numbered-clause-spares g c told =
+    let old = g.M.Machine.state c.args.machine.now in
+    let now = g.M.Machine.state c.run_numbered.new.machine in
+    rested_keeps old now c.args.line.now (c.requires.rested told (ap is_unread c.in-Numbered.is))
+    (subst (λ line. LineKeeps (seen old) line old.files now.files) (sym c.in-Numbered.is) (c.run_numbered.ensures.spares told))
+
+pub returns-in-Unread-clause-spares : goal.returns-in-Unread-clause-spares
+returns-in-Unread-clause-spares g c told = same_keeps _ c.args.line.now _ _ (files_stay _ _ (c.unread_line.ensures.stays told))
+
+pub returns-in-TooLong-clause-spares : goal.returns-in-TooLong-clause-spares
+returns-in-TooLong-clause-spares g c told = same_keeps _ c.args.line.now _ _ (files_stay _ _ (c.too_long.ensures.stays told))

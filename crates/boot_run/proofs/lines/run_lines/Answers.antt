@@ -2,7 +2,7 @@ use Rattle.std.proofs.Common.{◌≡◌, ◌≢◌, true, inl, inr, ⊎_elim, �
 use Rattle.std.proofs.lemmas.Bool.{cases_Bool}
 use Rattle.std.proofs.lemmas.List.{take_more, take_all}
 use Rattle.std.proofs.lemmas.List.Elements.{All-nil, All-push}
-use Rattle.boot_machine.specs.Prelude.{IsRested}
+use Rattle.boot_machine.specs.Prelude.{IsRested, recovered_now}
 use Rattle.command_plans.specs.declared.outcome.Stop.TheVariants.{Disk}
 use Rattle.boot_run.specs.Endings.{AllTidied}
 use Rattle.boot_run.specs.Lines.{TidiedBy, has_command, is_unread}
@@ -10,6 +10,7 @@ use Rattle.boot_machine.proofs.Elapsing.{at_once}
 use Rattle.boot_run.specs.declared.line.Line.{Line}
 use Rattle.boot_run.specs.RunBy.{LeavesClean}
 use Rattle.boot_run.proofs.Acked.{at_part_with, clean_broken, clean_done, clean_so, rests_but_disk, temps_but_disk}
+use Rattle.boot_run.proofs.Spared.{keeps_front, keeps_more}
 use Rattle.boot_run.proofs.Staying.{prints_none, leaves_more, leaves_so, lines_later, no_more_temps}
 use Rattle.boot_run.proofs.Running.{SoFar, started, goes_on, gives_up}
 use Rattle.boot_run.proofs.Synced.{begun_more, first_moments, first_more, first_not, late_moments, late_more, none_begun, synced_done, unread_moments, unread_more, unsynced_yet}
@@ -33,6 +34,7 @@ loop-line-init g c = record {
   tidied = λ told. All-nil (TidiedBy (g.M.Machine.state c.args.machine.now).files);
   input = λ told. refl;
   temps = λ told q temp there. there;
+  spares = λ told firm q temp spared. refl;
   counts = refl;
 }
 
@@ -74,6 +76,10 @@ loop-line-preserved g c = record {
   temps =
       λ told. no_more_temps (g.M.Machine.state c.args.machine.now) (g.M.Machine.state c.loop-line.machine) (g.M.Machine.state c.next_line.new.machine)
       (c.loop-line.invariant.temps told) (c.in_ok-outcome.ensures.behaves.temps told);
+  spares = λ told firm.
+      let so_far = c.loop-line.invariant.told told firm in
+      keeps_more (g.M.Machine.state c.args.machine.now) (g.M.Machine.state c.loop-line.machine) (g.M.Machine.state c.next_line.new.machine) c.args.lines.now c.loop-line.line-index
+      c.line-item.result c.loop-line-test.true (sym c.line-item.is) so_far.all.state (c.loop-line.invariant.spares told firm) (c.next_line.ensures.spares told so_far.firm);
   counts = c.in_ok-outcome.ensures.behaves.counted ∙ c.loop-line.invariant.counts;
 }
 
@@ -150,3 +156,15 @@ returns-clause-behind g c told firm =
     clean_done (g.M.Machine.state c.args.machine.now) now c.args.lines.now c.loop-line.refused
     (subst (λ (lines : List Line). LeavesClean lines now) (take_all c.loop-line.line-index c.args.lines.now c.loop-line-test.false)
     (record { tidied = c.loop-line.invariant.tidied told; rested = λ is. c.loop-line.invariant.rests told (c.loop-line.invariant.begun ∙ is) }))
+
+pub returns-in_err-outcome-clause-spares : goal.returns-in_err-outcome-clause-spares
+returns-in_err-outcome-clause-spares g c told firm =
+    let old = g.M.Machine.state c.args.machine.now in
+    let so_far = c.loop-line.invariant.told told firm in
+    keeps_front (recovered_now old) c.args.lines.now (c.loop-line.line-index + 1) _ _
+    (keeps_more old (g.M.Machine.state c.loop-line.machine) (g.M.Machine.state c.next_line.new.machine) c.args.lines.now c.loop-line.line-index
+    c.line-item.result c.loop-line-test.true (sym c.line-item.is) so_far.all.state (c.loop-line.invariant.spares told firm) (c.next_line.ensures.spares told so_far.firm))
+
+pub returns-clause-spares : goal.returns-clause-spares
+returns-clause-spares g c told firm =
+    keeps_front (recovered_now (g.M.Machine.state c.args.machine.now)) c.args.lines.now c.loop-line.line-index _ _ (c.loop-line.invariant.spares told firm)

@@ -1,5 +1,6 @@
 use Rattle.std.proofs.Common.{refl, sym, ◌≡◌, ℕ, List, take, ◌∙◌, ap, subst, Ok, rules}
-use Rattle.boot_machine.specs.Prelude.{EachSince, on_channel, with_printed, PrintsPart, seen}
+use Rattle.std.specs.FinMap.{get}
+use Rattle.boot_machine.specs.Prelude.{EachSince, Files, on_channel, with_printed, PrintsPart, seen}
 use Rattle.boot_machine.specs.declared.machine.Channel.TheVariants.{Out}
 use Rattle.boot_run.specs.Lines.{acknowledgement, acknowledgement_in, with_acknowledgement}
 use Rattle.command_plans.specs.Prelude.{Performs, end_of}
@@ -7,6 +8,7 @@ use Rattle.boot_run.proofs.Acknowledging.{no_memory_yet, not_behind, behind_fail
 use Rattle.boot_machine.proofs.Seeing.{sees}
 use Rattle.boot_commands.specs.Commands.{LeavesTidied, one_deed}
 use Rattle.boot_run.proofs.Staying.{files_stay, input_stays, leaves_none, leaves_rested, leaves_so, no_more_temps, rested_so, rested_stays, temps_stay, where_given, where_none, where_so, where_tidied}
+use Rattle.boot_run.proofs.Spared.{one_keeps}
 use Rattle.boot_run.proofs.lines.run_numbered.Goals as goal
 
 pub returns-in_err-texts-clause-performs : goal.returns-in_err-texts-clause-performs
@@ -128,3 +130,22 @@ returns-in_err-acknowledge-clause-tidies g c told =
     let now = g.M.Machine.state c.acknowledge.new.machine in
     where_so c.from_residual-in_err-acknowledge.result (g.M.Machine.state c.args.machine.now) now (LeavesTidied c.args.command.now now.files)
     (subst (LeavesTidied c.args.command.now) (sym (files_stay _ _ (c.acknowledge.ensures.stays told))) (c.in_ok-outcome.ensures.tidies told))
+
+-- ---- the temporary files of others
+
+pub returns-in_err-texts-clause-spares : goal.returns-in_err-texts-clause-spares
+returns-in_err-texts-clause-spares g c told q temp spared = refl
+
+pub returns-in_err-outcome-clause-spares : goal.returns-in_err-outcome-clause-spares
+returns-in_err-outcome-clause-spares g c told =
+    one_keeps c.args.command.now (seen (g.M.Machine.state c.args.machine.now)) _ _ (c.run_one.ensures.spares told) (c.run_one.ensures.there told)
+
+pub returns-in_err-acknowledge-clause-spares : goal.returns-in_err-acknowledge-clause-spares
+returns-in_err-acknowledge-clause-spares g c told q temp spared =
+    ap (λ (files : Files). get files q) (files_stay _ _ (c.acknowledge.ensures.stays told))
+    ∙ one_keeps c.args.command.now (seen (g.M.Machine.state c.args.machine.now)) _ _ (c.run_one.ensures.spares told) (c.run_one.ensures.there told) q temp spared
+
+pub returns-clause-spares : goal.returns-clause-spares
+returns-clause-spares g c told q temp spared =
+    ap (λ (files : Files). get files q) (files_stay _ _ (c.acknowledge.ensures.stays told))
+    ∙ one_keeps c.args.command.now (seen (g.M.Machine.state c.args.machine.now)) _ _ (c.run_one.ensures.spares told) (c.run_one.ensures.there told) q temp spared

@@ -12,5 +12,6 @@ returns g c = record {
   behind = c.run_lines.ensures.behind;
   input = λ told. takes_nothing (Ok (command.One c.args.command)) _ _ _ refl (c.run_lines.ensures.behaves.input told);
   temps = c.run_lines.ensures.behaves.temps;
+  spares = λ told firm q temp off spared. c.run_lines.ensures.spares told firm q temp spared;
   counted = c.run_lines.ensures.behaves.counted;
 }

@@ -1,5 +1,6 @@
-use Rattle.std.proofs.Common.{◌≡◌, true, List, Err, ap, ◌∙◌, subst, rules}
-use Rattle.boot_machine.specs.Prelude.{IsRested, State}
+use Rattle.std.proofs.Common.{◌≡◌, true, List, Err, ap, ◌∙◌, subst, sym, rules}
+use Rattle.std.specs.FinMap.{get}
+use Rattle.boot_machine.specs.Prelude.{Files, IsRested, State, recovered_now}
 use Rattle.boot_machine.proofs.Seeing.{sees}
 use Rattle.tool_words.specs.declared.command.Command.TheVariants as command
 use Rattle.command_plans.specs.declared.outcome.Stop.{Stop}
@@ -7,6 +8,7 @@ use Rattle.boot_run.specs.AskedLines.{lines_at}
 use Rattle.boot_run.specs.Endings.{AllTidied, ended_by}
 use Rattle.boot_run.specs.Lines.{has_command}
 use Rattle.boot_run.specs.RunsTo.{RunsTo, IsSyncedBy}
+use Rattle.boot_run.specs.Spared.{AllSpare}
 use Rattle.boot_run.specs.declared.line.Line.{Line}
 use Rattle.boot_run.specs.RunBy.{CleanBehind}
 use Rattle.boot_run.proofs.Acked.{clean_none, clean_read}
@@ -32,6 +34,7 @@ returns-in_err-lines g c = record {
       (ap (λ (s : State). s.printed) (c.read_script.ensures.same told));
   input = search rules;
   temps = search rules;
+  spares = λ told firm q temp off spared. ap (λ (s : State). get s.files q) (c.read_script.ensures.same told);
   counted = search rules;
 }
 
@@ -78,5 +81,14 @@ returns g c = record {
       let mid = g.M.Machine.state c.read_script.new.machine in
       leaves_more c.run_lines.result old mid (g.M.Machine.state c.run_lines.new.machine)
       (temps_stay old mid (ap (λ (s : State). s.files) (c.read_script.ensures.same told))) (c.run_lines.ensures.behaves.temps told);
+  spares = λ told firm q temp off spared.
+      let s = g.M.Machine.state c.args.machine.now in
+      let mid = g.M.Machine.state c.read_script.new.machine in
+      let same = c.read_script.ensures.same told in
+      let lines = c.as_slice.ensures.value ∙ c.in_ok-lines.ensures.lines told in
+      c.run_lines.ensures.spares told (same_firm g.M.Machine.time g.M.Machine.state s mid same firm) q temp
+      (subst (λ (l : List Line). AllSpare (recovered_now mid) l q) (sym lines)
+      (subst (λ (v : Files). AllSpare v (lines_at s command.Script) q) (sym (ap (λ (s : State). recovered_now s) same)) spared))
+      ∙ ap (λ (s : State). get s.files q) same;
   counted = search rules;
 }

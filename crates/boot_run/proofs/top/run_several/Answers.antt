@@ -1,11 +1,12 @@
 use Rattle.std.proofs.Common.{◌≡◌, false, List, refl, sym, ap, ◌∙◌, subst, rules, Ok, All}
-use Rattle.boot_machine.specs.Prelude.{recovered_now}
+use Rattle.boot_machine.specs.Prelude.{Files, recovered_now}
 use Rattle.tool_words.specs.declared.command.Command.TheVariants as command
 use Rattle.command_plans.specs.declared.outcome.Stop.TheVariants.{Memory as MemoryStop}
 use Rattle.boot_run.specs.AskedLines.{lines_at}
 use Rattle.boot_run.specs.Endings.{ended_by}
 use Rattle.boot_run.specs.Lines.{is_unread}
 use Rattle.boot_run.specs.RunsTo.{IsSyncedBy, RunsTo}
+use Rattle.boot_run.specs.Spared.{AllSpare}
 use Rattle.boot_run.specs.UpToRefused.{up_to_refused}
 use Rattle.boot_run.specs.declared.line.Line.{Line}
 use Rattle.boot_run.proofs.Acked.{clean_none}
@@ -36,6 +37,7 @@ returns-in_err-actions g c = record {
       (lines_at (g.M.Machine.state c.args.machine.now) (command.Several c.args.command)) (ended_by c.from_residual.result) (c.find_actions-actions.ensures.keeps told).printed;
   input = λ told. takes_nothing (Ok (command.Several c.args.command)) _ _ _ refl (c.find_actions-actions.ensures.keeps told).input;
   temps = λ told. leaves_none c.from_residual.result (g.M.Machine.state c.args.machine.now) (g.M.Machine.state c.find_actions-actions.new.machine) (c.find_actions-actions.ensures.temps told);
+  spares = λ told firm q temp off spared. c.find_actions-actions.ensures.spares told q temp off;
   counted = search rules;
 }
 
@@ -62,6 +64,7 @@ returns-in_err-lines g c = record {
   temps =
       λ told. leaves_none c.from_residual-in_err-lines.result (g.M.Machine.state c.args.machine.now)
       (g.M.Machine.state c.find_actions-actions.new.machine) (c.find_actions-actions.ensures.temps told);
+  spares = λ told firm q temp off spared. c.find_actions-actions.ensures.spares told q temp off;
   counted = search rules;
 }
 
@@ -114,5 +117,13 @@ returns g c =
       temps = λ told.
           leaves_more c.run_actions.result (g.M.Machine.state old) (g.M.Machine.state mid) (g.M.Machine.state new)
           (c.find_actions-actions.ensures.temps told) (c.run_actions.ensures.behaves.temps told);
+      spares = λ told firm q temp off spared.
+          let recovers = c.find_actions-actions.ensures.recovers told firm in
+          let lines = ap (up_to_refused (recovered_now (g.M.Machine.state mid))) value
+          ∙ lines_found (g.M.Machine.state old) (g.M.Machine.state mid) asked actions (c.in_ok-actions.ensures.rests told) recovers.files (c.in_ok-actions.ensures.stands told) in
+          c.run_actions.ensures.spares told recovers.firm q temp
+          (subst (λ (l : List Line). AllSpare (recovered_now (g.M.Machine.state mid)) l q) (sym lines)
+          (subst (λ (v : Files). AllSpare v (lines_at (g.M.Machine.state old) (command.Several asked)) q) (sym recovers.files) spared))
+          ∙ c.find_actions-actions.ensures.spares told q temp off;
       counted = search rules;
     }

@@ -1,12 +1,14 @@
-use Rattle.std.proofs.Common.{◌≡◌, true, List, Err, map, string_bytes, refl, sym, ap, subst}
+use Rattle.std.proofs.Common.{◌≡◌, true, List, Err, map, string_bytes, refl, sym, ap, ◌∙◌, subst}
 use Rattle.tool_words.specs.Answers.{FaultIs}
 use Rattle.tool_words.specs.Meaning.{meaning}
+use Rattle.tool_words.specs.declared.command.Command.{Command}
 use Rattle.boot_machine.specs.Prelude.{latest_view, recovered_views, IsRested, State}
 use Rattle.boot_machine.proofs.Seeing.{sees}
 use Rattle.boot_run.specs.AskedLines.{lines_at, lines_to_run}
 use Rattle.boot_run.specs.RunBy.{CleanBehind, RunsBy, RunsLines}
 use Rattle.boot_run.specs.Endings.{AllTidied, AtEnd, ended_by}
 use Rattle.boot_run.specs.Lines.{has_command}
+use Rattle.boot_run.specs.Spared.{RunSpares}
 use Rattle.boot_run.specs.declared.ended.Ended.TheVariants.{Memory}
 use Rattle.boot_run.specs.declared.line.Line.{Line}
 use Rattle.boot_run.proofs.Acked.{clean_none}
@@ -73,3 +75,17 @@ returns-in-Err-Usage-clause-behind g c told firm lines asks =
     let words = map string_bytes c.args.words.now.items in
     let is : meaning words ≡ Err c.in-Err-Usage.reason = subst (λ fault. FaultIs fault (meaning words)) c.in-Err-Usage.field-0-is c.in-Err-Usage.ensures in
     absurd (no_lines (g.M.Machine.state c.args.machine.now).input (latest_view (recovered_views (g.M.Machine.state c.args.machine.now))) (meaning words) c.in-Err-Usage.reason lines is asks)
+
+pub returns-in-Ok-clause-spares : goal.returns-in-Ok-clause-spares
+returns-in-Ok-clause-spares g c told firm command is =
+    let one : c.in-Ok.command ≡ command = cc (sym c.in-Ok.ensures ∙ is) in
+    subst (λ (x : Command). RunSpares x (g.M.Machine.state c.args.machine.now) (g.M.Machine.state c.run_command.new.machine)) one (c.run_command.ensures.spares told firm)
+
+pub returns-in-Err-Memory-clause-spares : goal.returns-in-Err-Memory-clause-spares
+returns-in-Err-Memory-clause-spares g c told firm command is q temp off spared = refl
+
+pub returns-in-Err-Usage-clause-spares : goal.returns-in-Err-Usage-clause-spares
+returns-in-Err-Usage-clause-spares g c told firm command is =
+    let words = map string_bytes c.args.words.now.items in
+    let usage : meaning words ≡ Err c.in-Err-Usage.reason = subst (λ fault. FaultIs fault (meaning words)) c.in-Err-Usage.field-0-is c.in-Err-Usage.ensures in
+    absurd (cc (sym usage ∙ is))

@@ -12,4 +12,4 @@ returns-in-Ok-clause-says g c told =
 pub returns-in-Err-clause-says : goal.returns-in-Err-clause-says
 returns-in-Err-clause-says g c told =
     let s = g.M.Machine.state c.args.machine.now in
-    subst (λ fault. UnsaidFor fault (menu_at (seen s) c.args.folders.now)) (sym c.scan_unsaid.ensures) (unsaid_menu _ s.files c.args.folders.now c.in-Err.fault told c.in-Err.ensures.many)
+    subst (λ fault. UnsaidFor fault (menu_at (seen s) c.args.folders.now)) (sym c.menu_unsaid.ensures) (unsaid_menu _ s.files c.args.folders.now c.in-Err.fault told c.in-Err.ensures.many)

@@ -1,5 +1,5 @@
 use Rattle.command_plans.proofs.Once.{once_distinct, once_among, once_all}
-use Rattle.entry_commands.proofs.tidy.each_once.Goals as goal
+use Rattle.command_plans.proofs.lists.each_once.Goals as goal
 
 pub returns-clause-distinct : goal.returns-clause-distinct
 returns-clause-distinct c = once_distinct c.args.temps.items c.sort_unstable.new.self.items c.dedup.new.self.items c.sort_unstable.ensures.permutation c.sort_unstable.ensures.sorted c.dedup.ensures.filtered

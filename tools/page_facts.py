@@ -1,0 +1,224 @@
+"""What pages say of the code, looked up in it, for tools/definitions: the names in brackets of docs/CLAIMS.md, the numbers of
+docs/DECISIONS.md on lines and on wrong bodies, the groups of crates, and the text of each refusal at each of its places.
+
+Each function gives a line for each thing that is wrong."""
+import pathlib
+import re
+
+CLAIMS, DECISIONS = pathlib.Path("docs/CLAIMS.md"), pathlib.Path("docs/DECISIONS.md")
+ARCHITECTURE, REFUSALS = pathlib.Path("docs/ARCHITECTURE.md"), pathlib.Path("docs/REFUSALS.md")
+GROUPS, MANUAL = pathlib.Path("crates.txt"), pathlib.Path("share/man/boot_tools.1")
+STORIES = pathlib.Path("crates/boot_stories/stdout")
+MODELS = pathlib.Path("tools/story-model"), pathlib.Path("tools/row-model")
+IN_CODE, IN_SPEC = pathlib.Path("crates/boot_base/src/refusal.rt"), pathlib.Path("crates/boot_base/specs/Refusals.antt")
+
+NUMBERS = "none one two three four five six seven eight nine ten".split()
+NAME = re.compile(r"^[A-Za-z_]\w*(?:::\w+)*$")
+NAMED = re.compile(
+    r"\b(?:ensures|requires) (\w+) (?=\{)|\bghost (\w+)\b|\bfn (\w+)|\b(?:struct|enum|trait|type|const|static) (\w+)"
+    r"|^ *(?:pub(?:\(\w+\))? )?(\w+): |^    (\w+)(?:,| \{|\()",
+    re.MULTILINE,
+)
+DEFINED = re.compile(r"^ *(?:abbrev |unfoldable )?(?:pub )?(?:record |data )?([^\s:({]+) (?=[:({])", re.MULTILINE)
+
+
+def sources(crate):
+    """The code of a crate."""
+    return sorted((pathlib.Path("crates") / crate / "src").glob("**/*.rt"))
+
+
+def names_of(crate):
+    """The clauses, functions, fields and types of a crate, and the fields of its definitions."""
+    found = {crate}
+    for file in sources(crate):
+        found |= {name for at in NAMED.findall(file.read_text()) for name in at if name}
+    for file in sorted((pathlib.Path("crates") / crate / "specs").glob("**/*.antt")):
+        found |= set(DEFINED.findall(file.read_text()))
+    return found
+
+
+def crates():
+    """The names of all crates."""
+    return {it.name for it in pathlib.Path("crates").iterdir() if (it / "src").is_dir()}
+
+
+def rows(page):
+    """The rows of the tables of CLAIMS: the crates that each is about, and what it names."""
+    every, now, homes, section = crates(), [], [], ""
+    for line in page.splitlines():
+        section = line[3:] if line.startswith("## ") else section
+        heads = re.findall(r"\*\*`(\w+)`", line)
+        now = heads[-1:] or now
+        cells = [it.strip() for it in line.strip("|").split(" | ")] if line.startswith("| ") else []
+        if section == "Claim by claim" and len(cells) == 2:
+            homes = [it for it in re.findall(r"`(\w+)`", cells[1]) if it in every] or homes
+            yield homes, cells[1]
+        elif section.startswith("From the headline") and len(cells) == 4:
+            homes = [it for it in re.findall(r"\w+", cells[1]) if it in every] or homes
+            yield homes, f"{cells[0]}, {cells[2]}"
+        elif section == "Crate by crate" and len(cells) > 1:
+            yield now, cells[0]
+
+
+def claims(page):
+    """Each text of CLAIMS that names clauses, calls or fields, and the crates that it may be about."""
+    yield from rows(page)
+    body = page.partition("## Crate by crate")[2]
+    text = " ".join(line for line in body.splitlines() if not line.startswith("|"))
+    for home, said in re.findall(r"\*\*`(\w+)`[^*]*\*\*(.*?)(?=\*\*|$)", text):
+        for inner in re.findall(r"\(([^()]*(?:\([^()]*\)[^()]*)*)\)", said):
+            yield [home], inner
+
+
+def wrong_claims():
+    """A name in brackets or in a table that no clause, function or field of its crate has."""
+    every, known = crates(), {}
+    for homes, text in claims(CLAIMS.read_text()):
+        named = [it for it in re.findall(r"`([^`]*)`", text) if NAME.match(it)]
+        homes = [it for it in named if it in every] or homes
+        there = set().union(*(known.setdefault(it, names_of(it)) for it in homes))
+        for name in named:
+            if name not in every and not set(name.split("::")) <= there:
+                yield f"{CLAIMS}: `{name}` is no clause, function or field of {' or '.join(homes)}"
+
+
+def line_count(crate):
+    """The lines of a crate's code, without empty lines and comments."""
+    lines = (line.strip() for file in sources(crate) for line in file.read_text().splitlines())
+    return sum(1 for line in lines if line and not line.startswith("//"))
+
+
+def edit_count(crate):
+    """The wrong bodies of a crate."""
+    return len(list((pathlib.Path("crates") / crate / "must-fail").glob("*.edit")))
+
+
+def decided(before, after):
+    """What stands in DECISIONS between two texts, on one line."""
+    page = " ".join(DECISIONS.read_text().split())
+    start = page.find(before)
+    end = page.find(after, start)
+    return page[start + len(before) : end] if start >= 0 and end >= 0 else None
+
+
+def number(word):
+    return NUMBERS.index(word) if word in NUMBERS else int(word.replace(",", ""))
+
+
+def counts_said(text):
+    """Of `a` has seven, `b` and `c` have four: the number of each crate."""
+    found = {}
+    for names, word in re.findall(r"((?:`\w+`(?:, | and )?)+) (?:has |have )?(?:up to )?([\w,]+)", text):
+        found |= {name: number(word.rstrip(",")) for name in re.findall(r"`(\w+)`", names) if word.rstrip(",") in NUMBERS or word[0].isdigit()}
+    return found
+
+
+def wrong_counts():
+    """A crate with more lines, or with more or fewer wrong bodies, than DECISIONS says."""
+    lines, edits = decided("A crate's code stays within ", "."), decided("A crate has five to eight wrong bodies", "Each is refused")
+    if lines is None or edits is None:
+        yield f"{DECISIONS}: it doesn't say how many lines or wrong bodies a crate has"
+        return
+    limit, more = number(lines.split()[0]), counts_said(lines)
+    for crate in sorted(crates()):
+        count, most = line_count(crate), more.get(crate, limit)
+        if count > most:
+            yield f"{DECISIONS}: {crate} has {count} lines, and at most {most} are said"
+        elif crate in more and count <= limit:
+            yield f"{DECISIONS}: {crate} is named for its lines, and has {count}"
+    other = counts_said(edits)
+    for crate in sorted(crates()):
+        count = edit_count(crate)
+        if count != other[crate] if crate in other else not 5 <= count <= 8:
+            yield f"{DECISIONS}: {crate} has {count} wrong bodies, and {other.get(crate, 'five to eight')} are said"
+
+
+def groups_of(text, head, row):
+    """For each crate the group that it stands in, by the lines that begin a group and those of a crate."""
+    group, found = None, {}
+    for line in text.splitlines():
+        if head.match(line):
+            group = head.match(line)[1]
+        elif row.match(line) and group:
+            found.setdefault(row.match(line)[1], group)
+    return found
+
+
+def wrong_groups():
+    """A crate that stands in one group in crates.txt and in another in ARCHITECTURE."""
+    listed = groups_of(GROUPS.read_text(), re.compile(r"^# (.*?)\.?$"), re.compile(r"^(\w+):"))
+    shown = groups_of(ARCHITECTURE.read_text(), re.compile(r"^\*\*(.*)\*\*$"), re.compile(r"^\| `(\w+)` \|"))
+    for crate in sorted({*listed, *shown}):
+        if listed.get(crate) != shown.get(crate):
+            yield f"{ARCHITECTURE}: {crate} is of the group {shown.get(crate)}, and in {GROUPS} of {listed.get(crate)}"
+
+
+# Texts of refusals: `{}` stands for what a field has.
+
+
+def form(text):
+    """A text with `{}` for each field: what is between braces, or a word of capitals."""
+    return re.sub(r"\{[^{}]*\}", "{}", text)
+
+
+def capitals(text):
+    """A text of a page, in which a word of capitals is a field, or one capital letter that isn't the first word of it."""
+    return re.sub(r"\b(?:(?:PATH|WORD|NAME|TEXT|REASON|OFFSET|MISSING)|[NMK])\b", "{}", text)
+
+
+def in_code():
+    source = IN_CODE.read_text()
+    numbers = dict(re.findall(r"Refusal::(\w+)(?: \{ \.\. \})? => (\d+),", source))
+    for name, text in re.findall(r"Refusal::(\w+)(?: \{[^}]*\})? => (?:\{\s*)?(?:f\.write_str\(|write!\(\s*f,\s*)\"([^\"]*)\"", source):
+        yield int(numbers[name]), form(text)
+
+
+def in_spec():
+    source = IN_SPEC.read_text()
+    numbers = dict(re.findall(r"^number_of \(?refusals\.(\w+)[^=]*= (\d+)$", source, re.MULTILINE))
+    for name, body in re.findall(r"^text_of \(?refusals\.(\w+)[^=]*=\s*(.*)$", source, re.MULTILINE):
+        parts = re.findall(r'codes "([^"]*)"|(decimal \w+|\b\w+\b)', body.replace("(", " ").replace(")", " "))
+        yield int(numbers[name]), "".join(said if not field else "{}" for said, field in parts)
+
+
+def in_rows():
+    source = MODELS[1].read_text().partition("REFUSALS = {")[2].partition("\n}")[0]
+    yield from ((int(at), form(text)) for at, text in re.findall(r'"\w+": \((\d+), "([^"]*)"\)', source))
+
+
+def in_model():
+    source = MODELS[0].read_text()
+    yield from ((int(at), form(text)) for at, text in re.findall(r'Refused\((\d+), f?"([^"]*)"\)', source))
+
+
+def in_page():
+    rows = re.findall(r"^\| (\d+) \| `([^`]*)` \|", REFUSALS.read_text(), re.MULTILINE)
+    yield from ((int(at), capitals(text)) for at, text in rows)
+
+
+def in_manual():
+    rows = re.findall(r"^\.It (\d+) Qq (.*)$", MANUAL.read_text(), re.MULTILINE)
+    yield from ((int(at), capitals(text.replace(" : ", ": ").replace('"', ""))) for at, text in rows)
+
+
+def wrong_refusals():
+    """A text of a refusal that isn't that of the code, a place that lacks one, and a printed line that has no such text."""
+    code = dict(in_code())
+    whole = (IN_SPEC, in_spec), (MODELS[1], in_rows), (REFUSALS, in_page), (MANUAL, in_manual)
+    for place, read in whole:
+        found = dict(read())
+        yield from (f"{place}: refusal {at} is `{found.get(at)}`, and in the code `{text}`" for at, text in code.items() if found.get(at) != text)
+        yield from (f"{place}: refusal {at} isn't in the code" for at in found if at not in code)
+    like = {at: re.compile(re.escape(text).replace(r"\{\}", ".*") + "$") for at, text in code.items()}
+    for at, text in in_model():
+        if not (at in like and like[at].match(text)):
+            yield f"{MODELS[0]}: refusal {at} is `{text}`, and in the code `{code.get(at)}`"
+    for at, text in re.findall(r"^refusal (\d+): (.*)$", STORIES.read_text(), re.MULTILINE):
+        if not (int(at) in like and like[int(at)].match(text)):
+            yield f"{STORIES}: `{text}` isn't what refusal {at} prints"
+
+
+def wrong():
+    """All of it."""
+    for check in wrong_claims, wrong_counts, wrong_groups, wrong_refusals:
+        yield from check()
