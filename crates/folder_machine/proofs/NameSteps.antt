@@ -1,8 +1,8 @@
 -- What waits after several calls on one name.
 use Rattle.std.proofs.Common.{◌≡◌, inl, inr, ⊎_elim, ℕ, List, subst, sym}
-use Rattle.name_syncs.specs.Named.{NameWaits}
+use Rattle.name_syncs.specs.Named.{NameWaits, NothingWaits}
 use Rattle.name_syncs.specs.Waiting.{KeepsSynced, Waiting}
-use Rattle.name_syncs.proofs.Syncing.{before, keeps_none, leaves_then}
+use Rattle.name_syncs.proofs.Syncing.{before, keeps_none, keeps_then, leaves_then}
 
 -- after none
 pub name_waits_none : (old new : Waiting) (path : List ℕ) → new ≡ old → NameWaits old new path
@@ -28,4 +28,21 @@ name_waits_synced old new path kept = record {
   files = λ other waiting. before (old.files other) (new.files other) (kept.files other) waiting;
   folders = λ folder waiting. inl (before (old.folders folder) (new.folders folder) (kept.folders folder) waiting);
   others = kept.others;
+}
+
+-- ---- what doesn't wait after several syncs
+
+-- after none
+pub syncs_none : (old new : Waiting) → new ≡ old → KeepsSynced old new
+syncs_none old new is = subst (λ (waits : Waiting). KeepsSynced old waits) (sym is) (keeps_none old)
+
+-- after two
+pub syncs_twice : (old mid new : Waiting) → KeepsSynced old mid → KeepsSynced mid new → KeepsSynced old new
+syncs_twice old mid new first then = keeps_then old mid new first then
+
+-- if nothing waits, nothing does after one more
+pub nothing_waits_still : (old new : Waiting) → NothingWaits old → KeepsSynced old new → NothingWaits new
+nothing_waits_still old new none kept = record {
+  files = λ path. kept.files path (none.files path);
+  folders = λ folder. kept.folders folder (none.folders folder);
 }

@@ -540,7 +540,7 @@ impl<C: Calls + Drop, E: Print + Drop> System<C, E> {
         ensures looks { self.new.looks ≡ self.old.looks }
     {
         self.locks.close_file(from);
-        self.locks.close_file(to);
+        self.locks.keep_replaced(to);
         require_spelled(self.changes.calls(), self.alloc, to)
     }
 
@@ -651,6 +651,7 @@ impl<C: Calls + Drop, E: Print + Drop> System<C, E> {
 
     // Syncs each renamed file, then each changed folder with those above it, and last, as far as it can be
     // done, the folders that were looked at. After a failure all of it is still to be synced. No name comes or goes by it.
+    #[tactic(auto, using(crate::proofs::NameSteps::syncs_twice, crate::proofs::NameSteps::nothing_waits_still))]
     pub(crate) fn sync_names(&mut self) -> io::Result<()>
         ensures kept { IsTrue C.tells → KeepsSynced (C.waits self.old.changes) (C.waits self.new.changes) }
         ensures waits { IfOk result (λ _. IsTrue C.tells → NothingWaits (C.waits self.new.changes)) }
@@ -660,12 +661,30 @@ impl<C: Calls + Drop, E: Print + Drop> System<C, E> {
         self.changes.reports().report("sync", ".", answer)?;
         let has_changed_nothing = self.changes.has_changed_nothing();
         self.changes.sync_names()?;
+        self.free_replaced()?;
         if has_changed_nothing && self.looks.has_unchecked() {
             let answer = require_same(self.changes.calls(), self.alloc, &mut self.looks);
             self.changes.reports().report("look", ".", answer)?;
         }
         self.keep_intent();
         Ok(())
+    }
+
+    // Closes the files that were replaced, now that the new names are on the disk: only then may the system free their
+    // bytes. On FAT the next sync writes that these are free.
+    #[tactic(auto, using(crate::proofs::NameSteps::syncs_none))]
+    fn free_replaced(&mut self) -> io::Result<()>
+        ensures { IsTrue C.tells → KeepsSynced (C.waits self.old.changes) (C.waits self.new.changes) }
+    {
+        let Some(path) = self.locks.close_replaced() else {
+            return Ok(());
+        };
+        let folder = folder_of(path.as_str());
+        if matches!(self.changes.calls().find(folder), Ok(Some(found)) if !found.is_fat_folder()) {
+            return Ok(());
+        }
+        let answer = self.changes.sync_names_in(folder);
+        self.changes.reports().report("sync", folder, answer)
     }
 
     // A file that was renamed is synced and needs no lock any more, but for the intent.

@@ -248,3 +248,20 @@ fn a_folder_that_can_not_be_synced_is_listed(rt: HostRuntime) -> Result<(), Fail
     }
     Ok(())
 }
+
+// The system frees the bytes of a file that was replaced once that is closed. It was closed before the sync of its folder,
+// so a torn write left the old name, with bytes that were free.
+#[test]
+fn a_folder_is_synced_again_behind_a_replaced_file(rt: HostRuntime) -> Result<(), Fail> {
+    let alloc = rt.alloc();
+    let log = log_behind(alloc, &start(alloc)?, "loader set-timeout 7")?;
+    let log = log.as_slice();
+    let renamed = place_of(log, "rename to efi/loader/loader.conf").ok_or("no rename")?;
+    let syncs = log
+        .iter()
+        .skip(renamed)
+        .filter(|line| line.as_str() == "sync folder efi/loader")
+        .count();
+    assert_eq!(rt; syncs, 2);
+    Ok(())
+}
