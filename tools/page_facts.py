@@ -1,5 +1,6 @@
-"""What pages say of the code, looked up in it, for tools/definitions: the names in brackets of docs/CLAIMS.md, the numbers of
-docs/DECISIONS.md on lines and on wrong bodies, the groups of crates, and the text of each refusal at each of its places.
+"""What pages say of the code, looked up in it, for tools/definitions: the names in brackets of docs/CLAIMS.md, and each clause at the
+function that it is said to be of; the numbers of docs/DECISIONS.md on lines and on wrong bodies, the groups of crates, and the text of each
+refusal at each of its places.
 
 Each function gives a line for each thing that is wrong."""
 import pathlib
@@ -80,6 +81,63 @@ def wrong_claims():
         for name in named:
             if name not in every and not set(name.split("::")) <= there:
                 yield f"{CLAIMS}: `{name}` is no clause, function or field of {' or '.join(homes)}"
+
+
+SIGNATURE = re.compile(r"^ *(?:pub(?:\(\w+\))? )?(?:unsafe )?(?:ghost )?fn (\w+)", re.MULTILINE)
+CLAUSE = re.compile(r"\b(?:ensures|requires) (?:(\w+) )?\{([^\n]*(?:\n(?! *(?:ensures|requires)\b)[^\n]*)*)")
+FIELDS = re.compile(r"^ *pub (\S+) :", re.MULTILINE)
+RECORD = re.compile(r"^(?:pub )?record (?:pub )?(\S+) .*where\n((?:  .*\n|\n)+)", re.MULTILINE)
+LISTED = r"(?:`\w+`(?:, | and ))*`\w+`"
+OF = re.compile(rf"({LISTED}) of (?=({LISTED}))")
+
+
+def records():
+    """The fields of each record of the definitions."""
+    found = {}
+    for file in sorted(pathlib.Path("crates").glob("*/specs/**/*.antt")):
+        for name, body in RECORD.findall(file.read_text()):
+            found.setdefault(name, set()).update(FIELDS.findall(body))
+    return found
+
+
+def clauses_of(crate, known):
+    """For each function of a crate its clauses, with the fields of the records that they name."""
+    found = {}
+    for file in sources(crate):
+        text = file.read_text()
+        heads = [*SIGNATURE.finditer(text)]
+        for at, head in enumerate(heads):
+            end = heads[at + 1].start() if at + 1 < len(heads) else len(text)
+            for name, body in CLAUSE.findall(text[head.end() : end]):
+                fields = set().union(*(known.get(word, ()) for word in re.findall(r"\w+", body.partition("\n    {")[0])))
+                found.setdefault(head[1], set()).update({name} - {""}, fields)
+    return found
+
+
+def cited_clauses(page):
+    """Each `CLAUSE, .. of FUNCTION, ..` of CLAIMS, with the crates that it may be about."""
+    every = crates()
+    for homes, text in claims(page):
+        named = [it for it in re.findall(r"`(\w+)`", text) if it in every]
+        for clauses, functions in OF.findall(text):
+            yield named or homes, re.findall(r"`(\w+)`", clauses), re.findall(r"`(\w+)`", functions)
+    for function, body in re.findall(r"^\| Clause of `(\w+)` .*\n\|[-|]*\n((?:\|.*\n)+)", page, re.MULTILINE):
+        for row in body.splitlines():
+            yield sorted(every), re.findall(r"`(\w+)`", row.split(" | ")[0]), [function]
+
+
+def wrong_clauses():
+    """A clause that CLAIMS gives to a function which has none of that name."""
+    fields, known = records(), {}
+    for homes, clauses, functions in cited_clauses(CLAIMS.read_text()):
+        found = {}
+        for home in homes:
+            for function, names in known.setdefault(home, clauses_of(home, fields)).items():
+                found.setdefault(function, set()).update(names)
+        functions = [it for it in functions if it in found]
+        clauses = [it for it in clauses if it not in found]
+        for function in functions:
+            yield from (f"{CLAIMS}: `{it}` is no clause of `{function}`" for it in clauses if it not in found[function])
 
 
 def line_count(crate):
@@ -220,5 +278,5 @@ def wrong_refusals():
 
 def wrong():
     """All of it."""
-    for check in wrong_claims, wrong_counts, wrong_groups, wrong_refusals:
+    for check in wrong_claims, wrong_clauses, wrong_counts, wrong_groups, wrong_refusals:
         yield from check()
