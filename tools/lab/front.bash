@@ -424,7 +424,7 @@ packs_nothing_without_the_kit() {
   needs git make
   fresh_clone
   mkdir bin && printf '#!/bin/sh\nexit 127\n' >bin/rt && chmod +x bin/rt
-  for it in --copyright --deb; do
+  for it in --copyright --deb --rpm --arch; do
     ends 1 env PATH="$PWD/bin:$PATH" clone/tools/package "$it" "$program"
     same 'tools/package: there is no rt: the notices stand in the kit' "$(cat "$room/err")"
     same '' "$(cat "$room/out")"
@@ -433,15 +433,17 @@ packs_nothing_without_the_kit() {
 
 names_the_commit() {
   needs git make dpkg-deb dpkg-shlibdeps rt
-  local told=0
+  local told=0 form
   fresh_clone
   printf '#!/bin/sh\necho "boot_tools 0.1 (commit %s), started in /" >&2\nexit 2\n' unknown >nameless && chmod +x nameless
   sed "s/(commit [^)]*)/(commit $(git -C clone rev-parse HEAD))/" nameless >named && chmod +x named
-  for it in nameless named; do # neither is a program that can be packed; which words come before that is looked at
-    clone/tools/package "$PWD/$it" >/dev/null 2>"$room/err" || true
-    ! grep -q "$it doesn't name its commit" "$room/err" || told+=$it
+  for form in --deb --rpm --arch; do
+    for it in nameless named; do # neither is a program that can be packed; which words come before that is looked at
+      clone/tools/package "$form" "$PWD/$it" >/dev/null 2>"$room/err" || true
+      ! grep -q "$it doesn't name its commit" "$room/err" || told+=" $form $it"
+    done
   done
-  same 0nameless "$told"
+  same '0 --deb nameless --rpm nameless --arch nameless' "$told"
 }
 
 suggests_what_the_pages_name() {
