@@ -172,7 +172,7 @@ goes_on_after_a_full_partition() {
   ends 3 by_hook add b 300000
   has "$room/err" 'No space left on device'
   has "$room/err" '/esp is full; the temporary file of the failed run is gone again'
-  has "$room/err" 'espctl keep 2 --dry-run says which entries could go'
+  has "$room/err" 'espctl keep 2 --per-key --dry-run says which entries could go'
   same token-a.efi "$(images_there)"
   ends 0 by_hook remove a
   ends 0 by_hook add c 300000
@@ -259,7 +259,11 @@ signs_nothing_else() {
   ends 0 kernel_install add 3 /boot/vmlinuz
   same "$({ signatures_of "$images/token-1.efi" && signatures_of "$PWD/before" && signatures_of "$images/token-3.efi"; } | objects)" \
     "$(objects <"$json")"
+  mkdir -p "$root/efi/EFI/pinned" && cp "$images/token-1.efi" "$root/efi/EFI/pinned"
   ends 0 kernel_install remove 1
+  ends 0 kernel_install add 3 /boot/vmlinuz
+  same "$({ signatures_of "$root/efi/EFI/pinned/token-1.efi" && signatures_of "$images/token-3.efi"; } | objects)" "$(objects <"$json")"
+  rm -r "$root/efi/EFI/pinned"
   ends 0 kernel_install add 3 /boot/vmlinuz
   same "$(signatures_of "$images/token-3.efi" | objects)" "$(objects <"$json")"
 }

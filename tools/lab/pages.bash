@@ -47,6 +47,15 @@ installed_links_lead_somewhere() {
   done
 }
 
+# Each heading of docs/TASKS.md is in the lists at its head, or README leads to it.
+each_task_is_listed() {
+  local it lost=()
+  for it in $(sed 1d "$top/docs/TASKS.md" | anchors /dev/stdin); do
+    { links "$top/README.md" && sed '/^## /Q' "$top/docs/TASKS.md" >head && links head; } | grep -qx -e "docs/TASKS.md#$it" -e "#$it" || lost+=("$it")
+  done
+  same '' "${lost[*]}"
+}
+
 # The n-th block of this kind of a page, from 1 on.
 block() { # block PAGE KIND N
   awk -v kind='```'"$2" -v n="$3" '$0 == kind { on = ++count == n; next } /^```$/ { on = 0 } on' "$top/$1"
@@ -219,6 +228,32 @@ type_block() {
   # shellcheck disable=SC2016  # the shell in the system sets it
   in_root sh -c 'cd /tmp/typed && export PATH=/tmp/front:$PATH SYSTEMD_RELAX_ESP_CHECKS=1 DEBIAN_FRONTEND=noninteractive && exec bash -ex block' \
     </dev/null
+}
+
+# The line that removes old entries removes nothing if the running kernel's would go, or if the dry run fails. An empty loader.conf keeps the copy
+# of the settings beside it.
+removes_with_care() {
+  local it wanted said status
+  cut_into_blocks
+  mkdir -p bin efi/loader
+  # shellcheck disable=SC2016  # the stand-in's own words
+  printf '#!/bin/sh\n[ "$*" = "keep 2 --per-key --dry-run" ] || exec echo removed\ncat would\nexit "$(cat status)"\n' >bin/espctl
+  chmod +x bin/espctl
+  while IFS='|' read -r said status wanted; do
+    echo "$said" >would && echo "$status" >status
+    PATH=$PWD/bin:$PATH bash blocks/*.remove-old-ones-but-not-the-running-one-1 >came
+    same "$wanted" "$(tail -n 1 came)"
+  done <<END
+|3|
+would unlink /efi/EFI/Linux/debian-$(uname -r).efi|0|would unlink /efi/EFI/Linux/debian-$(uname -r).efi
+would unlink /efi/EFI/Linux/debian-0.efi|0|removed
+END
+  for it in '' timeout; do
+    printf '%s' "$it" >efi/loader/loader.conf && touch efi/loader/loader.conf.tmp
+    sed "s|/boot/efi|$PWD/efi|g" blocks/*.the-partition-is-full-1 >block
+    PATH=$PWD/bin:$PATH bash -e block
+    same "$([[ $it ]] || echo loader.conf.tmp)" "$(cd efi/loader && find . -name '*.tmp' -printf '%P')"
+  done
 }
 
 # As if each entry with tries had been booted and blessed.
