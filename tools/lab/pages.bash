@@ -314,13 +314,18 @@ boots_as_the_page_says() { # boots_as_the_page_says SYSTEM 'BLOCK ENTRY'
   same "${2#* }" "$(chosen "$room/boots/$1.${2% *}")"
 }
 
-# The line of the page that boots into another entry once: what bootctl writes as a variable, into a folder that stands for efivarfs, is put
-# into a guest's firmware, which is started twice.
-boots_once() {
-  local variables name=LoaderInfo-$guid
+# The line of the page that boots into another entry once, with the bootctl and the boot loader of a system: what bootctl writes as a variable,
+# into a folder that stands for efivarfs, is put into a guest's firmware, which is started twice. The second time it is the default again.
+boots_once() { # boots_once SYSTEM
+  local variables name=LoaderInfo-$guid it typed=debian12
   needs iconv python3
-  needs_a_guest "$1.the-default-entry-2"
-  root=$room/tasks-$1
+  [[ $1 != debian13 ]] || typed=debian13
+  needs_a_guest "$typed.the-default-entry-2"
+  take_root "$1"
+  cp -r "$room/boots/$typed.the-default-entry-2" partition
+  for it in partition/EFI/systemd/systemd-bootx64.efi partition/EFI/BOOT/BOOTX64.EFI; do
+    cp "$root/usr/lib/systemd/boot/efi/systemd-bootx64.efi" "$it"
+  done
   [[ -e $root/sys/firmware ]] || mount -t tmpfs tmpfs "$root/sys"
   variables=$root/sys/firmware/efi/efivars
   mkdir -p "$variables"
@@ -329,6 +334,6 @@ boots_once() {
   ends 0 in_root bash -ex -c "$(cat line)"
   cp /usr/share/OVMF/OVMF_VARS_4M.fd variables
   put_variable variables "$variables/LoaderEntryOneShot-$guid"
-  same debian-6.1.0-56-amd64.efi "$(chosen "$room/boots/$1.the-default-entry-2")"
-  same debian-6.1.0-57-plain.conf "$(chosen "$room/boots/$1.the-default-entry-2")"
+  same debian-6.1.0-56-amd64.efi "$(chosen partition)"
+  same debian-6.1.0-57-plain.conf "$(chosen partition)"
 }
