@@ -399,6 +399,9 @@ prints_a_command_line() {
   front /var/tmp/at type1 install options --linux=kernel '--options=root=/dev/y ro'
   ends 0 front / cmdline /boot/efi/loader/entries/options.conf
   same 'root=/dev/y ro' "$(cat "$room/out")"
+  printf 'title GRUB\nefi /EFI/debian/grubx64.efi\n' >"$root/boot/efi/loader/entries/grub.conf"
+  ends 1 front / cmdline /boot/efi/loader/entries/grub.conf
+  says 'grub.conf has no command line'
 }
 
 # Each command is in the list, and each has a line of its own.
