@@ -50,8 +50,10 @@ installed_links_lead_somewhere() {
 # Each heading of docs/TASKS.md is in the lists at its head, or README leads to it.
 each_task_is_listed() {
   local it lost=()
+  sed '/^## /Q' "$top/docs/TASKS.md" >lists
+  { links "$top/README.md" && links lists; } >there
   for it in $(sed 1d "$top/docs/TASKS.md" | anchors /dev/stdin); do
-    { links "$top/README.md" && sed '/^## /Q' "$top/docs/TASKS.md" >head && links head; } | grep -qx -e "docs/TASKS.md#$it" -e "#$it" || lost+=("$it")
+    grep -qxF -e "docs/TASKS.md#$it" -e "#$it" there || lost+=("$it")
   done
   same '' "${lost[*]}"
 }
