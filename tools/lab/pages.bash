@@ -326,7 +326,7 @@ boots_once() { # boots_once SYSTEM
   take_root "$1"
   cp -r "$room/boots/$typed.the-default-entry-2" partition
   for it in partition/EFI/systemd/systemd-bootx64.efi partition/EFI/BOOT/BOOTX64.EFI; do
-    cp "$root/usr/lib/systemd/boot/efi/systemd-bootx64.efi" "$it"
+    cp "$(compgen -G "$root/usr/lib/systemd/boot/efi/systemd-bootx64.efi*" | head -n 1)" "$it"
   done
   [[ -e $root/sys/firmware ]] || mount -t tmpfs tmpfs "$root/sys"
   variables=$root/sys/firmware/efi/efivars
