@@ -1,5 +1,5 @@
 -- The rules of a recovery after a rename that was cut, over what the system tells of the names that are there.
-use Rattle.std.specs.Prelude.{ℕ, ◌==◌, Bool, false, not, ◌&&◌, ◌||◌, nat_lt, List, Option, Some, None, is_none, position, if◌then◌else◌}
+use Rattle.std.specs.Prelude.{ℕ, ◌==◌, Bool, false, not, ◌&&◌, ◌||◌, nat_lt, List, Option, Some, None, is_none, is_some, position, if◌then◌else◌}
 use Rattle.fat_rules.specs.declared.facts.Facts.{Facts}
 use Rattle.fat_rules.specs.declared.recovery.Removal.{Removal}
 use Rattle.fat_rules.specs.declared.recovery.Removal.TheVariants.{Unlink, RenameOver}
@@ -12,9 +12,9 @@ abbrev pub has_length : Option Facts → Bool
 has_length (Some found) = nat_lt 0 found.length
 has_length None = false
 
--- a file is there, and has none
+-- a file that may stand on FAT is there, and has none: elsewhere no check takes bytes away
 abbrev pub is_emptied : Option Facts → Bool
-is_emptied (Some found) = found.length == 0
+is_emptied (Some found) = found.length == 0 && is_some found.time
 is_emptied None = false
 
 -- the old name is renamed over a new one that has lost its bytes, and else unlinked

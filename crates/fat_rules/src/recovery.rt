@@ -43,7 +43,7 @@ fn is_emptied(found: Option<Facts>) -> bool
     ensures { result ≡ is_emptied found }
 {
     match found {
-        Some(found) => found.length == 0,
+        Some(found) => found.length == 0 && found.time.is_some(),
         None => false,
     }
 }

@@ -2,7 +2,7 @@
 use Rattle.std.specs.Prelude.{ℕ, Bool, List, Option, Some, None, if◌then◌else◌}
 use Rattle.std.specs.Option.{option_map}
 use Rattle.fat_rules.specs.declared.facts.Facts.{Facts}
-use Rattle.folder_calls.specs.Tree.{Tree, is_file}
+use Rattle.folder_calls.specs.Tree.{Tree, is_fat_file, is_file}
 use Rattle.folder_calls.specs.declared.found.Found.{Found}
 
 -- what was found if it is of that kind, and else nothing
@@ -13,3 +13,7 @@ found_as is_of_kind None = None
 -- what the system tells of the regular file at a path
 abbrev pub facts_there : Tree → List ℕ → Option Facts
 facts_there tree path = option_map (λ found. found.facts) (found_as is_file (tree.stands path))
+
+-- the same if it may stand on FAT
+abbrev pub fat_facts_there : Tree → List ℕ → Option Facts
+fat_facts_there tree path = option_map (λ found. found.facts) (found_as is_fat_file (tree.stands path))

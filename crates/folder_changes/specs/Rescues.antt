@@ -7,7 +7,7 @@ use Rattle.fat_rules.specs.declared.recovery.Step.{Step}
 use Rattle.fat_rules.specs.declared.recovery.Step.TheVariants.{Forget, TakeAlias, AskForBytes, AskForCheck, AskForFolder, AskForName}
 use Rattle.folder_calls.specs.Tree.{Tree, has_link, is_fat_file, is_fat_folder, is_folder, same_inode}
 use Rattle.folder_calls.specs.declared.found.Found.{Found}
-use Rattle.folder_changes.specs.Files.{facts_there}
+use Rattle.folder_changes.specs.Files.{fat_facts_there}
 use Rattle.folder_changes.specs.Shown.{is_shown}
 use Rattle.folder_changes.specs.declared.half.Aliases.{Aliases}
 use Rattle.folder_changes.specs.declared.half.Rescue.{Rescue}
@@ -36,9 +36,10 @@ IsRescueBy AskForCheck aliases name rescue = ⊥
 IsRescueBy AskForFolder aliases name rescue = ⊥
 IsRescueBy AskForName aliases name rescue = ⊥
 
--- each of these paths is that of a file with bytes, and beside it stands what the system tells of it
+-- Each of these paths is that of a file with bytes that may stand on FAT, and beside it stands what the system tells of it:
+-- elsewhere a name in capitals is somebody's own.
 pub record HaveBytes (tree : Tree) (aliases : Aliases) : Type 0 where
-  pub told : map (λ alias. facts_there tree (string_bytes alias)) aliases.paths.items ≡ map Some aliases.facts.items
+  pub told : map (λ alias. fat_facts_there tree (string_bytes alias)) aliases.paths.items ≡ map Some aliases.facts.items
   pub bytes : All (λ facts. nat_lt 0 facts.length ≡ true) aliases.facts.items
 
 -- the file that was found at a path has its bytes, and its folder shows it as the path spells it

@@ -64,7 +64,7 @@ pub fn path_in_the_way<C: Calls>(
     }
     match name_in_capitals(alloc, names.as_slice(), name)? {
         Some(shown) => way_at(calls, from, path_in(alloc, folder, shown)?),
-        None if if_fat_file(replaced).is_some() => Err(unlisted_fault(alloc, &names, name)?),
+        None if if_fat_file(replaced).is_some() => Err(unlisted_fault(calls, alloc, &names, to)?),
         None => Ok(None),
     }
 }

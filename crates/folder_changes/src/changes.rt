@@ -362,7 +362,7 @@ impl<C: Calls + Drop, E: Print + Drop> Changes<C, E> {
         ensures waits { IfOk result (λ _. IsTrue C.tells → NothingWaits (C.waits self.new)) }
     {
         let answer = require_sync_before(self.is_unsure);
-        self.reports.report("sync", ".", answer)?;
+        self.reports.report("sync", "", answer)?;
         // What a failed sync leaves is made good for by no later one.
         self.is_unsure = true;
         let mut named = mem::replace(&mut self.named, Named::new(self.alloc));

@@ -233,12 +233,12 @@ struct Aliases {
 }
 
 impl Aliases {
-    // Adds a path, if a file with bytes stands there.
+    // Adds a path, if a file with bytes stands there that may be on FAT.
     fn add<C: Calls>(&mut self, calls: &C, path: String) -> io::Result<()>
         ensures { OnOk result (IsTrue C.tells
             → HaveBytes (C.tree calls.now) self.old → HaveBytes (C.tree calls.now) self.new) }
     {
-        let Some(found) = file_at(calls, path.as_str())? else {
+        let Some(found) = fat_file_at(calls, path.as_str())? else {
             return Ok(());
         };
         if found.facts.length == 0 {

@@ -45,12 +45,13 @@ impl<E: Print + Drop> Reports<E> {
         answer
     }
 
-    /// Tells of one failure.
+    /// Tells of one failure. A call on no one path is told without it.
     pub fn tell(&self, call: &str, path: &str, error: &io::Error) {
         if self.are_wanted {
+            let space = if path.is_empty() { "" } else { " " };
             let _ = self
                 .err
-                .println(format_args!("boot_tools: {call} {path}: {error}"));
+                .println(format_args!("boot_tools: {call}{space}{path}: {error}"));
         }
     }
 

@@ -84,9 +84,9 @@ fn twin_of<C: Calls>(
     ensures { IfOk result (λ twin. twin ≡ None
         → IsTrue C.tells → IsAloneBut (C.tree calls.now) path.now but.now found.now) }
 {
-    let (folder, name) = parted(path);
+    let (folder, _) = parted(path);
     let names = calls.names(alloc, folder)?;
-    let is_shown = spelling_in(alloc, &names, name)? == Spelling::AsGiven;
+    let is_shown = spelling_in(calls, alloc, &names, path)? == Spelling::AsGiven;
     let sought = Sought {
         path,
         but,
@@ -223,8 +223,8 @@ pub fn spelling_at<C: Calls>(calls: &C, alloc: Global, path: &str) -> io::Result
     ensures { IfOk result (λ spelling. IsTrue C.tells
         → IsShownAs ((C.tree calls.now).names (parent_folder path.now)) (file_name_of path.now) spelling) }
 {
-    let (folder, name) = parted(path);
-    spelling_in(alloc, &calls.names(alloc, folder)?, name)
+    let (folder, _) = parted(path);
+    spelling_in(calls, alloc, &calls.names(alloc, folder)?, path)
 }
 
 // Whether the folder of a file that is there shows it as the path spells it.
@@ -237,27 +237,37 @@ pub(crate) fn is_shown<C: Calls>(calls: &C, alloc: Global, path: &str) -> io::Re
     }
 }
 
-// How a folder with these names shows a file that is found by a name. It must show it.
-fn spelling_in(alloc: Global, names: &Vec<String>, name: &str) -> io::Result<Spelling>
-    ensures { IfOk result (IsShownAs (map string_bytes names.now.items) name.now) }
+// How a folder with these names shows the file that was found at a path. It must show it.
+fn spelling_in<C: Calls>(
+    calls: &C,
+    alloc: Global,
+    names: &Vec<String>,
+    path: &str,
+) -> io::Result<Spelling>
+    ensures { IfOk result (IsShownAs (map string_bytes names.now.items) (file_name_of path.now)) }
 {
+    let (_, name) = parted(path);
     match spelling_among(alloc, names.as_slice(), name)? {
         Some(spelling) => Ok(spelling),
-        None => Err(unlisted_fault(alloc, names, name)?),
+        None => Err(unlisted_fault(calls, alloc, names, path)?),
     }
 }
 
-// A folder with these names doesn't show a file that is found by a name. It has another spelling, or after a failed sync
-// the system finds a name that the disk hasn't got.
-pub(crate) fn unlisted_fault(
+// A folder with these names doesn't show the file that was found at a path. It has another spelling; or it has gone
+// meanwhile; or after a failed sync the system finds a name that the disk hasn't got.
+pub(crate) fn unlisted_fault<C: Calls>(
+    calls: &C,
     alloc: Global,
     names: &Vec<String>,
-    name: &str,
-) -> Result<io::Error, AllocError> {
+    path: &str,
+) -> io::Result<io::Error> {
+    let (_, name) = parted(path);
     let words = if is_other_spelling(alloc, names.as_slice(), name)? {
         "is there under another spelling: type that, or rename it in two steps"
-    } else {
+    } else if calls.find_itself(path)?.is_some() {
         "isn't listed by its folder: unmount the file system, run fsck.vfat -a, then this command again"
+    } else {
+        return Ok(changed_fault());
     };
     Ok(io::Error::other(words))
 }

@@ -1,5 +1,5 @@
 //! Temporary files and their locks, and the modes of files.
-ghost use Rattle.std.specs.Prelude.{◌≡◌, IfOk, IfSome, IsTrue, Some, false, is_some, true};
+ghost use Rattle.std.specs.Prelude.{◌≡◌, IfErr, IfOk, IfSome, IsErrAnd, IsTrue, Ok, Some, false, is_some, true};
 ghost use Rattle.std.specs.IoError.{error_kind};
 ghost use Rattle.name_syncs.specs.Named.{NameWaits};
 ghost use Rattle.folder_calls.specs.Calls.{inode_of};
@@ -9,7 +9,7 @@ ghost use Rattle.folder_machine.specs.Refusing.{AnswersWith, kind_fault, replace
 
 use crate::answers::kind_fault;
 use crate::opened::open_file;
-use folder_calls::{Access, Calls, Found, Hold, Kind, LockFault, Locked};
+use folder_calls::{Access, Calls, Found, Hold, Kind, LockFault, Locked, if_there};
 use folder_changes::Changes;
 use std::io;
 use std::io::ErrorKind;
@@ -22,6 +22,9 @@ pub(crate) const PUBLIC: u32 = 0o644;
 
 /// Why a temporary file is left as it is.
 const HELD: &str = "another run holds it";
+
+/// Why there is none any more.
+const GONE: &str = "another run has removed it";
 
 // Locks a file without waiting. If another run holds it, these words say so.
 pub(crate) fn lock_file<C: Calls>(
@@ -48,7 +51,9 @@ pub(crate) fn open_locked<C: Calls>(
     ensures { IfOk result (λ opened. IsTrue C.tells → IsFileAt (C.tree calls.now) path.now (C.inode opened.0)) }
 {
     require_file(calls.find_itself(path)?)?;
-    let file = calls.open(path, access)?;
+    let Some(file) = if_there(calls.open(path, access))? else {
+        return Err(gone_fault());
+    };
     let opened = calls.find_open(&file)?;
     match lock_named(calls, path, file, &opened)? {
         Some(file) => Ok((file, opened)),
@@ -70,6 +75,13 @@ fn held_fault() -> io::Error
     ensures { error_kind result ≡ ErrorKind.WouldBlock }
 {
     io::Error::new(ErrorKind::WouldBlock, HELD)
+}
+
+// A temporary file that this run has found is there no longer.
+pub(crate) fn gone_fault() -> io::Error
+    ensures { error_kind result ≡ ErrorKind.WouldBlock }
+{
+    io::Error::new(ErrorKind::WouldBlock, GONE)
 }
 
 // Locks a file, and gives it back if it stands at that path still. Who holds the lock on the file that stands at a
@@ -167,8 +179,20 @@ fn create_anew<C: Calls + Drop, E: Print + Drop>(
         Err(error) if error.kind() == ErrorKind::AlreadyExists => {
             let (held, _) = open_locked(changes.calls(), path, Access::Append)?;
             changes.unlink(path, Some(&held))?;
-            changes.create(path, mode)
+            made_alone(changes.create(path, mode))
         }
+        answer => answer,
+    }
+}
+
+// A file that has come to a temporary path meanwhile is another run's.
+fn made_alone<F: Drop>(answer: io::Result<F>) -> io::Result<F>
+    ensures ok { IfOk result (λ file. answer ≡ Ok file) }
+    ensures held { IfErr answer (λ error. error_kind error ≡ ErrorKind.AlreadyExists
+        → IsErrAnd result (λ told. error_kind told ≡ ErrorKind.WouldBlock)) }
+{
+    match answer {
+        Err(error) if error.kind() == ErrorKind::AlreadyExists => Err(held_fault()),
         answer => answer,
     }
 }

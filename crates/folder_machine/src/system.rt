@@ -17,7 +17,8 @@ ghost use Rattle.folder_machine.specs.Refusing.{other_move_fault, replace_fault}
 
 use crate::intent::{HeldIntent, require_intent, require_no_other_move};
 use crate::kept::{
-    Created, PRIVATE, PUBLIC, create_locked, open_locked, require_not_written, require_replaceable,
+    Created, PRIVATE, PUBLIC, create_locked, gone_fault, open_locked, require_not_written,
+    require_replaceable,
 };
 use crate::listing::files_among;
 use crate::locks::{Locks, is_payload};
@@ -488,12 +489,12 @@ impl<C: Calls + Drop, E: Print + Drop> System<C, E> {
     ) -> io::Result<()> {
         let replaced = self.make_way(from, to, written.is_fat, replaced)?;
         let held = self.locks.lock_of(replaced);
-        if written.kept.is_made {
-            self.changes.put(from, to, &written.kept.file, held)?;
+        let answer = if written.kept.is_made {
+            self.changes.put(from, to, &written.kept.file, held)
         } else {
-            self.changes.rename(from, to, held)?;
-        }
-        self.end_rename(from, to)
+            self.changes.rename(from, to, held)
+        };
+        self.end_rename(from, to, answer)
     }
 
     // Before a file gets a name its folders are made if they are missing, and what a folder of FAT lists there in capitals
@@ -534,13 +535,15 @@ impl<C: Calls + Drop, E: Print + Drop> System<C, E> {
         self.unlink_held(way)
     }
 
-    // What was renamed is held by its old path no longer, and is shown by its new one.
-    fn end_rename(&mut self, from: &str, to: &str) -> io::Result<()>
+    // What was renamed is held by its old path no longer, whatever the system has answered, and is shown by its new one.
+    fn end_rename(&mut self, from: &str, to: &str, answer: io::Result<()>) -> io::Result<()>
         ensures still { self.new.changes ≡ self.old.changes }
         ensures looks { self.new.looks ≡ self.old.looks }
+        ensures ok { IfOk result (λ _. answer ≡ Ok tt) }
     {
         self.locks.close_file(from);
         self.locks.keep_replaced(to);
+        answer?;
         require_spelled(self.changes.calls(), self.alloc, to)
     }
 
@@ -554,7 +557,8 @@ impl<C: Calls + Drop, E: Print + Drop> System<C, E> {
                 let held = self.take_removed(path)?;
                 self.unlink(path, &held)
             }
-            _ => self.unlink_held(path),
+            Some(_) => self.unlink_held(path),
+            None => Err(gone_fault()),
         }
     }
 
@@ -601,9 +605,9 @@ impl<C: Calls + Drop, E: Print + Drop> System<C, E> {
         self.looked = None;
         self.looks.forget(path);
         let found = self.changes.calls().find_itself(path)?;
-        self.changes.unlink(path, self.locks.lock_of(found))?;
+        let answer = self.changes.unlink(path, self.locks.lock_of(found));
         self.locks.close_file(path);
-        Ok(())
+        answer
     }
 
     // Removes a file by a lock of its own.
@@ -612,9 +616,9 @@ impl<C: Calls + Drop, E: Print + Drop> System<C, E> {
     {
         self.looked = None;
         self.looks.forget(path);
-        self.changes.unlink(path, Some(held))?;
+        let answer = self.changes.unlink(path, Some(held));
         self.locks.close_file(path);
-        Ok(())
+        answer
     }
 
     // Makes the folders above a file that aren't there.
@@ -658,13 +662,13 @@ impl<C: Calls + Drop, E: Print + Drop> System<C, E> {
     {
         self.looked = None;
         let answer = self.changes.require_sure();
-        self.changes.reports().report("sync", ".", answer)?;
+        self.changes.reports().report("sync", "", answer)?;
         let has_changed_nothing = self.changes.has_changed_nothing();
         self.changes.sync_names()?;
         self.free_replaced()?;
         if has_changed_nothing && self.looks.has_unchecked() {
             let answer = require_same(self.changes.calls(), self.alloc, &mut self.looks);
-            self.changes.reports().report("look", ".", answer)?;
+            self.changes.reports().report("look", "", answer)?;
         }
         self.keep_intent();
         Ok(())

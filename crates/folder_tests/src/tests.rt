@@ -5,6 +5,7 @@ mod handle;
 mod meeting;
 mod shelf;
 mod syncs;
+mod temps;
 
 use boot_base::{INTENT, TEMP_SUFFIX};
 use boot_commands::demo_image;

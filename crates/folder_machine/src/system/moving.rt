@@ -24,7 +24,7 @@ impl<C: Calls + Drop, E: Print + Drop> System<C, E> {
         let replaced = self.changes.calls().find_itself(to)?;
         let replaced = self.make_way(from, to, is_fat, replaced)?;
         let held = self.locks.lock_of(replaced);
-        self.changes.rename_known(from, to, held)?;
-        self.end_rename(from, to)
+        let answer = self.changes.rename_known(from, to, held);
+        self.end_rename(from, to, answer)
     }
 }

@@ -293,7 +293,7 @@ fn words_of(alloc: Global, line: &str) -> Result<Vec<String>, AllocError> {
 
 /// Runs the program whole on the folder. It reads what stands behind the first line, and may tell on standard error of
 /// each call that fails.
-fn run_told<T: Trouble + Drop>(
+pub(crate) fn run_told<T: Trouble + Drop>(
     alloc: Global,
     shelf: &SharedShelf,
     line: &str,

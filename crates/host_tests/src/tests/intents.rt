@@ -137,6 +137,31 @@ fn an_intent_stays_without_its_folder(rt: HostRuntime) -> Result<(), Fail> {
     run(&rt, rt, &NEITHER_NAME)
 }
 
+// Elsewhere than on FAT no check takes bytes away: the old name goes, whatever the new one has, and a name in capitals is
+// somebody's own. An odd time isn't one of FAT.
+static OFF_FAT: [Step; 15] = [
+    Beside(MakeFolder(FOLDER)),
+    Beside(WriteAt(OLD, b"abc", 1_000_001)),
+    Beside(WriteAt(NEW, b"", 1_000_001)),
+    Beside(Write(INTENT, OF_MOVE)),
+    Runs("tidy", 0),
+    Lacks(OLD),
+    Holds(NEW, b""),
+    Lacks(INTENT),
+    Beside(Remove(NEW)),
+    Beside(WriteAt(ALIAS, b"abc", 1_000_001)),
+    Beside(Write(INTENT, OF_MOVE)),
+    Runs("tidy", 0),
+    Lacks(NEW),
+    Holds(ALIAS, b"abc"),
+    Lacks(INTENT),
+];
+
+#[test]
+fn a_recovery_off_fat_takes_no_other_name(rt: HostRuntime) -> Result<(), Fail> {
+    run(&rt, rt, &OFF_FAT)
+}
+
 // Nothing is changed beside another name that the file may have after a cut rename that no intent tells of: that of its
 // entry with another counter, or itself in capitals. If the times differ, these are two files.
 static NAMES_OF_ONE_ENTRY: [Step; 17] = [
