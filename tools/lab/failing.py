@@ -110,21 +110,28 @@ class Failing(Trials):
             faults += others + ([("aborted", "")] if self.system.is_aborted() else [])
         cuts["unmounted"] = self.system.cut()
         runs += more
+        is_whole_at_once = False
         for end, disks in cuts.items():
             if end != "at once" and disks == cuts["at once"]:
                 alone.setdefault(end, alone["at once"])
                 continue
             seen = self.look(disks)
             alone.setdefault(end, set(odd_paths(seen.tree, states)))
-            all_faults = self.without_ext4([*faults, *self.faults_behind(seen, states, runs, alone[end])])
+            all_faults = [*faults, *self.faults_behind(seen, states, runs, alone[end])]
+            if end == "at once":
+                is_whole_at_once = fault.part == BY_ITSELF and all(kind in OWN for kind, _ in all_faults)
+            all_faults = self.without_ext4(all_faults, is_whole_at_once)
             statuses = [*(ran.status for _, ran in runs), seen.status]
             place = {"then": then, "at": fault.words(), "end": end}
             yield self.row(place, statuses, [ran.log for _, ran in runs], all_faults, OWN)
 
-    def without_ext4(self, faults):
-        """The faults, of which those that ext4 makes by itself are told as such."""
+    def without_ext4(self, faults, is_whole_at_once):
+        """The faults, of which those that ext4 makes by itself are told as such.
+
+        If a write of its own has failed, and the disk is whole at once, what isn't there later was lost without a call."""
         is_broken = any(kind not in OWN for kind, _ in faults)
-        if not is_broken or ("aborted", "") not in faults and not self.system.is_damaged():
+        is_lost = is_whole_at_once and self.system.has_ext4()
+        if not is_broken or not is_lost and ("aborted", "") not in faults and not self.system.is_damaged():
             return faults
         return [(kind if kind in OWN else "lost-by-ext4", words) for kind, words in faults]
 

@@ -174,6 +174,10 @@ class System:
         """Whether ext4 takes no more changes, since its journal couldn't be written. FAT is never so."""
         return any(kind.kind == "ext4" and refuses_changes(f"{self.at}{path}") for kind, _, path in self.parts)
 
+    def has_ext4(self):
+        """Whether one of the disks is of ext4."""
+        return any(kind.kind == "ext4" for kind, _, _ in self.parts)
+
     def is_damaged(self):
         """Whether ext4 has lost what it wrote by itself, and calls itself clean all the same."""
         ext4 = [(kind, disk) for kind, disk, _ in self.parts if kind.kind == "ext4"]
