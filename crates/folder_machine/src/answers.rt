@@ -16,6 +16,13 @@ pub(crate) fn met_fault(alloc: Global, words: &str, path: &str) -> io::Error
     }
 }
 
+// The same in these words alone.
+pub(crate) fn other_run(words: &str) -> io::Error
+    ensures { error_kind result ≡ ErrorKind.WouldBlock }
+{
+    io::Error::new(ErrorKind::WouldBlock, words)
+}
+
 // What stands at a path isn't what this run has read there.
 pub(crate) fn changed_fault(alloc: Global, path: &str) -> io::Error
     ensures { error_kind result ≡ ErrorKind.WouldBlock }

@@ -9,6 +9,7 @@ ghost use Rattle.folder_calls.specs.Tree.{same_inode};
 ghost use Rattle.folder_machine.specs.Opening.{IsRead, is_plain_file};
 ghost use Rattle.folder_machine.specs.Refusing.{AnswersWith, other_move_fault};
 
+use crate::answers::other_run;
 use crate::kept::lock_file;
 use crate::opened::open_file;
 use boot_base::{INTENT, INTENT_LIMIT, IntentNames};
@@ -122,15 +123,9 @@ fn if_still_there<F: Drop>(
 {
     match found {
         Some(found) if found.is_same(opened) => Ok(Some(file)),
-        Some(_) => Err(other_move()),
+        Some(_) => Err(other_run(OTHER_MOVE)),
         None => Ok(None),
     }
-}
-
-fn other_move() -> io::Error
-    ensures { error_kind result ≡ ErrorKind.WouldBlock }
-{
-    io::Error::new(ErrorKind::WouldBlock, OTHER_MOVE)
 }
 
 // After the recovery of this run an intent that it doesn't hold is that of another run.
@@ -146,7 +141,7 @@ fn refuse_other_move(found: Option<Found>, holds_intent: bool) -> io::Result<()>
     ensures { AnswersWith (other_move_fault found holds_intent) result }
 {
     match found {
-        Some(found) if !holds_intent && found.is_file() => Err(other_move()),
+        Some(found) if !holds_intent && found.is_file() => Err(other_run(OTHER_MOVE)),
         _ => Ok(()),
     }
 }

@@ -7,7 +7,7 @@ ghost use Rattle.folder_calls.specs.Tree.{is_fat_file};
 ghost use Rattle.folder_machine.specs.Opening.{IsFileAt, stands_still};
 ghost use Rattle.folder_machine.specs.Refusing.{AnswersWith, kind_fault, replace_fault};
 
-use crate::answers::kind_fault;
+use crate::answers::{kind_fault, other_run};
 use crate::opened::open_file;
 use folder_calls::{Access, Calls, Found, Hold, Kind, LockFault, Locked, if_there};
 use folder_changes::Changes;
@@ -24,7 +24,7 @@ pub(crate) const PUBLIC: u32 = 0o644;
 const HELD: &str = "another run holds it";
 
 /// Why there is none any more.
-const GONE: &str = "another run has removed it";
+pub(crate) const GONE: &str = "another run has removed it";
 
 // Locks a file without waiting. If another run holds it, these words say so.
 pub(crate) fn lock_file<C: Calls>(
@@ -36,7 +36,7 @@ pub(crate) fn lock_file<C: Calls>(
 {
     match Locked::take(calls, file, Hold::Alone) {
         Ok(locked) => Ok(locked),
-        Err(LockFault::Taken) => Err(io::Error::new(ErrorKind::WouldBlock, words)),
+        Err(LockFault::Taken) => Err(other_run(words)),
         Err(LockFault::KeepsNone(error) | LockFault::Disk(error)) => Err(error),
     }
 }
@@ -50,15 +50,27 @@ pub(crate) fn open_locked<C: Calls>(
 ) -> io::Result<(Locked<C::File>, Found)>
     ensures { IfOk result (λ opened. IsTrue C.tells → IsFileAt (C.tree calls.now) path.now (C.inode opened.0)) }
 {
+    match open_if_there(calls, path, access)? {
+        Some(opened) => Ok(opened),
+        None => Err(other_run(GONE)),
+    }
+}
+
+// The same, and None if it has gone meanwhile.
+fn open_if_there<C: Calls>(
+    calls: &C,
+    path: &str,
+    access: Access,
+) -> io::Result<Option<(Locked<C::File>, Found)>>
+    ensures { IfOk result (λ opened. IfSome opened
+        (λ opened. IsTrue C.tells → IsFileAt (C.tree calls.now) path.now (C.inode opened.0))) }
+{
     require_file(calls.find_itself(path)?)?;
     let Some(file) = if_there(calls.open(path, access))? else {
-        return Err(gone_fault());
+        return Ok(None);
     };
     let opened = calls.find_open(&file)?;
-    match lock_named(calls, path, file, &opened)? {
-        Some(file) => Ok((file, opened)),
-        None => Err(held_fault()),
-    }
+    Ok(lock_named(calls, path, file, &opened)?.map(|file| (file, opened)))
 }
 
 // What is found is a regular file, or nothing.
@@ -69,19 +81,6 @@ fn require_file(found: Option<Found>) -> io::Result<()>
         Some(found) if !found.is_file() => Err(kind_fault()),
         _ => Ok(()),
     }
-}
-
-fn held_fault() -> io::Error
-    ensures { error_kind result ≡ ErrorKind.WouldBlock }
-{
-    io::Error::new(ErrorKind::WouldBlock, HELD)
-}
-
-// A temporary file that this run has found is there no longer.
-pub(crate) fn gone_fault() -> io::Error
-    ensures { error_kind result ≡ ErrorKind.WouldBlock }
-{
-    io::Error::new(ErrorKind::WouldBlock, GONE)
 }
 
 // Locks a file, and gives it back if it stands at that path still. Who holds the lock on the file that stands at a
@@ -142,7 +141,7 @@ pub(crate) fn create_locked<C: Calls + Drop, E: Print + Drop>(
             return Ok(Created { file, found, given });
         }
     }
-    Err(held_fault())
+    Err(other_run(HELD))
 }
 
 // Makes a new file one for its owner alone, and tells whether its file system has modes. FAT has none.
@@ -177,11 +176,24 @@ fn create_anew<C: Calls + Drop, E: Print + Drop>(
 {
     match changes.create(path, mode) {
         Err(error) if error.kind() == ErrorKind::AlreadyExists => {
-            let (held, _) = open_locked(changes.calls(), path, Access::Append)?;
-            changes.unlink(path, Some(&held))?;
+            remove_leftover(changes, path)?;
             made_alone(changes.create(path, mode))
         }
         answer => answer,
+    }
+}
+
+// Removes a leftover that no other run holds, unless it has gone meanwhile.
+#[tactic(auto, using(crate::proofs::NameSteps::name_waits_none))]
+fn remove_leftover<C: Calls + Drop, E: Print + Drop>(
+    changes: &mut Changes<C, E>,
+    path: &str,
+) -> io::Result<()>
+    ensures { IsTrue C.tells → NameWaits (C.waits changes.old) (C.waits changes.new) path.now }
+{
+    match open_if_there(changes.calls(), path, Access::Append)? {
+        Some((held, _)) => changes.unlink(path, Some(&held)),
+        None => Ok(()),
     }
 }
 
@@ -192,7 +204,7 @@ fn made_alone<F: Drop>(answer: io::Result<F>) -> io::Result<F>
         → IsErrAnd result (λ told. error_kind told ≡ ErrorKind.WouldBlock)) }
 {
     match answer {
-        Err(error) if error.kind() == ErrorKind::AlreadyExists => Err(held_fault()),
+        Err(error) if error.kind() == ErrorKind::AlreadyExists => Err(other_run(HELD)),
         answer => answer,
     }
 }

@@ -251,15 +251,10 @@ impl<F: Drop> Locks<F> {
     pub(crate) fn keep_replaced(&mut self, path: &str)
         ensures { self.new ≡ record self.old { files = self.new.files; replaced = self.new.replaced } }
     {
-        let Some(place) = self
-            .files
-            .iter()
-            .position(|held| held.path.as_str() == path)
-        else {
-            return;
-        };
-        let held = self.files.remove(place);
-        let _ = self.replaced.push(held);
+        let files = &mut self.files;
+        if let Some(place) = files.iter().position(|held| held.path.as_str() == path) {
+            let _ = self.replaced.push(files.remove(place));
+        }
     }
 
     // Closes the files that were replaced, and gives the path of one that may stand on FAT.

@@ -15,9 +15,10 @@ ghost use Rattle.folder_machine.specs.Moving.{mode_in_place};
 ghost use Rattle.folder_machine.specs.Opening.{IsFileAt};
 ghost use Rattle.folder_machine.specs.Refusing.{other_move_fault, replace_fault};
 
+use crate::answers::other_run;
 use crate::intent::{HeldIntent, require_intent, require_no_other_move};
 use crate::kept::{
-    Created, PRIVATE, PUBLIC, create_locked, gone_fault, open_locked, require_not_written,
+    Created, GONE, PRIVATE, PUBLIC, create_locked, open_locked, require_not_written,
     require_replaceable,
 };
 use crate::listing::files_among;
@@ -558,7 +559,7 @@ impl<C: Calls + Drop, E: Print + Drop> System<C, E> {
                 self.unlink(path, &held)
             }
             Some(_) => self.unlink_held(path),
-            None => Err(gone_fault()),
+            None => Err(other_run(GONE)),
         }
     }
 

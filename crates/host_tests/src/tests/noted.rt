@@ -11,7 +11,7 @@ use std::{fs, io};
 // The file of the notes, a line for each.
 pub(super) const NOTES: &str = "notes";
 
-// `odd` is a folder that can't be synced, and another run renames `taken.tmp` as soon as it is opened.
+// `odd` is a folder that can't be synced, and another run renames `taken.tmp`, if it has bytes, as soon as it is opened.
 #[derive(Clone, Copy)]
 pub(super) struct NotedSystem {
     pub(super) rt: HostRuntime,
@@ -38,7 +38,7 @@ impl Files for NotedSystem {
         let file = self.rt.open_file(how, path)?;
         match path {
             "odd" => fs::open(&self.rt, "/dev/null"),
-            "taken.tmp" => {
+            "taken.tmp" if fs::metadata(&self.rt, path)?.len() > 0 => {
                 fs::rename(&self.rt, path, "taken")?;
                 Ok(file)
             }

@@ -41,7 +41,7 @@ impl Print for Notes {
 const TOLD: &str = "\
 boot_tools: create d.tmp: is a directory
 boot_tools: remove e: No such file or directory (os error 2)
-boot_tools: rename e.tmp: No such file or directory (os error 2)
+boot_tools: rename e.tmp: another run has removed it
 ";
 
 static FAILING: [(&str, Act); 3] = [("d", Create), ("e", Unlink), ("e", RenameTemp)];
