@@ -47,8 +47,8 @@ pub(crate) struct Locks<F: Drop> {
     folders: Vec<Held<F>>,
     /// until the next reply
     files: Vec<Held<F>>,
-    /// the files that this run has replaced, until the names are synced
-    replaced: Vec<Held<F>>,
+    /// the files that this run has replaced or removed, until the names are synced
+    gone: Vec<Held<F>>,
     /// the folders of payloads in which a file was looked at
     payloads: FolderSet,
     /// whether a folder is held since this was last asked
@@ -59,7 +59,7 @@ impl<F: Drop> Locks<F> {
     pub(crate) fn new(alloc: Global) -> Self
         ensures folders { result.folders.items ≡ [] }
         ensures files { result.files.items ≡ [] }
-        ensures replaced { result.replaced.items ≡ [] }
+        ensures gone { result.gone.items ≡ [] }
         ensures payloads { result.payloads ≡ record { has_root = false; below = [] } }
         ensures new { result.has_new_folder ≡ false }
     {
@@ -67,7 +67,7 @@ impl<F: Drop> Locks<F> {
             alloc,
             folders: Vec::new(alloc),
             files: Vec::new(alloc),
-            replaced: Vec::new(alloc),
+            gone: Vec::new(alloc),
             payloads: FolderSet::new(alloc),
             has_new_folder: false,
         }
@@ -247,22 +247,22 @@ impl<F: Drop> Locks<F> {
         self.files.retain(|held| held.path.as_str() != path);
     }
 
-    // A file that was replaced stays open until the names are synced. Without memory it is closed at once.
-    pub(crate) fn keep_replaced(&mut self, path: &str)
-        ensures { self.new ≡ record self.old { files = self.new.files; replaced = self.new.replaced } }
+    // A file that was replaced or removed stays open until the names are synced. Without memory it is closed at once.
+    pub(crate) fn keep_gone(&mut self, path: &str)
+        ensures { self.new ≡ record self.old { files = self.new.files; gone = self.new.gone } }
     {
         let files = &mut self.files;
         if let Some(place) = files.iter().position(|held| held.path.as_str() == path) {
-            let _ = self.replaced.push(files.remove(place));
+            let _ = self.gone.push(files.remove(place));
         }
     }
 
-    // Closes the files that were replaced, and gives the path of one that may stand on FAT.
-    pub(crate) fn close_replaced(&mut self) -> Option<String>
-        ensures { self.new ≡ record self.old { replaced = self.new.replaced } }
+    // Closes the files that were replaced or removed, and gives the path of one that may have stood on FAT.
+    pub(crate) fn close_gone(&mut self) -> Option<String>
+        ensures { self.new ≡ record self.old { gone = self.new.gone } }
     {
-        let replaced = mem::replace(&mut self.replaced, Vec::new(self.alloc));
-        let held = replaced.into_iter().find(|held| held.found.is_fat_file())?;
+        let gone = mem::replace(&mut self.gone, Vec::new(self.alloc));
+        let held = gone.into_iter().find(|held| held.found.is_fat_file())?;
         Some(held.path)
     }
 

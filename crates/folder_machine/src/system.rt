@@ -543,7 +543,7 @@ impl<C: Calls + Drop, E: Print + Drop> System<C, E> {
         ensures ok { IfOk result (λ _. answer ≡ Ok tt) }
     {
         self.locks.close_file(from);
-        self.locks.keep_replaced(to);
+        self.locks.keep_gone(to);
         answer?;
         require_spelled(self.changes.calls(), self.alloc, to)
     }
@@ -607,7 +607,7 @@ impl<C: Calls + Drop, E: Print + Drop> System<C, E> {
         self.looks.forget(path);
         let found = self.changes.calls().find_itself(path)?;
         let answer = self.changes.unlink(path, self.locks.lock_of(found));
-        self.locks.close_file(path);
+        self.locks.keep_gone(path);
         answer
     }
 
@@ -666,7 +666,7 @@ impl<C: Calls + Drop, E: Print + Drop> System<C, E> {
         self.changes.reports().report("sync", "", answer)?;
         let has_changed_nothing = self.changes.has_changed_nothing();
         self.changes.sync_names()?;
-        self.free_replaced()?;
+        self.free_gone()?;
         if has_changed_nothing && self.looks.has_unchecked() {
             let answer = require_same(self.changes.calls(), self.alloc, &mut self.looks);
             self.changes.reports().report("look", "", answer)?;
@@ -675,13 +675,13 @@ impl<C: Calls + Drop, E: Print + Drop> System<C, E> {
         Ok(())
     }
 
-    // Closes the files that were replaced, now that the new names are on the disk: only then may the system free their
-    // bytes. On FAT the next sync writes that these are free.
+    // Closes the files that were replaced or removed, now that the names are on the disk: only then may the system free
+    // their bytes. On FAT the next sync writes that these are free.
     #[tactic(auto, using(crate::proofs::NameSteps::syncs_none))]
-    fn free_replaced(&mut self) -> io::Result<()>
+    fn free_gone(&mut self) -> io::Result<()>
         ensures { IsTrue C.tells → KeepsSynced (C.waits self.old.changes) (C.waits self.new.changes) }
     {
-        let Some(path) = self.locks.close_replaced() else {
+        let Some(path) = self.locks.close_gone() else {
             return Ok(());
         };
         let folder = folder_of(path.as_str());

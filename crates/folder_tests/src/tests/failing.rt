@@ -52,8 +52,8 @@ const ROWS: [(&str, &str); 21] = [
     // A script is read first, and its reply has a line behind it.
     ("script", "pfp"),
     // The plan looks for the file, and its folders are synced. The file and its folder are locked before it goes. Then
-    // come the sync, and a look whether the file system can still be written.
-    ("unlink five", "fFp"),
+    // come the sync, a look whether the file system can still be written, and once the file is closed another sync.
+    ("unlink five", "fFdFp"),
     // What is put in place gets its name last. Behind that are the looks at the new name, and the syncs; and if a file was
     // replaced, a look at its folder and another sync.
     ("build", "fFdFdFp"),
@@ -70,9 +70,9 @@ const ROWS: [(&str, &str); 21] = [
     ("type1", "fmdmFdFp"),
     // The payload stands there already, so its reply is all that the first action does.
     ("type1 of gone", "fmFdFp"),
-    ("cleanup", "fFp"),
+    ("cleanup", "fFdFp"),
     // Two entries go.
-    ("keep", "fmFp"),
+    ("keep", "fmdmFdFp"),
 ];
 
 /// How many tests share the rows.

@@ -4,6 +4,7 @@ use super::fat::{NEW, OLD, has, put_intent};
 use super::handle::{Ran, SharedShelf, Trouble, at_work, run_line, run_telling, run_with};
 use super::start;
 use boot_base::INTENT;
+use name_syncs::folder_of;
 use std::alloc::Global;
 use std::io;
 use std::io::ErrorKind;
@@ -26,6 +27,12 @@ const LEFT: [&str; 5] = [
     "efi/EFI/Linux/five.efi",
     "efi/loader/loader.conf",
     "efi/loader/entries/old.conf",
+];
+
+/// Commands by which a file goes, and the call by which it does.
+const GOING: [(&str, &str); 2] = [
+    ("loader set-timeout 7", "rename to efi/loader/loader.conf"),
+    ("bootctl unlink five.efi", "unlink efi/EFI/Linux/five.efi"),
 ];
 
 /// Folders that `bootctl list` only looks at.
@@ -100,8 +107,8 @@ fn is_before(first: Option<usize>, second: Option<usize>) -> bool {
     }
 }
 
-// Whether a run has said these words.
-fn says(alloc: Global, ran: &Ran, words: &str) -> io::Result<bool> {
+/// Whether a run has said these words.
+pub(super) fn says(alloc: Global, ran: &Ran, words: &str) -> io::Result<bool> {
     let said = String::from_utf8(ran.said.as_slice().to_vec(alloc)?);
     Ok(said.is_ok_and(|said| said.as_str().contains(words)))
 }
@@ -249,19 +256,19 @@ fn a_folder_that_can_not_be_synced_is_listed(rt: HostRuntime) -> Result<(), Fail
     Ok(())
 }
 
-// The system frees the bytes of a file that was replaced once that is closed. It was closed before the sync of its folder,
-// so a torn write left the old name, with bytes that were free.
+// The system frees the bytes of a file that was replaced or removed once that is closed. It was closed before the sync of its
+// folder, so a torn write left the old name, with bytes that were free.
 #[test]
-fn a_folder_is_synced_again_behind_a_replaced_file(rt: HostRuntime) -> Result<(), Fail> {
+fn a_folder_is_synced_again_behind_a_file_that_goes(rt: HostRuntime) -> Result<(), Fail> {
     let alloc = rt.alloc();
-    let log = log_behind(alloc, &start(alloc)?, "loader set-timeout 7")?;
-    let log = log.as_slice();
-    let renamed = place_of(log, "rename to efi/loader/loader.conf").ok_or("no rename")?;
-    let syncs = log
-        .iter()
-        .skip(renamed)
-        .filter(|line| line.as_str() == "sync folder efi/loader")
-        .count();
-    assert_eq!(rt; syncs, 2);
+    for (line, gone) in GOING {
+        let (_, path) = gone.rsplit_once(' ').ok_or("no path")?;
+        let synced = format!(in alloc; "sync folder {}", folder_of(path))?;
+        let log = log_behind(alloc, &start(alloc)?, line)?;
+        let place = place_of(log.as_slice(), gone).ok_or("it stays")?;
+        let behind = log.iter().skip(place);
+        let syncs = behind.filter(|line| line.as_str() == synced.as_str());
+        assert_eq!(rt; syncs.count(), 2, "{line}");
+    }
     Ok(())
 }

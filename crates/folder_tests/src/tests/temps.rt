@@ -2,6 +2,7 @@
 use super::handle::{Ran, SharedShelf, Trouble, at_work, run_line, run_told};
 use super::shelf::Shelf;
 use super::start;
+use super::syncs::says;
 use folder_calls::{Access, Hold};
 use std::alloc::Global;
 use std::io;
@@ -12,10 +13,7 @@ use std::test::Fail;
 const LINES: [(&str, &str); 3] = [
     ("tidy", "efi/EFI/Linux/gone.efi.tmp"),
     ("loader set-timeout 7", "efi/loader/loader.conf.tmp"),
-    (
-        "install in/new.efi three --tries=3",
-        "efi/EFI/Linux/three+3.efi.tmp",
-    ),
+    ("install in/new.efi six", "efi/EFI/Linux/six.efi.tmp"),
 ];
 
 /// Before the call of that number a file comes to a path, or goes.
@@ -29,11 +27,9 @@ struct Meets<'a> {
 
 impl Trouble for Meets<'_> {
     fn come(&self, call: u64, shelf: &SharedShelf) -> io::Result<()> {
-        if call != self.call {
-            return Ok(());
-        }
         let mut shelf = at_work(shelf)?;
         match (self.comes, shelf.has_file(self.path)) {
+            _ if call != self.call => Ok(()),
             (true, false) => Ok(shelf.put_file(self.path, Vec::new(self.alloc))?),
             (false, true) => remove_unheld(&mut shelf, self.path),
             _ => Ok(()),
@@ -59,9 +55,7 @@ fn start_with(alloc: Global, path: &str) -> io::Result<SharedShelf> {
 
 // Whether a run was done, or ended with 3 and said that another run was met.
 fn tells_why(alloc: Global, ran: &Ran) -> io::Result<bool> {
-    let said = String::from_utf8(ran.said.as_slice().to_vec(alloc)?);
-    let is_met = said.is_ok_and(|said| said.as_str().contains("another run"));
-    Ok(ran.status == 0 || ran.status == 3 && is_met)
+    Ok(ran.status == 0 || ran.status == 3 && says(alloc, ran, "another run")?)
 }
 
 // The file comes, or goes, at each call of each command.
