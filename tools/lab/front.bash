@@ -602,7 +602,8 @@ boot_guest() {
 boots_what_it_says() {
   needs qemu-system-x86_64 busybox cpio mcopy sfdisk lsblk
   [[ -e /usr/share/OVMF/OVMF_CODE_4M.fd ]] || skip "no firmware here"
-  [[ -e $(echo "$roots"/kernel/boot/vmlinuz-*) ]] || skip "no kernel there"
+  take_root backports
+  take_kernel >/dev/null 2>&1 || skip "no kernel can be had"
   local loader
   loader=$(compgen -G "$roots/$1/usr/lib/systemd/boot/efi/systemd-bootx64.efi*" | head -n 1)
   [[ $loader && -e $roots/backports$stub ]] || skip "no boot loader of $1 there"
