@@ -94,6 +94,9 @@ pub trait Calls {
         ensures { IfOk result (λ file. IsTrue tells → has_link ((tree self.now).stands path.now) ≡ false
             → option_map inode_of ((tree self.now).stands path.now) ≡ Some (inode file)) };
 
+    /// Opens a folder, if one is there.
+    fn open_folder(&self, folder: &str) -> io::Result<Option<Self::File>>;
+
     /// Some of an open file's bytes from that place on, and none at its end.
     fn read(&self, file: &Self::File, at: u64, into: &mut [u8]) -> io::Result<usize>
         ensures within { IfOk result (λ n. n ≤ length into.new) }

@@ -12,6 +12,8 @@ use std::marker::Model;
 pub struct Locked<F: Drop> {
     file: F,
     hold: Hold,
+    /// whether its file system has kept each lock that was asked for
+    is_kept: bool,
 }
 
 impl<F: Drop> Model for Locked<F> {
@@ -30,7 +32,11 @@ impl<F: Drop> Locked<F> {
         ensures { IfOk result (λ locked. locked ≡ file) }
     {
         calls.lock(&file, hold)?;
-        Ok(Locked { file, hold })
+        Ok(Locked {
+            file,
+            hold,
+            is_kept: true,
+        })
     }
 
     /// The same, also if its file system keeps no locks.
@@ -41,8 +47,19 @@ impl<F: Drop> Locked<F> {
     ) -> Result<Self, LockFault>
         ensures { IfOk result (λ locked. locked ≡ file) }
     {
-        if_kept(calls.lock(&file, hold))?;
-        Ok(Locked { file, hold })
+        let answer = calls.lock(&file, hold);
+        let is_kept = answer.is_ok();
+        if_kept(answer)?;
+        Ok(Locked {
+            file,
+            hold,
+            is_kept,
+        })
+    }
+
+    /// Whether it is held so, by a lock that its file system keeps.
+    pub fn is_sure(&self, hold: Hold) -> bool {
+        self.is_kept && is_enough(self.hold, hold)
     }
 
     /// The open file.
@@ -67,7 +84,9 @@ impl<F: Drop> Locked<F> {
         ensures { self.new ≡ self.old }
     {
         if !self.is_enough(hold) {
-            if_kept(calls.lock(&self.file, hold))?;
+            let answer = calls.lock(&self.file, hold);
+            self.is_kept = self.is_kept && answer.is_ok();
+            if_kept(answer)?;
             self.hold = hold;
         }
         Ok(())

@@ -109,16 +109,15 @@ impl<C: Calls + Drop, E: Print + Drop> Changes<C, E> {
         self.named.look_into(folder)
     }
 
-    /// A file is about to come, maybe with folders above it: all of these are synced too.
-    pub fn change_above(&mut self, path: &str) -> io::Result<()>
+    /// The names of a folder that no other run changes were looked at again: they are as they were at the last sync of names.
+    pub fn look_into_again(&mut self, folder: &str) -> Result<(), AllocError>
         ensures { self.new ≡ self.old }
     {
-        keep_note(&mut self.is_unsure, self.named.change(path))?;
-        Ok(())
+        self.named.look_into_again(folder)
     }
 
-    /// The same of a name that changes in a folder that may not be there: the folders above it that were synced since the
-    /// last reply need no second sync.
+    /// A name is about to change in a folder that may not be there: it is synced, and so are those above it that weren't
+    /// since the last reply.
     pub fn change_near(&mut self, path: &str) -> io::Result<()>
         ensures { self.new ≡ self.old }
     {
@@ -181,30 +180,13 @@ impl<C: Calls + Drop, E: Print + Drop> Changes<C, E> {
         if !is_open_at(&self.calls, from, made.file()) {
             return Err(changed_fault());
         }
-        keep_note(&mut self.is_unsure, self.named.rename(from, to))?;
+        keep_note(&mut self.is_unsure, self.named.rename_known(from, to))?;
         self.calls.put(from, to, made, held)
     }
 
     /// Gives a file another path. What stands there goes: a file must be held, and have no twin.
     #[tactic(auto, using(crate::proofs::Noting::rename_waits_same))]
     pub fn rename(&mut self, from: &str, to: &str, held: Option<&Locked<C::File>>) -> io::Result<()>
-        ensures waits { IsTrue C.tells → RenameWaits (C.waits self.old) (C.waits self.new) from.now to.now }
-        ensures leave { IfOk result (λ _. IsTrue C.tells
-            → MayGo (C.tree self.old) to.now (option_map (λ file. C.inode file.now) held.entry)) }
-    {
-        self.require_leave(to, "", held)?;
-        keep_note(&mut self.is_unsure, self.named.rename(from, to))?;
-        self.calls.rename(from, to, held)
-    }
-
-    /// The same of a file that was there before the names were last synced.
-    #[tactic(auto, using(crate::proofs::Noting::rename_waits_same))]
-    pub fn rename_known(
-        &mut self,
-        from: &str,
-        to: &str,
-        held: Option<&Locked<C::File>>,
-    ) -> io::Result<()>
         ensures waits { IsTrue C.tells → RenameWaits (C.waits self.old) (C.waits self.new) from.now to.now }
         ensures leave { IfOk result (λ _. IsTrue C.tells
             → MayGo (C.tree self.old) to.now (option_map (λ file. C.inode file.now) held.entry)) }

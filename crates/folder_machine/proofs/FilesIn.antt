@@ -5,7 +5,7 @@ use Rattle.std.proofs.lemmas.List.Elements.{filter-append}
 use Rattle.boot_base.specs.Paths.{is_file_name}
 use Rattle.name_syncs.specs.Folders.{path_in}
 use Rattle.folder_calls.specs.Tree.{Tree}
-use Rattle.folder_machine.specs.Looking.{files_in, is_file_in, leads_to_file}
+use Rattle.folder_machine.specs.Listing.{files_in, is_file_in, leads_to_file}
 
 -- those among the names before a place
 abbrev pub files_before : Tree → List ℕ → List (String Global) → ℕ → List (List ℕ)

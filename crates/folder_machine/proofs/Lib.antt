@@ -1,4 +1,3 @@
-pub mod MoreHeld
 pub mod FilesIn
 pub mod NameSteps
 mod LeftNames

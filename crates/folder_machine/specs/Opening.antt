@@ -8,10 +8,6 @@ use Rattle.folder_calls.specs.Calls.{Inode, inode_of}
 use Rattle.folder_calls.specs.Tree.{Tree, is_file, same_inode}
 use Rattle.folder_calls.specs.declared.found.Found.{Found}
 
--- what was opened is what was found
-abbrev pub IsOpenAs : {F : Type 0} → (F → Inode) → F × Found → Type 0
-IsOpenAs inode opened = inode opened.0 ≡ inode_of opened.1
-
 -- what stands at a path is what was found
 abbrev pub stands_still : Tree → List ℕ → Found → Bool
 stands_still tree path found = option_map_or (λ other. same_inode other found) (tree.stands path) false

@@ -7,14 +7,14 @@ ghost use Rattle.boot_base.specs.Paths.{intent, read_intent};
 ghost use Rattle.fat_rules.specs.Entries.{is_own_move};
 ghost use Rattle.folder_calls.specs.Tree.{same_inode};
 ghost use Rattle.folder_machine.specs.Opening.{IsRead, is_plain_file};
-ghost use Rattle.folder_machine.specs.Refusing.{AnswersWith, other_move_fault};
+ghost use Rattle.folder_locks.specs.Meeting.{AnswersWith};
+ghost use Rattle.folder_machine.specs.Refusing.{other_move_fault};
 
-use crate::answers::other_run;
 use crate::kept::lock_file;
-use crate::opened::open_file;
 use boot_base::{INTENT, INTENT_LIMIT, IntentNames};
 use fat_rules::is_own_move;
 use folder_calls::{Calls, Found, Locked, read_full};
+use folder_locks::{open_file, other_run};
 use name_syncs::FolderSet;
 use std::alloc::Global;
 use std::io;
@@ -152,19 +152,29 @@ pub(crate) fn require_intent<C: Calls>(
     calls: &C,
     alloc: Global,
     temp: &str,
+    said: Option<&[u8]>,
 ) -> io::Result<IntentNames>
     ensures own { IfOk result (λ names. is_own_move (names_of names) ≡ true) }
     ensures plain { OnOk result (IsTrue C.tells → is_plain_file ((C.tree calls.now).stands temp.now) ≡ true) }
 {
     require_no_other_move(calls, false)?;
-    let Some((file, _)) = open_file(calls, temp)? else {
-        return Err(io::Error::from(ErrorKind::NotFound));
+    let read = match said {
+        Some(bytes) => IntentNames::read(alloc, bytes)?,
+        None => read_temp(calls, alloc, temp)?,
     };
-    let Some(names) = read_from(calls, alloc, &file)? else {
+    let Some(names) = read else {
         return Err(io::Error::new(ErrorKind::InvalidData, "names no move"));
     };
     require_own(calls, alloc, temp, &names)?;
     Ok(names)
+}
+
+// What a temporary file says that this run hasn't written.
+fn read_temp<C: Calls>(calls: &C, alloc: Global, temp: &str) -> io::Result<Option<IntentNames>> {
+    let Some((file, _)) = open_file(calls, temp)? else {
+        return Err(io::Error::from(ErrorKind::NotFound));
+    };
+    read_from(calls, alloc, &file)
 }
 
 // The intent at a path is this program's: a regular file with one link, for two names of one entry, in a folder that no

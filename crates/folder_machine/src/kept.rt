@@ -5,12 +5,12 @@ ghost use Rattle.name_syncs.specs.Named.{NameWaits};
 ghost use Rattle.folder_calls.specs.Calls.{inode_of};
 ghost use Rattle.folder_calls.specs.Tree.{is_fat_file};
 ghost use Rattle.folder_machine.specs.Opening.{IsFileAt, stands_still};
-ghost use Rattle.folder_machine.specs.Refusing.{AnswersWith, kind_fault, replace_fault};
+ghost use Rattle.folder_locks.specs.Meeting.{AnswersWith};
+ghost use Rattle.folder_machine.specs.Refusing.{kind_fault, replace_fault};
 
-use crate::answers::{kind_fault, other_run};
-use crate::opened::open_file;
 use folder_calls::{Access, Calls, Found, Hold, Kind, LockFault, Locked, if_there};
 use folder_changes::Changes;
+use folder_locks::{open_file, other_run};
 use std::io;
 use std::io::ErrorKind;
 
@@ -229,4 +229,11 @@ pub(crate) fn require_not_written<C: Calls>(calls: &C, temp: &str) -> io::Result
         lock_file(calls, file, HELD)?;
     }
     Ok(())
+}
+
+// There is no such kind of file at a path.
+pub(crate) fn kind_fault() -> io::Error
+    ensures { error_kind result ≡ ErrorKind.InvalidInput }
+{
+    io::Error::new(ErrorKind::InvalidInput, "not a regular file")
 }

@@ -5,15 +5,11 @@
 //! and nothing is freed that isn't held, or that another name may have.
 #![tactic(auto)]
 
-mod answers;
 mod faults;
 mod intent;
 mod kept;
 mod listing;
-mod locks;
-mod looks;
 mod machine;
-mod opened;
 mod system;
 
 pub use machine::FolderMachine;

@@ -2,7 +2,7 @@
 ghost use Rattle.std.specs.Prelude.{◌≡◌, ◌++◌, ◌∷◌, [], IfErr, IfOk, IsTrue, OnErr, OnOk, if◌then◌else◌, map, string_bytes};
 ghost use Rattle.std.specs.IoError.{error_kind};
 ghost use Rattle.boot_base.specs.Paths.{is_file_name};
-ghost use Rattle.folder_machine.specs.Looking.{files_in, leads_to_file};
+ghost use Rattle.folder_machine.specs.Listing.{files_in, leads_to_file};
 
 use boot_base::{FileName, PathFault};
 use folder_calls::Calls;

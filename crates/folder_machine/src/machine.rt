@@ -97,7 +97,7 @@ impl<C: Calls + Drop, E: Print + Drop> Machine for FolderMachine<C, E> {
     ghost use Rattle.name_syncs.specs.Named.{NothingWaits};
     ghost use Rattle.name_syncs.specs.Waiting.{KeepsSynced};
     ghost use Rattle.boot_machine.specs.Prelude.{CountsDisk, CountsPipe, CountsRead, Timeline};
-    ghost use Rattle.folder_machine.specs.Looking.{LooksStand};
+    ghost use Rattle.folder_locks.specs.Looking.{LooksStand};
     ghost use Rattle.folder_machine.specs.Told.{counts_of, no_state, CountsCall, CountsDiskOnce, CountsPipeOnce, CountsNamesOnce};
     ghost use Rattle.folder_machine.specs.proofs.Silence.{silent};
 

@@ -42,6 +42,13 @@ impl<R: Runtime<File = File> + AllocGlobal> RealFolder<R> {
             _ => Ok(None),
         }
     }
+
+    // Opens a folder. What is something else is never opened by a path that ends so.
+    fn open_as_folder(&self, folder: &str) -> io::Result<Option<File>> {
+        let mut path = String::from_str(self.rt.alloc(), system_path(folder))?;
+        path.push_str("/.")?;
+        if_there(fs::open(&self.rt, path.as_str()))
+    }
 }
 
 // The folder of no name, as the system takes it.
@@ -92,6 +99,10 @@ impl<R: Runtime<File = File> + AllocGlobal> Calls for RealFolder<R> {
             Access::Append => how.append(true),
         };
         how.open(&self.rt, system_path(path))
+    }
+
+    fn open_folder(&self, folder: &str) -> io::Result<Option<File>> {
+        self.open_as_folder(folder)
     }
 
     fn read(&self, file: &File, at: u64, into: &mut [u8]) -> io::Result<usize> {

@@ -226,6 +226,17 @@ impl Calls for MemoryFolder {
         Ok(MemoryFile { inode: found.inode })
     }
 
+    fn open_folder(&self, folder: &str) -> io::Result<Option<MemoryFile>> {
+        let Some(found) = self.found_at(folder) else {
+            return Ok(None);
+        };
+        Ok(if found.is_folder() {
+            Some(MemoryFile { inode: found.inode })
+        } else {
+            None
+        })
+    }
+
     fn read(&self, file: &MemoryFile, at: u64, into: &mut [u8]) -> io::Result<usize> {
         match entry_of(&self.entries, file.inode) {
             Some(entry) => Ok(copy_some(&entry.bytes, at as usize, into)),

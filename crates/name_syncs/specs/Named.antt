@@ -19,6 +19,10 @@ looked_again named path = if has_folder named.settled (parent_folder path) then 
 abbrev pub looked_into : Named → List ℕ → Named
 looked_into named folder = record named { seen = with_folders named.seen (folder ∷ folders_above folder) }
 
+-- The names in a folder were looked at again, and are as they were. If the folder is settled it needs no second sync.
+abbrev pub looked_into_again : Named → List ℕ → Named
+looked_into_again named folder = if has_folder named.settled folder then named else looked_into named folder
+
 -- a name in the folder of a path is changed by this run
 abbrev pub owned : Named → List ℕ → Named
 owned named path = record named { own = with_folder named.own (parent_folder path) }

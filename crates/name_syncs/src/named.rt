@@ -21,7 +21,7 @@ pub struct Named {
 
 impl Named {
     ghost use Rattle.std.specs.Prelude.{◌≡◌, [], false, OnOk};
-    ghost use Rattle.name_syncs.specs.Named.{changed_at, looked_again, looked_at, looked_into, made_at, removed_at, renamed_known, renamed_to, renamed_with, settled_at};
+    ghost use Rattle.name_syncs.specs.Named.{changed_at, looked_again, looked_at, looked_into, looked_into_again, made_at, removed_at, renamed_known, renamed_to, renamed_with, settled_at};
     ghost use Rattle.name_syncs.specs.Folders.{listed};
 
     /// Nothing. It takes no memory.
@@ -71,6 +71,17 @@ impl Named {
     {
         self.seen.add(folder)?;
         self.seen.add_above(folder)
+    }
+
+    /// The names of a folder were looked at again, and are as they were before the last sync of names.
+    pub fn look_into_again(&mut self, folder: &str) -> Result<(), AllocError>
+        ensures noted { OnOk result (self.new ≡ looked_into_again self.old folder.now) }
+        ensures rest { self.new ≡ record self.old { seen = self.new.seen } }
+    {
+        if self.settled.has(folder) {
+            return Ok(());
+        }
+        self.look_into(folder)
     }
 
     /// A name comes or goes, or a folder above it.

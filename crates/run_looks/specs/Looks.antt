@@ -1,5 +1,5 @@
 -- What a run has looked at.
-use Rattle.std.specs.Prelude.{◌≡◌, ◌⊎◌, ◌==◌, ◌&&◌, ◌+◌, ◌-◌, ◌^◌, min, ℕ, Bool, true, false, List, [], ◌∷◌, ◌++◌, Option, IfSome, is_some, if◌then◌else◌}
+use Rattle.std.specs.Prelude.{◌≡◌, ◌⊎◌, ◌==◌, ◌&&◌, ◌+◌, ◌-◌, ◌^◌, min, ℕ, Bool, true, false, List, [], ◌∷◌, ◌++◌, Option, Some, None, IfSome, is_some, option_and_then, if◌then◌else◌}
 use Rattle.std.specs.Option.{option_map_or}
 use Rattle.std.specs.Ordering.{nat_cmp}
 use Rattle.std.specs.Cmp.Lexicographic.{slice_cmp}
@@ -75,6 +75,11 @@ without_path looks path = record looks {
 abbrev pub is_known_file : RunLooks → List ℕ → Bool
 is_known_file looks path =
     option_map_or (λ look. look.reply == looks.reply && is_some look.found) (map.get looks.files path) false
+
+-- the look at a path that was made since the last reply
+abbrev pub recent_look : RunLooks → List ℕ → Option Look
+recent_look looks path =
+    option_and_then (λ look. if look.reply == looks.reply then Some look else None) (map.get looks.files path)
 
 -- a folder was listed, and had the name that a path ends in
 abbrev pub has_listed : RunLooks → List ℕ → Bool

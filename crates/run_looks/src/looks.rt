@@ -50,7 +50,7 @@ pub struct RunLooks {
 }
 
 impl RunLooks {
-    ghost use Rattle.run_looks.specs.Looks.{HadNames, IsStarved, after_reply, found_first, has_listed, is_known_file, touched_at, with_look, with_names, without_names, without_path};
+    ghost use Rattle.run_looks.specs.Looks.{HadNames, IsStarved, after_reply, found_first, has_listed, is_known_file, recent_look, touched_at, with_look, with_names, without_names, without_path};
     ghost use Rattle.run_looks.specs.Recent.{RecentIsWhole};
     ghost use Rattle.run_looks.specs.declared.looks.LookFault.TheVariants.{Changed, Memory};
 
@@ -181,6 +181,16 @@ impl RunLooks {
         match self.files.get(path) {
             Some(look) => look.reply == self.reply && look.found.is_some(),
             None => false,
+        }
+    }
+
+    /// What was found first at that path, if it was looked at since the last reply.
+    pub fn recent_look(&self, path: &str) -> Option<Look>
+        ensures { result ≡ recent_look self.now path.now }
+    {
+        match self.files.get(path) {
+            Some(look) if look.reply == self.reply => Some(*look),
+            _ => None,
         }
     }
 

@@ -115,9 +115,9 @@ impl<C: Calls + Drop, E: Print + Drop> System<C, E> {
     fn rename_left(&mut self, from: &str, to: &str) -> io::Result<()>
         ensures { IfOk result (λ _. IsTrue C.tells → NameIsSynced (C.waits self.new.changes) to.now) }
     {
-        self.locks.hold_changed(self.changes.calls(), from)?;
-        self.locks.hold_changed(self.changes.calls(), to)?;
-        let is_fat = fat_file_at(self.changes.calls(), from)?.is_some();
+        self.locks.hold_changed(self.changes.calls(), from, None)?;
+        self.locks.hold_changed(self.changes.calls(), to, None)?;
+        let is_fat = self.locks.may_be_fat(from);
         self.rename_known(from, to, is_fat)?;
         self.changes.sync_name(to)
     }
@@ -154,8 +154,8 @@ impl<C: Calls + Drop, E: Print + Drop> System<C, E> {
 
     // Renames the old name of a half done rename over the new one, which has lost its bytes.
     pub(super) fn rename_emptied(&mut self, from: &str, to: &str) -> io::Result<()> {
-        self.locks.hold_changed(self.changes.calls(), to)?;
-        let is_fat = fat_file_at(self.changes.calls(), from)?.is_some();
+        self.locks.hold_changed(self.changes.calls(), to, None)?;
+        let is_fat = self.locks.may_be_fat(from);
         self.rename_known(from, to, is_fat)
     }
 }

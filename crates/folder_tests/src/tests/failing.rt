@@ -34,7 +34,7 @@ impl Trouble for FailsAt {
 /// - `p`: a fault of the pipe, and the same: the last reply isn't printed.
 /// - `m`: either fault in a command of several actions, of which some are done.
 /// - `d`: all is as usual. A look may fail whether the renamed file that is open still has its name: then it is synced by
-///   its name. So may one at the folder of a replaced file: then that is synced all the same.
+///   its name.
 ///
 /// If a sync fails of a folder that was only looked at, or a look before it, that is a fault too.
 ///
@@ -52,15 +52,15 @@ const ROWS: [(&str, &str); 21] = [
     // A script is read first, and its reply has a line behind it.
     ("script", "pfp"),
     // The plan looks for the file, and its folders are synced. The file and its folder are locked before it goes. Then
-    // come the sync, a look whether the file system can still be written, and once the file is closed another sync.
-    ("unlink five", "fFdFp"),
+    // come the sync and, once the file is closed, another one.
+    ("unlink five", "fFp"),
     // What is put in place gets its name last. Behind that are the looks at the new name, and the syncs; and if a file was
-    // replaced, a look at its folder and another sync.
-    ("build", "fFdFdFp"),
-    ("default", "fFdFdFp"),
-    ("timeout", "fFdFdFp"),
+    // replaced, another sync.
+    ("build", "fFdFp"),
+    ("default", "fFdFp"),
+    ("timeout", "fFdFp"),
     ("install", "fFdFp"),
-    ("install five", "fFdFdFp"),
+    ("install five", "fFdFp"),
     // The intent is put in its place and synced before the entry gets its new name, and goes behind the sync of that.
     ("good", "fdfFp"),
     ("boot", "fdfFp"),
@@ -70,9 +70,9 @@ const ROWS: [(&str, &str); 21] = [
     ("type1", "fmdmFdFp"),
     // The payload stands there already, so its reply is all that the first action does.
     ("type1 of gone", "fmFdFp"),
-    ("cleanup", "fFdFp"),
+    ("cleanup", "fFp"),
     // Two entries go.
-    ("keep", "fmdmFdFp"),
+    ("keep", "fmFp"),
 ];
 
 /// How many tests share the rows.

@@ -4,7 +4,7 @@ ghost use Rattle.std.specs.Prelude.{◌≤◌, length, IfOk};
 use super::shelf::{Kept, OpenFile, Shelf};
 use boot_base::copy_from;
 use boot_run::run;
-use folder_calls::{Access, Calls, Found, Hold, LockFault, Locked, folder_answer};
+use folder_calls::{Access, Calls, Found, Hold, LockFault, Locked, folder_answer, if_there};
 use folder_machine::FolderMachine;
 use name_syncs::FolderFault;
 use std::alloc::{AllocError, Global};
@@ -108,10 +108,7 @@ struct Handle<T: Trouble + Drop> {
 
 /// The folder, if no call is at it.
 pub(crate) fn at_work(shelf: &RefCell<Shelf>) -> io::Result<RefMut<'_, Shelf>> {
-    match shelf.try_borrow_mut() {
-        Ok(shelf) => Ok(shelf),
-        Err(_) => Err(io::Error::other("in use")),
-    }
+    shelf.try_borrow_mut().map_err(|_| io::Error::other("busy"))
 }
 
 impl<T: Trouble + Drop> Handle<T> {
@@ -181,6 +178,10 @@ impl<T: Trouble + Drop> Calls for Handle<T> {
 
     fn open(&self, path: &str, access: Access) -> io::Result<OpenFile> {
         self.begin()?.open(path, access)
+    }
+
+    fn open_folder(&self, folder: &str) -> io::Result<Option<OpenFile>> {
+        if_there(self.open(folder, Access::Read))
     }
 
     fn read(&self, file: &OpenFile, at: u64, into: &mut [u8]) -> io::Result<usize> {

@@ -1,5 +1,5 @@
 use Rattle.std.proofs.Common.{◌≡◌, IsTrue, map, string_bytes, take}
-use Rattle.folder_machine.specs.Looking.{files_in}
+use Rattle.folder_machine.specs.Listing.{files_in}
 use Rattle.folder_machine.proofs.listing.files_among.Given as goal
 
 -- the files among the names so far

@@ -1,13 +1,13 @@
 //! Files that are opened.
 ghost use Rattle.std.specs.Prelude.{◌≡◌, IfOk, IfSome, IsTrue, true};
 ghost use Rattle.folder_calls.specs.Tree.{is_file};
-ghost use Rattle.folder_machine.specs.Opening.{IsOpenAs};
+ghost use Rattle.folder_locks.specs.Holding.{IsOpenAs};
 
 use folder_calls::{Access, Calls, Found, if_there};
 use std::io;
 
-// A regular file to read it, and what was opened. What is something else is never opened.
-pub(crate) fn open_file<C: Calls>(calls: &C, path: &str) -> io::Result<Option<(C::File, Found)>>
+/// A regular file to read it, and what was opened. What is something else is never opened.
+pub fn open_file<C: Calls>(calls: &C, path: &str) -> io::Result<Option<(C::File, Found)>>
     ensures file { IfOk result (λ opened. IfSome opened (λ opened. is_file opened.1 ≡ true)) }
     ensures same { IfOk result (λ opened. IfSome opened (λ opened. IsTrue C.tells → IsOpenAs C.inode opened)) }
 {
@@ -17,8 +17,8 @@ pub(crate) fn open_file<C: Calls>(calls: &C, path: &str) -> io::Result<Option<(C
     }
 }
 
-// The same of what was a regular file when it was looked at last.
-pub(crate) fn open_known<C: Calls>(calls: &C, path: &str) -> io::Result<Option<(C::File, Found)>>
+/// The same of what was a regular file when it was looked at last.
+pub fn open_known<C: Calls>(calls: &C, path: &str) -> io::Result<Option<(C::File, Found)>>
     ensures file { IfOk result (λ opened. IfSome opened (λ opened. is_file opened.1 ≡ true)) }
     ensures same { IfOk result (λ opened. IfSome opened (λ opened. IsTrue C.tells → IsOpenAs C.inode opened)) }
 {
@@ -33,22 +33,17 @@ pub(crate) fn open_known<C: Calls>(calls: &C, path: &str) -> io::Result<Option<(
     })
 }
 
-// A folder.
-pub(crate) fn open_folder<C: Calls>(calls: &C, folder: &str) -> io::Result<Option<(C::File, Found)>>
+/// A folder.
+pub fn open_folder<C: Calls>(calls: &C, folder: &str) -> io::Result<Option<(C::File, Found)>>
     ensures { IfOk result (λ opened. IfSome opened (λ opened. IsTrue C.tells → IsOpenAs C.inode opened)) }
 {
-    match calls.find(folder)? {
-        Some(found) if found.is_folder() => open_found(calls, folder),
-        _ => Ok(None),
-    }
-}
-
-fn open_found<C: Calls>(calls: &C, folder: &str) -> io::Result<Option<(C::File, Found)>>
-    ensures { IfOk result (λ opened. IfSome opened (λ opened. IsTrue C.tells → IsOpenAs C.inode opened)) }
-{
-    let Some(file) = if_there(calls.open(folder, Access::Read))? else {
+    let Some(file) = calls.open_folder(folder)? else {
         return Ok(None);
     };
     let found = calls.find_open(&file)?;
-    Ok(Some((file, found)))
+    Ok(if found.is_folder() {
+        Some((file, found))
+    } else {
+        None
+    })
 }

@@ -6,27 +6,29 @@
 //! it replaces, moves or removes; and, with others, the files that it has read for that.
 ghost use Rattle.std.specs.Prelude.{◌≡◌, ◌<◌, [], IfOk, IfSome, IsSome, IsTrue, OnErr, OnOk, false, option_copied, option_map, option_and_then, position, vec_len};
 ghost use Rattle.name_syncs.specs.Folders.{parent_folder};
-ghost use Rattle.folder_machine.specs.Holding.{HoldsMore, TellsNewFolders, has_payloads, held_as, held_by, is_held_as, with_payloads_of};
-ghost use Rattle.folder_machine.specs.Opening.{IsOpenAs};
-ghost use Rattle.folder_machine.specs.Refusing.{AnswersWith, IsLockError, changed_fault};
+ghost use Rattle.folder_locks.specs.Holding.{HoldsMore, TellsNewFolders, has_payloads, held_as, held_by, is_held_as, with_payloads_of};
+ghost use Rattle.folder_locks.specs.Holding.{IsOpenAs};
+ghost use Rattle.folder_locks.specs.Meeting.{AnswersWith, IsLockError, changed_fault};
 
 use crate::answers::{changed_fault, met_fault};
+use crate::looks::identity_of;
 use crate::opened::{open_file, open_folder, open_known};
 use boot_base::{INTENT, PAYLOADS, TEMP_SUFFIX, ends_as_temp};
 use folder_calls::{Calls, Found, Hold, LockFault, Locked};
 use name_syncs::{FolderSet, folder_of, parted};
+use run_looks::Look;
 use std::alloc::{AllocError, Global};
 use std::{io, mem};
 
-// Whether a path is that of a payload, or of its temporary file.
-pub(crate) fn is_payload(path: &str) -> bool
+/// Whether a path is that of a payload, or of its temporary file.
+pub fn is_payload(path: &str) -> bool
     ensures { result ≡ has_payloads (parent_folder path.now) }
 {
     is_payload_folder(folder_of(path))
 }
 
-// Whether payloads stand in a folder.
-pub(crate) fn is_payload_folder(folder: &str) -> bool
+/// Whether payloads stand in a folder.
+pub fn is_payload_folder(folder: &str) -> bool
     ensures { result ≡ has_payloads folder.now }
 {
     parted(folder).1 == PAYLOADS
@@ -34,29 +36,30 @@ pub(crate) fn is_payload_folder(folder: &str) -> bool
 
 /// A file or folder with its lock.
 #[derive(Drop)]
-struct Held<F: Drop> {
-    path: String,
-    file: Locked<F>,
-    found: Found,
+pub struct Held<F: Drop> {
+    pub path: String,
+    pub file: Locked<F>,
+    /// what it was found to be as it was opened
+    pub found: Found,
 }
 
 /// What this run holds.
 #[derive(Drop)]
-pub(crate) struct Locks<F: Drop> {
-    alloc: Global,
-    folders: Vec<Held<F>>,
+pub struct Locks<F: Drop> {
+    pub alloc: Global,
+    pub folders: Vec<Held<F>>,
     /// until the next reply
-    files: Vec<Held<F>>,
+    pub files: Vec<Held<F>>,
     /// the files that this run has replaced or removed, until the names are synced
-    gone: Vec<Held<F>>,
+    pub gone: Vec<Held<F>>,
     /// the folders of payloads in which a file was looked at
-    payloads: FolderSet,
+    pub payloads: FolderSet,
     /// whether a folder is held since this was last asked
-    has_new_folder: bool,
+    pub has_new_folder: bool,
 }
 
 impl<F: Drop> Locks<F> {
-    pub(crate) fn new(alloc: Global) -> Self
+    pub fn new(alloc: Global) -> Self
         ensures folders { result.folders.items ≡ [] }
         ensures files { result.files.items ≡ [] }
         ensures gone { result.gone.items ≡ [] }
@@ -73,8 +76,8 @@ impl<F: Drop> Locks<F> {
         }
     }
 
-    // A file was looked at. If it may be a payload, its folder is to be held before something is changed.
-    pub(crate) fn look_at(&mut self, path: &str) -> Result<(), AllocError>
+    /// A file was looked at. If it may be a payload, its folder is to be held before something is changed.
+    pub fn look_at(&mut self, path: &str) -> Result<(), AllocError>
         ensures ok { OnOk result (self.new
             ≡ record self.old { payloads = with_payloads_of self.old.payloads path.now }) }
         ensures err { OnErr result (self.new ≡ self.old) }
@@ -85,22 +88,42 @@ impl<F: Drop> Locks<F> {
         Ok(())
     }
 
-    // Holds the folders of the payloads that were looked at.
-    pub(crate) fn hold_payloads<C: Calls<File = F>>(&mut self, calls: &C) -> io::Result<()>
-        ensures folders { HoldsMore C.tells C.inode self.old.folders.items self.new.folders.items }
-        ensures new { TellsNewFolders self.old self.new }
-        ensures files { self.new.files ≡ self.old.files }
-        ensures payloads { self.new.payloads ≡ record { has_root = false; below = [] } }
+    /// The folders of the payloads that were looked at: they are to be held before something is changed.
+    pub fn take_payloads(&mut self) -> FolderSet
+        ensures { self.new ≡ record self.old { payloads = record { has_root = false; below = [] } } }
     {
-        let payloads = mem::replace(&mut self.payloads, FolderSet::new(self.alloc));
-        for folder in payloads.below.as_slice() {
-            self.hold_folder(calls, folder.as_str(), Hold::Shared)?;
-        }
-        Ok(())
+        mem::replace(&mut self.payloads, FolderSet::new(self.alloc))
     }
 
-    // Holds a folder to the end of this run. One that isn't there can't be held.
-    pub(crate) fn hold_folder<C: Calls<File = F>>(
+    /// Whether a folder is held so, by a lock that its file system keeps.
+    pub fn has_folder(&self, folder: &str, hold: Hold) -> bool {
+        held_at(&self.folders, folder).is_some_and(|held| held.file.is_sure(hold))
+    }
+
+    /// Whether a file is held alone, by a lock that its file system keeps.
+    pub fn has_file(&self, path: &str) -> bool {
+        held_at(&self.files, path).is_some_and(|held| held.file.is_sure(Hold::Alone))
+    }
+
+    /// Whether a file may stand on FAT, as far as this run holds it.
+    pub fn may_be_fat(&self, path: &str) -> bool {
+        held_at(&self.files, path).is_none_or(|held| held.found.is_fat_file())
+    }
+
+    /// The lock on a file that is held by that path.
+    pub fn lock_at(&self, path: &str) -> Option<&Locked<F>> {
+        Some(&held_at(&self.files, path)?.file)
+    }
+
+    /// Folders and files are held no more. What was looked at in them is to be looked at again.
+    pub fn give_up(&mut self) {
+        self.files.clear();
+        self.folders.clear();
+        self.has_new_folder = true;
+    }
+
+    /// Holds a folder to the end of this run. One that isn't there can't be held.
+    pub fn hold_folder<C: Calls<File = F>>(
         &mut self,
         calls: &C,
         folder: &str,
@@ -122,14 +145,18 @@ impl<F: Drop> Locks<F> {
         Ok(())
     }
 
-    // Holds a file that was read, unless its folder is held alone.
-    pub(crate) fn hold_read<C: Calls<File = F>>(&mut self, calls: &C, path: &str) -> io::Result<()>
+    /// Whether a file that was read needs no lock more: it is held, or its folder is held alone.
+    pub fn covers(&self, path: &str) -> bool {
+        is_held(&self.folders, folder_of(path), Hold::Alone)
+            || is_held(&self.files, path, Hold::Shared)
+    }
+
+    /// Holds a file that was read, unless its folder is held alone.
+    pub fn hold_read<C: Calls<File = F>>(&mut self, calls: &C, path: &str) -> io::Result<()>
         ensures files { HoldsMore C.tells C.inode self.old.files.items self.new.files.items }
         ensures same { self.new ≡ record self.old { files = self.new.files } }
     {
-        if is_held(&self.folders, folder_of(path), Hold::Alone)
-            || is_held(&self.files, path, Hold::Shared)
-        {
+        if self.covers(path) {
             return Ok(());
         }
         let Some(opened) = open_known(calls, path)? else {
@@ -138,12 +165,13 @@ impl<F: Drop> Locks<F> {
         self.hold_opened(calls, path, opened, Hold::Shared)
     }
 
-    // Holds a file that goes, if one is there, and its folder. A temporary file and the intent have locks of their own.
-    // The file that is held must be the one that stands there.
-    pub(crate) fn hold_changed<C: Calls<File = F>>(
+    /// Holds a file that goes, if one is there, and its folder. A temporary file and the intent have locks of their own.
+    /// The file that is held must be the one that stands there.
+    pub fn hold_changed<C: Calls<File = F>>(
         &mut self,
         calls: &C,
         path: &str,
+        look: Option<Look>,
     ) -> io::Result<()>
         ensures folders { HoldsMore C.tells C.inode self.old.folders.items self.new.folders.items }
         ensures files { HoldsMore C.tells C.inode self.old.files.items self.new.files.items }
@@ -154,11 +182,39 @@ impl<F: Drop> Locks<F> {
             return Ok(());
         }
         self.hold_folder(calls, folder_of(path), Hold::Shared)?;
-        if ends_as_temp(path) {
+        if ends_as_temp(path) || is_held(&self.files, path, Hold::Alone) {
             return Ok(());
         }
-        self.hold_file(calls, path)?;
-        self.require_named(calls, path)
+        match look {
+            Some(look) => self.hold_looked(calls, path, look),
+            None => {
+                self.hold_file(calls, path)?;
+                self.require_named(calls, path)
+            }
+        }
+    }
+
+    // The same of a file that was looked at, and is to be looked at once more. The file that is held must be the one
+    // that was found.
+    fn hold_looked<C: Calls<File = F>>(
+        &mut self,
+        calls: &C,
+        path: &str,
+        look: Look,
+    ) -> io::Result<()>
+        ensures files { HoldsMore C.tells C.inode self.old.files.items self.new.files.items }
+        ensures same { self.new ≡ record self.old { files = self.new.files } }
+    {
+        if look.found.is_none() {
+            return Ok(());
+        }
+        if let Some(opened) = open_known(calls, path)? {
+            self.hold_opened(calls, path, opened, Hold::Alone)?;
+        }
+        match held_at(&self.files, path) {
+            Some(held) if identity_of(Some(held.found)) == look.found => Ok(()),
+            _ => Err(changed_fault(self.alloc, path)),
+        }
     }
 
     // Holds the file at a path alone, if one is there.
@@ -199,39 +255,16 @@ impl<F: Drop> Locks<F> {
         }
     }
 
-    // No other run may hold this file, as one that is about to replace it, or that has read it for what it writes.
-    pub(crate) fn require_free<C: Calls<File = F>>(
-        &mut self,
-        calls: &C,
-        path: &str,
-    ) -> io::Result<()>
-        ensures files { self.new.files.items ≡ self.old.files.items }
-        ensures same { self.new ≡ record self.old { files = self.new.files } }
-    {
-        let Some((file, found)) = open_file(calls, path)? else {
-            return Ok(());
-        };
-        match place_of(&self.files, &found) {
-            Some(place) => {
-                strengthen_at(self.alloc, calls, &mut self.files, place, Hold::Alone)?;
-            }
-            None => {
-                lock(self.alloc, calls, path, file, Hold::Alone)?;
-            }
-        }
-        Ok(())
-    }
-
-    // A file that is held, to read from it.
-    pub(crate) fn file_at(&self, path: &str) -> Option<&F>
+    /// A file that is held, to read from it.
+    pub fn file_at(&self, path: &str) -> Option<&F>
         ensures { option_copied result ≡ option_map (λ held. held.file) (held_by self.now.files.items path.now) }
     {
         let held = held_at(&self.files, path)?;
         Some(held.file.file())
     }
 
-    // The lock on the file that was found, maybe by another path.
-    pub(crate) fn lock_of(&self, found: Option<Found>) -> Option<&Locked<F>>
+    /// The lock on the file that was found, maybe by another path.
+    pub fn lock_of(&self, found: Option<Found>) -> Option<&Locked<F>>
         ensures { option_copied result
             ≡ option_and_then (λ found. option_map (λ held. held.file) (held_as self.now.files.items found)) found }
     {
@@ -240,15 +273,15 @@ impl<F: Drop> Locks<F> {
         Some(&held.file)
     }
 
-    // A file that has gone is held no longer: the file system frees its bytes only when it is closed.
-    pub(crate) fn close_file(&mut self, path: &str)
+    /// A file that has gone is held no longer: the file system frees its bytes only when it is closed.
+    pub fn close_file(&mut self, path: &str)
         ensures { self.new ≡ record self.old { files = self.new.files } }
     {
         self.files.retain(|held| held.path.as_str() != path);
     }
 
-    // A file that was replaced or removed stays open until the names are synced. Without memory it is closed at once.
-    pub(crate) fn keep_gone(&mut self, path: &str)
+    /// A file that was replaced or removed stays open until the names are synced. Without memory it is closed at once.
+    pub fn keep_gone(&mut self, path: &str)
         ensures { self.new ≡ record self.old { files = self.new.files; gone = self.new.gone } }
     {
         let files = &mut self.files;
@@ -257,25 +290,28 @@ impl<F: Drop> Locks<F> {
         }
     }
 
-    // Closes the files that were replaced or removed, and gives the path of one that may have stood on FAT.
-    pub(crate) fn close_gone(&mut self) -> Option<String>
+    /// Closes the files that were replaced or removed, and gives the path of one that may have stood on FAT: so do its
+    /// folder's facts say, and its own.
+    pub fn close_gone(&mut self) -> Option<String>
         ensures { self.new ≡ record self.old { gone = self.new.gone } }
     {
         let gone = mem::replace(&mut self.gone, Vec::new(self.alloc));
-        let held = gone.into_iter().find(|held| held.found.is_fat_file())?;
+        let folders = &self.folders;
+        let held = gone.into_iter().find(|held| held.found.is_fat_file()
+            && may_be_in_fat(folders, held.path.as_str()))?;
         Some(held.path)
     }
 
-    // Whether a folder was newly held since this was last asked.
-    pub(crate) fn take_new_folder(&mut self) -> bool
+    /// Whether a folder was newly held since this was last asked.
+    pub fn take_new_folder(&mut self) -> bool
         ensures told { result ≡ self.old.has_new_folder }
         ensures same { self.new ≡ record self.old { has_new_folder = false } }
     {
         mem::replace(&mut self.has_new_folder, false)
     }
 
-    // A reply is given.
-    pub(crate) fn end_reply(&mut self)
+    /// A reply is given.
+    pub fn end_reply(&mut self)
         ensures files { self.new.files.items ≡ [] }
         ensures same { self.new ≡ record self.old { files = self.new.files } }
     {
@@ -304,6 +340,11 @@ fn is_held<F: Drop>(all: &Vec<Held<F>>, path: &str, hold: Hold) -> bool
     ensures { IsTrue result → IsSome (held_by all.now.items path.now) }
 {
     held_at(all, path).is_some_and(|held| held.file.is_enough(hold))
+}
+
+// Whether the folder of a file may be of FAT, as far as this run holds it.
+fn may_be_in_fat<F: Drop>(folders: &Vec<Held<F>>, path: &str) -> bool {
+    held_at(folders, folder_of(path)).is_none_or(|held| held.found.is_fat_folder())
 }
 
 // What this run holds of these already, maybe by another path.

@@ -2,9 +2,9 @@
 use Rattle.std.proofs.Common.{◌≡◌, Bool, List, [], ◌++◌, sym, ap, ◌∙◌, append_assoc, arith, append-nil}
 use Rattle.std.proofs.lemmas.List.Elements.{All-append}
 use Rattle.folder_calls.specs.Calls.{Inode}
-use Rattle.folder_machine.specs.Holding.{HoldsMore, IsHeldAs, TellsNewFolders}
-use Rattle.folder_machine.specs.declared.locks.Held.{Held}
-use Rattle.folder_machine.specs.declared.locks.Locks.{Locks}
+use Rattle.folder_locks.specs.Holding.{HoldsMore, IsHeldAs, TellsNewFolders}
+use Rattle.folder_locks.specs.declared.locks.Held.{Held}
+use Rattle.folder_locks.specs.declared.locks.Locks.{Locks}
 
 -- nothing more is held
 pub holds_same : {F : Type 0} (tells : Bool) (inode : F → Inode) (old new : List (Held F)) → new ≡ old

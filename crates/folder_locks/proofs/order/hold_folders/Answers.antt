@@ -1,20 +1,20 @@
-use Rattle.std.proofs.Common.{refl, rules}
-use Rattle.folder_machine.proofs.MoreHeld.{holds_same, holds_then, tells_then}
-use Rattle.folder_machine.proofs.locks.Locks.hold_payloads.Goals as goal
+use Rattle.std.proofs.Common.{rules}
+use Rattle.folder_locks.proofs.MoreHeld.{holds_same, holds_then, tells_then}
+use Rattle.folder_locks.proofs.order.hold_folders.Goals as goal
 
 pub loop-folder-init : goal.loop-folder-init
 loop-folder-init g c = record {
-  folders = holds_same _ _ _ _ refl;
-  new = record { none = λ none. refl; before = λ none. none };
-  files = refl;
+  folders = holds_same _ _ _ _ (search rules);
+  files = search rules;
+  new = search rules;
   payloads = search rules;
 }
 
 pub loop-folder-preserved : goal.loop-folder-preserved
 loop-folder-preserved g c = record {
   folders = holds_then _ _ _ _ _ c.loop-folder.invariant.folders c.in_ok-hold_folder.ensures.folders;
-  new = tells_then _ _ _ c.loop-folder.invariant.new c.in_ok-hold_folder.ensures.new;
   files = search rules;
+  new = tells_then _ _ _ c.loop-folder.invariant.new c.in_ok-hold_folder.ensures.new;
   payloads = search rules;
 }
 

@@ -1,34 +1,15 @@
 -- What is looked at, what stands in a folder as looks compare it, and the error of a look.
-use Rattle.std.specs.Prelude.{ℕ, Bool, false, ◌&&◌, List, filter, Option, Some, None, if◌then◌else◌}
-use Rattle.std.specs.Option.{option_map_or}
+use Rattle.std.specs.Prelude.{Option, Some, None, if◌then◌else◌}
 use Rattle.std.specs.FinSet as set
 use Rattle.std.specs.declared.io.ErrorKind.{ErrorKind}
 use Rattle.std.specs.declared.io.ErrorKind.TheVariants.{OutOfMemory, WouldBlock}
-use Rattle.boot_base.specs.Paths.{is_file_name}
-use Rattle.name_syncs.specs.Folders.{path_in}
-use Rattle.folder_calls.specs.Tree.{Tree, has_link, is_file}
+use Rattle.folder_calls.specs.Tree.{Tree, is_file}
 use Rattle.folder_calls.specs.declared.found.Found.{Found}
 use Rattle.run_looks.specs.Standing.{RecentStand, Standing}
 use Rattle.run_looks.specs.declared.identity.Identity.{Identity}
 use Rattle.run_looks.specs.declared.looks.LookFault.{LookFault}
 use Rattle.run_looks.specs.declared.looks.LookFault.TheVariants.{Changed, Memory}
 use Rattle.run_looks.specs.declared.looks.RunLooks.{RunLooks}
-
--- what stands at a path, or what it leads to if that is a link
-abbrev pub followed : Tree → List ℕ → Option Found
-followed tree path = if has_link (tree.stands path) then tree.leads path else tree.stands path
-
--- a regular file, after links
-abbrev pub leads_to_file : Tree → List ℕ → Bool
-leads_to_file tree path = option_map_or is_file (followed tree path) false
-
--- a name in a folder that can be read as one, of a regular file
-abbrev pub is_file_in : Tree → List ℕ → List ℕ → Bool
-is_file_in tree folder name = leads_to_file tree (path_in folder name) && is_file_name name
-
--- those of a folder's names that are names of regular files, in their order
-abbrev pub files_in : Tree → List ℕ → List (List ℕ) → List (List ℕ)
-files_in tree folder names = filter (is_file_in tree folder) names
 
 -- what tells a regular file from another one, and from itself after a change
 abbrev pub identity_of : Option Found → Option Identity

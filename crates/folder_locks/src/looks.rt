@@ -2,19 +2,17 @@
 ghost use Rattle.std.specs.Prelude.{◌≡◌, IfErr, IfOk, IsErrAnd, IsTrue, Ok, OnErr, OnOk, false};
 ghost use Rattle.std.specs.IoError.{error_kind};
 ghost use Rattle.run_looks.specs.Standing.{AllStand, RecentStand};
-ghost use Rattle.folder_machine.specs.Checking.{IsCheckError};
-ghost use Rattle.folder_machine.specs.Holding.{HoldsMore, TellsNewFolders};
-ghost use Rattle.folder_machine.specs.Looking.{identity_of, look_error_kind, standing_of};
+ghost use Rattle.folder_locks.specs.Checking.{IsCheckError};
+ghost use Rattle.folder_locks.specs.Looking.{identity_of, look_error_kind, standing_of};
 
 use crate::answers::changed_fault;
-use crate::locks::Locks;
-use folder_calls::{Calls, Found, Hold};
+use folder_calls::{Calls, Found};
 use run_looks::{CheckFault, Identity, LiveDisk, LookFault, RunLooks};
 use std::alloc::{AllocError, Global};
 use std::io;
 
-// What is no regular file isn't there.
-pub(crate) fn identity_of(found: Option<Found>) -> Option<Identity>
+/// What is no regular file isn't there.
+pub fn identity_of(found: Option<Found>) -> Option<Identity>
     ensures { result ≡ identity_of found }
 {
     let found = found.filter(|found| found.is_file())?;
@@ -35,7 +33,7 @@ struct LiveFolder<'a, C: Calls> {
 }
 
 impl<'a, C: Calls> LiveDisk for LiveFolder<'a, C> {
-    ghost use Rattle.folder_machine.specs.Looking.{standing_of};
+    ghost use Rattle.folder_locks.specs.Looking.{standing_of};
 
     type Fault = io::Error;
 
@@ -56,8 +54,8 @@ impl<'a, C: Calls> LiveDisk for LiveFolder<'a, C> {
     }
 }
 
-// What is said of a look at a path.
-pub(crate) fn look_answer<T: Drop>(
+/// What is said of a look at a path.
+pub fn look_answer<T: Drop>(
     alloc: Global,
     path: &str,
     answer: Result<T, LookFault>,
@@ -84,12 +82,8 @@ fn check_answer(answer: Result<(), CheckFault<io::Error>>) -> io::Result<()>
     }
 }
 
-// What was looked at since the last reply must still be the same.
-pub(crate) fn require_same<C: Calls>(
-    calls: &C,
-    alloc: Global,
-    looks: &mut RunLooks,
-) -> io::Result<()>
+/// What was looked at since the last reply must still be the same.
+pub fn require_same<C: Calls>(calls: &C, alloc: Global, looks: &mut RunLooks) -> io::Result<()>
     ensures stand { IfOk result (λ _. IsTrue C.tells → RecentStand (standing_of (C.tree calls.now)) looks.old) }
     ensures ok { OnOk result (looks.new ≡ record looks.old { has_unchecked = false }) }
     ensures err { OnErr result (looks.new ≡ looks.old) }
@@ -97,68 +91,9 @@ pub(crate) fn require_same<C: Calls>(
     check_answer(looks.require_same(&LiveFolder { calls, alloc }))
 }
 
-// All that was looked at must still be the same.
-pub(crate) fn require_all_same<C: Calls>(
-    calls: &C,
-    alloc: Global,
-    looks: &RunLooks,
-) -> io::Result<()>
+/// All that was looked at must still be the same.
+pub fn require_all_same<C: Calls>(calls: &C, alloc: Global, looks: &RunLooks) -> io::Result<()>
     ensures { IfOk result (λ _. IsTrue C.tells → AllStand (standing_of (C.tree calls.now)) looks.now) }
 {
     check_answer(looks.require_all_same(&LiveFolder { calls, alloc }))
-}
-
-// Holds the folders that were listed, and the files that were looked at since the last reply.
-pub(crate) fn hold_looks<C: Calls>(
-    calls: &C,
-    looks: &RunLooks,
-    locks: &mut Locks<C::File>,
-) -> io::Result<()>
-    ensures folders { HoldsMore C.tells C.inode locks.old.folders.items locks.new.folders.items }
-    ensures files { HoldsMore C.tells C.inode locks.old.files.items locks.new.files.items }
-    ensures new { TellsNewFolders locks.old locks.new }
-{
-    hold_listed(calls, looks, locks)?;
-    hold_read_files(calls, looks, locks)
-}
-
-fn hold_listed<C: Calls>(calls: &C, looks: &RunLooks, locks: &mut Locks<C::File>) -> io::Result<()>
-    ensures folders { HoldsMore C.tells C.inode locks.old.folders.items locks.new.folders.items }
-    ensures files { locks.new.files ≡ locks.old.files }
-    ensures new { TellsNewFolders locks.old locks.new }
-{
-    for (folder, _) in looks.listings.iter() {
-        locks.hold_folder(calls, folder.as_str(), Hold::Alone)?;
-    }
-    Ok(())
-}
-
-fn hold_read_files<C: Calls>(
-    calls: &C,
-    looks: &RunLooks,
-    locks: &mut Locks<C::File>,
-) -> io::Result<()>
-    ensures files { HoldsMore C.tells C.inode locks.old.files.items locks.new.files.items }
-    ensures same { locks.new ≡ record locks.old { files = locks.new.files } }
-{
-    for path in looks.recent.as_slice() {
-        hold_recent(calls, looks, path.as_str(), locks)?;
-    }
-    Ok(())
-}
-
-// Holds a file that was looked at, if it is to be held.
-fn hold_recent<C: Calls>(
-    calls: &C,
-    looks: &RunLooks,
-    path: &str,
-    locks: &mut Locks<C::File>,
-) -> io::Result<()>
-    ensures files { HoldsMore C.tells C.inode locks.old.files.items locks.new.files.items }
-    ensures same { locks.new ≡ record locks.old { files = locks.new.files } }
-{
-    if looks.is_to_hold(path) {
-        return locks.hold_read(calls, path);
-    }
-    Ok(())
 }

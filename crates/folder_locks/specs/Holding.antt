@@ -7,8 +7,12 @@ use Rattle.name_syncs.specs.declared.folders.FolderSet.{FolderSet}
 use Rattle.folder_calls.specs.Calls.{Inode, inode_of}
 use Rattle.folder_calls.specs.Tree.{same_inode}
 use Rattle.folder_calls.specs.declared.found.Found.{Found}
-use Rattle.folder_machine.specs.declared.locks.Held.{Held}
-use Rattle.folder_machine.specs.declared.locks.Locks.{Locks}
+use Rattle.folder_locks.specs.declared.locks.Held.{Held}
+use Rattle.folder_locks.specs.declared.locks.Locks.{Locks}
+
+-- what was opened is what was found
+abbrev pub IsOpenAs : {F : Type 0} → (F → Inode) → F × Found → Type 0
+IsOpenAs inode opened = inode opened.0 ≡ inode_of opened.1
 
 -- payloads stand in a folder whose last component is `boot_tools`
 abbrev pub has_payloads : List ℕ → Bool

@@ -1,0 +1,4 @@
+pub mod Holding
+pub mod Meeting
+pub mod Looking
+pub mod Checking
