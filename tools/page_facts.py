@@ -10,7 +10,8 @@ CLAIMS, DECISIONS = pathlib.Path("docs/CLAIMS.md"), pathlib.Path("docs/DECISIONS
 ARCHITECTURE, REFUSALS = pathlib.Path("docs/ARCHITECTURE.md"), pathlib.Path("docs/REFUSALS.md")
 GROUPS, MANUAL = pathlib.Path("crates.txt"), pathlib.Path("share/man/boot_tools.1")
 STORIES = pathlib.Path("crates/boot_stories/stdout")
-MODELS = pathlib.Path("tools/story-model"), pathlib.Path("tools/row-model")
+MODEL = pathlib.Path("tools/lab/program_model")
+ROWS = MODEL / "text_rows.py"
 IN_CODE, IN_SPEC = pathlib.Path("crates/boot_base/src/refusal.rt"), pathlib.Path("crates/boot_base/specs/Refusals.antt")
 
 NUMBERS = "none one two three four five six seven eight nine ten".split()
@@ -240,13 +241,14 @@ def in_spec():
 
 
 def in_rows():
-    source = MODELS[1].read_text().partition("REFUSALS = {")[2].partition("\n}")[0]
+    source = ROWS.read_text().partition("REFUSALS = {")[2].partition("\n}")[0]
     yield from ((int(at), form(text)) for at, text in re.findall(r'"\w+": \((\d+), "([^"]*)"\)', source))
 
 
 def in_model():
-    source = MODELS[0].read_text()
-    yield from ((int(at), form(text)) for at, text in re.findall(r'Refused\((\d+), f?"([^"]*)"\)', source))
+    """Each refusal in the model of the program: its file, its number and its text."""
+    for file in sorted(MODEL.glob("*.py")):
+        yield from ((file, int(at), form(text)) for at, text in re.findall(r'Refused\((\d+), f?"([^"]*)"\)', file.read_text()))
 
 
 def in_page():
@@ -262,15 +264,15 @@ def in_manual():
 def wrong_refusals():
     """A text of a refusal that isn't that of the code, a place that lacks one, and a printed line that has no such text."""
     code = dict(in_code())
-    whole = (IN_SPEC, in_spec), (MODELS[1], in_rows), (REFUSALS, in_page), (MANUAL, in_manual)
+    whole = (IN_SPEC, in_spec), (ROWS, in_rows), (REFUSALS, in_page), (MANUAL, in_manual)
     for place, read in whole:
         found = dict(read())
         yield from (f"{place}: refusal {at} is `{found.get(at)}`, and in the code `{text}`" for at, text in code.items() if found.get(at) != text)
         yield from (f"{place}: refusal {at} isn't in the code" for at in found if at not in code)
     like = {at: re.compile(re.escape(text).replace(r"\{\}", ".*") + "$") for at, text in code.items()}
-    for at, text in in_model():
+    for place, at, text in in_model():
         if not (at in like and like[at].match(text)):
-            yield f"{MODELS[0]}: refusal {at} is `{text}`, and in the code `{code.get(at)}`"
+            yield f"{place}: refusal {at} is `{text}`, and in the code `{code.get(at)}`"
     for at, text in re.findall(r"^refusal (\d+): (.*)$", STORIES.read_text(), re.MULTILINE):
         if not (int(at) in like and like[int(at)].match(text)):
             yield f"{STORIES}: `{text}` isn't what refusal {at} prints"

@@ -4,7 +4,7 @@ import os
 import random
 import re
 
-from lab import power_cuts
+from lab.images import small_image, small_stub
 
 LINUX, LOADER, TEXTS, PAYLOADS = "efi/EFI/Linux", "efi/loader", "efi/loader/entries", "efi/boot_tools"
 # What an entry is called without its counter and its suffix, by the number of letters. Two are short enough for FAT to
@@ -100,14 +100,14 @@ def start_files(case, position, fs):
     if position == "edge" and not case.makes:
         number = (15 - slots(case.entry)) % 16
     files = {f"R{n}": f"r{n}".encode() for n in range((number * 5 + 3) % 16)}
-    files |= {"in/stub": power_cuts.small_stub(), "in/kernel": some.randbytes(900), "in/initrd": some.randbytes(1300)}
+    files |= {"in/stub": small_stub(), "in/kernel": some.randbytes(900), "in/initrd": some.randbytes(1300)}
     files |= {"in/release": b"ID=demo\n", "efi/startup.nsh": b"exit\n"}
-    files |= {path: power_cuts.small_image(number, 700 * number) for number, path in enumerate(IMAGES, 3)}
+    files |= {path: small_image(number, 700 * number) for number, path in enumerate(IMAGES, 3)}
     ballast = {"in/ballast": some.randbytes(fs.ballast * fs.cluster)}
     if position == "new":
         return files | ballast
-    entries = {f"{LOADER}/loader.conf": b"timeout 3\n", f"{LINUX}/{case.entry}": power_cuts.small_image(9, 2500)}
-    entries |= {f"{LINUX}/other-1.efi": power_cuts.small_image(1, 1500)}
+    entries = {f"{LOADER}/loader.conf": b"timeout 3\n", f"{LINUX}/{case.entry}": small_image(9, 2500)}
+    entries |= {f"{LINUX}/other-1.efi": small_image(1, 1500)}
     files |= {f"{LINUX}/P{n}": f"p{n}".encode() for n in range(number)}
     for folder, names in case.makes.items() if position.startswith(("full", "edge")) else ():
         used = 2 + sum(slots(os.path.basename(path)) for path in entries if os.path.dirname(path) == folder)

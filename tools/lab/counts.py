@@ -4,8 +4,8 @@ The calls are those that the program makes through the C library. Nothing is jud
 """
 import collections
 
-from lab.trials import ENTRY, Command, Trials, start_files
 from lab.traps import SYNCS
+from lab.trials import ENTRY, Command, Trials, start_files
 
 KINDS, OWN = ["status"], []
 ENTRIES, QUICK = [1, 10, 100], [1, 10]

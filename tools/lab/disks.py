@@ -1,11 +1,15 @@
 """Disks and their file systems, in the guest: what runs as root there."""
 import collections
+import contextlib
 import ctypes
 import errno
 import fcntl
 import os
+import subprocess
 
-from lab import Trouble, power_cuts
+from lab import Trouble
+from lab.host import tool, write_files
+from lab.kernels import Modules
 
 C = ctypes.CDLL(None, use_errno=True)
 ROOM = "/mnt"
@@ -58,7 +62,7 @@ def unmount(target):
 
 
 def insert_modules(folder):
-    for name, data in power_cuts.Modules(folder).in_order(MODULES).items():
+    for name, data in Modules(folder).in_order(MODULES).items():
         if C.syscall(175, data, ctypes.c_ulong(len(data)), b"") < 0 and ctypes.get_errno() != errno.EEXIST:
             raise Trouble(f"the module {name}: {os.strerror(ctypes.get_errno())}")
 
@@ -111,9 +115,44 @@ class Mounted:
         self.loop.__exit__()
 
 
+@contextlib.contextmanager
+def recorded(disk, log_size=64 << 20):
+    """A disk's file as the device `/dev/dm-0`, whose writes are recorded. It gives the log's path."""
+    log = f"{ROOM}/log"
+    with open(log, "wb") as file:
+        file.truncate(log_size)
+    with Loop(0, disk) as first, Loop(1, log) as second:
+        table = f"0 {os.path.getsize(disk) // 512} log-writes {first.path} {second.path}"
+        dmsetup("create", "recorded", "--table", table)
+        try:
+            yield log
+        finally:
+            dmsetup("remove", "recorded")
+
+
+def mark_reply(number):
+    """Notes in the log that a reply was given."""
+    dmsetup("message", "recorded", "0", f"mark reply-{number}")
+
+
+def make_files(files, folder):
+    """Writes files into a folder, each a minute younger than the one before."""
+    for number, (path, data) in enumerate(files.items()):
+        write_files({path: data}, folder)
+        os.utime(f"{folder}/{path}", (MADE + 60 * number,) * 2)
+
+
+def run_check(words, disk, allowed=(0, 1, 4, 5)):
+    """A check's run, which may have found something."""
+    ran = subprocess.run([*words.split(), disk], capture_output=True, text=True, errors="replace", check=False)
+    if ran.returncode not in allowed:
+        raise Trouble(f"{words}: {ran.stdout} {ran.stderr}")
+    return ran
+
+
 def is_read_only(folder):
     return bool(os.statvfs(folder).f_flag & os.ST_RDONLY)
 
 
 def dmsetup(*words):
-    power_cuts.tool("dmsetup", "--noudevsync", *words)
+    tool("dmsetup", "--noudevsync", *words)

@@ -1,10 +1,12 @@
 """Guests of user-mode Linux: how the host starts them and gives them a job, and what they say of it."""
+import argparse
 import concurrent.futures
 import contextlib
 import errno
 import json
 import os
 import re
+import shutil
 import signal
 import subprocess
 import sys
@@ -12,11 +14,26 @@ import tempfile
 import time
 import traceback
 
-from lab import Trouble, power_cuts
+from lab import Trouble
 from lab.disks import C, ROOM, insert_modules, mount
+from lab.host import compile_library, newest
 
-LAB = os.path.dirname(os.path.realpath(__file__))
 PATIENCE = 7200  # seconds until a guest must have done its job
+
+
+def add_options(parser, kept):
+    """The options of a tool that starts guests. It may keep the disks of what is said here."""
+    parser.add_argument("--uml", default=shutil.which("linux.uml") or "/usr/bin/linux.uml")
+    parser.add_argument("--modules", default=newest("/usr/lib/uml/modules/*"), help="those of that kernel")
+    parser.add_argument("--keep", help=f"a folder that is there, for the disks of {kept}")
+    parser.add_argument("--guest", help=argparse.SUPPRESS)
+
+
+def require_paths(parser, args):
+    """Ends the tool if the program, the kernel or its modules aren't there. A guest needs none of them."""
+    for path in () if args.guest else (args.program, args.uml, args.modules):
+        if not os.path.exists(path):
+            parser.error(f"{path or 'a folder of modules'} isn't there")
 
 
 def be_guest(folder, doers):
@@ -40,14 +57,6 @@ def be_guest(folder, doers):
             out.write(json.dumps({"trouble": traceback.format_exc()}) + "\n")
     os.sync()
     C.reboot(0x4321FEDC)
-
-
-def compile_library(name, folder):
-    """Makes a library of a C file beside this one, to be loaded before others. It gives the path."""
-    library = f"{folder}/{name}.so"
-    words = ["cc", "-O1", "-Wall", "-Wextra", "-Werror", "-shared", "-fPIC", "-o", library, f"{LAB}/{name}.c"]
-    power_cuts.tool(*words)
-    return library
 
 
 def preloaded(folder):

@@ -11,8 +11,8 @@ stays until it is removed by hand; and `by-check`: the check has taken old bytes
 """
 import os
 
-from lab.trials import COMMANDS, THENS, Trials, fault_of_reply, where_of
 from lab.traps import KILL, Steps
+from lab.trials import COMMANDS, THENS, Trials, fault_of_reply, where_of
 
 KINDS = ["lost", "order", "stuck", "text"]
 OWN = ["by-hand", "by-check"]

@@ -5,11 +5,13 @@ import os
 import random
 import re
 import shutil
-import subprocess
 
-from lab import Trouble, power_cuts
+from lab import Trouble
 from lab.cases import CASES, LIST, PAYLOADS, READ, build, start_files
-from lab.disks import FILE_SYSTEMS, MADE, MENDINGS, ROOM, Loop, Mounted, dmsetup, is_read_only, mount, unmount
+from lab.disks import FILE_SYSTEMS, MENDINGS, ROOM, Mounted
+from lab.disks import is_read_only, make_files, mark_reply, mount, recorded, run_check, unmount
+from lab.host import tool, write_files
+from lab.intents import INTENT
 from lab.models import Models
 from lab.recordings import Moment, moments
 from lab.trees import EMPTY, UNMARKED, UNREADABLE, View, digest, digests_of, is_alias, is_boot_file, told
@@ -29,12 +31,10 @@ class Guest(Models):
     def make_disk(self, position):
         """A new disk with the case's files, and its bytes."""
         disk = f"{ROOM}/disk"
-        power_cuts.write_files({"disk": random.Random(2).randbytes(self.fs.size)}, ROOM)
-        power_cuts.tool(*self.fs.make.split(), disk)
+        write_files({"disk": random.Random(2).randbytes(self.fs.size)}, ROOM)
+        tool(*self.fs.make.split(), disk)
         with Mounted(self.fs.kind, disk) as at:
-            for number, (path, data) in enumerate(start_files(self.case, position, self.fs).items()):
-                power_cuts.write_files({path: data}, at)
-                os.utime(f"{at}/{path}", (MADE + 60 * number,) * 2)
+            make_files(start_files(self.case, position, self.fs), at)
             self.chain, self.steps = [self.keep(at)], []
         for words in self.case.commands:
             model = self.after(self.chain[-1], words)
@@ -45,20 +45,13 @@ class Guest(Models):
 
     def record(self, disk, commands):
         """Carries commands out on a disk whose writes are recorded. It gives the log and the replies."""
-        log, at, replies = f"{ROOM}/log", f"{ROOM}/at", []
-        with open(log, "wb") as file:
-            file.truncate(64 << 20)
-        with Loop(0, disk) as first, Loop(1, log) as second:
-            table = f"0 {self.fs.size // 512} log-writes {first.path} {second.path}"
-            dmsetup("create", "recorded", "--table", table)
-            try:
-                mount("/dev/dm-0", at, self.fs.kind)
-                for number, words in enumerate(commands, 1):
-                    replies.append(self.run(words, at))
-                    dmsetup("message", "recorded", "0", f"mark reply-{number}")
-                unmount(at)
-            finally:
-                dmsetup("remove", "recorded")
+        at, replies = f"{ROOM}/at", []
+        with recorded(disk) as log:
+            mount("/dev/dm-0", at, self.fs.kind)
+            for number, words in enumerate(commands, 1):
+                replies.append(self.run(words, at))
+                mark_reply(number)
+            unmount(at)
         with open(log, "rb") as file:
             return file.read(), replies
 
@@ -96,7 +89,7 @@ class Guest(Models):
             getattr(look, way)()
             if look.broken and self.job["keep"]:
                 words = [*map(str, map(self.job.get, ("fs", "letters", "case"))), self.folder, moment.name]
-                power_cuts.write_files({"-".join(words).replace("/", "_"): moment.disk}, self.job["keep"])
+                write_files({"-".join(words).replace("/", "_"): moment.disk}, self.job["keep"])
             if look.statuses or look.broken:
                 yield {"moment": moment.name, "replies": moment.replies, "way": way, **look.said()}
 
@@ -230,7 +223,7 @@ class Look:
 
     def run_elsewhere(self, words):
         """The status of a command that is started in a folder above the mount point, and its text."""
-        for path in (f"{ROOM}/boot_tools.intent", f"{ROOM}/boot_tools.intent.tmp"):
+        for path in (f"{ROOM}/{INTENT}", f"{ROOM}/{INTENT}.tmp"):
             with contextlib.suppress(FileNotFoundError):
                 os.unlink(path)
         with Mounted(self.guest.fs.kind, self.disk):
@@ -270,10 +263,7 @@ class Look:
         self.blame("stuck", "fsck", f"it finds something for the {MENDINGS}th time")
 
     def told_by_fsck(self, words):
-        ran = subprocess.run([*words.split(), self.disk], capture_output=True, text=True, errors="replace", check=False)
-        if ran.returncode not in (0, 1, 4):
-            raise Trouble(f"{words}: {ran.stdout} {ran.stderr}")
-        return ran
+        return run_check(words, self.disk, (0, 1, 4))
 
     def mounted(self, when, *commands, is_end=False):
         """Mounts the disk, reads all, runs commands and reads all again."""

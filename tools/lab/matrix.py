@@ -1,8 +1,10 @@
 """The matrices of trials: which guests there are, what is told of them, and the tables."""
+import itertools
 import tempfile
 
 from lab import before, counts, failing, killed, sectors, unsynced
-from lab.guests import Host, compile_library
+from lab.guests import Host
+from lab.host import compile_library
 from lab.systems import STARTS
 from lab.tables import sums, table, tell
 
@@ -26,7 +28,9 @@ def run(name, args, script):
     args.systems = list(systems(args))
     with tempfile.TemporaryDirectory(prefix="disk-moments-") as folder:
         common = {"do": name, "trap": compile_library("trap", folder)}
-        for job, them, seconds in Host(args, folder, script).ask_all(common | job for job in way.jobs(args)):
+        number, count = args.share
+        jobs = itertools.islice(way.jobs(args), number - 1, None, count)
+        for job, them, seconds in Host(args, folder, script).ask_all(common | job for job in jobs):
             own = {word: job[word] for word in WORDS if word in job}
             what = ", ".join(map(str, own.values()))
             for it in them:

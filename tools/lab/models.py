@@ -4,9 +4,10 @@ import os
 import shutil
 import subprocess
 
-from lab import Trouble, power_cuts
+from lab import Trouble
 from lab.cases import LIST
-from lab.disks import MADE, ROOM
+from lab.disks import ROOM, make_files
+from lab.traps import environment, log_of
 from lab.trees import EMPTY, View, digests_of, steps_between
 
 # What a command replies on a plain folder, and leaves.
@@ -21,12 +22,10 @@ class Models:
 
     def run(self, words, folder):
         """The program's status in a folder, and what it prints. At 3 its log is kept."""
-        env = {"PATH": "/usr/bin", "BOOT_TOOLS_LOG": "1"}
-        ran = subprocess.run([self.program, *words], cwd=folder, capture_output=True, check=False, env=env)
+        ran = subprocess.run([self.program, *words], cwd=folder, capture_output=True, check=False, env=environment())
         if ran.returncode > 125 or ran.returncode < 0:
             raise Trouble(f"the program doesn't run in the guest: {words} {ran.returncode} {ran.stderr[-300:]}")
-        # The log's first line says which program it is.
-        self.log = " | ".join(ran.stderr.decode(errors="replace").splitlines()[1:]) if ran.returncode == 3 else self.log
+        self.log = log_of(ran.stderr) if ran.returncode == 3 else self.log
         return ran.returncode, ran.stdout.decode(errors="replace")
 
     def keep(self, folder):
@@ -45,9 +44,7 @@ class Models:
             folder = f"{ROOM}/model"
             shutil.rmtree(folder, ignore_errors=True)
             os.makedirs(f"{folder}/efi")
-            power_cuts.write_files({path: self.store[it] for path, it in tree}, folder)
-            for number, (path, _) in enumerate(sorted(tree)):
-                os.utime(f"{folder}/{path}", (MADE + 60 * number,) * 2)
+            make_files({path: self.store[it] for path, it in sorted(tree)}, folder)
             status, text = self.run(words, folder)
             then = self.keep(folder)
             self.models[key] = Model(status, text, then, steps_between(tree, then, text))

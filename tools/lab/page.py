@@ -6,9 +6,10 @@ import re
 import shutil
 import subprocess
 
-from lab import TOP, Trouble, power_cuts
+from lab import TOP, Trouble
 from lab.cases import LIST, start_files
-from lab.disks import MADE, MAKE_EXT4, MENDINGS, MS_BIND, ROOM, Loop, dmsetup, mount, unmount
+from lab.disks import MAKE_EXT4, MENDINGS, MS_BIND, ROOM, Loop, dmsetup, make_files, mark_reply, mount, recorded, unmount
+from lab.host import quoted, tool, write_files
 from lab.looks import Guest
 from lab.recordings import moments
 from lab.trees import EMPTY, PASSING, View, told
@@ -77,22 +78,20 @@ class Page(Guest):
         """The bytes of both file systems, the root's first."""
         root, partition = f"{ROOM}/first", f"{ROOM}/look"
         some = random.Random(2)
-        power_cuts.write_files({"first": some.randbytes(ROOT_SIZE), "look": some.randbytes(self.fs.size)}, ROOM)
-        power_cuts.tool(*MAKE_EXT4.split(), root)
-        power_cuts.tool(*self.fs.make.split(), partition)
+        write_files({"first": some.randbytes(ROOT_SIZE), "look": some.randbytes(self.fs.size)}, ROOM)
+        tool(*MAKE_EXT4.split(), root)
+        tool(*self.fs.make.split(), partition)
         with Loop(0, root) as first, Loop(1, partition) as second:
             mount(first.path, System.at, "ext4")
             for name in (*System.shared, "etc", "boot/efi"):
                 os.makedirs(f"{System.at}/{name}")
             for name in ("bin", "sbin", "lib", "lib64"):
                 os.symlink(f"usr/{name}", f"{System.at}/{name}")
-            power_cuts.write_files({"etc/fstab": f"{second.path} /boot/efi vfat umask=0077 0 0\n".encode()}, System.at)
+            write_files({"etc/fstab": f"{second.path} /boot/efi vfat umask=0077 0 0\n".encode()}, System.at)
             unmount(System.at)
             with System(first.path, second.path) as at:
-                for number, (path, data) in enumerate(start_files(self.case, position, self.fs).items()):
-                    path = path.replace("efi/", "boot/efi/") if path.startswith("efi/") else path
-                    power_cuts.write_files({path: data}, at)
-                    os.utime(f"{at}/{path}", (MADE + 60 * number,) * 2)
+                files = start_files(self.case, position, self.fs).items()
+                make_files({path.replace("efi/", "boot/efi/") if path.startswith("efi/") else path: it for path, it in files}, at)
                 self.chain = [self.keep(at)]
         for words in self.case.commands:
             self.chain.append(self.after(self.chain[-1], words).tree)
@@ -101,22 +100,18 @@ class Page(Guest):
 
     def record(self, disk, commands):
         """Carries commands out on a system whose writes are recorded in one log."""
-        log, replies = f"{ROOM}/log", []
-        power_cuts.write_files({"disk": disk}, ROOM)
-        with open(log, "wb") as file:
-            file.truncate(128 << 20)
+        replies = []
+        write_files({"disk": disk}, ROOM)
         root, partition = ROOT_SIZE // 512, self.fs.size // 512
-        with Loop(0, f"{ROOM}/disk") as first, Loop(1, log) as second:
-            table = f"0 {root + partition} log-writes {first.path} {second.path}"
-            dmsetup("create", "recorded", "--table", table)
-            dmsetup("create", "root", "--table", f"0 {root} linear /dev/dm-0 0")
-            dmsetup("create", "partition", "--table", f"0 {partition} linear /dev/dm-0 {root}")
-            with System("/dev/dm-1", "/dev/dm-2") as at:
-                for number, words in enumerate(commands, 1):
-                    replies.append(self.run(words, at))
-                    dmsetup("message", "recorded", "0", f"mark reply-{number}")
-            for name in ("partition", "root", "recorded"):
-                dmsetup("remove", name)
+        with contextlib.ExitStack() as stack:
+            log = stack.enter_context(recorded(f"{ROOM}/disk", 128 << 20))
+            for name, start, count in (("root", 0, root), ("partition", root, partition)):
+                dmsetup("create", name, "--table", f"0 {count} linear /dev/dm-0 {start}")
+                stack.callback(dmsetup, "remove", name)
+            at = stack.enter_context(System("/dev/dm-1", "/dev/dm-2"))
+            for number, words in enumerate(commands, 1):
+                replies.append(self.run(words, at))
+                mark_reply(number)
         with open(log, "rb") as file:
             return file.read(), replies
 
@@ -144,7 +139,7 @@ class Morning:
         self.before, self.wanted = guest.chain[self.replies], guest.chain[min(self.replies + 1, len(commands))]
         self.root, self.partition = f"{ROOM}/first", f"{ROOM}/look"
         disk = moment.disk
-        power_cuts.write_files({"first": disk[:ROOT_SIZE], "look": disk[ROOT_SIZE:]}, ROOM)
+        write_files({"first": disk[:ROOT_SIZE], "look": disk[ROOT_SIZE:]}, ROOM)
         self.own, self.broken, self.statuses, self.text = set(), [], [], ""
 
     @contextlib.contextmanager
@@ -192,14 +187,7 @@ class Morning:
                     self.run_again()
                     continue
                 self.type_line(number, lines[number])
-                if number == LINE_OF_LIST:
-                    self.require_menu(at)
-                elif number == LINE_OF_TIDY and "cleaned" not in self.text:
-                    self.blame(f"line {number}", self.text)
-                elif number == LINE_OF_REST:
-                    self.own |= {"rest"} if self.text else set()
-                    for path in self.text.splitlines():
-                        os.unlink(f"{at}{path}")
+                self.judge_line(number, at)
             self.require_end(at, "in the end")
             self.shell("umount /boot/efi")
             if self.shell(f"fsck.vfat -n {PARTITION}"):
@@ -216,6 +204,17 @@ class Morning:
             status = self.shell(line)
         if status and number in LINES_UNTIL_0:
             self.blame(f"line {number}", f"it doesn't end with 0: {self.text[-200:]}")
+
+    def judge_line(self, number, at):
+        """Judges what a line has printed. What the last one lists is removed, as the page says."""
+        if number == LINE_OF_LIST:
+            self.require_menu(at)
+        elif number == LINE_OF_TIDY and "cleaned" not in self.text:
+            self.blame(f"line {number}", self.text)
+        elif number == LINE_OF_REST:
+            self.own |= {"rest"} if self.text else set()
+            for path in self.text.splitlines():
+                os.unlink(f"{at}{path}")
 
     def require_menu(self, at):
         """The list is that of before the command or after it. An empty file may be passed over."""
@@ -235,7 +234,7 @@ class Morning:
         """The cut command once more. A boot is counted once more only if the menu shows the old count."""
         if not self.words or self.words[0] == "boot" and not self.is_old:
             return
-        self.shell(" ".join(map(power_cuts.quoted, ["boot_tools", *self.words])))
+        self.shell(" ".join(map(quoted, ["boot_tools", *self.words])))
         models = [self.guest.after(tree, self.words) for tree in (self.before, self.wanted)]
         if (self.statuses[-1], self.text) not in [(model.status, model.text) for model in models]:
             self.blame(f"line {LINE_OF_COMMAND}", f"status {self.statuses[-1]}: {self.text}")

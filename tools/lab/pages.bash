@@ -84,7 +84,7 @@ root_of() { # root_of NAME SYSTEM
 # A kernel for guests, of tools/lab/chosen.c: it prints which entry the boot loader has chosen, and turns the machine off.
 make_kernel() {
   gcc -Os -ffreestanding -fno-stack-protector -fshort-wchar -mno-red-zone -fpie -fno-asynchronous-unwind-tables -fno-ident \
-    -c "$top/tools/lab/chosen.c" -o "$1.o" &&
+    -Wall -Wextra -c "$top/tools/lab/chosen.c" -o "$1.o" &&
     ld -m i386pep --subsystem 10 -e start --major-image-version 1 -o "$1" "$1.o"
 }
 

@@ -3,15 +3,14 @@ import contextlib
 import errno
 import os
 import random
-import subprocess
 import time
 
-from lab import Trouble, power_cuts
-from lab.disks import FILE_SYSTEMS, MADE, MENDINGS, MS_RDONLY, ROOM, Loop, dmsetup, mount, unmount
+from lab import Trouble
+from lab.disks import FILE_SYSTEMS, MENDINGS, MS_RDONLY, ROOM, Loop, dmsetup, make_files, mount, recorded, run_check, unmount
+from lab.host import tool, write_files
 
 # Where the starting folder is: on the partition's own file system, or on ext4.
 STARTS = ("on", "off")
-LOG_SIZE = 64 << 20
 TRIES = 50  # so often something is waited for, a fiftieth of a second each time
 
 
@@ -34,14 +33,6 @@ def refuses_changes(folder):
             raise
         return True
     return False
-
-
-def run_check(words, disk):
-    """A check's run, which may have found something."""
-    ran = subprocess.run([*words.split(), disk], capture_output=True, text=True, errors="replace", check=False)
-    if ran.returncode not in (0, 1, 4, 5):
-        raise Trouble(f"{words}: {ran.stdout} {ran.stderr}")
-    return ran
 
 
 class Device:
@@ -70,7 +61,7 @@ class Device:
         return f"linear {self.loop.path} {place}"
 
     def load(self, table):
-        power_cuts.write_files({"table": "\n".join([*table, ""]).encode()}, ROOM)
+        write_files({"table": "\n".join([*table, ""]).encode()}, ROOM)
         dmsetup("load", self.name, f"{ROOM}/table")
         # Without these flags the file system would be synced first.
         dmsetup("resume", "--noflush", "--nolockfs", self.name)
@@ -93,17 +84,15 @@ class System:
     def make(self, files):
         """The bytes of new disks with these files, each a minute younger than the one before."""
         for number, (kind, disk, _) in enumerate(self.parts):
-            power_cuts.write_files({disk: random.Random(2 + number).randbytes(kind.size)}, ROOM)
-            power_cuts.tool(*kind.make.split(), disk)
+            write_files({disk: random.Random(2 + number).randbytes(kind.size)}, ROOM)
+            tool(*kind.make.split(), disk)
         with self.mounted():
-            for number, (path, data) in enumerate(files.items()):
-                power_cuts.write_files({path: data}, self.at)
-                os.utime(f"{self.at}/{path}", (MADE + 60 * number,) * 2)
+            make_files(files, self.at)
         return self.cut()
 
     def put(self, disks):
         for (_, path, _), data in zip(self.parts, disks):
-            power_cuts.write_files({path: data}, ROOM)
+            write_files({path: data}, ROOM)
 
     def cut(self):
         """What a power cut leaves now: the bytes of the disks."""
@@ -132,14 +121,9 @@ class System:
     @contextlib.contextmanager
     def recorded(self):
         """The disks mounted as parts of one device that records its writes. It gives the log's path."""
-        whole, log, sectors = f"{ROOM}/whole", f"{ROOM}/log", sum(kind.size for kind, _, _ in self.parts) // 512
-        power_cuts.write_files({whole: b"".join(self.cut()), log: b""}, ROOM)
-        os.truncate(log, LOG_SIZE)
+        write_files({"whole": b"".join(self.cut())}, ROOM)
         with contextlib.ExitStack() as stack:
-            first, second = (stack.enter_context(Loop(number, file)) for number, file in enumerate((whole, log)))
-            dmsetup("create", "recorded", "--table", f"0 {sectors} log-writes {first.path} {second.path}")
-            stack.callback(dmsetup, "remove", "recorded")
-            place = 0
+            log, place = stack.enter_context(recorded(f"{ROOM}/whole")), 0
             for number, (kind, _, path) in enumerate(self.parts, 1):
                 dmsetup("create", f"part{number}", "--table", f"0 {kind.size // 512} linear /dev/dm-0 {place}")
                 stack.callback(dmsetup, "remove", f"part{number}")

@@ -5,6 +5,7 @@ import os
 import re
 
 from lab.cases import LINUX, PAYLOADS, TEXTS
+from lab.intents import INTENT
 
 
 def digest(data):
@@ -58,7 +59,7 @@ class View:
             folders[:] = [it for it in folders if it not in passed and self.is_of_a_run(it)]
             for name in filter(self.is_of_a_run, names):
                 path = os.path.relpath(os.path.join(above, name), folder)
-                self.has_intent |= name == "boot_tools.intent"
+                self.has_intent |= name == INTENT
                 self.has_alias |= is_alias(path)
                 if not PASSING.fullmatch(name):
                     self.tree[path] = self.read(os.path.join(above, name))

@@ -5,9 +5,12 @@ import random
 import re
 import subprocess
 
-from lab import Trouble, power_cuts
+from lab import Trouble
 from lab.cases import LINUX, LIST, LOADER, build
-from lab.disks import ROOM, dmsetup
+from lab.disks import ROOM, mark_reply
+from lab.host import write_files
+from lab.images import small_image, small_stub
+from lab.intents import INTENT, names_moved
 from lab.models import Models
 from lab.systems import System
 from lab.traps import Ran, Trap, environment, log_of
@@ -40,24 +43,19 @@ THENS = {
     "bless": Command(["bless", "bad", ENTRY], False),
     "bless elsewhere": Command(["bless", "bad", ENTRY], True),
 }
-INTENT = "boot_tools.intent"
-
-
-def image(number, size):
-    return power_cuts.small_image(number, size)
 
 
 def start_files(entries=4):
     """The files at the start, in the order in which they are made."""
     some = random.Random(1)
-    files = {"in/stub": power_cuts.small_stub(), "in/kernel": some.randbytes(9000), "in/initrd": some.randbytes(13000)}
-    files |= {"in/release": b"ID=demo\n", "in/new.efi": image(3, 2100), "in/over.efi": image(4, 4200)}
-    files |= {"efi/startup.nsh": b"exit\n", "efi/EFI/systemd/systemd-boot.efi": image(77, 2500)}
+    files = {"in/stub": small_stub(), "in/kernel": some.randbytes(9000), "in/initrd": some.randbytes(13000)}
+    files |= {"in/release": b"ID=demo\n", "in/new.efi": small_image(3, 2100), "in/over.efi": small_image(4, 4200)}
+    files |= {"efi/startup.nsh": b"exit\n", "efi/EFI/systemd/systemd-boot.efi": small_image(77, 2500)}
     files |= {f"{LOADER}/loader.conf": b"timeout 3\n", f"{LOADER}/random-seed": b"s" * 32}
     names = {"zfedora-6.9.1+2-1": (900, 2500), "other-1": (1, 1500), "old-5": (5, 1700), "older-2": (2, 1800)}
-    made = {f"{LINUX}/{name}.efi": image(*it) for name, it in list(names.items())[:entries]}
+    made = {f"{LINUX}/{name}.efi": small_image(*it) for name, it in list(names.items())[:entries]}
     more = range(len(made), entries)
-    return files | made | {f"{LINUX}/more-{number}.efi": image(100 + number, 600) for number in more}
+    return files | made | {f"{LINUX}/more-{number}.efi": small_image(100 + number, 600) for number in more}
 
 
 # What the check says if it takes a folder's old bytes for a name, and overwrites what stands there.
@@ -126,7 +124,7 @@ class Trials:
         with self.system.recorded() as log:
             for number, command in enumerate(commands, 1):
                 replies.append(self.run(command))
-                dmsetup("message", "recorded", "0", f"mark reply-{number}")
+                mark_reply(number)
         if any(ran.status for ran in replies):
             raise Trouble(f"a recorded command fails: {replies}")
         with open(log, "rb") as file:
@@ -140,7 +138,7 @@ class Trials:
         try:
             with self.system.mounted() as at:
                 ran = self.run(Command(LIST, False))
-                return Seen(View(at).named(), ran.status, ran.text, ran.log, names_in(f"{at}/{INTENT}"), said)
+                return Seen(View(at).named(), ran.status, ran.text, ran.log, names_moved(at), said)
         except OSError as error:
             return Seen(frozenset(), 3, "", f"the disk: {error.strerror}", [], said)
 
@@ -169,17 +167,9 @@ class Trials:
             words = [*map(self.job.get, ("do", "fs", "start", "command", "case")), *place.values()]
             name = "-".join(str(it) for it in words if it)
             files = {f"{re.sub(r'[^A-Za-z0-9_+.-]+', '_', name)}-{n}": disk for n, disk in enumerate(self.looked_at)}
-            power_cuts.write_files(files, self.job["keep"])
+            write_files(files, self.job["keep"])
         own = sorted({kind for kind, _ in faults} & set(apart))
         return place | {"statuses": statuses, "own": own, "broken": broken, "log": [it for it in logs if it and broken]}
-
-
-def names_in(path):
-    """The two names in an intent that is there."""
-    if not os.path.isfile(path):
-        return []
-    with open(path, "rb") as file:
-        return [name.decode(errors="replace").lstrip("/") for name in file.read().split(b"\0")[:2]]
 
 
 def words_above(words, folder):

@@ -14,13 +14,14 @@ did all or nothing may be there, or what is there without the command; else it i
 import os
 
 from lab.cases import LINUX, LIST, LOADER
+from lab.images import small_image
 from lab.trees import EMPTY
-from lab.trials import COMMANDS, Trials, fault_of_reply, image, kind_of, odd_paths, start_files, words_of
+from lab.trials import COMMANDS, Trials, fault_of_reply, kind_of, odd_paths, start_files, words_of
 
 KINDS = ["lost", "told", "order", "stuck", "text"]
 OWN = ["half", "by-check"]
 BY = [("command", "action"), ("fs", "start")]
-COPIED, MOVED = image(6, 3000), image(8, 2700)
+COPIED, MOVED = small_image(6, 3000), small_image(8, 2700)
 ENTRY, PART = f"{LINUX}/old-5.efi", f"{LINUX}/part"
 # What another program does with its calls.
 ACTIONS = {
