@@ -68,7 +68,11 @@ impl<C: Calls + Drop, E: Print + Drop> System<C, E> {
             let found = self.changes.calls().find_itself(path)?;
             self.changes.unlink(path, self.locks.lock_of(found))
         };
-        self.locks.keep_gone(path);
+        if answer.is_ok() {
+            self.locks.keep_gone(path);
+        } else {
+            self.locks.close_file(path);
+        }
         answer
     }
 
