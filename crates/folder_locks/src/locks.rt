@@ -290,16 +290,12 @@ impl<F: Drop> Locks<F> {
         }
     }
 
-    /// Closes the files that were replaced or removed, and gives the path of one that may have stood on FAT: so do its
-    /// folder's facts say, and its own.
-    pub fn close_gone(&mut self) -> Option<String>
-        ensures { self.new ≡ record self.old { gone = self.new.gone } }
+    /// Closes the files that were replaced or removed.
+    pub fn close_gone(&mut self)
+        ensures gone { self.new.gone.items ≡ [] }
+        ensures same { self.new ≡ record self.old { gone = self.new.gone } }
     {
-        let gone = mem::replace(&mut self.gone, Vec::new(self.alloc));
-        let folders = &self.folders;
-        let held = gone.into_iter().find(|held| held.found.is_fat_file()
-            && may_be_in_fat(folders, held.path.as_str()))?;
-        Some(held.path)
+        self.gone.clear();
     }
 
     /// Whether a folder was newly held since this was last asked.
@@ -340,11 +336,6 @@ fn is_held<F: Drop>(all: &Vec<Held<F>>, path: &str, hold: Hold) -> bool
     ensures { IsTrue result → IsSome (held_by all.now.items path.now) }
 {
     held_at(all, path).is_some_and(|held| held.file.is_enough(hold))
-}
-
-// Whether the folder of a file may be of FAT, as far as this run holds it.
-fn may_be_in_fat<F: Drop>(folders: &Vec<Held<F>>, path: &str) -> bool {
-    held_at(folders, folder_of(path)).is_none_or(|held| held.found.is_fat_folder())
 }
 
 // What this run holds of these already, maybe by another path.

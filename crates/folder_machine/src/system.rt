@@ -231,6 +231,7 @@ impl<C: Calls + Drop, E: Print + Drop> System<C, E> {
 
     // Syncs each renamed file, then each changed folder with those above it, and last, as far as it can be
     // done, the folders that were looked at. After a failure all of it is still to be synced. No name comes or goes by it.
+    // Only then may the system free the bytes of the files that were replaced or removed, so these are closed behind it.
     #[tactic(auto, using(crate::proofs::NameSteps::syncs_twice, crate::proofs::NameSteps::nothing_waits_still))]
     pub(crate) fn sync_names(&mut self) -> io::Result<()>
         ensures kept { IsTrue C.tells → KeepsSynced (C.waits self.old.changes) (C.waits self.new.changes) }
@@ -241,7 +242,7 @@ impl<C: Calls + Drop, E: Print + Drop> System<C, E> {
         self.changes.reports().report("sync", "", answer)?;
         let has_changed_nothing = self.changes.has_changed_nothing();
         self.changes.sync_names()?;
-        self.free_gone()?;
+        self.locks.close_gone();
         if has_changed_nothing && self.looks.has_unchecked() {
             let answer = self.require_no_missed();
             self.changes.reports().report("look", "", answer)?;
@@ -250,20 +251,6 @@ impl<C: Calls + Drop, E: Print + Drop> System<C, E> {
         }
         self.keep_intent();
         Ok(())
-    }
-
-    // Closes the files that were replaced or removed, now that the names are on the disk: only then may the system free
-    // their bytes. On FAT the next sync writes that these are free.
-    #[tactic(auto, using(crate::proofs::NameSteps::syncs_none))]
-    fn free_gone(&mut self) -> io::Result<()>
-        ensures { IsTrue C.tells → KeepsSynced (C.waits self.old.changes) (C.waits self.new.changes) }
-    {
-        let Some(path) = self.locks.close_gone() else {
-            return Ok(());
-        };
-        let folder = folder_of(path.as_str());
-        let answer = self.changes.sync_names_in(folder);
-        self.changes.reports().report("sync", folder, answer)
     }
 
     // A file that was renamed is synced and needs no lock any more, but for the intent.

@@ -52,10 +52,9 @@ const ROWS: [(&str, &str); 21] = [
     // A script is read first, and its reply has a line behind it.
     ("script", "pfp"),
     // The plan looks for the file, and its folders are synced. The file and its folder are locked before it goes. Then
-    // come the sync and, once the file is closed, another one.
+    // comes the sync.
     ("unlink five", "fFp"),
-    // What is put in place gets its name last. Behind that are the looks at the new name, and the syncs; and if a file was
-    // replaced, another sync.
+    // What is put in place gets its name last. Behind that are the looks at the new name, and the syncs.
     ("build", "fFdFp"),
     ("default", "fFdFp"),
     ("timeout", "fFdFp"),

@@ -77,6 +77,8 @@ pub(crate) struct Shelf {
     clock: u64,
     /// The calls that change, sync or print something, in their order: what each does, and the path if it is given one.
     log: Vec<String>,
+    /// Those of them at which a file is open that has gone from its path.
+    log_beside_gone: Vec<String>,
 }
 
 fn require(holds: bool, kind: ErrorKind) -> io::Result<()> {
@@ -111,6 +113,7 @@ impl Shelf {
             locks: Vec::new(alloc),
             clock: 0,
             log: Vec::new(alloc),
+            log_beside_gone: Vec::new(alloc),
         };
         shelf.put("", Kind::Folder, Vec::new(alloc), 0o755)?;
         Ok(shelf)
@@ -179,13 +182,29 @@ impl Shelf {
     /// A call that changes, syncs or prints something goes into the log.
     pub(crate) fn log_call(&mut self, call: &str, path: &str) -> Result<(), AllocError> {
         let line = format!(in self.alloc; "{call} {path}")?;
+        if self.holds_gone() {
+            self.log_beside_gone.push(line.clone()?)?;
+        }
         self.log.push(line)?;
         Ok(())
+    }
+
+    // Whether a file is open and locked that has gone from its path.
+    fn holds_gone(&self) -> bool {
+        self.locks.iter().any(|lock| {
+            let node = self.nodes.get(lock.node);
+            node.is_some_and(|node| node.path.is_none()) && lock.number.upgrade().is_some()
+        })
     }
 
     /// The log.
     pub(crate) fn log(&self) -> &[String] {
         self.log.as_slice()
+    }
+
+    /// The calls of it at which a file was open that had gone from its path.
+    pub(crate) fn log_beside_gone(&self) -> &[String] {
+        self.log_beside_gone.as_slice()
     }
 
     /// Gives a file another time of change.

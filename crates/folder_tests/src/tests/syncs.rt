@@ -29,10 +29,10 @@ const LEFT: [&str; 5] = [
     "efi/loader/entries/old.conf",
 ];
 
-/// Commands by which a file goes, and the call by which it does.
+/// Commands by which a file goes, and its folder.
 const GOING: [(&str, &str); 2] = [
-    ("loader set-timeout 7", "rename to efi/loader/loader.conf"),
-    ("bootctl unlink five.efi", "unlink efi/EFI/Linux/five.efi"),
+    ("loader set-timeout 7", "efi/loader"),
+    ("bootctl unlink five.efi", IMAGES),
 ];
 
 /// Folders that `bootctl list` only looks at.
@@ -138,7 +138,8 @@ fn an_intent_goes_behind_the_sync_of_its_file(rt: HostRuntime) -> Result<(), Fai
 }
 
 // A kill behind a rename over a file has freed the old file's clusters in the table, and each sync on that file system
-// writes the table. So a command that looks elsewhere emptied the file that was to be replaced.
+// writes the table. So a command that looks elsewhere emptied the file that was to be replaced. The names of these files
+// were left to the next command that looks there.
 #[test]
 fn files_that_may_be_replaced_are_synced_first(rt: HostRuntime) -> Result<(), Fail> {
     let alloc = rt.alloc();
@@ -148,29 +149,14 @@ fn files_that_may_be_replaced_are_synced_first(rt: HostRuntime) -> Result<(), Fa
         let first = place_of_any(log, "sync folder ");
         for path in LEFT {
             let synced = format!(in alloc; "sync file {path}")?;
-            assert!(rt;
-                is_before(place_of(log, synced.as_str()), first),
-                "{line}: {path}"
-            );
+            let place = place_of(log, synced.as_str());
+            assert!(rt; is_before(place, first), "{line}: {path}");
         }
-    }
-    Ok(())
-}
-
-// The names of these files were left to the next command that looks there, though the table was written.
-#[test]
-fn folders_of_files_that_may_be_replaced_are_synced(rt: HostRuntime) -> Result<(), Fail> {
-    let alloc = rt.alloc();
-    for line in ELSEWHERE {
-        let log = log_behind(alloc, &start(alloc)?, line)?;
-        let log = log.as_slice();
         let reply = place_of(log, "print ");
         for folder in REPLACED {
             let synced = format!(in alloc; "sync folder {folder}")?;
-            assert!(rt;
-                is_before(place_of(log, synced.as_str()), reply),
-                "{line}: {folder}"
-            );
+            let place = place_of(log, synced.as_str());
+            assert!(rt; is_before(place, reply), "{line}: {folder}");
         }
     }
     Ok(())
@@ -259,16 +245,16 @@ fn a_folder_that_can_not_be_synced_is_listed(rt: HostRuntime) -> Result<(), Fail
 // The system frees the bytes of a file that was replaced or removed once that is closed. It was closed before the sync of its
 // folder, so a torn write left the old name, with bytes that were free.
 #[test]
-fn a_folder_is_synced_again_behind_a_file_that_goes(rt: HostRuntime) -> Result<(), Fail> {
+fn a_file_that_goes_is_closed_behind_the_sync_of_its_folder(rt: HostRuntime) -> Result<(), Fail> {
     let alloc = rt.alloc();
-    for (line, gone) in GOING {
-        let (_, path) = gone.rsplit_once(' ').ok_or("no path")?;
-        let synced = format!(in alloc; "sync folder {}", folder_of(path))?;
-        let log = log_behind(alloc, &start(alloc)?, line)?;
-        let place = place_of(log.as_slice(), gone).ok_or("it stays")?;
-        let behind = log.iter().skip(place);
-        let syncs = behind.filter(|line| line.as_str() == synced.as_str());
-        assert_eq!(rt; syncs.count(), 2, "{line}");
+    for (line, folder) in GOING {
+        let shelf = start(alloc)?;
+        log_behind(alloc, &shelf, line)?;
+        let shelf = at_work(&shelf)?;
+        let log = shelf.log_beside_gone();
+        let synced = format!(in alloc; "sync folder {folder}")?;
+        assert!(rt; place_of(log, synced.as_str()).is_some(), "{line}");
+        assert!(rt; place_of(log, "print ").is_none(), "{line}");
     }
     Ok(())
 }
