@@ -72,12 +72,7 @@ fn log_behind(alloc: Global, shelf: &SharedShelf, line: &str) -> io::Result<Vec<
     if run_line(alloc, shelf, line)?.status != 0 {
         return Err(io::Error::other("the command didn't end with 0"));
     }
-    let shelf = at_work(shelf)?;
-    let mut log = Vec::new(alloc);
-    for line in shelf.log() {
-        log.push(line.clone()?)?;
-    }
-    Ok(log)
+    Ok(at_work(shelf)?.log().to_vec(alloc)?)
 }
 
 // The place of the first line that is this one.

@@ -61,8 +61,9 @@ fn tells_why(alloc: Global, ran: &Ran) -> io::Result<bool> {
 // The file comes, or goes, at each call of each command.
 fn meet_at_each_call(rt: &impl Abort, alloc: Global, comes: bool) -> Result<(), Fail> {
     for (line, path) in LINES {
-        let calls = run_line(alloc, &start_with(alloc, path)?, line)?.calls;
-        for call in 0..calls {
+        let usual = run_line(alloc, &start_with(alloc, path)?, line)?;
+        assert_eq!(rt; usual.status, 0, "{line}");
+        for call in 0..usual.calls {
             let shelf = start_with(alloc, path)?;
             let meets = Meets {
                 alloc,
