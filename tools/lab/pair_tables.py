@@ -151,6 +151,11 @@ AT_RANDOM = {
 }
 
 
+def is_one_command(name):
+    """Whether nothing may come between two parts of it."""
+    return name not in MANY and not name.startswith("script")
+
+
 def cases(table, kind=""):
     """The pairs of a table with their names."""
     return {

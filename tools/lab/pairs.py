@@ -1,6 +1,8 @@
 """Pairs: two runs at once, what they may come to, and what they have come to."""
 import collections
+import itertools
 import os
+import random
 import re
 import shutil
 import subprocess
@@ -14,8 +16,9 @@ from lab.pair_tables import COMMANDS, LOOKS, MANY, NEVER_HELD
 
 HOME = "at/boot"  # where a run starts
 ABOVE = "at"
-COLUMNS = ["moments", "one after the other", "between", "3 of the first", "3 of the second", "wrong"]
-ALL, SERIAL, BETWEEN, FIRST_HELD, SECOND_HELD, WRONG = range(6)
+COLUMNS = ["moments", "one after the other", "between", "3 of the first", "3 of the second", "3 of both", "wrong"]
+ALL, SERIAL, BETWEEN, FIRST_HELD, SECOND_HELD, BOTH_HELD, WRONG = range(7)
+LOG = {"BOOT_TOOLS_LOG": "1"}
 NAMES_OF_CALLS = {
     0: "read", 1: "write", 2: "open", 3: "close", 4: "stat", 5: "fstat", 6: "lstat", 8: "lseek", 17: "pread64",
     18: "pwrite64", 72: "fcntl", 73: "flock", 74: "fsync", 77: "ftruncate", 78: "getdents", 82: "rename", 83: "mkdir",
@@ -92,21 +95,29 @@ class Bench:
         _, _, status, _ = self.stop("reply", -1 if replies is None else replies, *self.words_of(number, lines), "--")
         return Reply(status if replies is None else 3, self.said(number))
 
-    def at_call(self, number):
-        """The second run whole at a call of the first one: the outcome and the call, or None if there is no such
-        call."""
+    def in_turns(self, calls):
+        """Both in turns, the first up to a call, the second up to one, and so on: the outcome, and the number and the
+        name of the first one's last call. The outcome is None if the first one ends before its first such call."""
         self.begin_anew()
-        log = {"BOOT_TOOLS_LOG": "1"} if self.case.kind == "leftover" else {}
         words = [*self.words_of(0), "--", *self.words_of(1)]
-        calls, last, first, second = self.stop("call", number, *words, env=os.environ | log)
-        if calls < number:
-            return None, None
-        return Outcome(Reply(first, self.said(0)), Reply(second, self.said(1)), self.tree()), last
+        number, last, *statuses = self.stop("turns", ",".join(map(str, calls)), *words, env=os.environ | LOG)
+        if number < calls[0]:
+            return None, number, ""
+        replies = [Reply(status, self.said(it)) for it, status in enumerate(statuses)]
+        return Outcome(*replies, self.tree()), number, NAMES_OF_CALLS.get(last, last)
+
+    def counts_of_calls(self):
+        """How many calls the runs make, each alone."""
+        counts = []
+        for number in (0, 1):
+            self.begin_anew()
+            counts.append(self.stop("turns", -1, *self.words_of(number), "--")[0])
+        return counts
 
     def begin_run(self, number):
         folder, given, out, *words = self.words_of(number)
         with open(given, "rb") as given, open(out, "ab") as out:
-            return subprocess.Popen(words, cwd=folder, stdin=given, stdout=out, stderr=out)
+            return subprocess.Popen(words, cwd=folder, stdin=given, stdout=out, stderr=out, env=os.environ | LOG)
 
     def span(self):
         """How many seconds a run takes."""
@@ -227,32 +238,31 @@ class Bench:
         return True
 
     def judge(self, seen):
-        """The column of an outcome, and what is wrong in words."""
-        left = self.left()
-        logs = [[it for it in self.lines_of(number) if it.startswith("boot_tools: ")] for number in (0, 1)]
-        column = self.column(seen, left)
-        if self.case.kind == "leftover" and column in (FIRST_HELD, SECOND_HELD):
-            log = "".join(logs[0 if column == FIRST_HELD else 1])
-            if "another run" not in log:
-                return WRONG, f"doesn't say why it ends with 3: {shortened(log)}"
-        return column, self.told(seen, left) if column == WRONG else ""
+        """The column of an outcome, and what is to be told of it in words."""
+        left, column = self.left(), WRONG
+        logs = ["".join(it for it in self.lines_of(number) if it.startswith("boot_tools: ")) for number in (0, 1)]
+        held = [number for number in (0, 1) if seen[number].status == 3]
+        if held and self.is_allowed(held) and self.ends_intents(seen.tree) and self.is_expected(seen, held):
+            column = (FIRST_HELD, SECOND_HELD)[held[0]] if len(held) == 1 else BOTH_HELD
+        elif not held and not left:
+            column = SERIAL if seen in self.serial else BETWEEN if seen in self.between else WRONG
+        for number in held:
+            if column != WRONG and "another run" not in logs[number]:
+                return WRONG, f"doesn't say why it ends with 3: {shortened(logs[number])}"
+        return column, self.told(seen, left) if column in (BOTH_HELD, WRONG) else ""
 
-    def column(self, seen, left):
-        statuses = [seen.first.status, seen.second.status]
-        if 3 not in statuses:
-            if left or not (seen in self.serial or seen in self.between):
-                return WRONG
-            return SERIAL if seen in self.serial else BETWEEN
-        held = statuses.index(3)
+    def is_allowed(self, held):
+        """Whether these may end with 3 beside the others: what changes files isn't held by what only looks."""
         names = tuple(self.case[:2])
-        is_useless = names[1 - held] in LOOKS and names[held] not in LOOKS or names in NEVER_HELD
-        if statuses == [3, 3] or is_useless or not self.ends_intents(seen.tree):
-            return WRONG
-        for count in range(seen[held].said.count("\n") + 1):
-            for it in sum(self.outcomes(*((count, None) if held == 0 else (None, count))), []):
-                if self.is_same(it, seen, held):
-                    return FIRST_HELD if held == 0 else SECOND_HELD
-        return WRONG
+        if len(held) == 2:
+            return True
+        return names not in NEVER_HELD and (names[1 - held[0]] not in LOOKS or names[held[0]] in LOOKS)
+
+    def is_expected(self, seen, held):
+        """Whether the others have done what they do without what those with 3 hadn't told of."""
+        counts = [range(it.said.count("\n") + 1) if number in held else [None] for number, it in enumerate(seen[:2])]
+        wanted = (it for count in itertools.product(*counts) for it in sum(self.outcomes(*count), []))
+        return any(self.is_same(it, seen, held) for it in wanted)
 
     def ends_intents(self, tree):
         """Whether the next run ends each intent that is there, and changes nothing else."""
@@ -265,17 +275,18 @@ class Bench:
     def is_same(self, wanted, seen, held):
         """Whether an outcome is the wanted one, but for temporary files and those in boot_tools that no entry names: a
         cleanup beside a run that ends with 3 may find other ones to remove."""
-        both = [(wanted[held], seen[held]), (wanted[1 - held], seen[1 - held])]
-        if (self.case.first, self.case.second)[1 - held] == "cleanup":
-            both[1] = [Reply(it.status, removals_left_out(it.said)) for it in both[1]]
-        return all(it == other for it, other in both) and boot_files(wanted.tree) == boot_files(seen.tree)
+        for number in (0, 1):
+            replies = wanted[number], seen[number]
+            if self.case[number] == "cleanup" and number not in held:
+                replies = (Reply(it.status, removals_left_out(it.said)) for it in replies)
+            if len(set(replies)) > 1:
+                return False
+        return boot_files(wanted.tree) == boot_files(seen.tree)
 
     def told(self, seen, left):
         """What two runs came to, in words."""
         replies = [f"{it.status} {shortened(it.said)}".strip() for it in seen[:2]]
-        wanted = self.serial + self.between
-        if 3 in (seen.first.status, seen.second.status):
-            wanted = sum(self.outcomes(*((0, None) if seen.first.status == 3 else (None, 0))), [])
+        wanted = sum(self.outcomes(*(0 if it.status == 3 else None for it in seen[:2])), [])
         near = min(wanted, key=lambda it: (len(differences(it.tree, seen.tree)), it[:2] != seen[:2]))
         apart = " ".join(differences(near.tree, seen.tree)) or "no other files"
         left = " ".join(os.path.relpath(it, ABOVE) for it in left)
@@ -310,35 +321,65 @@ def ranges(calls):
     return ", ".join(f"{first} to {last}" if first < last else f"{first} ({name})" for first, last, name in rows)
 
 
+class Tally:
+    """The counts of a pair, and what was to be told, with its places."""
+
+    def __init__(self, bench, name):
+        self.bench, self.name, self.counts, self.told = bench, name, [0] * len(COLUMNS), collections.defaultdict(list)
+
+    def add(self, seen, place):
+        column, told = self.bench.judge(seen)
+        self.counts[ALL] += 1
+        self.counts[column] += 1
+        if told:
+            self.told[told].append(place)
+
+    def row(self, words_of):
+        return self.name, self.counts, [f"{len(them)} {words_of(them)}: {told}" for told, them in self.told.items()]
+
+
 def every_moment(task):
     """The counts of a pair whose first run is stopped at each call, and what was wrong, with its calls."""
     program, stopper, room, name, case = task
-    counts, others = [0] * len(COLUMNS), collections.defaultdict(list)
+    with tempfile.TemporaryDirectory(dir=room) as folder:
+        tally = Tally(Bench(program, stopper, folder, case), name)
+        for number in itertools.count(1):
+            seen, *call = tally.bench.in_turns([number])
+            if not seen:
+                return tally.row(lambda calls: f"at {ranges(calls)}")
+            tally.add(seen, call)
+
+
+def some_turns(task):
+    """The counts of a pair whose runs take turns, each up to some call, and what was wrong, with its calls."""
+    (program, stopper, room, name, case), count, seed = task
+    some = random.Random(f"{seed} {name}")
     with tempfile.TemporaryDirectory(dir=room) as folder:
         bench = Bench(program, stopper, folder, case)
-        while True:
-            seen, call = bench.at_call(counts[ALL] + 1)
-            if not seen:
-                break
-            column, told = bench.judge(seen)
-            counts[ALL] += 1
-            counts[column] += 1
-            if column == WRONG:
-                others[told].append((counts[ALL], NAMES_OF_CALLS.get(call, call)))
-    return name, counts, [f"{len(calls)} at {ranges(calls)}: {told}" for told, calls in others.items()]
+        tally, calls = Tally(bench, name), bench.counts_of_calls()
+        while tally.counts[ALL] < count:
+            turns = turns_of(some, calls)
+            seen = bench.in_turns(turns)[0]
+            if seen:
+                tally.add(seen, turns)
+        return tally.row(lambda them: "at " + ", ".join(map(str, them[:3])))
+
+
+def turns_of(some, calls):
+    """Two or three calls at which two runs change places: of the first, of the second, and a later one of the first."""
+    turns = [some.randint(1, calls[0]), some.randint(1, calls[1])]
+    if some.random() < 0.5 and turns[0] < calls[0]:
+        turns.append(some.randint(turns[0] + 1, calls[0]))
+    return turns
 
 
 def at_random(task, pairs, some):
     """The counts of a pair that runs at about the same time, and what was wrong."""
     program, stopper, room, name, case = task
-    counts, others = [0] * len(COLUMNS), collections.Counter()
     with tempfile.TemporaryDirectory(dir=room) as folder:
-        bench = Bench(program, stopper, folder, case, 300000)
-        span = bench.span()
+        tally = Tally(Bench(program, stopper, folder, case, 300000), name)
+        span = tally.bench.span()
         for _ in range(pairs):
-            seen = bench.at_once(some.uniform(-span, span))
-            column, told = bench.judge(seen)
-            counts[ALL] += 1
-            counts[column] += 1
-            others.update([told] if column == WRONG else [])
-    return name, counts, [f"{count} times: {told}" for told, count in others.most_common(5)]
+            wait = some.uniform(-span, span)
+            tally.add(tally.bench.at_once(wait), wait)
+        return tally.row(lambda _: "times")

@@ -1,5 +1,5 @@
-/* Runs a program up to a call or a reply. Then it runs another one, or else it kills the first run. It prints the number of calls, the
-   last one, and the statuses; one that is missing is -1. Or it makes rows of runs, one after the other. */
+/* Two runs of a program that take turns, or one that is killed behind a reply. It prints the number of the first one's calls, the last of
+   these, and the statuses; one that is missing is -1. Or it makes rows of runs, one after the other. */
 #define _GNU_SOURCE
 #include <fcntl.h>
 #include <sched.h>
@@ -74,41 +74,88 @@ static int make_row(int count, char **words) {
   return 0;
 }
 
-/* stopper call|reply NUMBER FIRST.. -- [SECOND..] */
+/* A run that is followed: its calls so far, the last one, and its writes of replies. */
+struct run {
+  pid_t child;
+  long calls, last, replies;
+  int is_begun, is_entered, given, status;
+};
+
+static struct run follow(char **words) {
+  struct run it = {.child = start(words, 1), .last = -1, .status = -1};
+  int state;
+  waitpid(it.child, &state, 0);
+  ptrace(PTRACE_SETOPTIONS, it.child, 0, PTRACE_O_TRACESYSGOOD | PTRACE_O_EXITKILL);
+  return it;
+}
+
+/* It goes on to the call or the reply of that number, or to its end: whether it has come there. */
+static int goes_to(struct run *it, int by_call, long wanted) {
+  for (;;) {
+    int state;
+    ptrace(PTRACE_SYSCALL, it->child, 0, it->given);
+    waitpid(it->child, &state, 0);
+    it->given = 0;
+    if (!WIFSTOPPED(state)) {
+      it->status = WIFEXITED(state) ? WEXITSTATUS(state) : -1;
+      it->child = 0;
+      return 0;
+    }
+    if (WSTOPSIG(state) != (SIGTRAP | 0x80)) { it->given = WSTOPSIG(state); continue; }
+    it->is_entered = !it->is_entered;
+    struct user_regs_struct call;
+    ptrace(PTRACE_GETREGS, it->child, 0, &call);
+    it->is_begun = it->is_begun || has_own_path(it->child, &call);
+    if (it->is_entered && it->is_begun && !is_of_memory(call.orig_rax)) {
+      it->calls++, it->last = call.orig_rax;
+      if (by_call && it->calls == wanted) return 1;
+    }
+    it->replies += !it->is_entered && call.orig_rax == SYS_write && (call.rdi == 1 || call.rdi == 2);
+    if (!by_call && it->replies == wanted) return 1;
+  }
+}
+
+static void goes_to_its_end(struct run *it) {
+  if (!it->child) return;
+  ptrace(PTRACE_DETACH, it->child, 0, 0);
+  it->status = status_of(it->child);
+  it->child = 0;
+}
+
+/* The two take turns: each goes to the next call of a list `CALL[,CALL]..`, the first one at first. Behind the list the one whose turn it
+   is goes to its end, and then the other one. */
+static void take_turns(char *list, struct run *first, char **words) {
+  struct run second = {.status = -1}, *turn = first;
+  int is_there = 1;
+  for (char *number = strtok(list, ","); number && is_there; number = strtok(0, ",")) {
+    if (turn == &second && !second.child) second = follow(words);
+    is_there = goes_to(turn, 1, atol(number));
+    turn = turn == first ? &second : first;
+  }
+  if (turn == &second && is_there) {
+    if (second.child) goes_to_its_end(&second);
+    else second.status = status_of(start(words, 0));
+  }
+  goes_to_its_end(first);
+  goes_to_its_end(&second);
+  printf("%ld %ld %d %d\n", first->calls, first->last, first->status, second.status);
+}
+
+/* stopper turns CALLS FIRST.. -- SECOND.., or stopper reply NUMBER RUN.. -- */
 int main(int count, char **words) {
   if (!strcmp(words[1], "row")) return make_row(count, words);
-  int by_call = !strcmp(words[1], "call"), wanted = atoi(words[2]), cut = 3, state, first = -1, second = -1;
-  long calls = 0, last = -1, replies = 0, begun = 0, entered = 0, given = 0;
+  int cut = 3;
   while (cut < count && strcmp(words[cut], "--")) cut++;
   words[cut] = 0;
   cpu_set_t here; /* the two processes take turns, which is fastest on one processor */
   CPU_ZERO(&here);
   CPU_SET(sched_getcpu(), &here);
   sched_setaffinity(0, sizeof here, &here);
-  pid_t child = start(words + 3, 1);
-  waitpid(child, &state, 0);
-  ptrace(PTRACE_SETOPTIONS, child, 0, PTRACE_O_TRACESYSGOOD | PTRACE_O_EXITKILL);
-  for (;;) {
-    ptrace(PTRACE_SYSCALL, child, 0, given);
-    waitpid(child, &state, 0);
-    given = 0;
-    if (!WIFSTOPPED(state)) { first = WIFEXITED(state) ? WEXITSTATUS(state) : -1; break; }
-    if (WSTOPSIG(state) != (SIGTRAP | 0x80)) { given = WSTOPSIG(state); continue; }
-    entered = !entered;
-    struct user_regs_struct call;
-    ptrace(PTRACE_GETREGS, child, 0, &call);
-    begun = begun || has_own_path(child, &call);
-    if (entered && begun && !is_of_memory(call.orig_rax)) {
-      calls++, last = call.orig_rax;
-      if (by_call && calls == wanted) {
-        second = status_of(start(words + cut + 1, 0));
-        ptrace(PTRACE_DETACH, child, 0, 0);
-        first = status_of(child);
-        break;
-      }
-    }
-    replies += !entered && call.orig_rax == SYS_write && (call.rdi == 1 || call.rdi == 2);
-    if (!by_call && replies == wanted) { kill(child, SIGKILL); status_of(child); break; }
+  struct run run = follow(words + 3);
+  if (!strcmp(words[1], "turns")) {
+    take_turns(words[2], &run, words + cut + 1);
+    return 0;
   }
-  printf("%ld %ld %d %d\n", calls, last, first, second);
+  if (goes_to(&run, 0, atol(words[2]))) { kill(run.child, SIGKILL); status_of(run.child); }
+  printf("%ld %ld %d -1\n", run.calls, run.last, run.status);
 }
