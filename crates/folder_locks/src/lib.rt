@@ -6,12 +6,14 @@
 
 mod answers;
 mod locks;
+mod looked;
 mod looks;
 mod opened;
 mod order;
 
 pub use answers::other_run;
 pub use locks::{Held, Locks, is_payload};
+pub use looked::LookedFile;
 pub use looks::{identity_of, look_answer, require_all_same, require_same};
 pub use opened::{open_file, open_known};
 pub use order::{hold_files, hold_folders};

@@ -16,7 +16,9 @@ use crate::intent::{HeldIntent, require_no_other_move};
 use boot_base::{INTENT, TEMP_SUFFIX};
 use folder_calls::{Calls, Found, Hold};
 use folder_changes::{Changes, KeptFile, Reports, Twins, copy_path};
-use folder_locks::{Locks, hold_files, hold_folders, is_payload, require_all_same, require_same};
+use folder_locks::{
+    Locks, LookedFile, hold_files, hold_folders, is_payload, require_all_same, require_same,
+};
 use name_syncs::{FolderSet, folder_of};
 use run_looks::RunLooks;
 use std::alloc::Global;
@@ -27,13 +29,6 @@ mod reading;
 mod recovery;
 mod removing;
 mod writing;
-
-/// The file that was read last.
-#[derive(Drop)]
-struct LookedFile<F: Drop> {
-    path: String,
-    file: F,
-}
 
 /// The temporary file that is written, with its lock.
 #[derive(Drop)]
@@ -62,6 +57,7 @@ pub(crate) struct System<C: Calls + Drop, E: Print + Drop> {
     /// the intent of this run's move, or the one that a stop has left, with its lock
     intent: Option<HeldIntent<C::File>>,
     written: Option<Written<C>>,
+    /// the file that was read last
     looked: Option<LookedFile<C::File>>,
 }
 

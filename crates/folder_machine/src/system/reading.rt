@@ -1,13 +1,13 @@
 //! Looks at files and folders, and reads.
 ghost use Rattle.std.specs.Prelude.{◌≡◌, ◌≤◌, length, IfOk};
 
-use super::{LookedFile, System};
+use super::System;
 use crate::intent::HeldIntent;
 use crate::listing::files_among;
 use boot_base::{FileName, INTENT};
 use folder_calls::{Calls, Found, Hold};
 use folder_changes::{copy_path, is_alias_of_listed, is_spelled};
-use folder_locks::{identity_of, is_payload, look_answer, open_file, open_known};
+use folder_locks::{LookedFile, identity_of, is_payload, look_answer, open_file, open_known};
 use name_syncs::folder_of;
 use run_looks::Look;
 use std::alloc::Global;
@@ -111,10 +111,10 @@ impl<C: Calls + Drop, E: Print + Drop> System<C, E> {
         if let Some(file) = self.locks.file_at(path) {
             return self.changes.calls().read(file, at, into);
         }
-        let Some(looked) = self.take_looked(path)? else {
+        let Some(mut looked) = self.take_looked(path)? else {
             return Ok(0);
         };
-        let answer = self.changes.calls().read(&looked.file, at, into);
+        let answer = looked.read(self.changes.calls(), at, into);
         self.looked = Some(looked);
         answer
     }
@@ -147,7 +147,8 @@ impl<C: Calls + Drop, E: Print + Drop> System<C, E> {
         if !self.is_own(path, &found)? {
             return Ok(None);
         }
-        Ok(Some(LookedFile { path: kept, file }))
+        let size = found.facts.length;
+        Ok(Some(LookedFile::new(self.alloc, kept, file, size)))
     }
 
     // The names of the files directly in a folder. Names that are not UTF-8 are passed over. While another run moves a
