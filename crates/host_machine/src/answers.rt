@@ -1,5 +1,7 @@
-//! Calls that are made again while they are interrupted.
-ghost use Rattle.std.specs.Prelude.{◌≤◌, length, IfOk, Ok};
+//! Calls that are made again while they are interrupted, and what their answers mean.
+ghost use Rattle.std.specs.Prelude.{◌≡◌, ◌≤◌, length, IfOk, Ok};
+ghost use Rattle.std.specs.IoError.{error_kind};
+ghost use Rattle.host_machine.specs.Told.{file_answer, says_no_file_syncs};
 
 use std::fs::File;
 use std::io;
@@ -50,4 +52,22 @@ pub(crate) fn read_once_at(file: &File, at: u64, into: &mut [u8]) -> io::Result<
         }
     }
     Err(io::Error::from(ErrorKind::Interrupted))
+}
+
+// Whether a file is synced. A file system that syncs no files isn't FAT, and nobody has left a file there.
+pub(crate) fn file_answer(answer: io::Result<()>) -> io::Result<bool>
+    ensures { result ≡ file_answer answer }
+{
+    match answer {
+        Ok(()) => Ok(true),
+        Err(error) if syncs_no_files(&error) => Ok(false),
+        Err(error) => Err(error),
+    }
+}
+
+// Whether the failed sync of a file is that of a file system that syncs none, as squashfs.
+fn syncs_no_files(error: &io::Error) -> bool
+    ensures { result ≡ says_no_file_syncs (error_kind error.now) }
+{
+    matches!(error.kind(), ErrorKind::InvalidInput)
 }

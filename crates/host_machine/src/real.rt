@@ -2,7 +2,7 @@
 ghost use Rattle.std.specs.Prelude.{◌≡◌};
 ghost use Rattle.host_machine.specs.Told.{path_for_system};
 
-use crate::answers::{read_once, read_once_at, repeated};
+use crate::answers::{file_answer, read_once, read_once_at, repeated};
 use crate::found::found_of;
 use crate::streams::StandIns;
 use folder_calls::{
@@ -158,10 +158,7 @@ impl<R: Runtime<File = File> + AllocGlobal> Calls for RealFolder<R> {
 
     fn sync_file(&mut self, path: &str) -> io::Result<bool> {
         match self.open_file(path)? {
-            Some(file) => {
-                file.sync_all()?;
-                Ok(true)
-            }
+            Some(file) => file_answer(file.sync_all()),
             None => Ok(false),
         }
     }
