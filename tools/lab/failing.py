@@ -7,8 +7,8 @@ mounted between. The disk is taken at once, behind the system's own writing, and
 and looked at, and listed.
 
 What a run has answered with 0 or 1 must be on the disk. Of what ended with 3 all or nothing may be there. If it is
-neither, though each run ended with 3, these are told apart by what the same cut leaves behind the failed command
-alone:
+neither, though each run ended with 3, these are told apart by what a cut leaves behind the failed command alone, be
+it at once or once the system has written by itself:
 
   freed    that is whole: a run behind it has freed the bytes
   driver   that isn't whole either, in a file that the command changes. After a failed write the driver keeps names
@@ -92,7 +92,7 @@ class Failing(Trials):
         return found
 
     def trial(self, fault, then, alone):
-        """The rows of a trial. What the failed command alone leaves is kept in `alone`, to be compared with."""
+        """The rows of a trial. What a cut leaves behind the failed command alone is kept in `alone`, by its moment."""
         commands, is_checked = THENS[then]
         self.system.put(self.disks)
         with self.system.mounted(can_fail=True) as at:
@@ -117,7 +117,7 @@ class Failing(Trials):
                 continue
             seen = self.look(disks)
             alone.setdefault(end, set(odd_paths(seen.tree, states)))
-            all_faults = [*faults, *self.faults_behind(seen, states, runs, alone[end])]
+            all_faults = [*faults, *self.faults_behind(seen, states, runs, set().union(*alone.values()))]
             if end == "at once":
                 is_whole_at_once = fault.part == BY_ITSELF and all(kind in OWN for kind, _ in all_faults)
             all_faults = self.without_ext4(all_faults, is_whole_at_once)
@@ -187,7 +187,7 @@ class Failing(Trials):
             yield "driver" if self.is_driver(odd, states, runs) else "lost", f"behind the check: {words_of(odd, tree)}"
 
     def faults_behind(self, seen, states, runs, alone):
-        """What is wrong with what a cut has left, beside the paths that are odd behind the failed command alone."""
+        """What is wrong with what a cut has left. A cut behind the failed command alone leaves the paths of `alone` odd."""
         odd = odd_paths(seen.tree, states)
         for kind, words in self.faults_of(seen, states):
             if kind not in ("lost", "order") or not self.is_driver(odd, states, runs):
