@@ -52,7 +52,7 @@ impl FilePath {
         self.text.as_str()
     }
 
-    /// The same path once more.
+    /// A copy of the path.
     pub fn copy(&self, alloc: Global) -> Result<FilePath, AllocError>
         ensures { IfOk result (λ path. path ≡ self.now) }
     {

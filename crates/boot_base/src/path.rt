@@ -101,7 +101,7 @@ impl BootPath {
         }
     }
 
-    /// The same path as a machine's calls take it. It is neither that of a temporary file nor the intent's.
+    /// The path as a machine's calls take it. It is neither that of a temporary file nor the intent's.
     pub fn file(&self) -> &FilePath
         ensures path { result.now ≡ self.now }
         ensures lasting { is_temp self.now ≡ false }
@@ -111,7 +111,7 @@ impl BootPath {
         &self.file
     }
 
-    /// The same as an own value.
+    /// Turns the path into the `FilePath` that a machine's calls take.
     pub fn into_file(self) -> FilePath
         ensures { result ≡ self }
     {
@@ -179,7 +179,7 @@ impl BootPath {
         }
     }
 
-    /// The same path once more.
+    /// A copy of the path.
     pub fn copy(&self, alloc: Global) -> Result<BootPath, AllocError>
         ensures { IfOk result (λ path. path ≡ self.now) }
     {

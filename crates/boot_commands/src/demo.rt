@@ -50,7 +50,7 @@ fn bad_number(alloc: Global, word: &str) -> Result<Declined, AllocError>
     Ok(Declined::Refused(Refusal::BadNumber { text }))
 }
 
-// The same up to a limit.
+// The number that a word writes with 1 to 20 digits, up to a limit. Any other word is refused.
 fn number_up_to(alloc: Global, limit: u64, word: &str) -> Result<u64, Declined>
     ensures means { Means (λ number. number) result (number_up_to limit word.now) }
     ensures limit { IfOk result (λ number. number ≤ limit) }

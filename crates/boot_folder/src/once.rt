@@ -10,7 +10,7 @@ use boot_base::FileName;
 use menu_order::{MenuItem, sort_menu};
 use std::alloc::{AllocError, Global};
 
-/// The same names, each once: of a name that a machine gives twice, as none does that tells its files, one counts.
+/// The names, each once. No machine that tells its files gives a name twice, but another may.
 pub(crate) fn each_name_once(mut names: Vec<FileName>) -> Result<Vec<FileName>, AllocError>
     ensures distinct { IfOk result (λ once. IsDistinct bytes_eq once.items) }
     ensures among { IfOk result (λ once. (name : List ℕ) → Contains once.items name → Contains names.items name) }

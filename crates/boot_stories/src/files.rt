@@ -84,7 +84,7 @@ pub(crate) fn bytes_at(
     Ok(Some(bytes))
 }
 
-/// The same, where the path is a text.
+/// The bytes of the file at a path that is given as a text, if it is there.
 pub(crate) fn bytes_of(
     alloc: Global,
     machine: &mut MemMachine,
@@ -133,7 +133,7 @@ pub(crate) fn file_text(
     Ok(format!(in alloc; "{name} {content}")?)
 }
 
-// The same, but of a temporary file the name alone.
+// A name, and what its file has. Of a temporary file it is the name alone.
 fn text_in_folder(
     alloc: Global,
     machine: &mut MemMachine,

@@ -7,7 +7,7 @@ pub(crate) fn split_at_space(text: &str) -> Result<(&str, &str), StoryFault> {
     text.split_once(' ').ok_or(StoryFault::Unclear)
 }
 
-/// The same, where the second part may be missing.
+/// The two parts of a text before and behind its first space. If it has none the second part is empty.
 pub(crate) fn parted_or_whole(text: &str) -> (&str, &str) {
     match text.split_once(' ') {
         Some(parts) => parts,

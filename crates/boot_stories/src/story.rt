@@ -128,7 +128,7 @@ impl Story {
         Ok(calls)
     }
 
-    // The same with the intent.
+    // Copies the intent, if one is there, to another machine, and says how many calls of it that takes.
     fn copy_intent(&mut self, alloc: Global, copy: &mut MemMachine) -> Result<u64, StoryFault> {
         let path = FilePath::intent(alloc)?;
         let Some(bytes) = bytes_at(alloc, &mut self.machine, &path)? else {
@@ -138,7 +138,8 @@ impl Story {
         Ok(CALLS_OF_PUT_INTENT)
     }
 
-    // The same with the temporary files of a folder, of which only the names are copied.
+    // Copies the temporary files of a folder, by their names alone, to another machine, and says how many calls of it
+    // that takes.
     fn copy_leftovers(
         &mut self,
         alloc: Global,

@@ -14,7 +14,7 @@ pub fn push<T: Drop>(items: &mut Vec<T>, item: T) -> Result<(), AllocError>
     Ok(())
 }
 
-/// The same paths, each once.
+/// Sorts the paths of temporary files, and leaves each once.
 pub fn each_once(mut temps: Vec<TempPath>) -> Vec<TempPath>
     ensures distinct { IsDistinct bytes_eq result.items }
     ensures among { (temp : Path) → Contains result.items temp → Contains temps.items temp }

@@ -131,7 +131,8 @@ pub trait Calls {
         requires { IsTrue tells → MayGo (tree self.old) to.now (option_map (λ file. inode file.now) held) }
         ensures { IsTrue tells → RenameWaits (waits self.old) (waits self.new) from.now to.now };
 
-    /// The same of a file that this run has made, given open: it shares no clusters with what goes.
+    /// Gives a file that this run has made, and has open, another path. What stood there goes: if it is a file, it is
+    /// one that is held, and it shares no clusters with the new one.
     fn put(
         &mut self,
         from: &str,

@@ -39,7 +39,7 @@ impl<F: Drop> Locked<F> {
         })
     }
 
-    /// The same, also if its file system keeps no locks.
+    /// Locks an open file, and takes it without a lock if its file system keeps none.
     pub fn take_if_kept<C: Calls<File = F>>(
         calls: &C,
         file: F,

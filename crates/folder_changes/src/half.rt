@@ -157,7 +157,8 @@ pub fn rescue_of<C: Calls>(
     }
 }
 
-// The same if the one name is there and the other isn't.
+// Gives the renames that save a file of which one name is left. None if its folder shows its bytes by that name, or if
+// it isn't on FAT.
 fn rescue_at<C: Calls>(
     calls: &C,
     alloc: Global,
@@ -178,7 +179,8 @@ fn rescue_at<C: Calls>(
     }
 }
 
-// The same if the bytes stand under the one name.
+// Gives the renames, to the other name and back, after which a folder shows a file as its path spells it. None if it
+// does so already.
 fn rescue_hidden<C: Calls>(
     calls: &C,
     alloc: Global,
@@ -193,7 +195,8 @@ fn rescue_hidden<C: Calls>(
     Rescue::of(alloc, name, Some(other), name)
 }
 
-// The same if neither name is there.
+// Gives the rename of a file's only short alias with bytes to its second name, if neither of its names is there. None
+// only if its folder isn't on FAT.
 fn rescue_alias<C: Calls>(
     calls: &C,
     alloc: Global,

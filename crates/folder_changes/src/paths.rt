@@ -4,7 +4,7 @@ ghost use Rattle.name_syncs.specs.Folders.{path_in};
 
 use std::alloc::{AllocError, Global};
 
-/// The same path once more.
+/// A copy of the path.
 pub fn copy_path(alloc: Global, path: &str) -> Result<String, AllocError>
     ensures { IfOk result (λ copy. string_bytes copy ≡ path.now) }
 {

@@ -272,7 +272,7 @@ pub(crate) fn unlisted_fault<C: Calls>(
     Ok(io::Error::other(words))
 }
 
-// The same, and None if it shows it in neither way.
+// How a folder with these names shows a name, as it is spelled or in capitals. None if it shows it in neither way.
 fn spelling_among(
     alloc: Global,
     names: &[String],

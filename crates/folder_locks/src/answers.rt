@@ -16,7 +16,7 @@ pub fn met_fault(alloc: Global, words: &str, path: &str) -> io::Error
     }
 }
 
-/// The same in these words alone.
+/// Another run is met, and these words alone say so.
 pub fn other_run(words: &str) -> io::Error
     ensures { error_kind result ≡ ErrorKind.WouldBlock }
 {

@@ -194,7 +194,7 @@ impl<F: Drop> Locks<F> {
         }
     }
 
-    // The same of a file that was looked at, and is to be looked at once more. The file that is held must be the one
+    // Holds alone a file that was looked at, and is to be looked at once more. The file that is held must be the one
     // that was found.
     fn hold_looked<C: Calls<File = F>>(
         &mut self,

@@ -17,7 +17,7 @@ pub fn open_file<C: Calls>(calls: &C, path: &str) -> io::Result<Option<(C::File,
     }
 }
 
-/// The same of what was a regular file when it was looked at last.
+/// Opens what was a regular file at the last look, to read it. None if it is gone, or is no regular file any more.
 pub fn open_known<C: Calls>(calls: &C, path: &str) -> io::Result<Option<(C::File, Found)>>
     ensures file { IfOk result (λ opened. IfSome opened (λ opened. is_file opened.1 ≡ true)) }
     ensures same { IfOk result (λ opened. IfSome opened (λ opened. IsTrue C.tells → IsOpenAs C.inode opened)) }

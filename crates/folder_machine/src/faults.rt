@@ -42,7 +42,7 @@ impl Faults {
         }
     }
 
-    // The same of a pipe.
+    // Passes an answer of a pipe on, and counts a failure.
     pub(crate) fn pipe<T: Drop>(&mut self, answer: io::Result<T>) -> Result<T, PipeFault>
         ensures call { CountsCall (CountsPipe result) (CountsPipeOnce result) self.old self.new }
         ensures value { IfOk result (λ value. answer ≡ Ok value) }

@@ -37,7 +37,7 @@ fn read_from<C: Calls>(calls: &C, alloc: Global, file: &C::File) -> io::Result<O
     Ok(IntentNames::read(alloc, &bytes[..count])?)
 }
 
-// The same of the intent, which this program can have written if it names any.
+// The paths that the intent names. It is a fault if it names any and this program can't have written it.
 fn read_own<C: Calls>(calls: &C, alloc: Global, file: &C::File) -> io::Result<Option<IntentNames>>
     ensures own { IfOk result (λ left. IfSome left (λ names. is_own_move (names_of names) ≡ true)) }
     ensures plain { IfOk result (λ left. IfSome left
@@ -136,7 +136,7 @@ pub(crate) fn require_no_other_move<C: Calls>(calls: &C, holds_intent: bool) -> 
     refuse_other_move(calls.find(INTENT)?, holds_intent)
 }
 
-// The same of what is found at the path of the intent.
+// Refuses a file that is found at the path of the intent, unless this run holds the intent.
 fn refuse_other_move(found: Option<Found>, holds_intent: bool) -> io::Result<()>
     ensures { AnswersWith (other_move_fault found holds_intent) result }
 {

@@ -56,7 +56,8 @@ pub(crate) fn open_locked<C: Calls>(
     }
 }
 
-// The same, and None if it has gone meanwhile.
+// Opens a temporary file that no other run holds, and locks it until it is closed. None if it isn't there, or has gone
+// meanwhile.
 fn open_if_there<C: Calls>(
     calls: &C,
     path: &str,

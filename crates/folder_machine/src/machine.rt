@@ -35,8 +35,8 @@ impl<C: Calls + Drop, E: Print + Drop> FolderMachine<C, E> {
         }
     }
 
-    /// The same machine. Where it is wanted, a line on Err tells of each call that fails, as it is counted:
-    /// the call, the path, and the system's own words. Else nothing is told.
+    /// Sets whether failures are told. If they are, a line on Err tells of each call that fails, as it is counted:
+    /// the call, the path, and the system's own words.
     pub fn with_reports(mut self, are_wanted: bool) -> Self {
         self.system.want_reports(are_wanted);
         self
@@ -76,7 +76,7 @@ impl<C: Calls + Drop, E: Print + Drop> FolderMachine<C, E> {
         self.faults.disk(answer)
     }
 
-    // The same of a pipe.
+    // Passes an answer of a pipe on, and tells of a failure and counts it.
     fn pipe<T: Drop>(
         &mut self,
         call: &str,

@@ -123,7 +123,8 @@ impl<C: Calls + Drop, E: Print + Drop> System<C, E> {
         self.begin(path, Hold::Shared, &[path])
     }
 
-    // The same, with the folder of that path held so, and the files that go.
+    // Before a change this run holds the folder of that path so, and the files that go. What it has looked at must
+    // still be the same.
     fn begin(&mut self, path: &str, hold: Hold, goes: &[&str]) -> io::Result<()>
         ensures still { self.new.changes ≡ self.old.changes }
         ensures stand { IfOk result (λ _. IsTrue C.tells → LooksStand (C.tree self.old.changes) self.old.looks) }

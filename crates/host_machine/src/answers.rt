@@ -37,7 +37,7 @@ pub(crate) fn read_once<F: Read>(file: &mut F, into: &mut [u8]) -> io::Result<us
     Err(io::Error::from(ErrorKind::Interrupted))
 }
 
-// The same from a place on. No file reaches past the last place that the system knows.
+// One read from a place on that isn't interrupted. No file reaches past the last place that the system knows.
 pub(crate) fn read_once_at(file: &File, at: u64, into: &mut [u8]) -> io::Result<usize>
     ensures { IfOk result (λ n. n ≤ length into.new) }
 {

@@ -353,7 +353,7 @@ fn go_through_over<R: Runtime<File = File> + AllocGlobal>(
     go_through(rt, &mut machine, steps)
 }
 
-// The same in a folder of this process' own.
+// Goes through the steps with a machine over that system, in a folder of this process' own.
 fn run<R: Runtime<File = File> + AllocGlobal>(
     rt: &HostRuntime,
     system: R,

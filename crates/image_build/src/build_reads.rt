@@ -190,7 +190,7 @@ fn loaded_sbat<M: Machine>(
     }
 }
 
-// The same of a kernel of that size; there are none where it is no PE32+ file.
+// Bytes with the entries of the `.sbat` that a kernel of that size has loaded. There are none if it is no PE32+ file.
 fn kernel_sbat<M: Machine>(
     alloc: Global,
     path: &BootPath,

@@ -72,7 +72,7 @@ fn drop_intent<M: Machine>(machine: &mut M, intent: &FilePath) -> Result<(), Dis
     unlink_synced(machine, intent)
 }
 
-// The same where the names are synced.
+// Ends the rename that an intent names, if one is there, and then takes the intent away. The names are synced already.
 fn finish_left<M: Machine>(
     alloc: Global,
     machine: &mut M,

@@ -48,7 +48,7 @@ fn is_kept(before: Tally, item: &MenuItem, n: u32) -> bool
     before.size < u64::from(n) || (is_good(item) && !before.has_good)
 }
 
-// The same with one entry more.
+// What was seen of a group, with one entry more.
 fn with_one(before: Tally, item: &MenuItem) -> Tally
     requires { before.size + 1 < 2 ^ 64 }
     ensures size { result.size ≡ before.size + 1 }

@@ -327,7 +327,7 @@ impl FileList {
         }
     }
 
-    // The same files in a list of their own.
+    // A copy of the list, with its files.
     pub(crate) fn copy(&self) -> Result<FileList, AllocError>
         ensures { IfOk result (λ copy. copy ≡ self.now) }
     {

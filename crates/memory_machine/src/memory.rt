@@ -394,7 +394,7 @@ impl MemMachine {
         Ok(())
     }
 
-    // The same of an append.
+    // Appends bytes to a file. If the call is to fail before, it appends none, but leaves the path unsynced.
     fn run_append(&mut self, path: Text, bytes: Vec<u8>) -> Result<(), DiskFault>
         requires { has (mem_state self.old).files path ≡ true }
         ensures row { AppendRow (mem_state self.old) (mem_state self.new) path bytes.items result }
@@ -415,7 +415,7 @@ impl MemMachine {
         Ok(())
     }
 
-    // The same of a print.
+    // Prints a text, unless the call is to fail before.
     fn run_print(&mut self, text: Vec<Printed>) -> Result<(), PipeFault>
         ensures row { DoneOrNot (mem_state self.old) (say text.items (mem_state self.old)) (mem_state self.new) result }
         ensures call { MemCall pipe_call TakesNone KeepsNone no_effect (say text.items) self.old self.new result }
@@ -434,7 +434,7 @@ impl MemMachine {
         Ok(())
     }
 
-    // The same of a call that does nothing where it fails.
+    // Does a look or a sync. If the call is to fail, before or after, it does nothing.
     fn run_sync(&mut self, event: Event) -> Result<(), DiskFault>
         ensures ok { OnOk result (mem_state self.new ≡ step event (mem_state self.old)) }
         ensures err { OnErr result (mem_state self.new ≡ mem_state self.old) }
@@ -451,7 +451,7 @@ impl MemMachine {
         Ok(())
     }
 
-    // The same of a pipe that is only read.
+    // Records a call that only reads a pipe. If it is to fail, before or after, it does nothing.
     fn run_input(&mut self) -> Result<(), PipeFault>
         ensures state { mem_state self.new ≡ mem_state self.old }
         ensures noted { OnOk result (TellsOneMore look self.old self.new) }

@@ -105,7 +105,8 @@ NeedsNoSync own disk folder = IsOnDisk disk folder ⊎ ((has_folder own folder �
 abbrev pub IsShutOut : Waiting → Type 0
 IsShutOut disk = (sync : Sync) × (disk.opens sync ≡ false)
 
--- The same of a folder that was only looked at. It may wait as well if this run may not open what comes before it.
+-- What a folder shows that was only looked at is on the disk. It may wait still if nothing of the folder can be synced,
+-- or if this run may not open what comes before it.
 abbrev pub ShowsTruth : Waiting → List ℕ → Type 0
 ShowsTruth disk folder = IsOnDisk disk folder ⊎ (HasNoSync disk folder ⊎ IsShutOut disk)
 

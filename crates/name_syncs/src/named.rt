@@ -109,8 +109,7 @@ impl Named {
         self.changed.add_above(from)
     }
 
-    /// The same of a boot file, which was there before the names were last synced: the folders above its own that were
-    /// synced since the last reply need no second sync.
+    /// A file gets a new name, and the folders above its own that were synced since the last reply need no second sync.
     pub fn rename_known(&mut self, from: &str, to: &str) -> Result<(), AllocError>
         ensures { OnOk result (self.new ≡ renamed_known self.old from.now to.now) }
     {

@@ -47,7 +47,7 @@ pub fn sync_changed<D: Disk>(disk: &mut D, named: &mut Named) -> Result<(), D::F
     sync_noted(disk, named)
 }
 
-// The same: files, the folders below the starting one, and that one.
+// Syncs the renamed files, then the changed folders below the starting one, then that one.
 fn sync_noted<D: Disk>(disk: &mut D, named: &mut Named) -> Result<(), D::Fault>
     ensures kept { IsTrue D.tells → KeepsSynced (D.state disk.old) (D.state disk.new) }
     ensures synced { IfOk result (λ _. IsTrue D.tells → IsSynced named.old (D.state disk.new)) }

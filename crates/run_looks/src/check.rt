@@ -38,7 +38,7 @@ impl RunLooks {
     ///
     /// # Errors
     ///
-    /// The same.
+    /// The first look that finds something else ends it, and so does one that fails.
     pub fn require_all_same<D: LiveDisk>(&self, disk: &D) -> Result<(), CheckFault<D::Fault>>
         ensures { IsTrue D.tells → CheckSays (AllStand (D.stands disk.now) self.now) result }
     {

@@ -79,7 +79,7 @@ impl SampleImage {
         self.put(place, &value.to_le_bytes()[..field.width()]);
     }
 
-    /// The same with a field set.
+    /// The image with a field of its headers set, as by `set`.
     pub fn with(self, field: Field, value: u32) -> SampleImage {
         let mut image = self;
         image.set(field, value);

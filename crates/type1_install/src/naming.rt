@@ -124,7 +124,7 @@ fn paths_without(mut paths: Vec<BootPath>, named: &[BootPath]) -> Vec<BootPath>
     paths
 }
 
-// The same paths, ascending and each once.
+// Sorts the paths in ascending order, and leaves each once.
 fn in_order(mut paths: Vec<BootPath>) -> Vec<BootPath>
     ensures sorted { IsStrictlySortedBy path_cmp result.items }
     ensures among { (path : Path) → Contains result.items path → Contains paths.items path }

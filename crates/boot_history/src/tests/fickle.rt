@@ -131,7 +131,7 @@ impl Faults {
         Err(DiskFault)
     }
 
-    // The same of a pipe.
+    // Counts a fault of a pipe unless the call is done.
     fn pipe(&mut self, done: Option<()>) -> Result<(), PipeFault>
         ensures { CountsPipe result
             (record { disk_faults = self.old.disk; pipe_faults = self.old.pipe })

@@ -67,7 +67,8 @@ const ROWS: [Row; 5] = [
         exists: "",
         letters: "ppppgggfffffffdddd",
     },
-    // The same: a good name that is found before the rename is replaced by it.
+    // The calls are those of the row above. A file that comes at the good name between the look for it and the rename
+    // is replaced.
     Row {
         line: "bless good loader/entries/a+3.conf",
         from: COUNTED,

@@ -115,7 +115,8 @@ impl<C: Calls + Drop, E: Print + Drop> System<C, E> {
         self.rename_known(from, to, is_fat)
     }
 
-    // The same before a boot file is moved, and before the intent that says so.
+    // Takes the locks of a move, before the boot file is moved and before the intent that says so. No other run may be
+    // about to put a file in place at the new path.
     fn begin_move(&mut self, from: &str, to: &str) -> io::Result<()>
         ensures still { self.new.changes ≡ self.old.changes }
         ensures stand { IfOk result (λ _. IsTrue C.tells → LooksStand (C.tree self.old.changes) self.old.looks) }

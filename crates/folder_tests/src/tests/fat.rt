@@ -96,7 +96,7 @@ fn an_empty_name_in_capitals_is_not_in_the_way(rt: HostRuntime) -> Result<(), Fa
     Ok(())
 }
 
-// The same of a name with bytes of its own: that is somebody's file, and stays.
+// A name in capitals that has bytes of its own is somebody's file, and stays. The installation ends with 3 then.
 #[test]
 fn a_file_in_capitals_stays(rt: HostRuntime) -> Result<(), Fail> {
     let alloc = rt.alloc();

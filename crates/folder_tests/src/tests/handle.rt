@@ -327,7 +327,7 @@ pub(crate) fn run_told<T: Trouble + Drop>(
     })
 }
 
-/// The same, and nothing is told of failures.
+/// Runs the program whole on the folder, with that trouble. Nothing is told of failures.
 pub(crate) fn run_with<T: Trouble + Drop>(
     alloc: Global,
     shelf: &SharedShelf,
@@ -337,12 +337,12 @@ pub(crate) fn run_with<T: Trouble + Drop>(
     run_told(alloc, shelf, line, trouble, false)
 }
 
-/// The same without trouble.
+/// Runs the program whole on the folder, without trouble. Nothing is told of failures.
 pub(crate) fn run_line(alloc: Global, shelf: &SharedShelf, line: &str) -> io::Result<Ran> {
     run_with(alloc, shelf, line, Peace)
 }
 
-/// The same without trouble, but each failure is told.
+/// Runs the program whole on the folder, without trouble. Each call that fails is told.
 pub(crate) fn run_telling(alloc: Global, shelf: &SharedShelf, line: &str) -> io::Result<Ran> {
     run_told(alloc, shelf, line, Peace, true)
 }

@@ -393,7 +393,8 @@ fn a_file_that_another_run_changed_is_not_replaced(rt: HostRuntime) -> Result<()
     run(&rt, rt, &REPLACED)
 }
 
-// The same of a path at which nothing was, and after the temporary file is written.
+// If a look found nothing at a path, a file that another run makes there isn't replaced, even after the temporary file
+// is written.
 static APPEARED: [Step; 7] = [
     Size("c", None),
     Syncs(true),
