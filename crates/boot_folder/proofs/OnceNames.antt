@@ -47,7 +47,7 @@ module _ (given sorted once : List (List ℕ)) (moved : IsPermutation given sort
       subst (λ (l : List (List ℕ)). Contains l name) (sym cut)
       (Contains-dedup nat_list_eq_equiv bytes-true sorted name (Contains-permutation given sorted name moved is))
 
--- the same names, each once
+-- names that differ, each of which is among others
 module _ (names once : List (List ℕ)) (distinct : IsDistinct bytes_eq once) (among : (name : List ℕ) → Contains once name → Contains names name) where
   pub still_names : (files : Files) (folder : Path) (suffix : Suffix) → ((name : List ℕ) → Contains names name → Contains once name)
       → AreEntryNames files folder suffix names → AreEntryNames files folder suffix once

@@ -72,7 +72,7 @@ own_path text = if reads_as text (path_of text) then Some text else None
 abbrev pub entry_at : Suffix → Files → Path → Option MenuItem
 entry_at suffix files path = option_and_then (entry_of suffix path) (map.get files path)
 
--- the same where the text is a path
+-- what the file of a type is read as, if it is there and the text is its path in its normal form
 abbrev pub entry_if : Suffix → Files → Path → Option MenuItem
 entry_if suffix files text = option_and_then (entry_at suffix files) (own_path text)
 

@@ -135,7 +135,7 @@ one_more words statuses old mid new said spoken status has by = record {
       left = recovered_views new;
     }
 
--- the same of a machine that has printed what they printed
+-- one more run behind those of a history, on a machine that has printed what they printed
 pub one_longer : (words more : List (List Word)) (statuses written : List ℕ) (old mid new : State) (spoken : List Word)
     (status : ℕ) → more ≡ words ++ spoken ∷ [] → written ≡ statuses ++ status ∷ []
     → Adds old.printed mid.printed (HasHistory words statuses old mid) → IsRunBy spoken status mid new

@@ -19,7 +19,8 @@ abbrev pub EachMeans : (Command → Bool) → (Line → Type 0) → Files → Li
 EachMeans is_free P view input (Ok c) = is_free c ≡ false → AllLines P (lines_for input view c)
 EachMeans is_free P view input (Err reason) = Unit {0}
 
--- the same of each run from this state on, by what its words ask for at its start
+-- It is so of each line that the runs from this state on ask for, each by its words on the view at its start. Of some
+-- commands nothing is asked, whatever their lines are.
 abbrev pub EachAsks : (Command → Bool) → (Line → Type 0) → List Files → List Run → Type 0
 EachAsks is_free P state [] = Unit {0}
 EachAsks is_free P state (run ∷ runs) =

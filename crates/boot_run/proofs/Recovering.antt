@@ -51,7 +51,7 @@ module _ {D : Type 0} (time : Timeline D) (state : D → State) where
   abbrev StopIn : D → Deed → Files → Sent → Type 0
   StopIn old deed image sent = Adds (state old).printed sent (λ part. Breaks deed (recovered_views (state old)) (recovered_view image ∷ []) part Stopped)
 
-  -- the same of a deed that began with the files as they were
+  -- what a stop leaves of a deed that began with the files as they were
   abbrev StopAfresh : D → Deed → Files → Sent → Type 0
   StopAfresh old deed image sent = Adds (state old).printed sent (λ part. Breaks deed (latest_view (recovered_views (state old)) ∷ []) (recovered_view image ∷ []) part Stopped)
 

@@ -74,7 +74,7 @@ asked_lines words input view = lines_to_run input view (meaning words)
 abbrev pub lines_at : State → Command → List Line
 lines_at s c = lines_for s.input (latest_view (recovered_views s)) c
 
--- the same of a machine in this state
+-- the lines that a run's words stand for on a machine in this state, or why they are no command
 abbrev pub asked_lines_of : List Word → State → Result (List Line) UsageReason
 asked_lines_of words s = asked_lines words s.input (latest_view (recovered_views s))
 

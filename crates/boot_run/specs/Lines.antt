@@ -25,7 +25,7 @@ abbrev pub acknowledgement_in : Acknowledgements → Outcome → List ℕ
 acknowledgement_in texts Done = texts.ok
 acknowledgement_in texts (Refused number) = texts.refused
 
--- the same, with its acknowledgement on Out behind it
+-- the deed, with its acknowledgement on Out behind its reply
 abbrev pub with_acknowledgement : ℕ → Deed → Deed
 with_acknowledgement number deed = record {
   settles = deed.settles;

@@ -58,7 +58,8 @@ SyncsBefore time state old new deed =
     FromSync time state old new (IsIdleMoment (state old)) (λ image sent. Adds (state old).printed sent
     (λ part. Breaks deed (latest_view (recovered_views (state old)) ∷ []) (recovered_view image ∷ []) part Stopped))
 
--- the same of the first command of a run, by its answer: it may be given up with nothing done
+-- The names are synced before the deed of the first command of a run. After Err it may instead have been given up, with
+-- nothing done but reading.
 pub record SyncsFirst {M : Type 0} (time : Timeline M) (state : M → State)
     (old new : M) (deed : Deed)
     (result : Result Outcome Stop) : Type 0 where

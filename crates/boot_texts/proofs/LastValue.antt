@@ -64,7 +64,7 @@ pairs_of_more reading shown items item =
     ap (filter_map reading) (map-append shown items (item ∷ []))
     ∙ filter_map-append reading (map shown items) (shown item ∷ [])
 
--- the same for items that show lines, as a loop over them has
+-- the values of a key with that of one more item that shows a line
 pub values_of_more : {A : Type 0} (reading : List ℕ → Option Pair) (key : List ℕ) (shown : A → List ℕ) (items : List A) (item : A)
     → values_of key (filter_map reading (map shown (items ++ item ∷ []))) ≡ values_of key (filter_map reading (map shown items)) ++ option_to_list (given_value key (reading (shown item)))
 values_of_more reading key shown items item =

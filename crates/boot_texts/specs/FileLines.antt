@@ -23,7 +23,7 @@ with_newline line = line ++ 10 ∷ []
 abbrev pub text_of_lines : List (List ℕ) → List ℕ
 text_of_lines lines = flat_map with_newline lines
 
--- the same text, but for a newline at its end
+-- the whole is the text, or the text with a newline behind it
 abbrev pub IsTextButForNewline : List ℕ → List ℕ → Type 0
 IsTextButForNewline whole text = (whole ≡ text) ⊎ (whole ≡ text ++ 10 ∷ [])
 

@@ -58,7 +58,7 @@ once_more {X} {same} e (z ∷ zs) x =
           ∙ behind z x (list_any (λ y. same y x) rest) (list_any (λ y. same y x) (filter p rest)) (filter p rest) (any-filter_same (λ y. same y x) p true (others_stay e z x apart) rest))
     ]
 
--- the same of what a loop has kept
+-- what a loop has kept, with one more that isn't the same as any of it, is the list so far without repeats
 pub kept_new : {X : Type 0} {same : X → X → Bool} → IsEquivalence same → (xs : List X) (x : X) (kept more : List X) (found : Bool)
     → kept ≡ without_repeats same xs → found ≡ list_any (λ y. same y x) kept → found ≡ false → more ≡ kept ++ x ∷ [] → more ≡ without_repeats same (xs ++ x ∷ [])
 kept_new {X} {same} e xs x kept more found is answer none pushed =

@@ -62,7 +62,7 @@ stop_counts stops.Memory old new = new ≡ old
 abbrev pub CountsStop : {T : Type 0} → Result T Stop → Counts → Counts → Type 0
 CountsStop result old new = MatchResult result (λ _. new ≡ old) (λ stop. stop_counts stop old new)
 
--- the same of the machine's faults
+-- a machine's fault of disk or pipe comes only if its count rose, and every other answer leaves both counts
 abbrev pub CountsFault : {T : Type 0} → Result T MachineFault → Counts → Counts → Type 0
 CountsFault result old new = MatchResult result (λ _. new ≡ old) (λ fault. stop_counts (stop_of fault) old new)
 
@@ -76,7 +76,7 @@ stop_temps stops.Memory old new = NoNewTemp old new
 abbrev pub LeavesNoTemp : {T : Type 0} → Result T Stop → State → State → Type 0
 LeavesNoTemp result old new = MatchResult result (λ _. NoNewTemp old new) (λ stop. stop_temps stop old new)
 
--- the same of the machine's faults
+-- whatever the machine answered, no temporary file is left that wasn't there, but maybe after a fault of the disk
 abbrev pub LeavesNoTempBy : {T : Type 0} → Result T MachineFault → State → State → Type 0
 LeavesNoTempBy result old new =
     MatchResult result (λ _. NoNewTemp old new) (λ fault. stop_temps (stop_of fault) old new)
@@ -91,6 +91,6 @@ stop_rests stops.Memory new = IsRested new
 abbrev pub LeavesRested : {T : Type 0} → Result T Stop → State → Type 0
 LeavesRested result new = MatchResult result (λ _. IsRested new) (λ stop. stop_rests stop new)
 
--- the same of the machine's faults
+-- whatever the machine answered, it is rested, but maybe after a fault of the disk
 abbrev pub LeavesRestedBy : {T : Type 0} → Result T MachineFault → State → Type 0
 LeavesRestedBy result new = MatchResult result (λ _. IsRested new) (λ fault. stop_rests (stop_of fault) new)

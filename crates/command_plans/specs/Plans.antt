@@ -86,7 +86,8 @@ Drops (Put target bytes) old new = Unit {0}
 Drops (Copy from target gone) old new = Unit {0}
 Drops (Move from to intent gone exists) old new = Unit {0}
 
--- the same where the machine failed: the change is made where the reply alone couldn't be printed
+-- What of the temporary files is gone after a fault: if only the reply couldn't be printed, what the change drops.
+-- After one of the disk nothing is said.
 abbrev pub fault_drops : MachineFault → Change → Files → Files → Type 0
 fault_drops faults.Disk change old new = Unit {0}
 fault_drops faults.Pipe change old new = Drops change old new

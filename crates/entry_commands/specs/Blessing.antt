@@ -41,7 +41,7 @@ entry_paths path =
     bad_name_in path >>= λ bad.
     Ok (record { good = beside path good; counted = path; bad = beside path bad })
 
--- the same by the words of a command
+-- where the names of the entry stand, by the words of a command: the path below the ESP that is reported, and the ESP
 abbrev pub reported_paths : List ℕ → List ℕ → Result EntryPaths Refusal
 reported_paths word esp = path_in esp >>= λ esp. path_under esp word >>= entry_paths
 

@@ -13,7 +13,7 @@ abbrev pub is_temp_of : List ℕ → List ℕ → Bool
 is_temp_of temp name =
     bytes_eq (take (length temp - length temp_end) temp) name && bytes_eq (drop (length temp - length temp_end) temp) temp_end
 
--- the same letters in either case of ASCII
+-- two names are the same but for the case of their ASCII letters
 abbrev pub same_letters : List ℕ → List ℕ → Bool
 same_letters one other = bytes_eq (map to_ascii_lowercase one) (map to_ascii_lowercase other)
 

@@ -62,11 +62,13 @@ pub record MayFree (tree : Tree) (path but : List ℕ) (held : Option Inode) (fo
   pub locked : held ≡ Some (inode_of found)
   pub alone : IsAloneBut tree path but found
 
--- the same of whatever stands there, if it is a regular file
+-- If a regular file stands at a path it may be freed: this run holds it by its lock, and it shares its clusters with no
+-- name but maybe one.
 abbrev pub MayGoBut : Tree → List ℕ → List ℕ → Option Inode → Type 0
 MayGoBut tree path but held = IfSome (tree.stands path) (λ found. is_file found ≡ true → MayFree tree path but held found)
 
--- the same without that one: no name is empty
+-- If a regular file stands at a path it may be freed: this run holds it by its lock, and it shares its clusters with no
+-- name at all. The name that is left out is empty, so it is no file's.
 abbrev pub MayGo : Tree → List ℕ → Option Inode → Type 0
 MayGo tree path held = MayGoBut tree path [] held
 

@@ -37,7 +37,7 @@ lock_answer (Ok locked) = Ok locked
 lock_answer (Err Held) = Err Taken
 lock_answer (Err (Failed error)) = Err (lock_fault error)
 
--- the same if it doesn't matter that a file system keeps no locks
+-- the answer to a lock, but Ok if it failed only because the file system keeps no locks
 abbrev pub locked_if_kept : Result (Unit {0}) LockFault → Result (Unit {0}) LockFault
 locked_if_kept (Ok locked) = Ok locked
 locked_if_kept (Err Taken) = Err Taken

@@ -20,7 +20,8 @@ replaced_below = images_below ∷ codes "loader" ∷ entries_below ∷ []
 abbrev pub HasNoneReplaced : Waiting → List ℕ → Type 0
 HasNoneReplaced disk above = All (λ below. HasNoneLeft disk (path_in above below)) replaced_below
 
--- the same whichever folder is the partition: a folder itself, or one above it
+-- nobody has left a file in a folder in which this program replaces files, whichever folder is the partition: this one,
+-- or one above it
 abbrev pub IsNearClear : Waiting → List ℕ → Type 0
 IsNearClear disk folder =
     (above : List ℕ) → has_path (folder ∷ folders_above folder) above ≡ true → HasNoneReplaced disk above

@@ -66,7 +66,7 @@ known_still is_unsure named ready old new kept known = record {
   cleared = are_ready_still old new kept.others ready known.cleared;
 }
 
--- the same behind a sync after which it is known what waits
+-- if it was known what waits, it is known behind a sync too, whatever is unsure then
 pub known_after : (before after : Bool) (named : Named) (ready : Ready) (old new : Waiting) → before ≡ false → KeepsSynced old new
     → IsKnown before named ready old → IsKnown after named ready new
 known_after before after named ready old new sure kept known = record {

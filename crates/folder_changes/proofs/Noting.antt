@@ -27,7 +27,7 @@ name_waits_none waits path = record {
   others = (keeps_none waits).others;
 }
 
--- the same after a call that changed nothing
+-- nothing comes or goes in a call that changed nothing
 pub name_waits_same : (old new : Waiting) (path : List ℕ) → new ≡ old → NameWaits old new path
 name_waits_same old new path is = subst (λ (waits : Waiting). NameWaits old waits path) (sym is) (name_waits_none old path)
 

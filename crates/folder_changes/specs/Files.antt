@@ -14,6 +14,6 @@ found_as is_of_kind None = None
 abbrev pub facts_there : Tree → List ℕ → Option Facts
 facts_there tree path = option_map (λ found. found.facts) (found_as is_file (tree.stands path))
 
--- the same if it may stand on FAT
+-- what the system tells of the regular file at a path, if it may stand on FAT
 abbrev pub fat_facts_there : Tree → List ℕ → Option Facts
 fat_facts_there tree path = option_map (λ found. found.facts) (found_as is_fat_file (tree.stands path))

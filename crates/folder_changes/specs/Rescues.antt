@@ -47,7 +47,7 @@ pub record StandsWhole (tree : Tree) (path : List ℕ) (found : Found) : Type 0 
   pub bytes : nat_lt 0 found.facts.length ≡ true
   pub shown : is_shown tree path ≡ true
 
--- the same if it may stand on FAT
+-- If the file that was found may stand on FAT it has its bytes, and its folder shows it as the path spells it.
 abbrev pub NeedsNoRescue : Tree → List ℕ → Found → Type 0
 NeedsNoRescue tree path found = is_fat_file found ≡ true → StandsWhole tree path found
 

@@ -28,7 +28,7 @@ pub record NameIsSynced (disk : Waiting) (path : List ℕ) : Type 0 where
   pub left : disk.left (FileAt path) ≡ false
   pub folder : IsOnDisk disk (parent_folder path)
 
--- the same of each of the two names of a move that has a file which may stand on FAT
+-- If a file that may stand on FAT has a name of the move, neither it nor what its folder shows waits for the disk.
 abbrev pub LeftAreSynced : Tree → Waiting → Option IntentNames → Type 0
 LeftAreSynced tree disk None = Unit {0}
 LeftAreSynced tree disk (Some names) =

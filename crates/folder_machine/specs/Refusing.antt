@@ -19,7 +19,7 @@ kept_by_kind Link = None
 kept_by_kind Folder = Some IsADirectory
 kept_by_kind Other = Some InvalidInput
 
--- the same of what is found there, or nothing
+-- why a rename doesn't replace what is found at a path, if anything is found
 abbrev pub replace_fault : Option Found → Option ErrorKind
 replace_fault None = None
 replace_fault (Some found) = kept_by_kind found.kind

@@ -110,7 +110,8 @@ fn lock_named<C: Calls>(
 pub(crate) struct Created<F: Drop> {
     pub(crate) file: Locked<F>,
     pub(crate) found: Found,
-    /// the same, with the mode that the system gave it before it was for its owner alone; None on a file system without modes
+    /// what was found before the file was made for its owner alone, with the mode that the system gave it; None on a
+    /// file system without modes
     pub(crate) given: Option<Found>,
 }
 

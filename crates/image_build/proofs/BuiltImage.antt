@@ -53,7 +53,7 @@ zip_push R (a ∷ xs) (b ∷ ys) x y before here = (before.0, zip_push R xs ys x
 pub zip_more : {A B : Type 0} (R : A → B → Type 0) (xs : List A) (ys more : List B) (x : A) (y : B) → AllZip R xs ys → R x y → more ≡ ys ++ y ∷ [] → AllZip R (xs ++ x ∷ []) more
 zip_more R xs ys more x y before here is = subst (AllZip R (xs ++ x ∷ [])) (sym is) (zip_push R xs ys x y before here)
 
--- the same of what a list names
+-- what a list names is cut where the list is
 pub mapped_cut : {A B : Type 0} (N : A → B) (all xs rest : List A) (x : A) → all ≡ xs ++ x ∷ rest → map N all ≡ map N xs ++ N x ∷ map N rest
 mapped_cut N all xs rest x is = ap (map N) is ∙ map-append N xs (x ∷ rest)
 

@@ -33,7 +33,7 @@ module _ {A : Type 1} {U : Ura {1} A} {L : Logic U} {H : Model U L.H} {R : Runni
       → During on.time on.state (OldOrNext (on.state old) next) old old
   starts next firm one = begins on.time on.state next old only_here (met.sound old told) firm one
 
-  -- the same where each image shows what boot sees
+  -- boot is to see the next files, and each image shows what boot sees now
   pub starts_settled : (next : Files) → IsFirm (on.state old) → IsSettled (on.state old)
       → During on.time on.state (OldOrNext (on.state old) next) old old
   starts_settled next firm settled = begins_settled on.time on.state next old only_here (met.sound old told) firm settled

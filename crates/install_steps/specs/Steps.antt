@@ -64,7 +64,7 @@ pub record LeavesReady (old new : State) : Type 0 where
   pub next : CanStep new
   pub temps : NoNewTemp old new
 
--- the same, after every answer but this fault
+-- after every answer but this fault the next step may begin, and no temporary file is there that wasn't
 abbrev pub ReadyUnless : {T E : Type 0} → E → Result T E → State → State → Type 0
 ReadyUnless fault result old new =
     MatchResult result (λ _. LeavesReady old new) (λ other. other ≢ fault → LeavesReady old new)

@@ -9,7 +9,7 @@ use Rattle.serde_json.specs.View.{items_of}
 use Rattle.list_json.specs.Objects.{MaybeMember, object_of}
 use Rattle.list_json.specs.Registers.{bank_member, register_member, registers_data, value_data, values_data}
 
--- the same of what is shown of a register
+-- the member of a register, by its bank and its value
 abbrev shown_member : List (List (List ℕ)) → Bank × List ℕ → MaybeMember
 shown_member paths start = bank_member (extend_all start.0 start.1) (bank_name start.0) paths
 

@@ -14,7 +14,7 @@ abbrev pub put_value : List ℕ → Option Data → Members → Members
 put_value key None members = members
 put_value key (Some value) members = put key value members
 
--- the same by a row
+-- the members with that of a row at the place of its key, if it has a value
 abbrev pub put_some : Members → MaybeMember → Members
 put_some members row = put_value row.0 row.1 members
 

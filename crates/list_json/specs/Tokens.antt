@@ -25,7 +25,7 @@ abbrev pub put_tokens : List ℕ → Option Data → List Token → List Token
 put_tokens key None tokens = tokens
 put_tokens key (Some value) tokens = tokens ++ Token.key key ∷ data_tokens value
 
--- the same by a row
+-- tokens with those of a row's member behind them, if it has a value
 abbrev pub put_row : List Token → MaybeMember → List Token
 put_row tokens row = put_tokens row.0 row.1 tokens
 

@@ -303,7 +303,7 @@ nothing_waits named old new kept synced covers = record {
   ];
 }
 
--- the same of an answer that may be a fault
+-- if the answer is Ok, and all that waited was noted, nothing waits behind the sync
 pub if_nothing_waits : {F : Type 0} (result : Result (Unit {0}) F) (tells : Type 0) (named : Named) (old new : Waiting)
     → (tells → KeepsSynced old new) → IfOk result (λ _. tells → IsSynced named new)
     → IfOk result (λ _. tells → Covers named old → NothingWaits new)
@@ -345,7 +345,7 @@ all_show named between new kept synced seen =
     All-append (ShowsTruth new) (listed named.changed) (listed named.seen) changed
     (seen_show named.changed new (listed named.seen) changed seen)
 
--- the same of an answer that may be a fault
+-- behind both syncs the folders that were changed and those that were seen show the truth, if the answer is Ok
 pub if_all_show : {F : Type 0} (result : Result (Unit {0}) F) (tells : Type 0) (named again : Named) (between new : Waiting)
     → again.changed ≡ named.changed → again.seen ≡ named.seen
     → (tells → KeepsSynced between new) → (tells → IsSynced named between)

@@ -216,7 +216,7 @@ pub one_more : (paths : List (List ℕ)) (i : ℕ) (item path : List ℕ) → i 
 one_more paths i item path inside at is =
     take_more paths i item inside ∙ ap (λ (last : List ℕ). take i paths ++ last ∷ []) (sym at ∙ sym is)
 
--- the same where what comes behind isn't gone through
+-- only folders among these are settled behind the sync of one more, even if those behind it aren't gone through
 pub settles_some : (paths : List (List ℕ)) (i : ℕ) (path : List ℕ) (old new : Waiting) (before middle after : FolderSet)
     → take (i + 1) paths ≡ take i paths ++ path ∷ [] → KeepsSynced old new
     → SettlesOnly (take i paths) old before middle → SettlesOnly (path ∷ []) new middle after → SettlesOnly paths new before after

@@ -51,7 +51,8 @@ renamed_with named from to folders = record (owned (owned named to) from) {
 abbrev pub renamed_to : Named → List ℕ → List ℕ → Named
 renamed_to named from to = renamed_with named from to (folders_above to ++ folders_above from)
 
--- the same of a file that was there when the names were synced last: its own folders, and the unsettled ones above
+-- A file gets a new name. The folders above that come before those above the old one, both without each that is settled
+-- like the folder below it.
 abbrev pub renamed_known : Named → List ℕ → List ℕ → Named
 renamed_known named from to =
     renamed_with named from to
@@ -101,13 +102,13 @@ NamesAreCovered =
     (named : Named) (old new : Waiting) (path : List ℕ) → Covers named old → NameWaits old new path
     → Covers (changed_at named path) new × (Covers (made_at named path) new × Covers (removed_at named path) new)
 
--- the same of a rename, also of a file that was there before
+-- If all that waited was noted, so is all that waits after a rename, also if it is noted without settled folders above.
 abbrev pub RenamesAreCovered : Type 0
 RenamesAreCovered =
     (named : Named) (old new : Waiting) (from to : List ℕ) → Covers named old → RenameWaits old new from to
     → Covers (renamed_to named from to) new × Covers (renamed_known named from to) new
 
--- the same of a file that doesn't wait any more
+-- If all that waits was noted, it still is without the note of a renamed file that doesn't wait any more.
 abbrev pub SettledAreCovered : Type 0
 SettledAreCovered =
     (named : Named) (disk : Waiting) (path : List ℕ) → Covers named disk → disk.files path ≡ false

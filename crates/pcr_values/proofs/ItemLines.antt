@@ -9,7 +9,7 @@ use Rattle.pcr_values.specs.Prelude.{extend_data, extend_all, fold_of, fold_pcr,
 abbrev pub lines_of : List Pcr → List (List ℕ) → List ℕ
 lines_of starts path = heading_of path ++ flat_map (line_after path) starts
 
--- the same of what is shown of a register
+-- the line of a register after a path's words, by its bank and its value
 abbrev pub shown_after : List (List ℕ) → Bank × List ℕ → List ℕ
 shown_after path start = value_line start.0 (extend_all start.0 start.1 path)
 

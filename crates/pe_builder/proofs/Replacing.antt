@@ -78,7 +78,7 @@ table-from n header_size i k place v before header other behind out middle rest 
     ∙ f (middle ++ t' ∷ []) (alike-resized middle t v)
     ∙ ap (λ (l : List Section). Ok l) (append_assoc middle (t' ∷ []) rest ∙ sym changed)
 
--- the same, from what the stub's table gave
+-- One header of the table has another VirtualSize, and the old one is that of the section that the stub's table gave.
 table-from_any : (n header_size i k place v : ℕ) (before header other behind : List ℕ) (out middle rest : List Section) (s d : Section)
     → length before ≡ 40 * i → length header ≡ 40 → length other ≡ 40
     → section_at other ≡ record (section_at header) { virtual_size = v }

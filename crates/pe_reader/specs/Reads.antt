@@ -26,7 +26,7 @@ abbrev pub ReturnsRead : {X Y : Type 0} → (X → Y) → Result X PeFault → R
 ReturnsRead view (Ok x) read = read ≡ Ok (view x)
 ReturnsRead view (Err e) read = Fails e read
 
--- the same fault, of a machine's file
+-- a fault of reading bytes, as that of reading a machine's file
 abbrev pub head_fault : PeFault → HeadFault
 head_fault Memory = heads.Memory
 head_fault (NotPe reason offset) = heads.NotPe reason offset

@@ -67,7 +67,7 @@ pub map_holds : {Y X : Type 0} → (P : List ℕ → X → Type 0) (entries : Li
     → map.from_entries (by_text entries) ≡ m → EachEntry P entries → (q : List ℕ) → IfSome (map.get m q) (P q)
 map_holds P entries m is all q = rw (← is, get_by_text entries q) (found_holds P entries all q)
 
--- the same the other way
+-- what holds of what the map has at each key holds of each entry
 pub each_holds : {Y X : Type 0} → (P : List ℕ → X → Type 0) (entries : List (String Y × X)) (m : map.FinMap
     (slice_cmp nat_cmp) X)
     → map.from_entries (by_text entries) ≡ m → IsDistinct string_eq (keys_of entries)

@@ -45,12 +45,12 @@ measured_length image = sum_by (λ name. length (loaded_bytes image name)) measu
 abbrev pub raw_length : Section → ℕ
 raw_length s = (range_of s).length
 
--- the same of a section that may be there
+-- how many bytes of the file a section has loaded, and none if there is no section
 abbrev pub found_raw_length : Option Section → ℕ
 found_raw_length None = 0
 found_raw_length (Some s) = raw_length s
 
--- the same of the first section of a name
+-- how many bytes of the file the first section of a name has loaded, and none if no such section is read
 abbrev pub named_raw_length : List ℕ → Result Headers FailedCheck → ℕ
 named_raw_length name (Ok headers) = found_raw_length (find (is_named name) headers.sections)
 named_raw_length name (Err check) = 0

@@ -43,7 +43,7 @@ by_reads : {X A B : Type 0} (reads : Result X Refusal) (made found : List A) (b 
 by_reads (Ok x) made found b is = (refl, cc)
 by_reads (Err why) made found b is = cc
 
--- the same refusal
+-- what is refused because of what was read is refused for that too if something else is made of it
 refused_too : {X A B : Type 0} (fault : Unsaid) (reads : Result X Refusal) (made : A) (b : B) → UnsaidFor fault (reads >>= λ x. Ok made) → UnsaidFor fault (reads >>= λ x. Ok b)
 refused_too unsaid.Memory reads made b why = tt
 refused_too unsaid.Disk reads made b why = tt

@@ -27,7 +27,7 @@ payload_esp word =
 abbrev pub IsBesidePayload : Path → Path → Type 0
 IsBesidePayload folder q = (name : List ℕ) × (is_payload_temp name ≡ true) × (q ≡ under folder name)
 
--- the same of the ESP that a word names
+-- the path of a temporary file beside a payload of the ESP that a word names: there is none if the ESP is refused
 abbrev pub StandsBeside : Result Path Refusal → Path → Type 0
 StandsBeside (Ok esp) q = IsBesidePayload (payload_folder esp) q
 StandsBeside (Err why) q = ⊥
@@ -38,7 +38,7 @@ HasPayloadTemps files folder temps =
     (name : List ℕ) → is_file_name name ≡ true → is_payload_temp name ≡ true → has files (under folder name) ≡ true
     → Contains temps (under folder name)
 
--- the same of the ESP that a word names
+-- each temporary file beside a payload of the ESP that a word names is among these, if the ESP isn't refused
 abbrev pub FindsBeside : Result Path Refusal → Files → List Path → Type 0
 FindsBeside (Ok esp) files temps = HasPayloadTemps files (payload_folder esp) temps
 FindsBeside (Err why) files temps = Unit {0}

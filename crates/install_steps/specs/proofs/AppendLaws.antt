@@ -257,7 +257,7 @@ grown_from_none p front back back' s t u none first second same =
     (grown_on p front back s t u first second).bytes ∙ ap (λ (l : List ℕ). l ++ (front ++ back)) none ∙ ap
     (λ (l : List ℕ). front ++ l) same
 
--- the same bytes in other words
+-- a file that has grown by some bytes has grown by any that are equal to them
 pub grown_as : (p : Path) (a b : List ℕ) (s t : State) → a ≡ b → IsGrown p a s t → IsGrown p b s t
 grown_as p a b s t is grown = record { bytes = grown.bytes ∙ ap (λ (l : List ℕ). contents s.files p ++ l) is }
 
