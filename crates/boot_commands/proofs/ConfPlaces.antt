@@ -6,9 +6,9 @@ use Rattle.std.proofs.lemmas.List.{append_cancel_right, same_from_push}
 use Rattle.boot_base.specs.Paths.{Path, components, file_name_of, is_kept, is_path, is_slash, normal_of, under}
 use Rattle.boot_base.specs.declared.refusal.Refusal.{Refusal}
 use Rattle.boot_base.proofs.Joined.{add_piece, is_kept-long, join_filtered, join_filtered-kept}
-use Rattle.boot_folder.specs.Entries.{folder_of}
-use Rattle.boot_folder.specs.declared.folders.Folders.{Folders}
-use Rattle.boot_folder.proofs.Places.{file_name_under, name_parts}
+use Rattle.boot_entries.specs.Entries.{folder_of}
+use Rattle.boot_entries.specs.declared.folders.Folders.{Folders}
+use Rattle.boot_entries.proofs.Places.{file_name_under, name_parts}
 use Rattle.boot_machine.specs.Prelude.{Files}
 use Rattle.command_plans.specs.Prelude.{◌>>=◌, path_in, path_or, path_under, folders_of}
 use Rattle.menu_order.specs.declared.counted.Suffix.{Suffix}

@@ -3,9 +3,9 @@ use Rattle.std.proofs.Common.{◌≡◌, ◌≢◌, ◌||◌, codes, ℕ, Bool, 
 use Rattle.boot_base.specs.Paths.{Path}
 use Rattle.boot_base.specs.declared.refusal.Refusal.{Refusal}
 use Rattle.boot_machine.specs.Prelude.{Files, State, seen}
-use Rattle.command_plans.specs.Prelude.{◌>>=◌, bytes_at, each, UnsaidFor}
-use Rattle.command_plans.specs.declared.unsaid.Unsaid.{Unsaid}
-use Rattle.command_plans.specs.declared.unsaid.Unsaid.TheVariants as unsaid
+use Rattle.command_plans.specs.Prelude.{◌>>=◌, bytes_at, each, ReadErrorFor}
+use Rattle.command_plans.specs.declared.read_error.ReadError.{ReadError}
+use Rattle.command_plans.specs.declared.read_error.ReadError.TheVariants as read_errors
 use Rattle.tool_words.specs.declared.command.Several.{Several}
 use Rattle.tool_words.specs.declared.command.Several.TheVariants as several
 use Rattle.tool_words.specs.declared.command.KeepWords.{KeepWords}
@@ -16,7 +16,7 @@ use Rattle.entry_commands.specs.Keeping.{keep_result, would_text}
 use Rattle.type1_install.specs.Cleaning.{cleanup_expansion}
 use Rattle.type1_install.specs.Installing.{Type1Plan, install_commands, install_expansion, install_plan, planned_install}
 use Rattle.boot_commands.specs.Demonstration.{demo_result}
-use Rattle.boot_commands.specs.Expanding.{RefusedOrDone, RefusesUnsaid, StandsFor}
+use Rattle.boot_commands.specs.Expanding.{RefusedOrDone, RefusesReadError, StandsFor}
 use Rattle.boot_commands.specs.Replies.{told_text}
 use Rattle.boot_commands.specs.Expansions.{clean_or_idle, expansion, keep_actions, actions_or_refusal}
 use Rattle.boot_commands.proofs.Unrefused.{bound_or_refused, expansion_unrefused, made_or_refused}
@@ -84,11 +84,11 @@ demo_stands s seed count actions are = stands_for s (several.Demo seed count) ac
 
 -- ---- what was found, or the refusal
 
-pub refused_so : {A : Type 0} (made : A → List Action) (why : Unsaid) (actions : List Action) (meant : Result A Refusal)
-    → RefusesUnsaid why actions → UnsaidFor why meant → actions ≡ actions_or_refusal made meant
-refused_so made unsaid.Memory actions meant refuses is = absurd refuses
-refused_so made unsaid.Disk actions meant refuses is = absurd refuses
-refused_so made (unsaid.Refused why) actions meant refuses is = refuses ∙ sym (ap (actions_or_refusal made) is)
+pub refused_so : {A : Type 0} (made : A → List Action) (why : ReadError) (actions : List Action) (meant : Result A Refusal)
+    → RefusesReadError why actions → ReadErrorFor why meant → actions ≡ actions_or_refusal made meant
+refused_so made read_errors.Memory actions meant refuses is = absurd refuses
+refused_so made read_errors.Disk actions meant refuses is = absurd refuses
+refused_so made (read_errors.Refused why) actions meant refuses is = refuses ∙ sym (ap (actions_or_refusal made) is)
 
 pub made_so : {A : Type 0} (made : A → List Action) (found : A) (actions : List Action) (meant : Result A Refusal)
     → actions ≡ made found → meant ≡ Ok found → actions ≡ actions_or_refusal made meant

@@ -13,11 +13,11 @@ use Rattle.menu_order.specs.declared.counted.Suffix.{Suffix}
 use Rattle.menu_order.specs.declared.counted.Suffix.TheVariants.{Conf, Efi}
 use Rattle.menu_order.specs.declared.item.MenuItem.{MenuItem}
 use Rattle.boot_texts.specs.BootEntries.{boots, type1_of}
-use Rattle.boot_folder.specs.Entries.{entry_of, folder_of}
-use Rattle.boot_folder.specs.Records.{type1_item}
-use Rattle.boot_folder.specs.declared.folders.Folders.{Folders}
-use Rattle.boot_folder.proofs.EntryFiles.{one_type}
-use Rattle.boot_folder.proofs.Places.{file_name_under, name_parts}
+use Rattle.boot_entries.specs.Entries.{entry_of, folder_of}
+use Rattle.boot_entries.specs.Records.{type1_item}
+use Rattle.boot_entries.specs.declared.folders.Folders.{Folders}
+use Rattle.boot_entries.proofs.EntryFiles.{one_type}
+use Rattle.boot_entries.proofs.Places.{file_name_under, name_parts}
 use Rattle.boot_machine.specs.Prelude.{Files, contents}
 use Rattle.command_plans.specs.Prelude.{◌>>=◌, path_in, path_under, bytes_at, each, folders_of, menu_at}
 use Rattle.tool_words.specs.declared.command.Several.{Several}

@@ -11,7 +11,7 @@ use Rattle.tool_words.specs.declared.command.One.TheVariants as one
 use Rattle.boot_commands.specs.Commands.{LeavesTidied}
 use Rattle.command_plans.specs.Prelude.{folders_of}
 use Rattle.entry_commands.specs.Tidying.{CleanAt, IsClean}
-use Rattle.boot_folder.specs.declared.folders.Folders.{Folders}
+use Rattle.boot_entries.specs.declared.folders.Folders.{Folders}
 
 -- a folder stays clean where no temporary file comes
 clean_later : (s now : State) (folder : Path) → NoNewTemp s now → IsClean s.files folder → IsClean now.files folder

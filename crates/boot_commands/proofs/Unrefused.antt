@@ -12,12 +12,12 @@ use Rattle.boot_base.specs.Limits.{file_limit}
 use Rattle.boot_base.specs.Paths.{Path}
 use Rattle.boot_base.specs.declared.refusal.Refusal.{Refusal}
 use Rattle.boot_base.specs.declared.refusal.Refusal.TheVariants as refusals
-use Rattle.boot_folder.specs.Entries.{IsEntry, boot_menu, entry_count}
-use Rattle.boot_folder.specs.declared.folders.Folders.{Folders}
-use Rattle.boot_folder.proofs.EntryFiles.{distinct_paths, entries_menu, member_is}
-use Rattle.boot_folder.proofs.Members.{distinct_passing, passing_from}
-use Rattle.boot_folder.proofs.OncePaths.{own_moved}
-use Rattle.boot_folder.proofs.Removing.{menu_own}
+use Rattle.boot_entries.specs.Entries.{IsEntry, boot_menu, entry_count}
+use Rattle.boot_entries.specs.declared.folders.Folders.{Folders}
+use Rattle.boot_entries.proofs.EntryFiles.{distinct_paths, entries_menu, member_is}
+use Rattle.boot_entries.proofs.Members.{distinct_passing, passing_from}
+use Rattle.boot_entries.proofs.OncePaths.{own_moved}
+use Rattle.boot_entries.proofs.Removing.{menu_own}
 use Rattle.boot_machine.specs.Prelude.{Files, has, contents}
 use Rattle.boot_machine.proofs.Listing.{same_bytes}
 use Rattle.boot_machine.specs.proofs.Maps.{cases_same, get-insert_apart, get-insert_here, get-remove_apart}

@@ -8,10 +8,10 @@ use Rattle.tool_words.specs.declared.command.One.TheVariants as one
 use Rattle.tool_words.specs.declared.action.Action.{Action}
 use Rattle.tool_words.specs.declared.action.Action.TheVariants as action
 use Rattle.command_plans.specs.Deeds.{Deed, deed_of_answer}
-use Rattle.command_plans.specs.Performs.{CountsStop, LeavesNoTemp}
+use Rattle.command_plans.specs.Performs.{CountsRunError, LeavesNoTemp}
 use Rattle.command_plans.specs.Plans.{IsSparedBy}
-use Rattle.command_plans.specs.declared.outcome.Stop.{Stop}
-use Rattle.command_plans.specs.declared.outcome.Stop.TheVariants as stops
+use Rattle.command_plans.specs.declared.outcome.RunError.{RunError}
+use Rattle.command_plans.specs.declared.outcome.RunError.TheVariants as run_errors
 use Rattle.command_plans.specs.Folders.{folders_of}
 use Rattle.entry_commands.specs.Tidying.{IsTidied, KeepsElsewhere, StandsAt}
 use Rattle.type1_install.specs.Placing.{comparing_length}
@@ -39,14 +39,14 @@ LeavesTidied (one.Tidy esp) files = IsTidied esp files
 LeavesTidied c files = Unit {0}
 
 -- a command has tidied that is done, or that printed a part of its reply before a pipe failed
-abbrev pub stop_tidies : Stop → One → State → State → Type 0
-stop_tidies stops.Disk c old new = Unit {0}
-stop_tidies stops.Pipe c old new = new.printed ≢ old.printed → LeavesTidied c new.files
-stop_tidies stops.Memory c old new = Unit {0}
+abbrev pub stop_tidies : RunError → One → State → State → Type 0
+stop_tidies run_errors.Disk c old new = Unit {0}
+stop_tidies run_errors.Pipe c old new = new.printed ≢ old.printed → LeavesTidied c new.files
+stop_tidies run_errors.Memory c old new = Unit {0}
 
 -- what of temporary files is gone after a command, by what it returned: after Ok it has tidied, after a stop as far as
 -- that tells
-abbrev pub TidiesTo : {T : Type 0} → Result T Stop → One → State → State → Type 0
+abbrev pub TidiesTo : {T : Type 0} → Result T RunError → One → State → State → Type 0
 TidiesTo result c old new = MatchResult result (λ _. LeavesTidied c new.files) (λ stop. stop_tidies stop c old new)
 
 -- these temporary files may be those of this command: those of a tidying stand in its two folders
@@ -67,7 +67,7 @@ OneSpares view c q = IsSparedBy (one_reply view c) q
 -- How a command behaves, however it ends: it takes no input, it leaves no new temporary file unless the disk failed, and a
 -- fault has its cause.
 pub record Behaves {D T : Type 0} (tells : Bool) (state : D → State) (counts : D → Counts) (old new : D)
-    (result : Result T Stop) : Type 0 where
+    (result : Result T RunError) : Type 0 where
   pub input : IsTrue tells → (state new).input ≡ (state old).input
   pub temps : IsTrue tells → LeavesNoTemp result (state old) (state new)
-  pub counted : CountsStop result (counts old) (counts new)
+  pub counted : CountsRunError result (counts old) (counts new)

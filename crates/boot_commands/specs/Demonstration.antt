@@ -17,7 +17,7 @@ use Rattle.tool_words.specs.declared.command.BlessWord.TheVariants.{Mark}
 use Rattle.pcr_values.specs.declared.bank.Bank.TheVariants as banks
 use Rattle.pcr_values.specs.Banks.{digest_of}
 use Rattle.command_plans.specs.Answers.{Answer, is_refusal}
-use Rattle.command_plans.specs.Declining.{◌>>=◌}
+use Rattle.command_plans.specs.WordErrors.{◌>>=◌}
 use Rattle.boot_commands.specs.DemoImages.{demo_image}
 use Rattle.boot_commands.specs.Draws.{draw_below, next_number}
 use Rattle.boot_commands.specs.Replies.{one_reply}

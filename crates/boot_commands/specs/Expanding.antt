@@ -9,8 +9,8 @@ use Rattle.tool_words.specs.declared.action.Action.TheVariants as action
 use Rattle.command_plans.specs.Answers.{is_refusal}
 use Rattle.command_plans.specs.Folders.{folders_of}
 use Rattle.command_plans.specs.Menus.{menu_limit}
-use Rattle.command_plans.specs.declared.unsaid.Unsaid.{Unsaid}
-use Rattle.command_plans.specs.declared.unsaid.Unsaid.TheVariants as unsaid
+use Rattle.command_plans.specs.declared.read_error.ReadError.{ReadError}
+use Rattle.command_plans.specs.declared.read_error.ReadError.TheVariants as read_errors
 use Rattle.type1_install.specs.Installing.{install_plan, installing_length}
 use Rattle.boot_commands.specs.Expansions.{expansion}
 use Rattle.boot_commands.specs.Replies.{action_reply}
@@ -27,10 +27,10 @@ RefusedOrDone view (action.Refuse why ∷ []) = Unit {0}
 RefusedOrDone view actions = NoneRefused view actions
 
 -- it is the one action that refuses the command for this reason; there is none if memory ran out or the disk failed
-abbrev pub RefusesUnsaid : Unsaid → List Action → Type 0
-RefusesUnsaid unsaid.Memory actions = ⊥
-RefusesUnsaid unsaid.Disk actions = ⊥
-RefusesUnsaid (unsaid.Refused why) actions = actions ≡ action.Refuse why ∷ []
+abbrev pub RefusesReadError : ReadError → List Action → Type 0
+RefusesReadError read_errors.Memory actions = ⊥
+RefusesReadError read_errors.Disk actions = ⊥
+RefusesReadError (read_errors.Refused why) actions = actions ≡ action.Refuse why ∷ []
 
 -- On what boot sees in this state these are the actions of the command.
 pub record StandsFor (s : State) (c : Several) (actions : List Action) : Type 0 where

@@ -1,7 +1,7 @@
 -- What each command and each action spares of the boot entries: a case for each that doesn't spare all.
 use Rattle.std.specs.Prelude.{◌≢◌, Ok}
 use Rattle.boot_base.specs.Paths.{Path}
-use Rattle.command_plans.specs.Declining.{path_in}
+use Rattle.command_plans.specs.WordErrors.{path_in}
 use Rattle.tool_words.specs.declared.command.One.{One}
 use Rattle.tool_words.specs.declared.command.One.TheVariants as one
 use Rattle.tool_words.specs.declared.action.Action.{Action}

@@ -3,12 +3,12 @@ ghost use Rattle.std.specs.Prelude.{◌≡◌, IfOk, IsTrue};
 ghost use Rattle.boot_machine.specs.Prelude.{IsFirm, IsRested, Looks, State, TakesAtMost, seen};
 ghost use Rattle.boot_commands.specs.Commands.{Behaves, action_deed, action_length};
 ghost use Rattle.boot_commands.specs.Replies.{action_reply, told_text};
-ghost use Rattle.command_plans.specs.Prelude.{CountsStop, LeavesRested, Performs, Plans, SparesTemps, done_answer, end_of};
+ghost use Rattle.command_plans.specs.Prelude.{CountsRunError, LeavesRested, Performs, Plans, SparesTemps, done_answer, end_of};
 
 use crate::carrying::carry_out;
 use boot_base::Bytes;
 use boot_machine::Machine;
-use command_plans::{Change, Outcome, Plan, Stop, refusal_plan};
+use command_plans::{Change, Outcome, Plan, RunError, refusal_plan};
 use std::alloc::{AllocError, Global};
 use tool_words::Action;
 use type1_install::{plan_enter, plan_put, plan_remove};
@@ -41,10 +41,10 @@ pub fn plan_action<M: Machine>(
     alloc: Global,
     action: &Action,
     machine: &mut M,
-) -> Result<Plan, Stop>
+) -> Result<Plan, RunError>
     ensures plans { IfOk result (λ plan. IsTrue M.tells
         → Plans (M.state machine.old) plan (action_reply (seen (M.state machine.old)) action.now)) }
-    ensures looks { Looks M.tells M.time M.state M.counts (CountsStop result) machine.old machine.new }
+    ensures looks { Looks M.tells M.time M.state M.counts (CountsRunError result) machine.old machine.new }
     ensures taken { IsTrue M.tells → TakesAtMost (action_length (seen (M.state machine.old)) action.now)
         (M.taken machine.old) (M.taken machine.new) }
 {
@@ -71,7 +71,7 @@ pub fn run_action<M: Machine>(
     alloc: Global,
     action: &Action,
     machine: &mut M,
-) -> Result<Outcome, Stop>
+) -> Result<Outcome, RunError>
     requires rested { IsTrue M.tells → IsRested (M.state machine.old) }
     ensures performs { IsTrue M.tells → IsFirm (M.state machine.old)
         → Performs M.time M.state end_of machine.old machine.new

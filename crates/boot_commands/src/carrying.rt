@@ -7,10 +7,10 @@ ghost use Rattle.install_steps.specs.Steps.{KeepsTempsBut};
 ghost use Rattle.tool_words.specs.declared.command.One.{One};
 
 use boot_machine::Machine;
-use command_plans::{Outcome, Plan, Stop, perform};
+use command_plans::{Outcome, Plan, RunError, perform};
 
 /// Carries out a plan, as `perform` does it.
-pub(crate) fn carry_out<M: Machine>(plan: Plan, machine: &mut M) -> Result<Outcome, Stop>
+pub(crate) fn carry_out<M: Machine>(plan: Plan, machine: &mut M) -> Result<Outcome, RunError>
     requires rested { IsTrue M.tells → IsRested (M.state machine.old) }
     requires there { IsTrue M.tells → CanMake (M.state machine.old) plan.change }
     ensures performs { IsTrue M.tells → IsFirm (M.state machine.old)

@@ -2,7 +2,7 @@
 ghost use Rattle.std.specs.Prelude.{◌≡◌, ◌≤◌, string_bytes, IfOk, Some, false};
 ghost use Rattle.boot_base.specs.Paths.{path_of};
 ghost use Rattle.boot_machine.specs.Prelude.{Counts, seen, view};
-ghost use Rattle.command_plans.specs.Prelude.{CountsUnsaid, Means, Says};
+ghost use Rattle.command_plans.specs.Prelude.{CountsReadError, Means, Says};
 ghost use Rattle.memory_machine.specs.Memory.{mem_state};
 ghost use Rattle.boot_commands.specs.DemoImages.{demo_image};
 ghost use Rattle.boot_commands.specs.Demonstration.{demo_esp, demo_files, demo_result, demo_start, demo_text, demo_turns, count_lines, end_lines, is_long_number, list_digest, long_number, number_up_to, run_line};
@@ -14,7 +14,7 @@ use crate::demo_images::demo_image;
 use crate::demo_turns::{Demo, ESP, Reply, reply_of};
 use crate::draws::Draws;
 use boot_base::{BootPath, Refusal, Text};
-use command_plans::{Declined, Unsaid};
+use command_plans::{ReadError, WordError};
 use memory_machine::{MemFile, MemMachine};
 use menu_order::has_digits_alone;
 use pcr_values::{Bank, Digest};
@@ -43,15 +43,15 @@ fn long_number(word: &str) -> Option<u64>
     }
 }
 
-fn bad_number(alloc: Global, word: &str) -> Result<Declined, AllocError>
-    ensures { IfOk result (λ declined. declined ≡ Declined.Refused (Refusal.BadNumber word.now)) }
+fn bad_number(alloc: Global, word: &str) -> Result<WordError, AllocError>
+    ensures { IfOk result (λ word_error. word_error ≡ WordError.Refused (Refusal.BadNumber word.now)) }
 {
     let text = Text::of(alloc, word)?;
-    Ok(Declined::Refused(Refusal::BadNumber { text }))
+    Ok(WordError::Refused(Refusal::BadNumber { text }))
 }
 
 // The number that a word writes with 1 to 20 digits, up to a limit. Any other word is refused.
-fn number_up_to(alloc: Global, limit: u64, word: &str) -> Result<u64, Declined>
+fn number_up_to(alloc: Global, limit: u64, word: &str) -> Result<u64, WordError>
     ensures means { Means (λ number. number) result (number_up_to limit word.now) }
     ensures limit { IfOk result (λ number. number ≤ limit) }
 {
@@ -182,9 +182,9 @@ fn demonstrate(alloc: Global, seed: u64, count: u64) -> Result<Vec<u8>, AllocErr
 
 /// What a demonstration tells, which reads and changes nothing of the machine that is told of it: its five lines, or the
 /// refusal of a word.
-pub(crate) fn demo_result(alloc: Global, seed: &str, count: &str) -> Result<Vec<u8>, Unsaid>
+pub(crate) fn demo_result(alloc: Global, seed: &str, count: &str) -> Result<Vec<u8>, ReadError>
     ensures says { Says (λ text. text.items) result (demo_result seed.now count.now) }
-    ensures counts { (counts : Counts) → CountsUnsaid result counts counts }
+    ensures counts { (counts : Counts) → CountsReadError result counts counts }
 {
     let seed = number_up_to(alloc, u64::MAX, seed)?;
     let count = number_up_to(alloc, COUNT_LIMIT, count)?;

@@ -3,15 +3,15 @@ ghost use Rattle.std.specs.Prelude.{◌≡◌, ◌||◌, List, Result, ℕ, All,
 ghost use Rattle.boot_base.specs.Paths.{Path};
 ghost use Rattle.boot_base.specs.declared.refusal.Refusal.{Refusal};
 ghost use Rattle.boot_machine.specs.Prelude.{Counts, Looks, TakesAtMost};
-ghost use Rattle.boot_commands.specs.Expanding.{RefusesUnsaid, StandsFor, expanding_length};
+ghost use Rattle.boot_commands.specs.Expanding.{RefusesReadError, StandsFor, expanding_length};
 ghost use Rattle.boot_commands.specs.Expansions.{actions_or_refusal, clean_or_idle, keep_actions};
-ghost use Rattle.command_plans.specs.Prelude.{CountsStop, CountsUnsaid, Says, unsaid_counts};
+ghost use Rattle.command_plans.specs.Prelude.{CountsRunError, CountsReadError, Says, read_error_counts};
 ghost use Rattle.tool_words.specs.declared.action.Action.TheVariants.{Tell};
 
 use crate::demo::demo_result;
 use boot_base::{BootPath, Bytes};
 use boot_machine::Machine;
-use command_plans::{Stop, Unsaid};
+use command_plans::{ReadError, RunError};
 use entry_commands::{keep_paths, would_text};
 use std::alloc::{AllocError, Global};
 use tool_words::{Action, Several};
@@ -22,9 +22,9 @@ pub fn expand<M: Machine>(
     alloc: Global,
     command: &Several,
     machine: &mut M,
-) -> Result<Vec<Action>, Stop>
+) -> Result<Vec<Action>, RunError>
     ensures stands { IfOk result (λ actions. IsTrue M.tells → StandsFor (M.state machine.old) command.now actions.items) }
-    ensures looks { Looks M.tells M.time M.state M.counts (CountsStop result) machine.old machine.new }
+    ensures looks { Looks M.tells M.time M.state M.counts (CountsRunError result) machine.old machine.new }
     ensures taken { IsTrue M.tells → TakesAtMost (expanding_length (M.state machine.old) command.now)
         (M.taken machine.old) (M.taken machine.new) }
 {
@@ -58,14 +58,14 @@ fn only(alloc: Global, action: Action) -> Result<Vec<Action>, AllocError>
 }
 
 // The refusal of the command, if that is why there are no actions.
-fn refuse(alloc: Global, unsaid: Unsaid) -> Result<Vec<Action>, Stop>
-    ensures refuses { IfOk result (λ actions. RefusesUnsaid unsaid actions.items) }
-    ensures counts { (old new : Counts) → unsaid_counts unsaid old new → CountsStop result old new }
+fn refuse(alloc: Global, read_error: ReadError) -> Result<Vec<Action>, RunError>
+    ensures refuses { IfOk result (λ actions. RefusesReadError read_error actions.items) }
+    ensures counts { (old new : Counts) → read_error_counts read_error old new → CountsRunError result old new }
 {
-    match unsaid {
-        Unsaid::Memory => Err(Stop::Memory),
-        Unsaid::Disk => Err(Stop::Disk),
-        Unsaid::Refused(why) => Ok(only(alloc, Action::Refuse { why })?),
+    match read_error {
+        ReadError::Memory => Err(RunError::Memory),
+        ReadError::Disk => Err(RunError::Disk),
+        ReadError::Refused(why) => Ok(only(alloc, Action::Refuse { why })?),
     }
 }
 
@@ -80,26 +80,26 @@ fn tell(alloc: Global, text: Vec<u8>) -> Result<Vec<Action>, AllocError>
 // An installation: its actions, or its refusal.
 fn install_or_refusal(
     alloc: Global,
-    actions: Result<Vec<Action>, Unsaid>,
-) -> Result<Vec<Action>, Stop>
+    actions: Result<Vec<Action>, ReadError>,
+) -> Result<Vec<Action>, RunError>
     ensures actions { IfOk result (λ made. (meant : Result (List Action) Refusal) → Says (λ actions. actions.items) actions meant
         → made.items ≡ actions_or_refusal (λ actions. actions) meant) }
-    ensures counts { (old new : Counts) → CountsUnsaid actions old new → CountsStop result old new }
+    ensures counts { (old new : Counts) → CountsReadError actions old new → CountsRunError result old new }
 {
     match actions {
         Ok(actions) => Ok(actions),
-        Err(unsaid) => refuse(alloc, unsaid),
+        Err(read_error) => refuse(alloc, read_error),
     }
 }
 
 // A cleanup: its actions, its refusal, or that there is nothing to clean.
 fn clean_or_refusal(
     alloc: Global,
-    actions: Result<Vec<Action>, Unsaid>,
-) -> Result<Vec<Action>, Stop>
+    actions: Result<Vec<Action>, ReadError>,
+) -> Result<Vec<Action>, RunError>
     ensures actions { IfOk result (λ made. (meant : Result (List Action) Refusal) → Says (λ actions. actions.items) actions meant
         → made.items ≡ actions_or_refusal clean_or_idle meant) }
-    ensures counts { (old new : Counts) → CountsUnsaid actions old new → CountsStop result old new }
+    ensures counts { (old new : Counts) → CountsReadError actions old new → CountsRunError result old new }
 {
     match actions {
         Ok(actions) if actions.is_empty() => {
@@ -107,7 +107,7 @@ fn clean_or_refusal(
             Ok(tell(alloc, Vec::from_slice(alloc, b"nothing to clean\n")?)?)
         }
         Ok(actions) => Ok(actions),
-        Err(unsaid) => refuse(alloc, unsaid),
+        Err(read_error) => refuse(alloc, read_error),
     }
 }
 
@@ -122,29 +122,29 @@ fn is_only_told(dry_run: bool, paths: &[BootPath]) -> bool
 fn keep_or_refusal(
     alloc: Global,
     dry_run: bool,
-    paths: Result<Vec<BootPath>, Unsaid>,
-) -> Result<Vec<Action>, Stop>
+    paths: Result<Vec<BootPath>, ReadError>,
+) -> Result<Vec<Action>, RunError>
     ensures actions { IfOk result (λ made. (meant : Result (List Path) Refusal) → Says (λ paths. paths.items) paths meant
         → made.items ≡ actions_or_refusal (keep_actions dry_run) meant) }
-    ensures counts { (old new : Counts) → CountsUnsaid paths old new → CountsStop result old new }
+    ensures counts { (old new : Counts) → CountsReadError paths old new → CountsRunError result old new }
 {
     match paths {
         Ok(paths) if is_only_told(dry_run, paths.as_slice()) => {
             Ok(tell(alloc, would_text(alloc, paths.as_slice())?)?)
         }
         Ok(paths) => Ok(removals(alloc, paths.as_slice())?),
-        Err(unsaid) => refuse(alloc, unsaid),
+        Err(read_error) => refuse(alloc, read_error),
     }
 }
 
 // A text that is told, or the refusal.
-fn text_or_refusal(alloc: Global, text: Result<Vec<u8>, Unsaid>) -> Result<Vec<Action>, Stop>
+fn text_or_refusal(alloc: Global, text: Result<Vec<u8>, ReadError>) -> Result<Vec<Action>, RunError>
     ensures actions { IfOk result (λ made. (meant : Result (List ℕ) Refusal) → Says (λ text. text.items) text meant
         → made.items ≡ actions_or_refusal (λ text. Tell text ∷ []) meant) }
-    ensures counts { (old new : Counts) → CountsUnsaid text old new → CountsStop result old new }
+    ensures counts { (old new : Counts) → CountsReadError text old new → CountsRunError result old new }
 {
     match text {
         Ok(text) => Ok(tell(alloc, text)?),
-        Err(unsaid) => refuse(alloc, unsaid),
+        Err(read_error) => refuse(alloc, read_error),
     }
 }

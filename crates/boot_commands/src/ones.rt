@@ -3,11 +3,11 @@ ghost use Rattle.std.specs.Prelude.{◌≡◌, IfOk, IsTrue};
 ghost use Rattle.boot_machine.specs.Prelude.{Files, IsFirm, IsRested, Looks, seen};
 ghost use Rattle.boot_commands.specs.Commands.{Behaves, LeavesTidied, MayOwn, TidiesThere, TidiesTo, one_deed};
 ghost use Rattle.boot_commands.specs.Replies.{one_reply};
-ghost use Rattle.command_plans.specs.Prelude.{CountsStop, Drops, LeavesRested, Performs, Plans, SparesTemps, end_of, own_temps};
+ghost use Rattle.command_plans.specs.Prelude.{CountsRunError, Drops, LeavesRested, Performs, Plans, SparesTemps, end_of, own_temps};
 
 use crate::carrying::carry_out;
 use boot_machine::Machine;
-use command_plans::{Outcome, Plan, Stop};
+use command_plans::{Outcome, Plan, RunError};
 use entry_commands::{plan_bless, plan_boot, plan_install, plan_list, plan_tidy, plan_unlink};
 use image_build::plan_build;
 use image_commands::{plan_calculate, plan_identify, plan_image, plan_inspect};
@@ -17,13 +17,13 @@ use tool_words::One;
 
 /// What a command of one action is going to do and to say, made by reads alone.
 #[tactic(auto, unfolding(crate::specs::Replies::one_reply))]
-pub fn plan_one<M: Machine>(alloc: Global, command: &One, machine: &mut M) -> Result<Plan, Stop>
+pub fn plan_one<M: Machine>(alloc: Global, command: &One, machine: &mut M) -> Result<Plan, RunError>
     ensures plans { IfOk result (λ plan. IsTrue M.tells
         → Plans (M.state machine.old) plan (one_reply (seen (M.state machine.old)) command.now)) }
     ensures tidies { IfOk result (λ plan. IsTrue M.tells
         → (files : Files) → Drops plan.change (M.state machine.old).files files → LeavesTidied command.now files) }
     ensures owns { IfOk result (λ plan. IsTrue M.tells → MayOwn command.now (own_temps plan.change)) }
-    ensures looks { Looks M.tells M.time M.state M.counts (CountsStop result) machine.old machine.new }
+    ensures looks { Looks M.tells M.time M.state M.counts (CountsRunError result) machine.old machine.new }
 {
     match command {
         One::Build(words) => plan_build(alloc, words, machine),
@@ -81,7 +81,11 @@ pub fn plan_one<M: Machine>(alloc: Global, command: &One, machine: &mut M) -> Re
 ///
 /// `Disk` and `Pipe` only where the machine's own count of such faults rose; `Memory` only before anything
 /// is changed or printed.
-pub fn run_one<M: Machine>(alloc: Global, command: &One, machine: &mut M) -> Result<Outcome, Stop>
+pub fn run_one<M: Machine>(
+    alloc: Global,
+    command: &One,
+    machine: &mut M,
+) -> Result<Outcome, RunError>
     requires rested { IsTrue M.tells → IsRested (M.state machine.old) }
     ensures performs { IsTrue M.tells → IsFirm (M.state machine.old)
         → Performs M.time M.state end_of machine.old machine.new

@@ -8,10 +8,10 @@ use Rattle.std.proofs.lemmas.List.Elements.{All-cons, All-contains, All-nil, All
 use Rattle.std.proofs.lemmas.Slice.Eq.{bytes_eq-Decides}
 use Rattle.boot_base.specs.Layout.{payloads_below}
 use Rattle.boot_base.specs.Paths.{Path, file_name_of, under}
-use Rattle.boot_folder.specs.Entries.{IsEntry, boot_menu, entry_count}
-use Rattle.boot_folder.specs.declared.folders.Folders.{Folders}
-use Rattle.boot_folder.proofs.EntryFiles.{entries_menu}
-use Rattle.boot_folder.proofs.Places.{file_name_under}
+use Rattle.boot_entries.specs.Entries.{IsEntry, boot_menu, entry_count}
+use Rattle.boot_entries.specs.declared.folders.Folders.{Folders}
+use Rattle.boot_entries.proofs.EntryFiles.{entries_menu}
+use Rattle.boot_entries.proofs.Places.{file_name_under}
 use Rattle.boot_machine.specs.Prelude.{Files}
 use Rattle.boot_machine.specs.proofs.Maps.{cases_same, get-remove_apart, get-remove_here, same_apart}
 use Rattle.menu_order.specs.declared.item.MenuItem.{MenuItem}

@@ -7,9 +7,9 @@ use Rattle.menu_order.specs.Splits.{has_suffix}
 use Rattle.menu_order.specs.declared.counted.Suffix.{Suffix}
 use Rattle.menu_order.specs.declared.counted.Suffix.TheVariants.{Conf, Efi}
 use Rattle.menu_order.specs.declared.item.MenuItem.{MenuItem}
-use Rattle.boot_folder.specs.Entries.{entry_of, folder_of}
-use Rattle.boot_folder.proofs.EntryFiles.{image_pairs}
-use Rattle.boot_folder.specs.Records.{type1_entry, type1_item}
+use Rattle.boot_entries.specs.Entries.{entry_of, folder_of}
+use Rattle.boot_entries.proofs.EntryFiles.{image_pairs}
+use Rattle.boot_entries.specs.Records.{type1_entry, type1_item}
 use Rattle.boot_machine.specs.Prelude.{Files, has, contents, move_in}
 use Rattle.boot_machine.specs.proofs.Maps.{cases_same, get-insert_apart, get-insert_here, get-remove_apart, get-remove_here, same_apart}
 use Rattle.boot_texts.specs.BootEntries.{boots, type1_of}

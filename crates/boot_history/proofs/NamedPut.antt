@@ -9,7 +9,7 @@ use Rattle.boot_base.specs.Layout.{entries_below}
 use Rattle.boot_base.specs.Paths.{Path, file_name_of, is_kept, is_slash, under}
 use Rattle.boot_machine.specs.Prelude.{Files, contents}
 use Rattle.boot_machine.specs.proofs.Maps.{get-insert_apart, get-insert_here, same_apart}
-use Rattle.boot_folder.proofs.Places.{file_name_under}
+use Rattle.boot_entries.proofs.Places.{file_name_under}
 use Rattle.boot_texts.specs.BootEntries.{type1_of}
 use Rattle.boot_texts.specs.declared.entry.Type1.{Type1}
 use Rattle.menu_order.specs.Splits.{has_suffix}

@@ -6,12 +6,12 @@ use Rattle.std.proofs.lemmas.Bool.{cases_Bool, le-ltb, not-true, or_parts}
 use Rattle.std.proofs.lemmas.List.{append-nil, length-map, take_all}
 use Rattle.boot_base.specs.Paths.{Path}
 use Rattle.boot_base.specs.declared.refusal.Refusal.{Refusal}
-use Rattle.boot_folder.specs.Entries.{boot_menu, entry_count}
-use Rattle.boot_folder.specs.Removals.{is_among, menu_without, remove_files}
-use Rattle.boot_folder.specs.declared.folders.Folders.{Folders}
-use Rattle.boot_folder.proofs.EntryFiles.{bytes_self}
-use Rattle.boot_folder.proofs.Members.{passing, passing_from}
-use Rattle.boot_folder.proofs.Removing.{count_removed, menu_own, menu_removed}
+use Rattle.boot_entries.specs.Entries.{boot_menu, entry_count}
+use Rattle.boot_entries.specs.Removals.{is_among, menu_without, remove_files}
+use Rattle.boot_entries.specs.declared.folders.Folders.{Folders}
+use Rattle.boot_entries.proofs.EntryFiles.{bytes_self}
+use Rattle.boot_entries.proofs.Members.{passing, passing_from}
+use Rattle.boot_entries.proofs.Removing.{count_removed, menu_own, menu_removed}
 use Rattle.boot_machine.specs.Prelude.{Files, is_same_path, latest_view}
 use Rattle.boot_machine.specs.proofs.Maps.{get-remove, is_same_path-true, same_files}
 use Rattle.command_plans.specs.Prelude.{removal, unlink_answer, ◌>>=◌, menu_at}

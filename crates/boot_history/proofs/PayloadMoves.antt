@@ -13,9 +13,9 @@ use Rattle.menu_order.specs.declared.counted.Suffix.{Suffix}
 use Rattle.menu_order.specs.declared.counted.Suffix.TheVariants.{Conf, Efi}
 use Rattle.menu_order.proofs.CounterWritten.{reading_bounds}
 use Rattle.menu_order.proofs.Splitting.{split_none, split_some, suffix_cut}
-use Rattle.boot_folder.specs.Entries.{folder_of}
-use Rattle.boot_folder.proofs.EntryFiles.{one_type}
-use Rattle.boot_folder.proofs.Places.{file_name_under, name_parts}
+use Rattle.boot_entries.specs.Entries.{folder_of}
+use Rattle.boot_entries.proofs.EntryFiles.{one_type}
+use Rattle.boot_entries.proofs.Places.{file_name_under, name_parts}
 use Rattle.boot_machine.specs.Prelude.{Files, has, move_in}
 use Rattle.command_plans.specs.Prelude.{path_under}
 use Rattle.entry_commands.proofs.Renamed.{AreSiblings, long_suffix, some_same, split_suffix, written_ends}

@@ -19,7 +19,7 @@ use Rattle.type1_install.specs.Cleaning.{unnamed_payloads}
 use Rattle.type1_install.specs.Placing.{put_answer}
 use Rattle.type1_install.specs.Payloads.{payload_path}
 use Rattle.type1_install.proofs.Installing.{IsSource}
-use Rattle.boot_folder.specs.declared.folders.Folders.{Folders}
+use Rattle.boot_entries.specs.declared.folders.Folders.{Folders}
 use Rattle.menu_order.specs.declared.item.MenuItem.{MenuItem}
 use Rattle.type1_install.proofs.Planned.{IsPlanned, planned}
 use Rattle.boot_run.specs.Lines.{line_deed}

@@ -3,10 +3,10 @@ use Rattle.std.proofs.Common.{◌≡◌, ℕ, zero, suc, Bool, true, false, List
 use Rattle.std.specs.List.{AllByRecursion}
 use Rattle.boot_base.specs.Paths.{Path, file_name_of}
 use Rattle.boot_base.specs.declared.refusal.Refusal.{Refusal}
-use Rattle.boot_folder.specs.Entries.{IsEntry, boot_menu, entry_count, folder_of}
-use Rattle.boot_folder.specs.declared.folders.Folders.{Folders}
-use Rattle.boot_folder.proofs.EntryFiles.{entries_menu}
-use Rattle.boot_folder.proofs.Places.{file_name_under, name_parts}
+use Rattle.boot_entries.specs.Entries.{IsEntry, boot_menu, entry_count, folder_of}
+use Rattle.boot_entries.specs.declared.folders.Folders.{Folders}
+use Rattle.boot_entries.proofs.EntryFiles.{entries_menu}
+use Rattle.boot_entries.proofs.Places.{file_name_under, name_parts}
 use Rattle.boot_machine.specs.Prelude.{Files}
 use Rattle.command_plans.proofs.Steps.{done_by}
 use Rattle.command_plans.specs.Prelude.{folders_of, menu_at}

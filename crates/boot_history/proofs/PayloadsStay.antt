@@ -17,11 +17,11 @@ use Rattle.menu_order.specs.declared.item.MenuItem.{MenuItem}
 use Rattle.boot_texts.specs.BootEntries.{boots, type1_of}
 use Rattle.boot_texts.specs.declared.conf_change.ConfKey.{ConfKey}
 use Rattle.boot_texts.specs.declared.conf_change.ConfKey.TheVariants.{Default, Timeout}
-use Rattle.boot_folder.specs.Entries.{IsEntry, boot_menu, entry_count, entry_of, folder_of}
-use Rattle.boot_folder.specs.Records.{type1_item}
-use Rattle.boot_folder.specs.declared.folders.Folders.{Folders}
-use Rattle.boot_folder.proofs.EntryFiles.{entries_menu, image_pairs, one_type}
-use Rattle.boot_folder.proofs.Places.{file_name_under, name_parts}
+use Rattle.boot_entries.specs.Entries.{IsEntry, boot_menu, entry_count, entry_of, folder_of}
+use Rattle.boot_entries.specs.Records.{type1_item}
+use Rattle.boot_entries.specs.declared.folders.Folders.{Folders}
+use Rattle.boot_entries.proofs.EntryFiles.{entries_menu, image_pairs, one_type}
+use Rattle.boot_entries.proofs.Places.{file_name_under, name_parts}
 use Rattle.boot_machine.specs.Prelude.{Files, has, move_in, latest_view}
 use Rattle.command_plans.specs.Prelude.{Answer, answer_of_read, done_answer, path_in, path_under, printed_path, folders_of, menu_at, unless_refused, removal, unlink_answer}
 use Rattle.tool_words.specs.Meaning.{meaning}

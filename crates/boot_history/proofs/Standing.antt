@@ -2,11 +2,11 @@
 use Rattle.std.proofs.Common.{◌≡◌, ℕ, false, zero, suc, List, [], ◌∷◌, map, take, refl, Result, Ok, Err, All, Contains, le-ltb}
 use Rattle.std.proofs.lemmas.List.Elements.{All-head, All-tail}
 use Rattle.boot_base.specs.Paths.{Path}
-use Rattle.boot_folder.specs.Entries.{boot_menu, entry_count}
-use Rattle.boot_folder.specs.Listing.{list_text}
-use Rattle.boot_folder.specs.declared.folders.Folders.{Folders}
-use Rattle.boot_folder.proofs.EntryFiles.{entries_menu}
-use Rattle.boot_folder.proofs.Members.{none_in}
+use Rattle.boot_entries.specs.Entries.{boot_menu, entry_count}
+use Rattle.boot_entries.specs.Listing.{list_text}
+use Rattle.boot_entries.specs.declared.folders.Folders.{Folders}
+use Rattle.boot_entries.proofs.EntryFiles.{entries_menu}
+use Rattle.boot_entries.proofs.Members.{none_in}
 use Rattle.boot_machine.specs.Prelude.{Files, latest_view}
 use Rattle.menu_order.specs.declared.item.MenuItem.{MenuItem}
 use Rattle.tool_words.specs.Meaning.{meaning}

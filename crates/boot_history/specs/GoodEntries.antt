@@ -1,9 +1,9 @@
 -- A good entry stays that no command is told to take away.
 use Rattle.std.specs.Prelude.{◌≡◌, ℕ, ◌≤◌, Bool, true, false, List, ◌++◌, Contains, Ok}
 use Rattle.boot_base.specs.Paths.{Path}
-use Rattle.boot_folder.specs.Entries.{boot_menu, entry_count, entry_limit}
-use Rattle.boot_folder.specs.Listing.{list_text}
-use Rattle.boot_folder.specs.declared.folders.Folders.{Folders}
+use Rattle.boot_entries.specs.Entries.{boot_menu, entry_count, entry_limit}
+use Rattle.boot_entries.specs.Listing.{list_text}
+use Rattle.boot_entries.specs.declared.folders.Folders.{Folders}
 use Rattle.boot_machine.specs.Disk.{Files}
 use Rattle.menu_order.specs.declared.item.MenuItem.{MenuItem}
 use Rattle.tool_words.specs.declared.command.Command.{Command}

@@ -7,9 +7,9 @@ use Rattle.boot_machine.specs.Sent.{latest_view}
 use Rattle.menu_order.specs.declared.item.MenuItem.{MenuItem}
 use Rattle.keep_newest.specs.Doomed.{doomed_records, kept_records}
 use Rattle.keep_newest.specs.Laws.{doomed_paths}
-use Rattle.boot_folder.specs.Entries.{boot_menu, entry_count, entry_limit}
-use Rattle.boot_folder.specs.Removals.{menu_without}
-use Rattle.boot_folder.specs.declared.folders.Folders.{Folders}
+use Rattle.boot_entries.specs.Entries.{boot_menu, entry_count, entry_limit}
+use Rattle.boot_entries.specs.Removals.{menu_without}
+use Rattle.boot_entries.specs.declared.folders.Folders.{Folders}
 use Rattle.tool_words.specs.Meaning.{meaning}
 use Rattle.tool_words.specs.declared.command.Command.{Command}
 use Rattle.tool_words.specs.declared.command.Command.TheVariants as command

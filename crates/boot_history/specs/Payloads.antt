@@ -2,11 +2,11 @@
 use Rattle.std.specs.Prelude.{◌≡◌, ℕ, Bool, true, false, List, ◌++◌, Contains, IfOk, Ok, Some, bytes_eq}
 use Rattle.std.specs.Option.{option_to_list}
 use Rattle.boot_base.specs.Paths.{Path, file_name_of, under}
-use Rattle.boot_folder.specs.Entries.{IsEntry}
+use Rattle.boot_entries.specs.Entries.{IsEntry}
 use Rattle.boot_machine.specs.Disk.{Files}
 use Rattle.boot_texts.specs.EntryText.{is_payload_name}
 use Rattle.menu_order.specs.declared.item.MenuItem.{MenuItem}
-use Rattle.command_plans.specs.Declining.{path_in}
+use Rattle.command_plans.specs.WordErrors.{path_in}
 use Rattle.tool_words.specs.declared.command.Command.{Command}
 use Rattle.tool_words.specs.declared.command.Command.TheVariants as command
 use Rattle.tool_words.specs.declared.command.One.{One}

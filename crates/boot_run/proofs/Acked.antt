@@ -3,10 +3,10 @@ use Rattle.std.proofs.Common.{◌≡◌, ◌≢◌, inl, inr, ℕ, zero, suc, �
 use Rattle.std.proofs.lemmas.List.Elements.{All-nil, All-take}
 use Rattle.boot_machine.specs.Prelude.{Files, IsRested, State, Timeline, Sent, Adds, SameButInput, latest_view, recovered_now, recovered_views}
 use Rattle.boot_machine.proofs.Seeing.{latest_view-recovered_views}
-use Rattle.command_plans.specs.Prelude.{Deed, NoMemory, end_of, stop_rests, stop_temps}
+use Rattle.command_plans.specs.Prelude.{Deed, NoMemory, end_of, run_error_rests, run_error_temps}
 use Rattle.install_steps.specs.Steps.{NoNewTemp}
-use Rattle.command_plans.specs.declared.outcome.Stop.{Stop}
-use Rattle.command_plans.specs.declared.outcome.Stop.TheVariants.{Disk as DiskStop, Pipe as PipeStop, Memory as MemoryStop}
+use Rattle.command_plans.specs.declared.outcome.RunError.{RunError}
+use Rattle.command_plans.specs.declared.outcome.RunError.TheVariants.{Disk as DiskError, Pipe as PipeError, Memory as MemoryError}
 use Rattle.boot_run.specs.Endings.{ended_by}
 use Rattle.boot_run.specs.History.{BreaksBehind, printed_by}
 use Rattle.boot_run.specs.Lines.{TidiedBy, has_command, is_unread, line_deed}
@@ -119,12 +119,12 @@ clean_done old new lines refused clean = by_answer refused
     by_answer false = λ k adds. some k
 
 -- a part of a reply is no longer than it
-part_short : (deed : Deed) (old new : List Files) (part : Sent) (stop : Stop) → BreaksBehind deed old new part (end_of stop) → length part ≤ length deed.sent
+part_short : (deed : Deed) (old new : List Files) (part : Sent) (stop : RunError) → BreaksBehind deed old new part (end_of stop) → length part ≤ length deed.sent
 part_short deed old new part stop (inr recovers) = omega (arith, ap length recovers.0)
 part_short deed old new part stop (inl (inl stays)) = omega (arith, ap length stays.0)
-part_short deed old new part DiskStop (inl (inr acts)) = omega (arith, ap length acts.0)
-part_short deed old new part PipeStop (inl (inr acts)) = length-prefix part deed.sent acts.0
-part_short deed old new part MemoryStop (inl (inr acts)) = absurd acts
+part_short deed old new part DiskError (inl (inr acts)) = omega (arith, ap length acts.0)
+part_short deed old new part PipeError (inl (inr acts)) = length-prefix part deed.sent acts.0
+part_short deed old new part MemoryError (inl (inr acts)) = absurd acts
 
 no_part : (deed : Deed) (old new : List Files) (part : Sent) → BreaksBehind deed old new part NoMemory → part ≡ []
 no_part deed old new part (inr recovers) = recovers.0
@@ -134,7 +134,7 @@ no_part deed old new part (inl (inr acts)) = absurd acts
 module _ {D : Type 0} (time : Timeline D) (state : D → State) where
   -- the run ends in a line
   pub clean_broken : (old mid new : D) (lines : List Line) (i : ℕ) (refused : Bool) (line : Line) → i < length lines → get_or lines i line ≡ line → SoFar time state old mid lines i refused
-      → (stop : Stop) → PerformsBehind time state mid new (line_deed (recovered_now (state mid)) line) (Err stop) → (stop ≢ DiskStop → LeavesClean (take i lines) (state new))
+      → (stop : RunError) → PerformsBehind time state mid new (line_deed (recovered_now (state mid)) line) (Err stop) → (stop ≢ DiskError → LeavesClean (take i lines) (state new))
       → at_part stop (state mid) (state new) (LeavesClean (take (i + 1) lines) (state new)) → CleanBehind (state old) (state new) lines (ended_by (Err stop))
   clean_broken old mid new lines i refused line within line_is so_far stop performs clean one_more = by_stop stop performs clean one_more
     where
@@ -168,31 +168,31 @@ module _ {D : Type 0} (time : Timeline D) (state : D → State) where
           (acked_most (state old) lines (i + 1) k adds.0 adds.2 (omega (arith, in_all adds.0 (x ∷ part) is adds.1, short, more, said_length (state old) lines (i + 1))))
           (one_more (λ same. absurd (omega (arith, ap length is, ap length same, length-append (state mid).printed (x ∷ part)))))
 
-      by_stop : (stop : Stop) → PerformsBehind time state mid new (line_deed (recovered_now (state mid)) line) (Err stop) → (stop ≢ DiskStop → LeavesClean (take i lines) (state new))
+      by_stop : (stop : RunError) → PerformsBehind time state mid new (line_deed (recovered_now (state mid)) line) (Err stop) → (stop ≢ DiskError → LeavesClean (take i lines) (state new))
           → at_part stop (state mid) (state new) (LeavesClean (take (i + 1) lines) (state new)) → CleanBehind (state old) (state new) lines (ended_by (Err stop))
-      by_stop DiskStop performs clean one_more = tt
-      by_stop PipeStop performs clean one_more = at_pipe performs.err.0 performs.err.1 (part_short deed _ _ performs.err.0 PipeStop performs.err.2) (clean (λ is. cc)) one_more
-      by_stop MemoryStop performs clean one_more = λ k adds. fewer_clean (state new) lines k i
+      by_stop DiskError performs clean one_more = tt
+      by_stop PipeError performs clean one_more = at_pipe performs.err.0 performs.err.1 (part_short deed _ _ performs.err.0 PipeError performs.err.2) (clean (λ is. cc)) one_more
+      by_stop MemoryError performs clean one_more = λ k adds. fewer_clean (state new) lines k i
           (acked_most (state old) lines i k adds.0 adds.2
           (omega (arith, in_all adds.0 performs.err.0 performs.err.1 adds.1, ap length (no_part deed _ _ performs.err.0 performs.err.2), said_length (state old) lines i)))
           (clean (λ is. cc))
 
 -- given up for the same stop
-pub clean_so : (old new : State) (lines : List Line) (result : Result Bool Stop) (stop : Stop) → IsErr result → IsErrAnd result (λ e. e ≡ stop)
+pub clean_so : (old new : State) (lines : List Line) (result : Result Bool RunError) (stop : RunError) → IsErr result → IsErrAnd result (λ e. e ≡ stop)
     → CleanBehind old new lines (ended_by (Err stop)) → CleanBehind old new lines (ended_by result)
 clean_so old new lines (Ok refused) stop failed is clean = cc
-clean_so old new lines (Err e) stop failed is clean = subst (λ (x : Stop). CleanBehind old new lines (ended_by (Err x))) (sym is) clean
+clean_so old new lines (Err e) stop failed is clean = subst (λ (x : RunError). CleanBehind old new lines (ended_by (Err x))) (sym is) clean
 
 -- what holds but after a fault of the disk
-pub temps_but_disk : (stop : Stop) (s now : State) → stop ≢ DiskStop → stop_temps stop s now → NoNewTemp s now
-temps_but_disk DiskStop s now other temps = absurd (other refl)
-temps_but_disk PipeStop s now other temps = temps
-temps_but_disk MemoryStop s now other temps = temps
+pub temps_but_disk : (stop : RunError) (s now : State) → stop ≢ DiskError → run_error_temps stop s now → NoNewTemp s now
+temps_but_disk DiskError s now other temps = absurd (other refl)
+temps_but_disk PipeError s now other temps = temps
+temps_but_disk MemoryError s now other temps = temps
 
-pub rests_but_disk : (stop : Stop) (now : State) → stop ≢ DiskStop → stop_rests stop now → IsRested now
-rests_but_disk DiskStop now other rests = absurd (other refl)
-rests_but_disk PipeStop now other rests = rests
-rests_but_disk MemoryStop now other rests = rests
+pub rests_but_disk : (stop : RunError) (now : State) → stop ≢ DiskError → run_error_rests stop now → IsRested now
+rests_but_disk DiskError now other rests = absurd (other refl)
+rests_but_disk PipeError now other rests = rests
+rests_but_disk MemoryError now other rests = rests
 
 -- the input was read before
 pub clean_read : (old mid new : State) (lines : List Line) (ended : Ended) → SameButInput old mid → CleanBehind mid new lines ended → CleanBehind old new lines ended
@@ -207,7 +207,7 @@ clean_read old mid new lines ended same clean = by_end ended (subst (λ (s : Sta
     by_end Memory clean = clean
 
 -- what is known of the line and of those before it
-pub at_part_with : (stop : Stop) (old new : State) (P Q C R : Type 0) → (stop ≢ DiskStop → C) → (C → P → Q → R) → at_part stop old new P → at_part stop old new Q → at_part stop old new R
-at_part_with DiskStop old new P Q C R c so p q = tt
-at_part_with PipeStop old new P Q C R c so p q = λ differs. so (c (λ is. cc)) (p differs) (q differs)
-at_part_with MemoryStop old new P Q C R c so p q = tt
+pub at_part_with : (stop : RunError) (old new : State) (P Q C R : Type 0) → (stop ≢ DiskError → C) → (C → P → Q → R) → at_part stop old new P → at_part stop old new Q → at_part stop old new R
+at_part_with DiskError old new P Q C R c so p q = tt
+at_part_with PipeError old new P Q C R c so p q = λ differs. so (c (λ is. cc)) (p differs) (q differs)
+at_part_with MemoryError old new P Q C R c so p q = tt

@@ -8,8 +8,8 @@ use Rattle.command_plans.specs.Deeds.{Deed, End, Stopped, Finished, NoMemory as 
 use Rattle.command_plans.specs.Prelude.{Performs, end_of}
 use Rattle.command_plans.specs.declared.outcome.Outcome.{Outcome}
 use Rattle.command_plans.specs.declared.outcome.Outcome.TheVariants.{Refused}
-use Rattle.command_plans.specs.declared.outcome.Stop.{Stop}
-use Rattle.command_plans.specs.declared.outcome.Stop.TheVariants.{Pipe, Memory}
+use Rattle.command_plans.specs.declared.outcome.RunError.{RunError}
+use Rattle.command_plans.specs.declared.outcome.RunError.TheVariants.{Pipe, Memory}
 use Rattle.command_plans.proofs.Exits.{if_ok, if_err}
 use Rattle.boot_run.specs.Lines.{Prints, unread_deed}
 use Rattle.boot_run.proofs.Staying.{image_stays}
@@ -32,7 +32,7 @@ module _ {D : Type 0} (time : Timeline D) (state : D → State) (old : D) where
   Within deed image sent = Adds (state old).printed sent (λ part. Breaks deed (recovered_views (state old)) (recovered_view image ∷ []) part Stopped)
 
   -- there was no memory for the texts
-  pub no_memory_yet : (deed : Deed) (result : Result Outcome Stop) → IsErr result → IsErrAnd result (λ stop. stop ≡ Memory) → IsFirm (state old)
+  pub no_memory_yet : (deed : Deed) (result : Result Outcome RunError) → IsErr result → IsErrAnd result (λ stop. stop ≡ Memory) → IsFirm (state old)
       →
       ((m : Files) (o : Sent) → time.since old (time.clock old) m o → IsIn (recovered_view m) (recovered_views (state old)) × (o ≡ (state old).printed))
       → Performs time state end_of old old deed result
@@ -44,7 +44,7 @@ module _ {D : Type 0} (time : Timeline D) (state : D → State) (old : D) where
   }
 
   -- the reply to a line that is no command
-  pub refused_unread : (new : D) (number : ℕ) (text : (List ℕ)) (result : Result Outcome Stop) (k : ℕ)
+  pub refused_unread : (new : D) (number : ℕ) (text : (List ℕ)) (result : Result Outcome RunError) (k : ℕ)
       → ((m : Files) → IsImage (state old) m → IsIn (recovered_view m) (recovered_views (state old))) → IsFirm (state old)
       → EachSince time old new (PrintsPart (state old) (on_channel ErrChannel text)) → state new ≡ with_printed ErrChannel (take k text) (state old)
       → IsErr result → IsErrAnd result (λ stop. stop ≡ Pipe) → Performs time state end_of old new (unread_deed number text (recovered_now (state old))) result
@@ -80,7 +80,7 @@ module _ {D : Type 0} (time : Timeline D) (state : D → State) (old : D) where
     earlier mid moments = weaken time state (Within deed) (Within (behind deed ack)) old mid (λ m o adds. (adds.0, adds.1, breaks_more deed ack _ _ adds.0 Stopped adds.2)) moments
 
     -- the deed itself was broken off
-    pub not_behind : (new : D) (stop : Stop) (result : Result Outcome Stop) → IsErr result → IsErrAnd result (λ e. e ≡ stop)
+    pub not_behind : (new : D) (stop : RunError) (result : Result Outcome RunError) → IsErr result → IsErrAnd result (λ e. e ≡ stop)
         → Performs time state end_of old new deed (Err stop) → Performs time state end_of old new (behind deed ack) result
     not_behind new stop result failed is performs = record {
       firm = performs.firm;
@@ -103,7 +103,7 @@ module _ {D : Type 0} (time : Timeline D) (state : D → State) (old : D) where
         )) moments)
 
     -- the line behind it couldn't be printed
-    pub behind_failed : (mid new : D) (outcome : Outcome) (result : Result Outcome Stop) → IsErr result → IsErrAnd result (λ stop. stop ≡ Pipe) → Performs time state end_of old mid deed (Ok outcome)
+    pub behind_failed : (mid new : D) (outcome : Outcome) (result : Result Outcome RunError) → IsErr result → IsErrAnd result (λ stop. stop ≡ Pipe) → Performs time state end_of old mid deed (Ok outcome)
         → ((m : Files) → IsImage (state mid) m → IsIn (recovered_view m) (recovered_views (state mid)))
         → EachSince time mid new (PrintsPart (state mid) (on_channel Out ack)) → (k : ℕ) × (state new ≡ with_printed Out (take k ack) (state mid))
         → Performs time state end_of old new (behind deed ack) result

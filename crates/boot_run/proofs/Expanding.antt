@@ -5,7 +5,7 @@ use Rattle.boot_machine.proofs.Elapsing.{weaken, joined}
 use Rattle.boot_machine.proofs.Seeing.{latest_view-recovered_views, one_view, only_view, recovered_now_in, sees}
 use Rattle.install_steps.specs.Recovery.{RecoversTo, SameFrom, SeesSame, StaysOrSame}
 use Rattle.command_plans.specs.Prelude.{End, Stopped, Finished, NoMemory, DiskFails, PipeFails, left_by, end_of}
-use Rattle.command_plans.specs.declared.outcome.Stop.{Stop}
+use Rattle.command_plans.specs.declared.outcome.RunError.{RunError}
 use Rattle.command_plans.proofs.Exits.{if_ok, if_err}
 use Rattle.boot_run.specs.History.{BreaksBehind, EndsBefore, Recovers, Runs, any_refused, printed_by, states}
 use Rattle.boot_run.specs.Lines.{is_unread, line_deed}
@@ -132,7 +132,7 @@ module _ {D : Type 0} (time : Timeline D) (state : D → State) where
         ∙ sym (refused-is first (line ∷ rest))
 
     -- a run over the lines that were found is one from the start
-    pub runs_behind : (result : Result Bool Stop) → RunsTo time state mid new (line ∷ rest) result
+    pub runs_behind : (result : Result Bool RunError) → RunsTo time state mid new (line ∷ rest) result
         → RunsTo time state old new (line ∷ rest) result
     unfolding first
     runs_behind (Ok refused) runs = record {
@@ -156,7 +156,7 @@ module _ {D : Type 0} (time : Timeline D) (state : D → State) where
     }
 
     -- and from the sync of the names on one from the files as they were
-    pub synced_behind : (result : Result Bool Stop) → SameFrom time state old mid → RunsTo time state mid new (line ∷ rest) result
+    pub synced_behind : (result : Result Bool RunError) → SameFrom time state old mid → RunsTo time state mid new (line ∷ rest) result
         → IsSyncedBy time state old new (line ∷ rest)
     unfolding first
     synced_behind result from runs = inr (record {
@@ -176,7 +176,7 @@ module _ {D : Type 0} (time : Timeline D) (state : D → State) where
         )
 
   -- the lines weren't found: the recovery may be all that was done
-  pub runs_not : (old new : D) (line : Line) (rest : List Line) (result : Result Bool Stop) (stop : Stop) → IsErr result → IsErrAnd result (λ e. e ≡ stop)
+  pub runs_not : (old new : D) (line : Line) (rest : List Line) (result : Result Bool RunError) (stop : RunError) → IsErr result → IsErrAnd result (λ e. e ≡ stop)
       → IsSound (state old) → IsFirm (state old) → RecoversTo time state old new → (state new).printed ≡ (state old).printed
       → RunsTo time state old new (line ∷ rest) result
   runs_not old new line rest result stop failed is sound firm recovers printed =

@@ -11,8 +11,8 @@ use Rattle.boot_commands.proofs.Expansions.{expansion_some}
 use Rattle.boot_commands.specs.Expanding.{StandsFor}
 use Rattle.boot_commands.specs.Expansions.{expansion}
 use Rattle.command_plans.specs.Prelude.{LeavesRested}
-use Rattle.command_plans.specs.declared.outcome.Stop.{Stop}
-use Rattle.command_plans.specs.declared.outcome.Stop.TheVariants as stops
+use Rattle.command_plans.specs.declared.outcome.RunError.{RunError}
+use Rattle.command_plans.specs.declared.outcome.RunError.TheVariants as run_errors
 use Rattle.boot_run.specs.AskedLines.{lines_at}
 use Rattle.boot_run.specs.Endings.{AllTidied, ended_by}
 use Rattle.boot_run.specs.Lines.{TidiedBy, is_unread}
@@ -63,21 +63,21 @@ are_commands [] = All-nil (λ line. is_unread line ≡ false)
 are_commands (first ∷ more) = All-cons (λ line. is_unread line ≡ false) (Part first) (map Part more) refl (are_commands more)
 
 -- behind lines that tidy nothing
-pub clean_rested : (old new : State) (lines : List Line) (result : Result Bool Stop) → AllTidied lines new → LeavesRested result new
+pub clean_rested : (old new : State) (lines : List Line) (result : Result Bool RunError) → AllTidied lines new → LeavesRested result new
     → CleanBehind old new lines (ended_by result)
 clean_rested old new lines result tidied = by_result result
   where
     clean : IsRested new → (k : ℕ) → LeavesClean (take k lines) new
     clean rested k = record { tidied = All-take (TidiedBy new.files) k lines tidied; rested = λ is. rested }
 
-    by_result : (result : Result Bool Stop) → LeavesRested result new → CleanBehind old new lines (ended_by result)
+    by_result : (result : Result Bool RunError) → LeavesRested result new → CleanBehind old new lines (ended_by result)
     by_result (Ok false) rested = λ k adds. clean rested k
     by_result (Ok true) rested = λ k adds. clean rested k
-    by_result (Err stops.Disk) rested = tt
-    by_result (Err stops.Pipe) rested = λ k adds. clean rested k
-    by_result (Err stops.Memory) rested = λ k adds. clean rested k
+    by_result (Err run_errors.Disk) rested = tt
+    by_result (Err run_errors.Pipe) rested = λ k adds. clean rested k
+    by_result (Err run_errors.Memory) rested = λ k adds. clean rested k
 
-pub ok_rested : {T : Type 0} (result : Result T Stop) (new : State) (Told Begun : Type 0) → (Told → LeavesRested result new)
+pub ok_rested : {T : Type 0} (result : Result T RunError) (new : State) (Told Begun : Type 0) → (Told → LeavesRested result new)
     → OnOk result (Told → Begun → IsRested new)
 ok_rested (Ok value) new Told Begun rests = λ told begun. rests told
 ok_rested (Err stop) new Told Begun rests = tt

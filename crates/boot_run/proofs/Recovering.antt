@@ -7,8 +7,8 @@ use Rattle.boot_machine.proofs.Recovering.{recovered_view-calm}
 use Rattle.install_steps.specs.Recovery.{RecoversTo, SameFrom, SeesSame, StaysOrSame}
 use Rattle.command_plans.specs.Prelude.{Deed, End, Stopped, Finished, NoMemory, DiskFails, PipeFails, left_by, Stays, Acts, Breaks, Performs, end_of}
 use Rattle.command_plans.specs.declared.outcome.Outcome.{Outcome}
-use Rattle.command_plans.specs.declared.outcome.Stop.{Stop}
-use Rattle.command_plans.specs.declared.outcome.Stop.TheVariants.{Disk, Pipe, Memory}
+use Rattle.command_plans.specs.declared.outcome.RunError.{RunError}
+use Rattle.command_plans.specs.declared.outcome.RunError.TheVariants.{Disk, Pipe, Memory}
 use Rattle.command_plans.proofs.Exits.{not_ok, on_err}
 use Rattle.boot_run.specs.History.{AllAre, BreaksBehind}
 use Rattle.boot_run.specs.Lines.{line_deed}
@@ -89,7 +89,7 @@ module _ {D : Type 0} (time : Timeline D) (state : D → State) where
         (weaken time state (StopIn mid deed) (StopIn old deed) mid new stopped moments)
 
     -- the deed behind it
-    pub performed_after : (result : Result Outcome Stop) → Performs time state end_of mid new deed result → PerformsBehind time state old new deed result
+    pub performed_after : (result : Result Outcome RunError) → Performs time state end_of mid new deed result → PerformsBehind time state old new deed result
     performed_after (Ok outcome) performs = record {
       firm = performs.firm;
       ok = (performs.ok.0, performs.ok.1 ∙ left_settles (recovered_views (state mid)) (recovered_views (state old)) deed settles, performs.ok.2 ∙ ap (λ (l : Sent). l ++ deed.sent) printed);
@@ -127,12 +127,12 @@ module _ {D : Type 0} (time : Timeline D) (state : D → State) where
         )
 
     -- whatever the deed's answer
-    pub synced_after : (result : Result Outcome Stop) → SameFrom time state old mid → EachSince time mid new (StopIn mid deed) → SyncsFirst time state old new deed result
+    pub synced_after : (result : Result Outcome RunError) → SameFrom time state old mid → EachSince time mid new (StopIn mid deed) → SyncsFirst time state old new deed result
     synced_after (Ok outcome) from moments = record { ok = late_after from moments; err = tt }
     synced_after (Err stop) from moments = record { ok = tt; err = inr (late_after from moments) }
 
   -- a recovery that is given up
-  pub performed_not : (old new : D) (deed : Deed) (stop : Stop) → IsSound (state old) → IsFirm (state old) → RecoversTo time state old new
+  pub performed_not : (old new : D) (deed : Deed) (stop : RunError) → IsSound (state old) → IsFirm (state old) → RecoversTo time state old new
       → (state new).printed ≡ (state old).printed → PerformsBehind time state old new deed (Err stop)
   performed_not old new deed stop sound firm recovers printed = record {
     firm = recovers.firm;
@@ -149,7 +149,7 @@ module _ {D : Type 0} (time : Timeline D) (state : D → State) where
       none : Sent
       none = []
 
-      given_up : (stop : Stop) → OnlyReads time state old new ⊎ (IsSettled (state new) × SameFrom time state old new)
+      given_up : (stop : RunError) → OnlyReads time state old new ⊎ (IsSettled (state new) × SameFrom time state old new)
           → BreaksBehind deed (recovered_views (state old)) (recovered_views (state new)) none (end_of stop)
       given_up Disk (inl reads) = inl (inl (refl, ap recovered_views reads.same))
       given_up Pipe (inl reads) = inl (inl (refl, ap recovered_views reads.same))
@@ -159,13 +159,13 @@ module _ {D : Type 0} (time : Timeline D) (state : D → State) where
       given_up Memory (inr synced) = inr (refl, all_same synced.0)
 
   -- where a call was given up
-  pub performed_failed : (old new : D) (deed : Deed) (result : Result Outcome Stop) → IsErr result → IsSound (state old) → IsFirm (state old)
+  pub performed_failed : (old new : D) (deed : Deed) (result : Result Outcome RunError) → IsErr result → IsSound (state old) → IsFirm (state old)
       → RecoversTo time state old new → (state new).printed ≡ (state old).printed → PerformsBehind time state old new deed result
   performed_failed old new deed (Ok outcome) failed sound firm recovers printed = cc
   performed_failed old new deed (Err stop) failed sound firm recovers printed = performed_not old new deed stop sound firm recovers printed
 
   -- and so much is synced then
-  pub synced_failed : (old new : D) (deed : Deed) (result : Result Outcome Stop) → IsErr result → RecoversTo time state old new → SyncsFirst time state old new deed result
+  pub synced_failed : (old new : D) (deed : Deed) (result : Result Outcome RunError) → IsErr result → RecoversTo time state old new → SyncsFirst time state old new deed result
   synced_failed old new deed result failed recovers = record {
     ok = not_ok result _ failed;
     err = on_err result _ (⊎_elim (λ reads. inl reads) (λ synced. inr (late_alone synced.1)) recovers.synced);
@@ -180,12 +180,12 @@ module _ {D : Type 0} (time : Timeline D) (state : D → State) where
       }
 
   -- no recovery is needed
-  pub performed_plain : (old new : D) (deed : Deed) (result : Result Outcome Stop) → Performs time state end_of old new deed result → PerformsBehind time state old new deed result
+  pub performed_plain : (old new : D) (deed : Deed) (result : Result Outcome RunError) → Performs time state end_of old new deed result → PerformsBehind time state old new deed result
   performed_plain old new deed (Ok outcome) performs = record { firm = performs.firm; ok = performs.ok; err = tt; moments = performs.moments }
   performed_plain old new deed (Err stop) performs = record { firm = performs.firm; ok = tt; err = (performs.err.0, performs.err.1, inl performs.err.2); moments = performs.moments }
 
   -- on a machine that is rested every command reads what boot sees once a recovery has run
-  pub performed_rested : (old new : D) (line : Line) (result : Result Outcome Stop) → IsRested (state old) → Performs time state end_of old new (line_deed (seen (state old)) line) result
+  pub performed_rested : (old new : D) (line : Line) (result : Result Outcome RunError) → IsRested (state old) → Performs time state end_of old new (line_deed (seen (state old)) line) result
       → Performs time state end_of old new (line_deed (recovered_now (state old)) line) result
   performed_rested old new line result rested performs =
       subst (λ (v : Files). Performs time state end_of old new (line_deed v line) result) (sym (recovered_view-calm (state old).files rested))

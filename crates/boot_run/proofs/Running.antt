@@ -6,7 +6,7 @@ use Rattle.boot_machine.proofs.Elapsing.{weaken, joined, at_once}
 use Rattle.boot_machine.proofs.Seeing.{latest_view-recovered_views}
 use Rattle.command_plans.specs.Prelude.{is_refusal, Deed, End, Stopped, left_by, Breaks, end_of}
 use Rattle.command_plans.specs.declared.outcome.Outcome.{Outcome}
-use Rattle.command_plans.specs.declared.outcome.Stop.{Stop}
+use Rattle.command_plans.specs.declared.outcome.RunError.{RunError}
 use Rattle.command_plans.proofs.Exits.{if_ok, if_err}
 use Rattle.boot_run.specs.History.{BreaksBehind, Recovers, states, printed_by, any_refused, EndsBefore, Runs}
 use Rattle.boot_run.specs.Lines.{line_deed}
@@ -141,7 +141,7 @@ module _ {D : Type 0} (time : Timeline D) (state : D → State) where
       runs_end first lines i line within line_is left part end (inr (recovers.0, subst (λ (s : List Files). Recovers s left end) so_far.all.state recovers.1)),
     )
 
-    moments_too : (result : Result Outcome Stop) → PerformsBehind time state mid new deed_here result → EachSince time old new (RunAt old lines)
+    moments_too : (result : Result Outcome RunError) → PerformsBehind time state mid new deed_here result → EachSince time old new (RunAt old lines)
     moments_too result performs = joined time state (RunAt old lines) old mid new so_far.moments
         (weaken time state _ (RunAt old lines) mid new (λ m o adds. breaks (recovered_view m ∷ []) o adds.0 Stopped adds.1 adds.2) performs.moments)
 
@@ -164,7 +164,7 @@ module _ {D : Type 0} (time : Timeline D) (state : D → State) where
     }
 
     -- the run ends in the line
-    pub gives_up : (stop : Stop) (result : Result Bool Stop) → IsErr result → IsErrAnd result (λ e. e ≡ stop)
+    pub gives_up : (stop : RunError) (result : Result Bool RunError) → IsErr result → IsErrAnd result (λ e. e ≡ stop)
         → PerformsBehind time state mid new deed_here (Err stop) → RunsTo time state old new lines result
     gives_up stop result failed is performs = record {
       firm = performs.firm;

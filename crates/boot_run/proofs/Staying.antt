@@ -5,10 +5,10 @@ use Rattle.boot_machine.specs.Prelude.{Files, IsRested, State, has, IsImage, wit
 use Rattle.boot_base.specs.Paths.{intent}
 use Rattle.boot_machine.specs.declared.machine.Channel.{Channel}
 use Rattle.install_steps.specs.Steps.{NoNewTemp}
-use Rattle.command_plans.specs.Prelude.{LeavesNoTemp, LeavesRested, stop_rests, stop_temps}
+use Rattle.command_plans.specs.Prelude.{LeavesNoTemp, LeavesRested, run_error_rests, run_error_temps}
 use Rattle.boot_commands.proofs.Later.{tidied_later}
-use Rattle.command_plans.specs.declared.outcome.Stop.{Stop}
-use Rattle.command_plans.specs.declared.outcome.Stop.TheVariants as stops
+use Rattle.command_plans.specs.declared.outcome.RunError.{RunError}
+use Rattle.command_plans.specs.declared.outcome.RunError.TheVariants as run_errors
 use Rattle.boot_run.specs.Endings.{AllTidied}
 use Rattle.boot_run.specs.Lines.{Prints, TidiedBy}
 use Rattle.boot_run.specs.RunsTo.{WherePrinted, at_part}
@@ -49,58 +49,58 @@ pub rested_stays : (s now : State) → now.files ≡ s.files → IsRested s → 
 rested_stays s now same rested = ap (λ (files : Files). has files intent) same ∙ rested
 
 -- whatever the answer
-pub leaves_rested : {T : Type 0} (result : Result T Stop) (now : State) → IsRested now → LeavesRested result now
+pub leaves_rested : {T : Type 0} (result : Result T RunError) (now : State) → IsRested now → LeavesRested result now
 leaves_rested (Ok value) now rested = rested
-leaves_rested (Err stops.Disk) now rested = tt
-leaves_rested (Err stops.Pipe) now rested = rested
-leaves_rested (Err stops.Memory) now rested = rested
+leaves_rested (Err run_errors.Disk) now rested = tt
+leaves_rested (Err run_errors.Pipe) now rested = rested
+leaves_rested (Err run_errors.Memory) now rested = rested
 
 -- given up for the same stop
-pub rested_so : {T U : Type 0} (given : Result T Stop) (result : Result U Stop) (stop : Stop) (now : State) → given ≡ Err stop → IsErr result
+pub rested_so : {T U : Type 0} (given : Result T RunError) (result : Result U RunError) (stop : RunError) (now : State) → given ≡ Err stop → IsErr result
     → IsErrAnd result (λ e. e ≡ stop) → LeavesRested given now → LeavesRested result now
 rested_so given (Ok value) stop now is failed same leaves = cc
-rested_so given (Err e) stop now is failed same leaves = subst (λ (x : Stop). stop_rests x now) (sym same) (subst (λ r. LeavesRested r now) is leaves)
+rested_so given (Err e) stop now is failed same leaves = subst (λ (x : RunError). run_error_rests x now) (sym same) (subst (λ r. LeavesRested r now) is leaves)
 
 -- what is so whatever the answer
-pub where_so : {T : Type 0} (result : Result T Stop) (old new : State) (P : Type 0) → P → WherePrinted result old new P
+pub where_so : {T : Type 0} (result : Result T RunError) (old new : State) (P : Type 0) → P → WherePrinted result old new P
 where_so (Ok value) old new P p = p
-where_so (Err stops.Disk) old new P p = tt
-where_so (Err stops.Pipe) old new P p = λ differs. p
-where_so (Err stops.Memory) old new P p = tt
+where_so (Err run_errors.Disk) old new P p = tt
+where_so (Err run_errors.Pipe) old new P p = λ differs. p
+where_so (Err run_errors.Memory) old new P p = tt
 
 -- nothing was printed
-pub where_none : {T : Type 0} (result : Result T Stop) (old new : State) (P : Type 0) → IsErr result → new.printed ≡ old.printed → WherePrinted result old new P
+pub where_none : {T : Type 0} (result : Result T RunError) (old new : State) (P : Type 0) → IsErr result → new.printed ≡ old.printed → WherePrinted result old new P
 where_none (Ok value) old new P failed same = cc
-where_none (Err stops.Disk) old new P failed same = tt
-where_none (Err stops.Pipe) old new P failed same = λ differs. absurd (differs same)
-where_none (Err stops.Memory) old new P failed same = tt
+where_none (Err run_errors.Disk) old new P failed same = tt
+where_none (Err run_errors.Pipe) old new P failed same = λ differs. absurd (differs same)
+where_none (Err run_errors.Memory) old new P failed same = tt
 
 -- given up for the same stop
-pub where_given : {T U : Type 0} (given : Result T Stop) (result : Result U Stop) (stop : Stop) (old new : State) (P : Type 0) → given ≡ Err stop
+pub where_given : {T U : Type 0} (given : Result T RunError) (result : Result U RunError) (stop : RunError) (old new : State) (P : Type 0) → given ≡ Err stop
     → IsErr result → IsErrAnd result (λ e. e ≡ stop) → WherePrinted given old new P → WherePrinted result old new P
 where_given given (Ok value) stop old new P is failed same so = cc
-where_given given (Err e) stop old new P is failed same so = subst (λ (x : Stop). at_part x old new P) (sym same) (subst (λ r. WherePrinted r old new P) is so)
+where_given given (Err e) stop old new P is failed same so = subst (λ (x : RunError). at_part x old new P) (sym same) (subst (λ r. WherePrinted r old new P) is so)
 
 -- more is known, and nothing was printed before
-pub where_more : {T : Type 0} (result : Result T Stop) (old mid new : State) (P Q : Type 0) → mid.printed ≡ old.printed → (P → Q) → WherePrinted result mid new P → WherePrinted result old new Q
+pub where_more : {T : Type 0} (result : Result T RunError) (old mid new : State) (P Q : Type 0) → mid.printed ≡ old.printed → (P → Q) → WherePrinted result mid new P → WherePrinted result old new Q
 where_more (Ok value) old mid new P Q same so p = so p
-where_more (Err stops.Disk) old mid new P Q same so p = tt
-where_more (Err stops.Pipe) old mid new P Q same so p = λ differs. so (p (λ is. differs (is ∙ same)))
-where_more (Err stops.Memory) old mid new P Q same so p = tt
+where_more (Err run_errors.Disk) old mid new P Q same so p = tt
+where_more (Err run_errors.Pipe) old mid new P Q same so p = λ differs. so (p (λ is. differs (is ∙ same)))
+where_more (Err run_errors.Memory) old mid new P Q same so p = tt
 
 -- of a command
-pub where_tidied : {T : Type 0} (result : Result T Stop) (c : One) (old new : State) → TidiesTo result c old new → WherePrinted result old new (LeavesTidied c new.files)
+pub where_tidied : {T : Type 0} (result : Result T RunError) (c : One) (old new : State) → TidiesTo result c old new → WherePrinted result old new (LeavesTidied c new.files)
 where_tidied (Ok value) c old new tidies = tidies
-where_tidied (Err stops.Disk) c old new tidies = tt
-where_tidied (Err stops.Pipe) c old new tidies = tidies
-where_tidied (Err stops.Memory) c old new tidies = tt
+where_tidied (Err run_errors.Disk) c old new tidies = tt
+where_tidied (Err run_errors.Pipe) c old new tidies = tidies
+where_tidied (Err run_errors.Memory) c old new tidies = tt
 
 -- a machine that is rested after each answer
-pub where_rested : {T : Type 0} (result : Result T Stop) (old new : State) → LeavesRested result new → WherePrinted result old new (IsRested new)
+pub where_rested : {T : Type 0} (result : Result T RunError) (old new : State) → LeavesRested result new → WherePrinted result old new (IsRested new)
 where_rested (Ok value) old new rests = rests
-where_rested (Err stops.Disk) old new rests = tt
-where_rested (Err stops.Pipe) old new rests = λ differs. rests
-where_rested (Err stops.Memory) old new rests = tt
+where_rested (Err run_errors.Disk) old new rests = tt
+where_rested (Err run_errors.Pipe) old new rests = λ differs. rests
+where_rested (Err run_errors.Memory) old new rests = tt
 
 -- temporary files
 pub no_more_temps : (s t u : State) → NoNewTemp s t → NoNewTemp t u → NoNewTemp s u
@@ -110,24 +110,24 @@ pub temps_stay : (s now : State) → now.files ≡ s.files → NoNewTemp s now
 temps_stay s now same q temp there = subst (λ (files : Files). has files q ≡ true) same there
 
 -- whatever the answer
-pub leaves_none : {T : Type 0} (result : Result T Stop) (s now : State) → NoNewTemp s now → LeavesNoTemp result s now
+pub leaves_none : {T : Type 0} (result : Result T RunError) (s now : State) → NoNewTemp s now → LeavesNoTemp result s now
 leaves_none (Ok value) s now none = none
-leaves_none (Err stops.Disk) s now none = tt
-leaves_none (Err stops.Pipe) s now none = none
-leaves_none (Err stops.Memory) s now none = none
+leaves_none (Err run_errors.Disk) s now none = tt
+leaves_none (Err run_errors.Pipe) s now none = none
+leaves_none (Err run_errors.Memory) s now none = none
 
 -- given up for the same stop
-pub leaves_so : {T U : Type 0} (given : Result T Stop) (result : Result U Stop) (stop : Stop) (s now : State) → given ≡ Err stop → IsErr result
+pub leaves_so : {T U : Type 0} (given : Result T RunError) (result : Result U RunError) (stop : RunError) (s now : State) → given ≡ Err stop → IsErr result
     → IsErrAnd result (λ e. e ≡ stop) → LeavesNoTemp given s now → LeavesNoTemp result s now
 leaves_so given (Ok value) stop s now is failed same leaves = cc
-leaves_so given (Err e) stop s now is failed same leaves = subst (λ (x : Stop). stop_temps x s now) (sym same) (subst (λ r. LeavesNoTemp r s now) is leaves)
+leaves_so given (Err e) stop s now is failed same leaves = subst (λ (x : RunError). run_error_temps x s now) (sym same) (subst (λ r. LeavesNoTemp r s now) is leaves)
 
 -- more was done before
-pub leaves_more : {T : Type 0} (result : Result T Stop) (s t now : State) → NoNewTemp s t → LeavesNoTemp result t now → LeavesNoTemp result s now
+pub leaves_more : {T : Type 0} (result : Result T RunError) (s t now : State) → NoNewTemp s t → LeavesNoTemp result t now → LeavesNoTemp result s now
 leaves_more (Ok value) s t now first leaves = no_more_temps s t now first leaves
-leaves_more (Err stops.Disk) s t now first leaves = tt
-leaves_more (Err stops.Pipe) s t now first leaves = no_more_temps s t now first leaves
-leaves_more (Err stops.Memory) s t now first leaves = no_more_temps s t now first leaves
+leaves_more (Err run_errors.Disk) s t now first leaves = tt
+leaves_more (Err run_errors.Pipe) s t now first leaves = no_more_temps s t now first leaves
+leaves_more (Err run_errors.Memory) s t now first leaves = no_more_temps s t now first leaves
 
 -- a folder that is tidied stays so
 line_later : (s now : State) → NoNewTemp s now → (line : Line) → TidiedBy s.files line → TidiedBy now.files line

@@ -4,8 +4,8 @@ use Rattle.boot_machine.specs.Prelude.{Files}
 use Rattle.tool_words.specs.declared.command.Command.{Command}
 use Rattle.tool_words.specs.declared.command.Command.TheVariants as command
 use Rattle.tool_words.specs.declared.fault.UsageReason.{UsageReason}
-use Rattle.command_plans.specs.declared.outcome.Stop.{Stop}
-use Rattle.command_plans.specs.declared.outcome.Stop.TheVariants.{Disk as DiskStop, Pipe as PipeStop, Memory as MemoryStop}
+use Rattle.command_plans.specs.declared.outcome.RunError.{RunError}
+use Rattle.command_plans.specs.declared.outcome.RunError.TheVariants.{Disk as DiskError, Pipe as PipeError, Memory as MemoryError}
 use Rattle.boot_run.specs.AskedLines.{lines_for, lines_to_run, taken_by}
 use Rattle.boot_run.specs.Endings.{AtEnd, FitsWords, TakesInput, UnlessDisk, ended_by, ended_of, status_of}
 use Rattle.boot_run.specs.declared.ended.Ended.{Ended}
@@ -20,12 +20,12 @@ at_any Disk P p = tt
 at_any Pipe P p = tt
 at_any Memory P p = tt
 
-pub at_end_by : (result : Result Bool Stop) (P : Type 0) → OnOk result P → AtEnd (ended_by result) P
+pub at_end_by : (result : Result Bool RunError) (P : Type 0) → OnOk result P → AtEnd (ended_by result) P
 at_end_by (Ok false) P p = p
 at_end_by (Ok true) P p = p
-at_end_by (Err DiskStop) P p = tt
-at_end_by (Err PipeStop) P p = tt
-at_end_by (Err MemoryStop) P p = tt
+at_end_by (Err DiskError) P p = tt
+at_end_by (Err PipeError) P p = tt
+at_end_by (Err MemoryError) P p = tt
 
 pub on_ok_by : {T E : Type 0} (result : Result T E) (P Q : Type 0) → (P → Q) → OnOk result P → OnOk result Q
 on_ok_by (Ok value) P Q so p = so p

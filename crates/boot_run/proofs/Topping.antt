@@ -9,8 +9,8 @@ use Rattle.boot_machine.proofs.Settled.{firm_of_settled}
 use Rattle.boot_machine.proofs.Seeing.{sees, recovered_now_in, latest_view-recovered_views, from_views, candidate_image}
 use Rattle.tool_words.specs.declared.fault.UsageReason.{UsageReason}
 use Rattle.command_plans.specs.Prelude.{is_refusal, End, left_by, Stopped, Finished, NoMemory, DiskFails, PipeFails, Stays, end_of}
-use Rattle.command_plans.specs.declared.outcome.Stop.{Stop}
-use Rattle.command_plans.specs.declared.outcome.Stop.TheVariants.{Disk as DiskStop, Pipe as PipeStop, Memory as MemoryStop}
+use Rattle.command_plans.specs.declared.outcome.RunError.{RunError}
+use Rattle.command_plans.specs.declared.outcome.RunError.TheVariants.{Disk as DiskError, Pipe as PipeError, Memory as MemoryError}
 use Rattle.command_plans.proofs.Exits.{if_ok, if_err, if_ok_by}
 use Rattle.boot_run.specs.AskedLines.{usage_line}
 use Rattle.boot_run.specs.Endings.{AnswersRefusals, AtEnd, PrintsUsage, UnlessDisk, end_at, ended_by}
@@ -89,21 +89,21 @@ one_view_of_settled s settled v is =
     from.2 ∙ settled.images from.0 (candidate_image s from.0 from.1) ∙ sym (latest_view-recovered_views s)
 
 module _ {D : Type 0} (time : Timeline D) (state : D → State) where
-  at_end : (old new : D) (lines : List Line) (result : Result Bool Stop) → RunsTo time state old new lines result
+  at_end : (old new : D) (lines : List Line) (result : Result Bool RunError) → RunsTo time state old new lines result
       → Adds (state old).printed (state new).printed (λ sent. Step (recovered_views (state old)) lines (recovered_views (state new)) sent (end_at (ended_by result)))
   at_end old new lines (Ok false) runs = (printed_by (recovered_views (state old)) lines, runs.ok.printed, step _ lines _ _ Finished (all_runs _ lines _ runs.ok.state))
   at_end old new lines (Ok true) runs = (printed_by (recovered_views (state old)) lines, runs.ok.printed, step _ lines _ _ Finished (all_runs _ lines _ runs.ok.state))
-  at_end old new lines (Err DiskStop) runs = (runs.err.0, runs.err.1, step _ lines _ _ DiskFails runs.err.2)
-  at_end old new lines (Err PipeStop) runs = (runs.err.0, runs.err.1, step _ lines _ _ PipeFails runs.err.2)
-  at_end old new lines (Err MemoryStop) runs = (runs.err.0, runs.err.1, step _ lines _ _ NoMemory runs.err.2)
+  at_end old new lines (Err DiskError) runs = (runs.err.0, runs.err.1, step _ lines _ _ DiskFails runs.err.2)
+  at_end old new lines (Err PipeError) runs = (runs.err.0, runs.err.1, step _ lines _ _ PipeFails runs.err.2)
+  at_end old new lines (Err MemoryError) runs = (runs.err.0, runs.err.1, step _ lines _ _ NoMemory runs.err.2)
 
-  refusals : (old new : D) (lines : List Line) (result : Result Bool Stop) → RunsTo time state old new lines result
+  refusals : (old new : D) (lines : List Line) (result : Result Bool RunError) → RunsTo time state old new lines result
       → AnswersRefusals (any_refused (recovered_views (state old)) lines) (ended_by result)
   refusals old new lines (Ok false) runs = sym runs.ok.answer
   refusals old new lines (Ok true) runs = sym runs.ok.answer
-  refusals old new lines (Err DiskStop) runs = tt
-  refusals old new lines (Err PipeStop) runs = tt
-  refusals old new lines (Err MemoryStop) runs = tt
+  refusals old new lines (Err DiskError) runs = tt
+  refusals old new lines (Err PipeError) runs = tt
+  refusals old new lines (Err MemoryError) runs = tt
 
   all_printed : (old new : D) (lines : List Line) (refused : Bool) → AllDone (state old) (state new) lines refused → AllPrinted (state old) (state new) lines
   all_printed old new lines refused all = (
@@ -111,12 +111,12 @@ module _ {D : Type 0} (time : Timeline D) (state : D → State) where
     sym (latest_view-recovered_views (state new)) ∙ ap latest_view all.state ∙ states-is (recovered_views (state old)) lines ∙ ap (λ v. view_after v lines) (latest_view-recovered_views (state old)),
   )
 
-  finished : (old new : D) (lines : List Line) (result : Result Bool Stop) → RunsTo time state old new lines result → AtEnd (ended_by result) (AllPrinted (state old) (state new) lines)
+  finished : (old new : D) (lines : List Line) (result : Result Bool RunError) → RunsTo time state old new lines result → AtEnd (ended_by result) (AllPrinted (state old) (state new) lines)
   finished old new lines (Ok false) runs = all_printed old new lines false runs.ok
   finished old new lines (Ok true) runs = all_printed old new lines true runs.ok
-  finished old new lines (Err DiskStop) runs = tt
-  finished old new lines (Err PipeStop) runs = tt
-  finished old new lines (Err MemoryStop) runs = tt
+  finished old new lines (Err DiskError) runs = tt
+  finished old new lines (Err PipeError) runs = tt
+  finished old new lines (Err MemoryError) runs = tt
 
   from_sync_of : (old new : D) (lines : List Line) → IsSyncedBy time state old new lines → LeavesFromSync time state old new lines
   from_sync_of old new lines (inl unsynced) = inl unsynced
@@ -129,7 +129,7 @@ module _ {D : Type 0} (time : Timeline D) (state : D → State) where
       ))
       late)
 
-  pub runs_lines : (old new : D) (lines : List Line) (result : Result Bool Stop) → IsSound (state new) → IsSyncedBy time state old new lines
+  pub runs_lines : (old new : D) (lines : List Line) (result : Result Bool RunError) → IsSound (state new) → IsSyncedBy time state old new lines
       → RunsTo time state old new lines result → RunsLines time state old new lines (ended_by result)
   runs_lines old new lines result sound synced runs = record {
     firm = runs.firm;
@@ -149,10 +149,10 @@ module _ {D : Type 0} (time : Timeline D) (state : D → State) where
   }
 
   -- no memory for the usage line
-  pub usage_unsaid : (old : D) (line : Sent)
+  pub usage_read_error : (old : D) (line : Sent)
       → ((m : Files) (o : Sent) → time.since old (time.clock old) m o → IsImage (state old) m × (o ≡ (state old).printed))
       → RunsUsage time state old old line Memory
-  usage_unsaid old line at_start = record {
+  usage_read_error old line at_start = record {
     unchanged = refl;
     at_end = ([], sym (append-nil _), refl);
     at_each_moment = at_once time state _ old (λ m o left. let now = at_start m o left in (now.0, ([], now.1 ∙ sym (append-nil _), (line, refl))));
@@ -177,7 +177,7 @@ module _ {D : Type 0} (time : Timeline D) (state : D → State) where
         ));
     from_sync = inl (at_once time state _ old (λ m o left. let now = at_start m o left in unsynced_yet (state old) lines m o now));
   }
-  runs_nothing (Err reason) old at_start sees_each = usage_unsaid old (on_channel ErrChannel (usage_line reason)) at_start
+  runs_nothing (Err reason) old at_start sees_each = usage_read_error old (on_channel ErrChannel (usage_line reason)) at_start
 
   -- the input is read, and then nothing more, or a run over lines
   read_moments : (old mid : D) (lines : List Line) → ((m : Files) → IsImage (state old) m → IsIn (recovered_view m) (recovered_views (state old)))
@@ -191,23 +191,23 @@ module _ {D : Type 0} (time : Timeline D) (state : D → State) where
   pub same_firm : (s now : State) → SameButInput s now → IsFirm s → IsFirm now
   same_firm s now same firm = subst IsFirm (sym same) (record { unseen = firm.unseen; intent = firm.intent; unnamed = firm.unnamed })
 
-  stays_at : (stop : Stop) (old new : List Files) → new ≡ old → Stays old new (end_of stop)
-  stays_at DiskStop old new is = is
-  stays_at PipeStop old new is = is
-  stays_at MemoryStop old new is = is
+  stays_at : (stop : RunError) (old new : List Files) → new ≡ old → Stays old new (end_of stop)
+  stays_at DiskError old new is = is
+  stays_at PipeError old new is = is
+  stays_at MemoryError old new is = is
 
-  not_finished_at : (stop : Stop) → end_of stop ≢ Finished
-  not_finished_at DiskStop is = cc
-  not_finished_at PipeStop is = cc
-  not_finished_at MemoryStop is = cc
+  not_finished_at : (stop : RunError) → end_of stop ≢ Finished
+  not_finished_at DiskError is = cc
+  not_finished_at PipeError is = cc
+  not_finished_at MemoryError is = cc
 
-  not_disk_of : (stop : Stop) → stop ≢ DiskStop → end_of stop ≢ DiskFails
-  not_disk_of DiskStop not is = absurd (not refl)
-  not_disk_of PipeStop not is = cc
-  not_disk_of MemoryStop not is = cc
+  not_disk_of : (stop : RunError) → stop ≢ DiskError → end_of stop ≢ DiskFails
+  not_disk_of DiskError not is = absurd (not refl)
+  not_disk_of PipeError not is = cc
+  not_disk_of MemoryError not is = cc
 
   -- no script was read
-  pub no_script : (old mid : D) (lines : List Line) (stop : Stop) (result : Result Bool Stop) → stop ≢ DiskStop → IsErr result
+  pub no_script : (old mid : D) (lines : List Line) (stop : RunError) (result : Result Bool RunError) → stop ≢ DiskError → IsErr result
       → IsErrAnd result (λ e. e ≡ stop) → ((m : Files) → IsImage (state old) m → IsIn (recovered_view m) (recovered_views (state old)))
       → IsFirm (state old) → SameButInput (state old) (state mid) → EachSince time old mid (λ m o. IsImage (state old) m × (o ≡ (state old).printed)) → RunsTo time state old mid lines result
   no_script old mid lines stop result not_disk failed is sees firm same moments = record {
@@ -224,7 +224,7 @@ module _ {D : Type 0} (time : Timeline D) (state : D → State) where
   }
 
   -- a run over the lines of a script
-  pub script_runs : (old mid new : D) (lines : List Line) (result : Result Bool Stop) → ((m : Files) → IsImage (state old) m → IsIn (recovered_view m) (recovered_views (state old)))
+  pub script_runs : (old mid new : D) (lines : List Line) (result : Result Bool RunError) → ((m : Files) → IsImage (state old) m → IsIn (recovered_view m) (recovered_views (state old)))
       → SameButInput (state old) (state mid) → EachSince time old mid (λ m o. IsImage (state old) m × (o ≡ (state old).printed))
       → RunsTo time state mid new lines result → RunsTo time state old new lines result
   script_runs old mid new lines result sees same moments runs = record {

@@ -9,7 +9,7 @@ use Rattle.tool_words.specs.declared.action.Action.{Action}
 use Rattle.tool_words.specs.declared.action.Action.TheVariants as action
 use Rattle.command_plans.specs.Prelude.{is_refusal, Deed, left_by, Performs, end_of}
 use Rattle.command_plans.specs.declared.outcome.Outcome.{Outcome}
-use Rattle.command_plans.specs.declared.outcome.Stop.{Stop}
+use Rattle.command_plans.specs.declared.outcome.RunError.{RunError}
 use Rattle.boot_commands.specs.Replies.{action_reply}
 use Rattle.boot_commands.specs.Expanding.{NoneRefused, RefusedOrDone}
 use Rattle.boot_run.specs.Lines.{is_unread, line_deed}
@@ -132,7 +132,7 @@ module _ {D : Type 0} (time : Timeline D) (state : D → State) where
         (found.0, found.1, ap (λ n. drop n (lines_done old lines)) (sym (one_more i)) ∙ found.2)
 
     -- the run ends in the line
-    pub stops_in : (stop : Stop) (result : Result Bool Stop) → IsErr result → IsErrAnd result (λ e. e ≡ stop)
+    pub stops_in : (stop : RunError) (result : Result Bool RunError) → IsErr result → IsErrAnd result (λ e. e ≡ stop)
         → Performs time state end_of mid new deed (Err stop) → RunsTo time state old new (lines_done old lines) result
     stops_in stop result failed is performs =
         gives_up time state old mid new (lines_done old lines) i false line place.0 place.1 before.so_far stop result failed is

@@ -4,8 +4,8 @@ use Rattle.boot_machine.specs.Counts.{Counts, DiskFailed, PipeFailed}
 use Rattle.boot_machine.specs.Disk.{State}
 use Rattle.boot_machine.specs.Sent.{Sent, IsPrefix}
 use Rattle.command_plans.specs.Deeds.{End, Finished, NoMemory, DiskFails, PipeFails}
-use Rattle.command_plans.specs.declared.outcome.Stop.{Stop}
-use Rattle.command_plans.specs.declared.outcome.Stop.TheVariants as stops
+use Rattle.command_plans.specs.declared.outcome.RunError.{RunError}
+use Rattle.command_plans.specs.declared.outcome.RunError.TheVariants as run_errors
 use Rattle.tool_words.specs.declared.command.Command.{Command}
 use Rattle.tool_words.specs.declared.fault.UsageReason.{UsageReason}
 use Rattle.boot_run.specs.AskedLines.{taken_by}
@@ -33,12 +33,12 @@ ended_of (suc (suc (suc (suc zero)))) = Pipe
 ended_of (suc (suc (suc (suc (suc more))))) = Memory
 
 -- the end that the lines of a run make of it: whether one was refused, or what stopped them
-abbrev pub ended_by : Result Bool Stop → Ended
+abbrev pub ended_by : Result Bool RunError → Ended
 ended_by (Ok false) = Done
 ended_by (Ok true) = Refused
-ended_by (Err stops.Disk) = Disk
-ended_by (Err stops.Pipe) = Pipe
-ended_by (Err stops.Memory) = Memory
+ended_by (Err run_errors.Disk) = Disk
+ended_by (Err run_errors.Pipe) = Pipe
+ended_by (Err run_errors.Memory) = Memory
 
 -- how the last command was left where a run ended so
 abbrev pub end_at : Ended → End

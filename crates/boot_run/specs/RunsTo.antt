@@ -8,21 +8,21 @@ use Rattle.boot_machine.specs.Sent.{Sent, Adds, PrintsPart, latest_view, recover
 use Rattle.command_plans.specs.Deeds.{Breaks, Deed, Stopped}
 use Rattle.command_plans.specs.Performs.{DoesDeed, end_of}
 use Rattle.command_plans.specs.declared.outcome.Outcome.{Outcome}
-use Rattle.command_plans.specs.declared.outcome.Stop.{Stop}
-use Rattle.command_plans.specs.declared.outcome.Stop.TheVariants as stops
+use Rattle.command_plans.specs.declared.outcome.RunError.{RunError}
+use Rattle.command_plans.specs.declared.outcome.RunError.TheVariants as run_errors
 use Rattle.boot_run.specs.History.{BreaksBehind, Runs, states, printed_by, any_refused}
 use Rattle.boot_run.specs.Lines.{Prints}
 use Rattle.boot_run.specs.Step.{PrintsUnread}
 use Rattle.boot_run.specs.declared.line.Line.{Line}
 
 -- it is so after Ok, and after a pipe's failure where something was printed
-abbrev pub at_part : Stop → State → State → Type 0 → Type 0
-at_part stops.Disk old new P = Unit {0}
-at_part stops.Pipe old new P = new.printed ≢ old.printed → P
-at_part stops.Memory old new P = Unit {0}
+abbrev pub at_part : RunError → State → State → Type 0 → Type 0
+at_part run_errors.Disk old new P = Unit {0}
+at_part run_errors.Pipe old new P = new.printed ≢ old.printed → P
+at_part run_errors.Memory old new P = Unit {0}
 
 -- it is so after Ok, and after a pipe's failure if something was printed
-abbrev pub WherePrinted : {T : Type 0} → Result T Stop → State → State → Type 0 → Type 0
+abbrev pub WherePrinted : {T : Type 0} → Result T RunError → State → State → Type 0 → Type 0
 WherePrinted result old new P = MatchResult result (λ _. P) (λ stop. at_part stop old new P)
 
 -- At some time the names were all synced. Each moment up to it has one property, and each from it on the other.
@@ -43,7 +43,7 @@ pub record OnlyPrints {M : Type 0} (time : Timeline M) (state : M → State) (ol
 -- memory the recovery may be all that was done.
 pub record PerformsBehind {M : Type 0} (time : Timeline M) (state : M → State)
     (old new : M) (deed : Deed)
-    (result : Result Outcome Stop) : Type 0 where
+    (result : Result Outcome RunError) : Type 0 where
   pub firm : IsFirm (state new)
   pub ok : IfOk result (DoesDeed deed (state old) (state new))
   pub err : IfErr result (λ stop. Adds (state old).printed (state new).printed
@@ -62,7 +62,7 @@ SyncsBefore time state old new deed =
 -- nothing done but reading.
 pub record SyncsFirst {M : Type 0} (time : Timeline M) (state : M → State)
     (old new : M) (deed : Deed)
-    (result : Result Outcome Stop) : Type 0 where
+    (result : Result Outcome RunError) : Type 0 where
   pub ok : OnOk result (SyncsBefore time state old new deed)
   pub err : OnErr result (OnlyReads time state old new ⊎ SyncsBefore time state old new deed)
 
@@ -81,7 +81,7 @@ pub record AllDone (s now : State) (lines : List Line) (refused : Bool) : Type 0
 -- Over these lines, from old to new, at every moment.
 pub record RunsTo {M : Type 0} (time : Timeline M) (state : M → State)
     (old new : M) (lines : List Line)
-    (result : Result Bool Stop) : Type 0 where
+    (result : Result Bool RunError) : Type 0 where
   pub firm : IsFirm (state new)
   pub ok : IfOk result (AllDone (state old) (state new) lines)
   pub err : IfErr result (λ stop. Adds (state old).printed (state new).printed

@@ -2,7 +2,7 @@
 ghost use Rattle.std.specs.Prelude.{◌≡◌};
 ghost use Rattle.boot_run.specs.Endings.{ended_by, status_of};
 
-use command_plans::Stop;
+use command_plans::RunError;
 
 /// The end of a run.
 #[derive(Clone, Copy, Debug, PartialEq, Eq)]
@@ -37,15 +37,15 @@ impl Ended {
     }
 
     /// The end of a run whose lines came to this: whether some reply is a refusal, or what stopped them.
-    pub fn of_lines(lines: Result<bool, Stop>) -> Ended
+    pub fn of_lines(lines: Result<bool, RunError>) -> Ended
         ensures { result ≡ ended_by lines }
     {
         match lines {
             Ok(false) => Ended::Done,
             Ok(true) => Ended::Refused,
-            Err(Stop::Disk) => Ended::Disk,
-            Err(Stop::Pipe) => Ended::Pipe,
-            Err(Stop::Memory) => Ended::Memory,
+            Err(RunError::Disk) => Ended::Disk,
+            Err(RunError::Pipe) => Ended::Pipe,
+            Err(RunError::Memory) => Ended::Memory,
         }
     }
 }

@@ -7,7 +7,7 @@ ghost use Rattle.boot_commands.specs.Expanding.{StandsFor};
 ghost use Rattle.boot_commands.specs.Sweeps.{KeepsUnswept, SweptBy};
 ghost use Rattle.install_steps.specs.Recovery.{RecoversTo, SameFrom};
 ghost use Rattle.install_steps.specs.Steps.{CanStep, Keeps, Lacks, LeavesAlone, NoNewTemp, StepsTo};
-ghost use Rattle.command_plans.specs.Prelude.{CountsStop, LeavesRested, is_refusal};
+ghost use Rattle.command_plans.specs.Prelude.{CountsRunError, LeavesRested, is_refusal};
 ghost use Rattle.boot_run.specs.Lines.{is_unread};
 ghost use Rattle.boot_run.specs.RunsTo.{RunsTo};
 ghost use Rattle.boot_run.specs.Spared.{AllKeep};
@@ -20,7 +20,7 @@ use crate::recovery::recover_rename;
 use boot_base::TempPath;
 use boot_commands::{expand, find_leftovers};
 use boot_machine::{DiskFault, Machine};
-use command_plans::{Outcome, Stop};
+use command_plans::{Outcome, RunError};
 use install_steps::drop_leftovers;
 use std::alloc::{AllocError, Global};
 use tool_words::{Action, Several};
@@ -49,7 +49,7 @@ pub fn find_actions<M: Machine>(
     alloc: Global,
     command: &Several,
     machine: &mut M,
-) -> Result<Vec<Action>, Stop>
+) -> Result<Vec<Action>, RunError>
     ensures stands { IfOk result (λ actions. IsTrue M.tells → StandsFor (M.state machine.new) command.now actions.items) }
     ensures recovers { IsTrue M.tells → IsFirm (M.state machine.old)
         → RecoversTo M.time M.state machine.old machine.new }
@@ -63,7 +63,7 @@ pub fn find_actions<M: Machine>(
         → KeepsUnswept command.now (M.state machine.old).files (M.state machine.new).files }
     ensures swept { IfOk result (λ actions. IsTrue M.tells
         → SweptBy command.now actions.items (M.state machine.new).files) }
-    ensures counts { CountsStop result (M.counts machine.old) (M.counts machine.new) }
+    ensures counts { CountsRunError result (M.counts machine.old) (M.counts machine.new) }
 {
     recover_rename(alloc, machine)?;
     let actions = expand(alloc, command, machine)?;
@@ -94,7 +94,11 @@ fn is_refused(outcome: Outcome) -> bool
 
 /// The actions of a command, one after the other up to the first one that is refused: whether one is. A fault of the
 /// machine and want of memory end the run too.
-pub fn run_actions<M: Machine>(alloc: Global, lines: &[Line], machine: &mut M) -> Result<bool, Stop>
+pub fn run_actions<M: Machine>(
+    alloc: Global,
+    lines: &[Line],
+    machine: &mut M,
+) -> Result<bool, RunError>
     requires commands { All (λ line. is_unread line ≡ false) lines.now }
     requires rested { IsTrue M.tells → IsRested (M.state machine.old) }
     ensures runs { IsTrue M.tells → IsFirm (M.state machine.old)

@@ -3,7 +3,7 @@ ghost use Rattle.std.specs.Prelude.{◌≡◌, ◌||◌, true, false, not, All, 
 ghost use Rattle.boot_base.specs.Refusals.{line_of};
 ghost use Rattle.boot_machine.specs.Prelude.{CountsPipe, EachSince, IsFirm, IsRested, on_channel, recovered_now, seen, with_printed, PrintsPart};
 ghost use Rattle.boot_machine.specs.declared.machine.Channel.TheVariants.{Err, Out};
-ghost use Rattle.command_plans.specs.Prelude.{CountsStop, LeavesRested, Performs, end_of, is_refusal};
+ghost use Rattle.command_plans.specs.Prelude.{CountsRunError, LeavesRested, Performs, end_of, is_refusal};
 ghost use Rattle.boot_commands.specs.Commands.{Behaves, LeavesTidied, one_deed};
 ghost use Rattle.boot_run.specs.Endings.{AllTidied, ended_by};
 ghost use Rattle.boot_run.specs.Lines.{Prints, TidiedBy, with_acknowledgement, acknowledgement, acknowledgement_in, has_command, is_unread, line_deed, no_command_text, too_long_text, unread_deed};
@@ -18,7 +18,7 @@ use crate::recovery::recover_rename;
 use boot_base::{Bytes, Refusal, Text};
 use boot_commands::{run_action, run_one};
 use boot_machine::{Channel, Machine, PipeFault, print_all};
-use command_plans::{Outcome, Stop, refusal_line};
+use command_plans::{Outcome, RunError, refusal_line};
 use std::alloc::{AllocError, Global};
 use tool_words::One;
 
@@ -68,14 +68,14 @@ fn acknowledge<M: Machine>(
 }
 
 // Prints the refusal of what is no command.
-fn refuse_unread<M: Machine>(number: u8, text: &Bytes, machine: &mut M) -> Result<Outcome, Stop>
+fn refuse_unread<M: Machine>(number: u8, text: &Bytes, machine: &mut M) -> Result<Outcome, RunError>
     ensures performs { IsTrue M.tells → IsFirm (M.state machine.old)
         → Performs M.time M.state end_of machine.old machine.new
         (unread_deed number text.now (recovered_now (M.state machine.old))) result }
     ensures moments { IsTrue M.tells → EachSince M.time machine.old machine.new
         (PrintsPart (M.state machine.old) (on_channel Err text.now)) }
     ensures stays { IsTrue M.tells → Prints (M.state machine.old) (M.state machine.new) }
-    ensures counts { CountsStop result (M.counts machine.old) (M.counts machine.new) }
+    ensures counts { CountsRunError result (M.counts machine.old) (M.counts machine.new) }
 {
     print_all(Channel::Err, text.as_slice(), machine)?;
     Ok(Outcome::Refused { number })
@@ -87,7 +87,7 @@ fn run_numbered<M: Machine>(
     number: u64,
     command: &One,
     machine: &mut M,
-) -> Result<Outcome, Stop>
+) -> Result<Outcome, RunError>
     requires rested { IsTrue M.tells → IsRested (M.state machine.old) }
     ensures performs { IsTrue M.tells → IsFirm (M.state machine.old)
         → Performs M.time M.state end_of machine.old machine.new
@@ -112,7 +112,7 @@ fn no_command(alloc: Global, number: u64) -> Result<Bytes, AllocError>
 }
 
 // A line of a script that is no command.
-fn unread_line<M: Machine>(alloc: Global, number: u64, machine: &mut M) -> Result<Outcome, Stop>
+fn unread_line<M: Machine>(alloc: Global, number: u64, machine: &mut M) -> Result<Outcome, RunError>
     ensures performs { IsTrue M.tells → IsFirm (M.state machine.old)
         → Performs M.time M.state end_of machine.old machine.new
         (with_acknowledgement number (unread_deed 17 (no_command_text number) (recovered_now (M.state machine.old))))
@@ -123,7 +123,7 @@ fn unread_line<M: Machine>(alloc: Global, number: u64, machine: &mut M) -> Resul
         (with_acknowledgement number
         (unread_deed 17 (no_command_text number) (recovered_now (M.state machine.old)))).sent) }
     ensures stays { IsTrue M.tells → Prints (M.state machine.old) (M.state machine.new) }
-    ensures counts { CountsStop result (M.counts machine.old) (M.counts machine.new) }
+    ensures counts { CountsRunError result (M.counts machine.old) (M.counts machine.new) }
 {
     let text = no_command(alloc, number)?;
     let texts = Acknowledgements::of(alloc, number)?;
@@ -141,21 +141,25 @@ fn too_long_refusal(alloc: Global) -> Result<Bytes, AllocError>
 }
 
 // A script that is too long.
-fn too_long<M: Machine>(alloc: Global, machine: &mut M) -> Result<Outcome, Stop>
+fn too_long<M: Machine>(alloc: Global, machine: &mut M) -> Result<Outcome, RunError>
     ensures performs { IsTrue M.tells → IsFirm (M.state machine.old)
         → Performs M.time M.state end_of machine.old machine.new
         (unread_deed 3 too_long_text (recovered_now (M.state machine.old))) result }
     ensures moments { IsTrue M.tells → EachSince M.time machine.old machine.new
         (PrintsPart (M.state machine.old) (on_channel Err too_long_text)) }
     ensures stays { IsTrue M.tells → Prints (M.state machine.old) (M.state machine.new) }
-    ensures counts { CountsStop result (M.counts machine.old) (M.counts machine.new) }
+    ensures counts { CountsRunError result (M.counts machine.old) (M.counts machine.new) }
 {
     let text = too_long_refusal(alloc)?;
     refuse_unread(3, &text, machine)
 }
 
 /// One line. A command asks for a machine that is rested.
-pub fn run_line<M: Machine>(alloc: Global, line: &Line, machine: &mut M) -> Result<Outcome, Stop>
+pub fn run_line<M: Machine>(
+    alloc: Global,
+    line: &Line,
+    machine: &mut M,
+) -> Result<Outcome, RunError>
     requires rested { IsTrue M.tells → is_unread line.now ≡ false → IsRested (M.state machine.old) }
     ensures performs { IsTrue M.tells → IsFirm (M.state machine.old)
         → Performs M.time M.state end_of machine.old machine.new
@@ -180,7 +184,11 @@ pub fn run_line<M: Machine>(alloc: Global, line: &Line, machine: &mut M) -> Resu
 }
 
 // The first command of a run: what a stop has left is finished before its reads.
-fn first_command<M: Machine>(alloc: Global, line: &Line, machine: &mut M) -> Result<Outcome, Stop>
+fn first_command<M: Machine>(
+    alloc: Global,
+    line: &Line,
+    machine: &mut M,
+) -> Result<Outcome, RunError>
     requires command { is_unread line.now ≡ false }
     ensures performs { IsTrue M.tells → IsFirm (M.state machine.old)
         → PerformsBehind M.time M.state machine.old machine.new
@@ -207,7 +215,7 @@ fn next_line<M: Machine>(
     line: &Line,
     rested: bool,
     machine: &mut M,
-) -> Result<Outcome, Stop>
+) -> Result<Outcome, RunError>
     requires rested { IsTrue M.tells → rested ≡ true → IsRested (M.state machine.old) }
     ensures performs { IsTrue M.tells → IsFirm (M.state machine.old)
         → PerformsBehind M.time M.state machine.old machine.new
@@ -253,7 +261,11 @@ fn some_refused(refused: bool, outcome: Outcome) -> bool
 
 /// The lines of a script, one after the other: whether some reply is a refusal. A refused line doesn't end the run; a
 /// fault of the machine and want of memory do. Before the first command what a stop has left is finished.
-pub fn run_lines<M: Machine>(alloc: Global, lines: &[Line], machine: &mut M) -> Result<bool, Stop>
+pub fn run_lines<M: Machine>(
+    alloc: Global,
+    lines: &[Line],
+    machine: &mut M,
+) -> Result<bool, RunError>
     ensures runs { IsTrue M.tells → IsFirm (M.state machine.old)
         → RunsTo M.time M.state machine.old machine.new lines.now result }
     ensures synced { IsTrue M.tells → IsFirm (M.state machine.old)

@@ -3,7 +3,7 @@ ghost use Rattle.std.specs.Prelude.{◌≡◌, ◌≤◌, ◌++◌, true, false,
 ghost use Rattle.boot_machine.specs.Prelude.{EachSince, IsFirm, IsImage, IsRested, IsSettled, on_channel, recovered_now, recovered_view, recovered_views, Adds, SameButInput};
 ghost use Rattle.boot_machine.specs.declared.machine.Channel.TheVariants.{Err as ErrChannel};
 ghost use Rattle.install_steps.specs.Steps.{NoNewTemp};
-ghost use Rattle.command_plans.specs.Prelude.{CountsStop, Stopped};
+ghost use Rattle.command_plans.specs.Prelude.{CountsRunError, Stopped};
 ghost use Rattle.tool_words.specs.Meaning.{meaning};
 ghost use Rattle.tool_words.specs.declared.command.Command.{Command};
 ghost use Rattle.tool_words.specs.declared.fault.UsageReason.{UsageReason};
@@ -24,12 +24,12 @@ use crate::lines::run_lines;
 use crate::script::lines_in;
 use boot_base::Text;
 use boot_machine::{Channel, Machine, print_all};
-use command_plans::Stop;
+use command_plans::RunError;
 use std::alloc::{AllocError, Global};
 use tool_words::{Command, One, Several, UsageReason, WordsFault};
 
 // The lines of a script, taken from standard input.
-fn read_script<M: Machine>(alloc: Global, machine: &mut M) -> Result<Vec<Line>, Stop>
+fn read_script<M: Machine>(alloc: Global, machine: &mut M) -> Result<Vec<Line>, RunError>
     ensures lines { IfOk result (λ lines. IsTrue M.tells
         → lines.items ≡ lines_in (take (script_limit + 1) (M.state machine.old).input)) }
     ensures rest { OnOk result (IsTrue M.tells
@@ -39,15 +39,15 @@ fn read_script<M: Machine>(alloc: Global, machine: &mut M) -> Result<Vec<Line>, 
     ensures same { IsTrue M.tells → SameButInput (M.state machine.old) (M.state machine.new) }
     ensures moments { IsTrue M.tells → EachSince M.time machine.old machine.new
         (λ m o. IsImage (M.state machine.old) m × (o ≡ (M.state machine.old).printed)) }
-    ensures no_disk { IsErrOf result Stop.Disk → ⊥ }
-    ensures counts { CountsStop result (M.counts machine.old) (M.counts machine.new) }
+    ensures no_disk { IsErrOf result RunError.Disk → ⊥ }
+    ensures counts { CountsRunError result (M.counts machine.old) (M.counts machine.new) }
 {
     let input = read_all(alloc, machine)?;
     Ok(lines_in(alloc, input.as_slice())?)
 }
 
 // A script: the commands on standard input.
-fn run_script<M: Machine>(alloc: Global, machine: &mut M) -> Result<bool, Stop>
+fn run_script<M: Machine>(alloc: Global, machine: &mut M) -> Result<bool, RunError>
     ensures { RunsCommand M.tells M.time M.state M.counts machine.old machine.new Command.Script result }
 {
     let lines = read_script(alloc, machine)?;
@@ -55,7 +55,7 @@ fn run_script<M: Machine>(alloc: Global, machine: &mut M) -> Result<bool, Stop>
 }
 
 // A command of one action.
-fn run_alone<M: Machine>(alloc: Global, command: One, machine: &mut M) -> Result<bool, Stop>
+fn run_alone<M: Machine>(alloc: Global, command: One, machine: &mut M) -> Result<bool, RunError>
     ensures { RunsCommand M.tells M.time M.state M.counts machine.old machine.new (Command.One command) result }
 {
     let lines = [Line::Plain(command)];
@@ -63,7 +63,11 @@ fn run_alone<M: Machine>(alloc: Global, command: One, machine: &mut M) -> Result
 }
 
 // A command of several actions.
-fn run_several<M: Machine>(alloc: Global, command: Several, machine: &mut M) -> Result<bool, Stop>
+fn run_several<M: Machine>(
+    alloc: Global,
+    command: Several,
+    machine: &mut M,
+) -> Result<bool, RunError>
     ensures { RunsCommand M.tells M.time M.state M.counts machine.old machine.new (Command.Several command) result }
 {
     let actions = find_actions(alloc, &command, machine);
@@ -73,7 +77,11 @@ fn run_several<M: Machine>(alloc: Global, command: Several, machine: &mut M) -> 
 }
 
 // A command, by its kind.
-fn run_command<M: Machine>(alloc: Global, command: Command, machine: &mut M) -> Result<bool, Stop>
+fn run_command<M: Machine>(
+    alloc: Global,
+    command: Command,
+    machine: &mut M,
+) -> Result<bool, RunError>
     ensures { RunsCommand M.tells M.time M.state M.counts machine.old machine.new command result }
 {
     match command {

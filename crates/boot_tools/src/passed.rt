@@ -6,7 +6,7 @@
 use boot_base::{BootPath, FILE_LIMIT, TEXT_LIMIT, Text};
 use boot_machine::Machine;
 use boot_texts::{EntryFault, Type1};
-use command_plans::{Outcome, Plan, Unsaid, file_bytes, folders_in};
+use command_plans::{Outcome, Plan, ReadError, file_bytes, folders_in};
 use entry_commands::plan_install;
 use host_machine::host_machine;
 use menu_order::Suffix;
@@ -172,7 +172,7 @@ fn text_reason<M: Machine>(
             Err(EntryFault::NothingToBoot) => said(alloc, "it has no line linux or efi"),
             _ => Ok(None),
         },
-        Err(Unsaid::Refused(refusal)) => {
+        Err(ReadError::Refused(refusal)) => {
             let reason = refusal.to_string(alloc);
             drop(refusal);
             Ok(Some(reason?))

@@ -2,9 +2,9 @@
 use Rattle.std.proofs.Common.{◌≡◌, ◌<◌, ◌+◌, ℕ, List, [], ◌∷◌, ◌++◌, Result, Ok, Err, refl, sym, ap, ◌∙◌, subst, length, suc, map, take, drop, get_or}
 use Rattle.std.proofs.lemmas.List.{append_assoc, drop_more, length-append, take-append-drop, take_more}
 use Rattle.boot_base.specs.declared.refusal.Refusal.{Refusal}
-use Rattle.command_plans.specs.Prelude.{◌>>=◌, DeclinedFor, each}
-use Rattle.command_plans.specs.declared.declined.Declined.{Declined}
-use Rattle.command_plans.specs.declared.declined.Declined.TheVariants.{Memory, Refused}
+use Rattle.command_plans.specs.Prelude.{◌>>=◌, WordErrorFor, each}
+use Rattle.command_plans.specs.declared.word_error.WordError.{WordError}
+use Rattle.command_plans.specs.declared.word_error.WordError.TheVariants.{Memory, Refused}
 
 pub bind_ok : {B C : Type 0} (r : Result B Refusal) (g : B → Result C Refusal) (c : C) → (r >>= g) ≡ Ok c → (b : B) × (r ≡ Ok b) × (g b ≡ Ok c)
 bind_ok (Ok b) g c is = (b, refl, is)
@@ -67,9 +67,9 @@ each_length f (first ∷ xs) ys done =
 pub each_one : {A B : Type 0} (f : A → Result B Refusal) (x : A) (y : B) → f x ≡ Ok y → each f (x ∷ []) ≡ Ok (y ∷ [])
 each_one f x y is = each_step f x [] y [] is (each_none f)
 
-pub each_one_declined : {A B : Type 0} (f : A → Result B Refusal) (x : A) (declined : Declined) → DeclinedFor declined (f x) → DeclinedFor declined (each f (x ∷ []))
-each_one_declined f x Memory why = tt
-each_one_declined f x (Refused refusal) why = refused_here f x [] refusal why
+pub each_one_fails : {A B : Type 0} (f : A → Result B Refusal) (x : A) (word_error : WordError) → WordErrorFor word_error (f x) → WordErrorFor word_error (each f (x ∷ []))
+each_one_fails f x Memory why = tt
+each_one_fails f x (Refused refusal) why = refused_here f x [] refusal why
 
 -- of what is made of each first
 pub each_map : {A B C : Type 0} (f : B → Result C Refusal) (g : A → B) (xs : List A) → each f (map g xs) ≡ each (λ x. f (g x)) xs
@@ -103,11 +103,11 @@ each_taken f xs i ys more x d y inside before is_item made is =
     ∙ each_more f (take i xs) ys (get_or xs i d) y before (ap f (sym is_item) ∙ made)
     ∙ ap Ok (sym is)
 
-pub taken_declined : {A B : Type 0} (f : A → Result B Refusal) (xs : List A) (i : ℕ) (ys : List B) (x d : A) (declined : Declined) → i < length xs
-    → each f (take i xs) ≡ Ok ys → x ≡ get_or xs i d → DeclinedFor declined (f x)
-    → DeclinedFor declined (each f xs)
-taken_declined f xs i ys x d Memory inside before is_item why = tt
-taken_declined f xs i ys x d (Refused refusal) inside before is_item why =
+pub taken_word_error : {A B : Type 0} (f : A → Result B Refusal) (xs : List A) (i : ℕ) (ys : List B) (x d : A) (word_error : WordError) → i < length xs
+    → each f (take i xs) ≡ Ok ys → x ≡ get_or xs i d → WordErrorFor word_error (f x)
+    → WordErrorFor word_error (each f xs)
+taken_word_error f xs i ys x d Memory inside before is_item why = tt
+taken_word_error f xs i ys x d (Refused refusal) inside before is_item why =
     ap (each f) (sym (take-append-drop i xs) ∙ ap (λ l. take i xs ++ l) (drop_more xs i d inside))
     ∙ each_refused f (take i xs) ys (get_or xs i d) (drop (i + 1) xs) refusal before (ap f (sym is_item) ∙ why)
 

@@ -1,4 +1,4 @@
-pub mod Declining
+pub mod WordErrors
 pub mod Each
 mod Effects
 pub mod Exits
@@ -10,7 +10,7 @@ pub mod Performed
 pub mod Registers
 pub mod Replies
 pub mod Sizes
-pub mod Unsaying
+pub mod ReadErrors
 pub mod Worded
 pub mod ReadPaths
 pub mod Steps

@@ -6,10 +6,10 @@ use Rattle.boot_machine.proofs.Elapsing.{weaken, joined}
 use Rattle.boot_machine.proofs.Printing.{tagged_part}
 use Rattle.boot_machine.proofs.Seeing.{latest_view-recovered_views, one_view, recovered_now_in, from_views, candidate_image}
 use Rattle.install_steps.specs.Steps.{Keeps, Sees, IsDone as IsInstalled}
-use Rattle.command_plans.specs.Prelude.{Deed, Stopped, Stays, Breaks, Performs, DoesDeed, end_by, end_of, stop_of}
+use Rattle.command_plans.specs.Prelude.{Deed, Stopped, Stays, Breaks, Performs, DoesDeed, end_by, end_of, run_error_of}
 use Rattle.command_plans.specs.declared.outcome.Outcome.{Outcome}
-use Rattle.command_plans.specs.declared.outcome.Stop.{Stop}
-use Rattle.command_plans.specs.declared.outcome.Stop.TheVariants as stops
+use Rattle.command_plans.specs.declared.outcome.RunError.{RunError}
+use Rattle.command_plans.specs.declared.outcome.RunError.TheVariants as run_errors
 use Rattle.command_plans.specs.declared.outcome.MachineFault.{MachineFault}
 use Rattle.command_plans.specs.declared.outcome.MachineFault.TheVariants.{Disk}
 use Rattle.command_plans.proofs.Exits.{if_ok, if_err}
@@ -127,13 +127,13 @@ module _ {D : Type 0} (time : Timeline D) (state : D → State) (old : D) (deed 
       weaken time state _ (Within (state old)) old mid
       (λ m o here. ([], here.1 ∙ sym (append-nil (state old).printed), inl (refl, (recovered_view m, refl, sees m here.0)))) moments
 
-  stays : (stop : Stop) (new : List Files) → new ≡ recovered_views (state old) → Stays (recovered_views (state old)) new (end_of stop)
-  stays stops.Memory new same = same
-  stays stops.Disk new same = same
-  stays stops.Pipe new same = same
+  stays : (stop : RunError) (new : List Files) → new ≡ recovered_views (state old) → Stays (recovered_views (state old)) new (end_of stop)
+  stays run_errors.Memory new same = same
+  stays run_errors.Disk new same = same
+  stays run_errors.Pipe new same = same
 
   -- no plan was made
-  pub plan_failed : (new : D) (stop : Stop) (result : Result Outcome Stop) → IsErr result → IsErrAnd result (λ e. e ≡ stop)
+  pub plan_failed : (new : D) (stop : RunError) (result : Result Outcome RunError) → IsErr result → IsErrAnd result (λ e. e ≡ stop)
       → ((m : Files) → IsImage (state old) m → IsIn (recovered_view m) (recovered_views (state old)))
       → IsFirm (state old) → OnlyReads time state old new → Performs time state end_of old new deed result
   plan_failed new stop result failed is sees firm reads = record {
@@ -144,7 +144,7 @@ module _ {D : Type 0} (time : Timeline D) (state : D → State) (old : D) (deed 
   }
 
   -- what is performed after the reads
-  pub after_reads : (mid new : D) (result : Result Outcome Stop) → ((m : Files) → IsImage (state old) m → IsIn (recovered_view m) (recovered_views (state old)))
+  pub after_reads : (mid new : D) (result : Result Outcome RunError) → ((m : Files) → IsImage (state old) m → IsIn (recovered_view m) (recovered_views (state old)))
       → OnlyReads time state old mid → Performs time state end_of mid new deed result → Performs time state end_of old new deed result
   after_reads mid new result sees reads performs = record {
     firm = performs.firm;
@@ -158,12 +158,12 @@ module _ {D : Type 0} (time : Timeline D) (state : D → State) (old : D) (deed 
   }
 
 -- the machine's fault as a stop
-pub stopped_by : {D : Type 0} (time : Timeline D) (state : D → State) (old new : D) (deed : Deed) (fault : MachineFault) (result : Result Outcome Stop)
-    → IsErr result → IsErrAnd result (λ stop. stop ≡ stop_of fault) → Performs time state end_by old new deed (Err fault) → Performs time state end_of old new deed result
+pub stopped_by : {D : Type 0} (time : Timeline D) (state : D → State) (old new : D) (deed : Deed) (fault : MachineFault) (result : Result Outcome RunError)
+    → IsErr result → IsErrAnd result (λ stop. stop ≡ run_error_of fault) → Performs time state end_by old new deed (Err fault) → Performs time state end_of old new deed result
 stopped_by time state old new what fault result failed is performs = record {
   firm = performs.firm;
   ok = if_ok result _ failed;
-  err = if_err result (stop_of fault) _ is performs.err;
+  err = if_err result (run_error_of fault) _ is performs.err;
   moments = performs.moments;
 }
 

@@ -4,13 +4,13 @@ use Rattle.std.proofs.lemmas.Bool.Decides.{nat_tests}
 use Rattle.boot_base.specs.declared.refusal.Refusal.TheVariants as refusals
 use Rattle.boot_machine.specs.Prelude.{Files, view}
 use Rattle.menu_order.specs.declared.item.MenuItem.{MenuItem}
-use Rattle.boot_folder.specs.Entries.{boot_menu, entry_count}
-use Rattle.boot_folder.specs.Scanning.{menu_many}
-use Rattle.boot_folder.specs.declared.fault.MenuFault.{MenuFault}
-use Rattle.boot_folder.specs.declared.fault.MenuFault.TheVariants as menus
-use Rattle.boot_folder.specs.declared.folders.Folders.{Folders}
-use Rattle.boot_folder.proofs.EntryFiles.{view_count}
-use Rattle.command_plans.specs.Prelude.{UnsaidFor, menu_at, menu_unsaid}
+use Rattle.boot_entries.specs.Entries.{boot_menu, entry_count}
+use Rattle.boot_entries.specs.Scanning.{menu_many}
+use Rattle.boot_entries.specs.declared.fault.MenuFault.{MenuFault}
+use Rattle.boot_entries.specs.declared.fault.MenuFault.TheVariants as menus
+use Rattle.boot_entries.specs.declared.folders.Folders.{Folders}
+use Rattle.boot_entries.proofs.EntryFiles.{view_count}
+use Rattle.command_plans.specs.Prelude.{ReadErrorFor, menu_at, menu_read_error}
 
 not_many : (n : ℕ) → n ≤ 4096 → nat_lt 4096 n ≡ false
 not_many n few = grind (arith, nat_tests)
@@ -30,9 +30,9 @@ pub many_said : (files : Files) (folders : Folders) (count : ℕ) → 4096 < cou
 many_said files folders count many is = rw (view_count files folders, is, are_many count many) refl
 
 -- what a fault of the scan is told as
-pub unsaid_menu : (Told : Type 0) (files : Files) (folders : Folders) (fault : MenuFault) → Told
+pub read_error_menu : (Told : Type 0) (files : Files) (folders : Folders) (fault : MenuFault) → Told
     → menu_many fault (λ count. (4096 < count) × (Told → entry_count files folders ≡ count))
-    → UnsaidFor (menu_unsaid fault) (menu_at (view files) folders)
-unsaid_menu Told files folders menus.Memory told many = tt
-unsaid_menu Told files folders menus.Disk told many = tt
-unsaid_menu Told files folders (menus.TooMany count) told many = many_said files folders count many.0 (many.1 told)
+    → ReadErrorFor (menu_read_error fault) (menu_at (view files) folders)
+read_error_menu Told files folders menus.Memory told many = tt
+read_error_menu Told files folders menus.Disk told many = tt
+read_error_menu Told files folders (menus.TooMany count) told many = many_said files folders count many.0 (many.1 told)

@@ -5,7 +5,7 @@ use Rattle.boot_base.specs.Paths.{Path}
 use Rattle.boot_base.specs.declared.refusal.Refusal.TheVariants as refusals
 use Rattle.boot_machine.specs.Disk.{Files}
 use Rattle.command_plans.specs.Answers.{Answer, refusal, done_answer}
-use Rattle.command_plans.specs.Declining.{printed_path}
+use Rattle.command_plans.specs.WordErrors.{printed_path}
 use Rattle.command_plans.specs.Makeable.{TellsGone}
 use Rattle.command_plans.specs.declared.plan.Change.{Change}
 use Rattle.command_plans.specs.declared.plan.Change.TheVariants.{Copy}

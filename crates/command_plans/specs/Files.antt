@@ -9,7 +9,7 @@ use Rattle.boot_machine.specs.Disk.{Files}
 use Rattle.pe_reader.specs.Grammar.{Headers, pe_of}
 use Rattle.pe_reader.specs.Reasons.{pe_reason_text}
 use Rattle.pe_reader.specs.declared.fault.FailedCheck.{FailedCheck}
-use Rattle.command_plans.specs.Declining.{◌>>=◌, printed_path}
+use Rattle.command_plans.specs.WordErrors.{◌>>=◌, printed_path}
 
 -- the bytes that stand at a path, or why they aren't read
 abbrev pub readable_bytes : Path → Option (List ℕ) → Result (List ℕ) Refusal

@@ -2,8 +2,8 @@
 use Rattle.std.specs.Prelude.{ℕ, List, Result, Ok}
 use Rattle.boot_base.specs.Layout.{entries_below, images_below}
 use Rattle.boot_base.specs.declared.refusal.Refusal.{Refusal}
-use Rattle.boot_folder.specs.declared.folders.Folders.{Folders}
-use Rattle.command_plans.specs.Declining.{◌>>=◌, path_in, path_under}
+use Rattle.boot_entries.specs.declared.folders.Folders.{Folders}
+use Rattle.command_plans.specs.WordErrors.{◌>>=◌, path_in, path_under}
 
 -- the folders of an ESP by its word, or what the word is refused for
 abbrev pub folders_of : List ℕ → Result Folders Refusal

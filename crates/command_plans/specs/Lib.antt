@@ -1,6 +1,6 @@
 pub mod Files
-pub mod Declining
-pub mod Unsaying
+pub mod WordErrors
+pub mod ReadErrors
 pub mod Choices
 pub mod Answers
 pub mod Changes

@@ -8,7 +8,7 @@ use Rattle.boot_base.specs.declared.refusal.Refusal.{Refusal}
 use Rattle.boot_base.specs.declared.refusal.Refusal.TheVariants as refusals
 use Rattle.install_steps.specs.Steps.{IsIntentOf}
 use Rattle.command_plans.specs.Answers.{is_refusal}
-use Rattle.command_plans.specs.Declining.{printed_path}
+use Rattle.command_plans.specs.WordErrors.{printed_path}
 use Rattle.command_plans.specs.declared.outcome.Outcome.{Outcome}
 use Rattle.command_plans.specs.declared.plan.Change.{Change}
 use Rattle.command_plans.specs.declared.plan.Change.TheVariants.{Nothing, Remove, Leftovers, Write, Put, Copy, Move}

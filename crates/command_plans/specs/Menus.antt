@@ -4,13 +4,13 @@ use Rattle.boot_base.specs.declared.refusal.Refusal.{Refusal}
 use Rattle.boot_base.specs.declared.refusal.Refusal.TheVariants as refusals
 use Rattle.boot_machine.specs.Disk.{Files}
 use Rattle.menu_order.specs.declared.item.MenuItem.{MenuItem}
-use Rattle.boot_folder.specs.Entries.{boot_menu, entry_count, entry_limit}
-use Rattle.boot_folder.specs.Scanning.{scan_limit}
-use Rattle.boot_folder.specs.declared.fault.MenuFault.{MenuFault}
-use Rattle.boot_folder.specs.declared.fault.MenuFault.TheVariants as menus
-use Rattle.boot_folder.specs.declared.folders.Folders.{Folders}
-use Rattle.command_plans.specs.declared.unsaid.Unsaid.{Unsaid}
-use Rattle.command_plans.specs.declared.unsaid.Unsaid.TheVariants as unsaid
+use Rattle.boot_entries.specs.Entries.{boot_menu, entry_count, entry_limit}
+use Rattle.boot_entries.specs.Scanning.{scan_limit}
+use Rattle.boot_entries.specs.declared.fault.MenuFault.{MenuFault}
+use Rattle.boot_entries.specs.declared.fault.MenuFault.TheVariants as menus
+use Rattle.boot_entries.specs.declared.folders.Folders.{Folders}
+use Rattle.command_plans.specs.declared.read_error.ReadError.{ReadError}
+use Rattle.command_plans.specs.declared.read_error.ReadError.TheVariants as read_errors
 
 -- the menu of two folders, or that they have more than 4,096 entry files
 abbrev pub menu_at : Files → Folders → Result (List MenuItem) Refusal
@@ -19,10 +19,10 @@ menu_at view folders =
     else Ok (boot_menu view folders)
 
 -- why nothing is said of folders that have no menu
-abbrev pub menu_unsaid : MenuFault → Unsaid
-menu_unsaid menus.Memory = unsaid.Memory
-menu_unsaid menus.Disk = unsaid.Disk
-menu_unsaid (menus.TooMany count) = unsaid.Refused (refusals.TooMany count)
+abbrev pub menu_read_error : MenuFault → ReadError
+menu_read_error menus.Memory = read_errors.Memory
+menu_read_error menus.Disk = read_errors.Disk
+menu_read_error (menus.TooMany count) = read_errors.Refused (refusals.TooMany count)
 
 -- the most bytes that a command reads for the menu of the folders of a word: as many as a scan of them, none where the
 -- word is refused

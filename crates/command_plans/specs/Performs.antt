@@ -10,30 +10,30 @@ use Rattle.boot_machine.specs.declared.fault.ReadFault.TheVariants as reads
 use Rattle.install_steps.specs.Steps.{NoNewTemp}
 use Rattle.command_plans.specs.Deeds.{Deed, End, Stopped, NoMemory, DiskFails, PipeFails, left_by, Breaks}
 use Rattle.command_plans.specs.declared.outcome.Outcome.{Outcome}
-use Rattle.command_plans.specs.declared.outcome.Stop.{Stop}
-use Rattle.command_plans.specs.declared.outcome.Stop.TheVariants as stops
+use Rattle.command_plans.specs.declared.outcome.RunError.{RunError}
+use Rattle.command_plans.specs.declared.outcome.RunError.TheVariants as run_errors
 use Rattle.command_plans.specs.declared.outcome.MachineFault.{MachineFault}
 use Rattle.command_plans.specs.declared.outcome.MachineFault.TheVariants as faults
 
 -- the end that a stop makes of a run
-abbrev pub end_of : Stop → End
-end_of stops.Disk = DiskFails
-end_of stops.Pipe = PipeFails
-end_of stops.Memory = NoMemory
+abbrev pub end_of : RunError → End
+end_of run_errors.Disk = DiskFails
+end_of run_errors.Pipe = PipeFails
+end_of run_errors.Memory = NoMemory
 
 -- a fault of the machine as a stop
-abbrev pub stop_of : MachineFault → Stop
-stop_of faults.Disk = stops.Disk
-stop_of faults.Pipe = stops.Pipe
+abbrev pub run_error_of : MachineFault → RunError
+run_error_of faults.Disk = run_errors.Disk
+run_error_of faults.Pipe = run_errors.Pipe
 
 -- a failure to read, as a stop
-abbrev pub read_stop : ReadFault → Stop
-read_stop reads.Memory = stops.Memory
-read_stop reads.Disk = stops.Disk
+abbrev pub run_error_of_read : ReadFault → RunError
+run_error_of_read reads.Memory = run_errors.Memory
+run_error_of_read reads.Disk = run_errors.Disk
 
 -- the end that a fault of the machine makes of a command
 abbrev pub end_by : MachineFault → End
-end_by fault = end_of (stop_of fault)
+end_by fault = end_of (run_error_of fault)
 
 -- the deed was done and its reply printed
 abbrev pub DoesDeed : Deed → State → State → Outcome → Type 0
@@ -53,44 +53,45 @@ pub record Performs {M E : Type 0} (time : Timeline M) (state : M → State)
       (λ part. Breaks deed (recovered_views (state old)) (recovered_view image ∷ []) part Stopped))
 
 -- the counts at each stop
-abbrev pub stop_counts : Stop → Counts → Counts → Type 0
-stop_counts stops.Disk old new = DiskFailed old new
-stop_counts stops.Pipe old new = PipeFailed old new
-stop_counts stops.Memory old new = new ≡ old
+abbrev pub run_error_counts : RunError → Counts → Counts → Type 0
+run_error_counts run_errors.Disk old new = DiskFailed old new
+run_error_counts run_errors.Pipe old new = PipeFailed old new
+run_error_counts run_errors.Memory old new = new ≡ old
 
 -- a stop of disk or pipe comes only where its count rose, and every other answer leaves both counts
-abbrev pub CountsStop : {T : Type 0} → Result T Stop → Counts → Counts → Type 0
-CountsStop result old new = MatchResult result (λ _. new ≡ old) (λ stop. stop_counts stop old new)
+abbrev pub CountsRunError : {T : Type 0} → Result T RunError → Counts → Counts → Type 0
+CountsRunError result old new = MatchResult result (λ _. new ≡ old) (λ stop. run_error_counts stop old new)
 
 -- a machine's fault of disk or pipe comes only if its count rose, and every other answer leaves both counts
 abbrev pub CountsFault : {T : Type 0} → Result T MachineFault → Counts → Counts → Type 0
-CountsFault result old new = MatchResult result (λ _. new ≡ old) (λ fault. stop_counts (stop_of fault) old new)
+CountsFault result old new =
+    MatchResult result (λ _. new ≡ old) (λ fault. run_error_counts (run_error_of fault) old new)
 
 -- no temporary file is left that wasn't there, but after a fault of the disk
-abbrev pub stop_temps : Stop → State → State → Type 0
-stop_temps stops.Disk old new = Unit {0}
-stop_temps stops.Pipe old new = NoNewTemp old new
-stop_temps stops.Memory old new = NoNewTemp old new
+abbrev pub run_error_temps : RunError → State → State → Type 0
+run_error_temps run_errors.Disk old new = Unit {0}
+run_error_temps run_errors.Pipe old new = NoNewTemp old new
+run_error_temps run_errors.Memory old new = NoNewTemp old new
 
 -- whatever was returned, no temporary file is left that wasn't there, but after a fault of the disk
-abbrev pub LeavesNoTemp : {T : Type 0} → Result T Stop → State → State → Type 0
-LeavesNoTemp result old new = MatchResult result (λ _. NoNewTemp old new) (λ stop. stop_temps stop old new)
+abbrev pub LeavesNoTemp : {T : Type 0} → Result T RunError → State → State → Type 0
+LeavesNoTemp result old new = MatchResult result (λ _. NoNewTemp old new) (λ stop. run_error_temps stop old new)
 
 -- whatever the machine answered, no temporary file is left that wasn't there, but maybe after a fault of the disk
 abbrev pub LeavesNoTempBy : {T : Type 0} → Result T MachineFault → State → State → Type 0
 LeavesNoTempBy result old new =
-    MatchResult result (λ _. NoNewTemp old new) (λ fault. stop_temps (stop_of fault) old new)
+    MatchResult result (λ _. NoNewTemp old new) (λ fault. run_error_temps (run_error_of fault) old new)
 
 -- the machine is rested, but maybe after a fault of the disk
-abbrev pub stop_rests : Stop → State → Type 0
-stop_rests stops.Disk new = Unit {0}
-stop_rests stops.Pipe new = IsRested new
-stop_rests stops.Memory new = IsRested new
+abbrev pub run_error_rests : RunError → State → Type 0
+run_error_rests run_errors.Disk new = Unit {0}
+run_error_rests run_errors.Pipe new = IsRested new
+run_error_rests run_errors.Memory new = IsRested new
 
 -- whatever was returned, the machine is rested, but maybe after a fault of the disk
-abbrev pub LeavesRested : {T : Type 0} → Result T Stop → State → Type 0
-LeavesRested result new = MatchResult result (λ _. IsRested new) (λ stop. stop_rests stop new)
+abbrev pub LeavesRested : {T : Type 0} → Result T RunError → State → Type 0
+LeavesRested result new = MatchResult result (λ _. IsRested new) (λ stop. run_error_rests stop new)
 
 -- whatever the machine answered, it is rested, but maybe after a fault of the disk
 abbrev pub LeavesRestedBy : {T : Type 0} → Result T MachineFault → State → Type 0
-LeavesRestedBy result new = MatchResult result (λ _. IsRested new) (λ fault. stop_rests (stop_of fault) new)
+LeavesRestedBy result new = MatchResult result (λ _. IsRested new) (λ fault. run_error_rests (run_error_of fault) new)

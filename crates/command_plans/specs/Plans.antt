@@ -12,8 +12,8 @@ use Rattle.image_writer.specs.declared.sources.Sources.{Sources}
 use Rattle.image_writer.specs.Sourced.{IsSourced, planned_image}
 use Rattle.image_writer.specs.Taken.{writing_length}
 use Rattle.install_steps.specs.Steps.{Lacks}
-use Rattle.command_plans.specs.Unsaying.{UnsaidFor}
-use Rattle.command_plans.specs.declared.unsaid.Unsaid.{Unsaid}
+use Rattle.command_plans.specs.ReadErrors.{ReadErrorFor}
+use Rattle.command_plans.specs.declared.read_error.ReadError.{ReadError}
 use Rattle.command_plans.specs.Answers.{Answer}
 use Rattle.command_plans.specs.Makeable.{cleaned_text}
 use Rattle.command_plans.specs.declared.outcome.MachineFault.{MachineFault}
@@ -102,10 +102,10 @@ abbrev pub answer_of_plan : Files → Plan → Answer
 answer_of_plan view plan = record { outcome = plan.outcome; after = effect view plan.change; text = plan.text }
 
 -- the plan comes to this answer on the state's view, or this is what it is refused for
-abbrev pub PlansAs : State → Result Plan Unsaid → Result Answer Refusal → Type 0
+abbrev pub PlansAs : State → Result Plan ReadError → Result Answer Refusal → Type 0
 PlansAs s result meant = MatchResult result
     (λ plan. (meant ≡ Ok (answer_of_plan (seen s) plan)) × CanMake s plan.change)
-    (λ unsaid. UnsaidFor unsaid meant)
+    (λ read_error. ReadErrorFor read_error meant)
 
 -- the plan comes to this answer on the state's view, and can be carried out
 pub record Plans (s : State) (plan : Plan) (answer : Answer) : Type 0 where

@@ -2,13 +2,13 @@
 ghost use Rattle.std.specs.Prelude.{◌≡◌, length, IfOk, IsTrue, Some, ℕ, option_map};
 ghost use Rattle.std.specs.FinMap.{get, insert};
 ghost use Rattle.boot_machine.specs.Prelude.{Looks, State, TakesAtMost, contents, seen};
-ghost use Rattle.command_plans.specs.Prelude.{done_answer, refusal, IsCopy, installed_text, unlink_answer, unlinked_text, printed_path, CountsStop, IsLineOf, TellsGone, CanCopy, Plans};
+ghost use Rattle.command_plans.specs.Prelude.{done_answer, refusal, IsCopy, installed_text, unlink_answer, unlinked_text, printed_path, CountsRunError, IsLineOf, TellsGone, CanCopy, Plans};
 
-use crate::declined::not_there;
-use crate::outcome::{Outcome, Stop};
+use crate::outcome::{Outcome, RunError};
 use crate::plan::{Change, Plan, RefusalLine};
 use crate::reading::seen_size;
 use crate::refusing::refusal_plan;
+use crate::word_error::not_there;
 use boot_base::{BootPath, Bytes, Refusal, Target};
 use boot_machine::Machine;
 use std::alloc::{AllocError, Global};
@@ -114,10 +114,10 @@ pub fn plan_removal<M: Machine>(
     alloc: Global,
     path: BootPath,
     machine: &mut M,
-) -> Result<Plan, Stop>
+) -> Result<Plan, RunError>
     ensures plans { IfOk result (λ plan. IsTrue M.tells → Plans (M.state machine.old) plan
         (unlink_answer (seen (M.state machine.old)) path)) }
-    ensures looks { Looks M.tells M.time M.state M.counts (CountsStop result) machine.old machine.new }
+    ensures looks { Looks M.tells M.time M.state M.counts (CountsRunError result) machine.old machine.new }
     ensures taken { IsTrue M.tells → TakesAtMost 0 (M.taken machine.old) (M.taken machine.new) }
 {
     let size = seen_size(&path, machine)?;

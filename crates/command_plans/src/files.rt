@@ -3,12 +3,12 @@ ghost use Rattle.std.specs.Prelude.{◌≡◌, ◌≤◌, ◌<◌, ◌+◌, ◌^
 ghost use Rattle.boot_machine.specs.Prelude.{Counts, Looks, TakesAtMost, contents, fill_with_zeros, has, seen};
 ghost use Rattle.pe_reader.specs.Prelude.{Headers, pe_of, CountsHead, FailsFrom, GivesFrom, ReadFrom, head_counts, head_limit, headers_of, pe_reason_text};
 ghost use Rattle.pe_reader.specs.declared.fault.FailedCheck.{FailedCheck};
-ghost use Rattle.command_plans.specs.Prelude.{printed_path, bytes_at, headers_or, image_at, CountsUnsaid, Says, UnsaidFor, unsaid_counts};
+ghost use Rattle.command_plans.specs.Prelude.{printed_path, bytes_at, headers_or, image_at, CountsReadError, Says, ReadErrorFor, read_error_counts};
 ghost use Rattle.boot_base.specs.Limits.{file_limit};
 
-use crate::declined::{not_there, printed_path};
+use crate::read_error::ReadError;
 use crate::reading::seen_size;
-use crate::unsaid::Unsaid;
+use crate::word_error::{not_there, printed_path};
 use boot_base::{BootPath, FILE_LIMIT, PeText, Refusal};
 use boot_machine::{Machine, read_part, zeros};
 use pe_reader::{HeadFault, Pe, PeReason};
@@ -28,7 +28,7 @@ pub fn readable_size<M: Machine>(
     alloc: Global,
     path: &BootPath,
     machine: &mut M,
-) -> Result<u64, Unsaid>
+) -> Result<u64, ReadError>
     ensures file { IsTrue M.tells → Says (λ _. contents (M.state machine.old).files path.now) result
         (bytes_at (seen (M.state machine.old)) path.now) }
     ensures size { IfOk result (λ size. IsTrue M.tells
@@ -38,13 +38,13 @@ pub fn readable_size<M: Machine>(
     ensures limit { IfOk result (λ size. size ≤ file_limit) }
     ensures held { OnOk result (IsTrue M.tells
         → contents (seen (M.state machine.old)) path.now ≡ contents (M.state machine.old).files path.now) }
-    ensures looks { Looks M.tells M.time M.state M.counts (CountsUnsaid result) machine.old machine.new }
+    ensures looks { Looks M.tells M.time M.state M.counts (CountsReadError result) machine.old machine.new }
     ensures taken { IsTrue M.tells → TakesAtMost 0 (M.taken machine.old) (M.taken machine.new) }
 {
     path.know();
     match seen_size(path, machine)? {
-        None => Err(Unsaid::Refused(not_there(alloc, path)?)),
-        Some(size) if size > FILE_LIMIT => Err(Unsaid::Refused(too_large(alloc, path, size)?)),
+        None => Err(ReadError::Refused(not_there(alloc, path)?)),
+        Some(size) if size > FILE_LIMIT => Err(ReadError::Refused(too_large(alloc, path, size)?)),
         Some(size) => Ok(size),
     }
 }
@@ -58,28 +58,32 @@ pub fn not_pe(alloc: Global, reason: PeReason, offset: u64) -> Result<Refusal, A
 }
 
 // What the failure to read headers comes to.
-fn head_unsaid(alloc: Global, fault: HeadFault) -> Unsaid
-    ensures meant { (read : Result Headers FailedCheck) → FailsFrom fault read → UnsaidFor result (headers_or read) }
-    ensures counts { (old new : Counts) → head_counts fault old new → unsaid_counts result old new }
+fn head_read_error(alloc: Global, fault: HeadFault) -> ReadError
+    ensures meant { (read : Result Headers FailedCheck) → FailsFrom fault read → ReadErrorFor result (headers_or read) }
+    ensures counts { (old new : Counts) → head_counts fault old new → read_error_counts result old new }
 {
     match fault {
-        HeadFault::Memory => Unsaid::Memory,
-        HeadFault::Disk => Unsaid::Disk,
+        HeadFault::Memory => ReadError::Memory,
+        HeadFault::Disk => ReadError::Disk,
         HeadFault::NotPe { reason, offset } => match not_pe(alloc, reason, offset) {
-            Ok(why) => Unsaid::Refused(why),
-            Err(AllocError) => Unsaid::Memory,
+            Ok(why) => ReadError::Refused(why),
+            Err(AllocError) => ReadError::Memory,
         },
     }
 }
 
 /// The headers of the image at a path: of its bytes they alone are read, which are at most 69,463.
-pub fn image_head<M: Machine>(alloc: Global, path: &BootPath, machine: &mut M) -> Result<Pe, Unsaid>
+pub fn image_head<M: Machine>(
+    alloc: Global,
+    path: &BootPath,
+    machine: &mut M,
+) -> Result<Pe, ReadError>
     ensures image { IsTrue M.tells
         → Says (λ head. (contents (M.state machine.old).files path.now, headers_of head)) result
         (image_at (seen (M.state machine.old)) path.now) }
     ensures head { IfOk result (λ head. IsTrue M.tells
         → pe_of (contents (M.state machine.old).files path.now) ≡ Ok (headers_of head)) }
-    ensures looks { Looks M.tells M.time M.state M.counts (CountsUnsaid result) machine.old machine.new }
+    ensures looks { Looks M.tells M.time M.state M.counts (CountsReadError result) machine.old machine.new }
     ensures taken { IsTrue M.tells → TakesAtMost head_limit (M.taken machine.old) (M.taken machine.new) }
 {
     let size = readable_size(alloc, path, machine)?;
@@ -111,7 +115,7 @@ pub fn sized_head<M: Machine>(
     path: &BootPath,
     size: u64,
     machine: &mut M,
-) -> Result<Pe, Unsaid>
+) -> Result<Pe, ReadError>
     requires small { size ≤ file_limit }
     requires size { IsTrue M.tells → size ≡ length (contents (seen (M.state machine.old)) path.now) }
     ensures says { IsTrue M.tells → Says headers_of result
@@ -119,12 +123,12 @@ pub fn sized_head<M: Machine>(
     ensures head { IfOk result (λ head. IsTrue M.tells
         → pe_of (contents (seen (M.state machine.old)) path.now) ≡ Ok (headers_of head)) }
     ensures read { IfOk result (λ head. ReadFrom head size) }
-    ensures looks { Looks M.tells M.time M.state M.counts (CountsUnsaid result) machine.old machine.new }
+    ensures looks { Looks M.tells M.time M.state M.counts (CountsReadError result) machine.old machine.new }
     ensures taken { IsTrue M.tells → TakesAtMost head_limit (M.taken machine.old) (M.taken machine.new) }
 {
     match head_of_size(alloc, path, size, machine) {
         Ok(head) => Ok(head),
-        Err(fault) => Err(head_unsaid(alloc, fault)),
+        Err(fault) => Err(head_read_error(alloc, fault)),
     }
 }
 
@@ -135,11 +139,11 @@ pub fn file_part<M: Machine>(
     place: u64,
     count: u64,
     machine: &mut M,
-) -> Result<Vec<u8>, Unsaid>
+) -> Result<Vec<u8>, ReadError>
     requires { place + count < 2 ^ 64 }
     ensures says { IsTrue M.tells → Says (λ bytes. bytes.items) result
         (Ok (fill_with_zeros (drop place (contents (seen (M.state machine.old)) path.now)) count)) }
-    ensures looks { Looks M.tells M.time M.state M.counts (CountsUnsaid result) machine.old machine.new }
+    ensures looks { Looks M.tells M.time M.state M.counts (CountsReadError result) machine.old machine.new }
     ensures taken { IsTrue M.tells → TakesAtMost count (M.taken machine.old) (M.taken machine.new) }
 {
     path.know();
@@ -153,10 +157,10 @@ pub fn file_bytes<M: Machine>(
     alloc: Global,
     path: &BootPath,
     machine: &mut M,
-) -> Result<Vec<u8>, Unsaid>
+) -> Result<Vec<u8>, ReadError>
     ensures says { IsTrue M.tells → Says (λ bytes. bytes.items) result
         (bytes_at (seen (M.state machine.old)) path.now) }
-    ensures looks { Looks M.tells M.time M.state M.counts (CountsUnsaid result) machine.old machine.new }
+    ensures looks { Looks M.tells M.time M.state M.counts (CountsReadError result) machine.old machine.new }
     ensures taken { IsTrue M.tells
         → TakesAtMost (length (contents (seen (M.state machine.old)) path.now)) (M.taken machine.old)
         (M.taken machine.new) }

@@ -12,32 +12,32 @@
 
 mod changes;
 mod choices;
-mod declined;
 mod files;
 mod lists;
 mod menus;
 mod outcome;
 mod performing;
 mod plan;
+mod read_error;
 mod reading;
 mod refusing;
 mod saying;
-mod unsaid;
+mod word_error;
 
 pub use changes::{gone_line, installed_text, plan_copy, plan_removal, printed_line};
 pub use choices::{banks_of, paths_of};
-pub use declined::{
-    Declined, check_name, file_under, not_there, path_in, path_under, printed_path,
-};
 pub use files::{
     file_bytes, file_part, head_of_size, image_head, not_pe, readable_size, sized_head, too_large,
 };
 pub use lists::{each_once, push};
 pub use menus::{folders_in, menu_at};
-pub use outcome::{MachineFault, Outcome, Stop};
+pub use outcome::{MachineFault, Outcome, RunError};
 pub use performing::perform;
 pub use plan::{Change, Plan, RefusalLine};
+pub use read_error::ReadError;
 pub use reading::seen_size;
-pub use refusing::{plan_declined, refusal_line, refusal_plan};
-pub use saying::{answer_or_refusal, plan_unsaid, text_or_refusal};
-pub use unsaid::Unsaid;
+pub use refusing::{plan_word_error, refusal_line, refusal_plan};
+pub use saying::{answer_or_refusal, plan_read_error, text_or_refusal};
+pub use word_error::{
+    WordError, check_name, file_under, not_there, path_in, path_under, printed_path,
+};

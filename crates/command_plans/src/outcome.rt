@@ -26,7 +26,7 @@ impl Outcome {
 
 /// Why a command came to no outcome.
 #[derive(Clone, Copy, Debug, PartialEq, Eq)]
-pub enum Stop {
+pub enum RunError {
     /// A call of the machine's disk failed.
     Disk,
     /// A call of the machine's pipes failed.
@@ -66,63 +66,63 @@ impl From<PipeFault> for MachineFault {
     }
 }
 
-impl From<MachineFault> for Stop {
+impl From<MachineFault> for RunError {
     ghost use Rattle.std.specs.Prelude.{◌≡◌};
-    ghost use Rattle.command_plans.specs.Performs.{stop_of};
+    ghost use Rattle.command_plans.specs.Performs.{run_error_of};
 
-    ghost from_gives = { λ fault stop. stop ≡ stop_of fault };
+    ghost from_gives = { λ fault stop. stop ≡ run_error_of fault };
 
-    fn from(fault: MachineFault) -> Stop {
+    fn from(fault: MachineFault) -> RunError {
         match fault {
-            MachineFault::Disk => Stop::Disk,
-            MachineFault::Pipe => Stop::Pipe,
+            MachineFault::Disk => RunError::Disk,
+            MachineFault::Pipe => RunError::Pipe,
         }
     }
 }
 
-impl From<DiskFault> for Stop {
+impl From<DiskFault> for RunError {
     ghost use Rattle.std.specs.Prelude.{◌≡◌};
-    ghost use Rattle.command_plans.specs.declared.outcome.Stop.TheVariants as stops;
+    ghost use Rattle.command_plans.specs.declared.outcome.RunError.TheVariants as run_errors;
 
-    ghost from_gives = { λ _ stop. stop ≡ stops.Disk };
+    ghost from_gives = { λ _ stop. stop ≡ run_errors.Disk };
 
-    fn from(_: DiskFault) -> Stop {
-        Stop::Disk
+    fn from(_: DiskFault) -> RunError {
+        RunError::Disk
     }
 }
 
-impl From<PipeFault> for Stop {
+impl From<PipeFault> for RunError {
     ghost use Rattle.std.specs.Prelude.{◌≡◌};
-    ghost use Rattle.command_plans.specs.declared.outcome.Stop.TheVariants as stops;
+    ghost use Rattle.command_plans.specs.declared.outcome.RunError.TheVariants as run_errors;
 
-    ghost from_gives = { λ _ stop. stop ≡ stops.Pipe };
+    ghost from_gives = { λ _ stop. stop ≡ run_errors.Pipe };
 
-    fn from(_: PipeFault) -> Stop {
-        Stop::Pipe
+    fn from(_: PipeFault) -> RunError {
+        RunError::Pipe
     }
 }
 
-impl From<AllocError> for Stop {
+impl From<AllocError> for RunError {
     ghost use Rattle.std.specs.Prelude.{◌≡◌};
-    ghost use Rattle.command_plans.specs.declared.outcome.Stop.TheVariants as stops;
+    ghost use Rattle.command_plans.specs.declared.outcome.RunError.TheVariants as run_errors;
 
-    ghost from_gives = { λ _ stop. stop ≡ stops.Memory };
+    ghost from_gives = { λ _ stop. stop ≡ run_errors.Memory };
 
-    fn from(_: AllocError) -> Stop {
-        Stop::Memory
+    fn from(_: AllocError) -> RunError {
+        RunError::Memory
     }
 }
 
-impl From<ReadFault> for Stop {
+impl From<ReadFault> for RunError {
     ghost use Rattle.std.specs.Prelude.{◌≡◌};
-    ghost use Rattle.command_plans.specs.Performs.{read_stop};
+    ghost use Rattle.command_plans.specs.Performs.{run_error_of_read};
 
-    ghost from_gives = { λ fault stop. stop ≡ read_stop fault };
+    ghost from_gives = { λ fault stop. stop ≡ run_error_of_read fault };
 
-    fn from(fault: ReadFault) -> Stop {
+    fn from(fault: ReadFault) -> RunError {
         match fault {
-            ReadFault::Memory => Stop::Memory,
-            ReadFault::Disk => Stop::Disk,
+            ReadFault::Memory => RunError::Memory,
+            ReadFault::Disk => RunError::Disk,
         }
     }
 }

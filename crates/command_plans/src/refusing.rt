@@ -2,11 +2,11 @@
 ghost use Rattle.std.specs.Prelude.{◌≡◌, IfOk};
 ghost use Rattle.boot_base.specs.Refusals.{line_of, number_of};
 ghost use Rattle.boot_machine.specs.Prelude.{State, seen};
-ghost use Rattle.command_plans.specs.Prelude.{refusal, Plans, PlansDeclined};
+ghost use Rattle.command_plans.specs.Prelude.{refusal, Plans, PlansWordError};
 
-use crate::declined::Declined;
 use crate::outcome::Outcome;
 use crate::plan::{Change, Plan, RefusalLine};
+use crate::word_error::WordError;
 use boot_base::{Bytes, Refusal};
 use std::alloc::{AllocError, Global};
 
@@ -57,12 +57,12 @@ pub(crate) fn plan_to_refuse(alloc: Global, why: Refusal) -> Result<Plan, AllocE
 }
 
 /// The plan of the refusal of a command's words.
-pub fn plan_declined(alloc: Global, declined: Declined) -> Result<Plan, AllocError>
-    ensures plans { IfOk result (PlansDeclined declined) }
+pub fn plan_word_error(alloc: Global, word_error: WordError) -> Result<Plan, AllocError>
+    ensures plans { IfOk result (PlansWordError word_error) }
     ensures idle { IfOk result (λ plan. plan.change ≡ Change.Nothing) }
 {
-    match declined {
-        Declined::Memory => Err(AllocError),
-        Declined::Refused(why) => plan_to_refuse(alloc, why),
+    match word_error {
+        WordError::Memory => Err(AllocError),
+        WordError::Refused(why) => plan_to_refuse(alloc, why),
     }
 }

@@ -1,8 +1,8 @@
 -- The first entry of a menu.
 use Rattle.std.proofs.Common.{◌≡◌, arith, List, [], ◌∷◌, true, Some, Ok, ap, ◌∙◌, is_some, Contains, slice_get}
-use Rattle.boot_folder.specs.Entries.{IsEntry}
-use Rattle.boot_folder.specs.declared.folders.Folders.{Folders}
-use Rattle.boot_folder.proofs.Places.{path_shown}
+use Rattle.boot_entries.specs.Entries.{IsEntry}
+use Rattle.boot_entries.specs.declared.folders.Folders.{Folders}
+use Rattle.boot_entries.proofs.Places.{path_shown}
 use Rattle.boot_machine.specs.Prelude.{Files, has, view}
 use Rattle.boot_machine.proofs.Views.{has-view}
 use Rattle.menu_order.specs.Menu.{IsMenu}

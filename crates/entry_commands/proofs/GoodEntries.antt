@@ -15,10 +15,10 @@ use Rattle.menu_order.specs.declared.bless.BlessChoice.TheVariants as choices
 use Rattle.menu_order.specs.declared.counted.Suffix.{Suffix}
 use Rattle.menu_order.specs.declared.counted.Suffix.TheVariants.{Conf, Efi}
 use Rattle.menu_order.proofs.Splitting.{split_none}
-use Rattle.boot_folder.specs.Entries.{entry_at, entry_of, folder_of, stands_in}
-use Rattle.boot_folder.specs.declared.folders.Folders.{Folders}
-use Rattle.boot_folder.proofs.EntryFiles.{built, bytes_self, one_type}
-use Rattle.boot_folder.proofs.Places.{file_name_under, name_parts, own_some}
+use Rattle.boot_entries.specs.Entries.{entry_at, entry_of, folder_of, stands_in}
+use Rattle.boot_entries.specs.declared.folders.Folders.{Folders}
+use Rattle.boot_entries.proofs.EntryFiles.{built, bytes_self, one_type}
+use Rattle.boot_entries.proofs.Places.{file_name_under, name_parts, own_some}
 use Rattle.boot_machine.specs.Prelude.{Files, has, contents, move_in}
 use Rattle.boot_machine.specs.proofs.Maps.{cases_same, get-insert_apart, get-insert_here, get-remove_apart}
 use Rattle.command_plans.specs.Prelude.{Answer, answer_or_refusal, done_answer, path_under, printed_path, folders_of, menu_at, removal, unlink_answer}

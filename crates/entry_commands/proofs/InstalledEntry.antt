@@ -14,8 +14,8 @@ use Rattle.boot_base.specs.declared.refusal.Refusal.TheVariants as refusals
 use Rattle.menu_order.specs.Counter.{is_number}
 use Rattle.menu_order.specs.Splits.{has_suffix, number_in}
 use Rattle.menu_order.specs.declared.counted.Suffix.TheVariants.{Efi}
-use Rattle.boot_folder.specs.Entries.{entry_of}
-use Rattle.boot_folder.specs.Records.{Unfit, NotPe, NotUki, uki_of}
+use Rattle.boot_entries.specs.Entries.{entry_of}
+use Rattle.boot_entries.specs.Records.{Unfit, NotPe, NotUki, uki_of}
 use Rattle.boot_machine.specs.Prelude.{Files}
 use Rattle.command_plans.specs.Prelude.{bytes_at, if_given, readable_bytes, install_name, path_in, printed_path}
 use Rattle.menu_order.specs.declared.item.MenuItem.{MenuItem}

@@ -3,14 +3,14 @@ use Rattle.std.proofs.Common.{◌≡◌, ℕ, Bool, List, [], ◌∷◌, ◌++�
 use Rattle.std.proofs.lemmas.List.Elements.{Contains-append_right}
 use Rattle.std.proofs.lemmas.List.Sorted.{Contains-permutation, IsPermutation-sym}
 use Rattle.boot_base.specs.Paths.{Path}
-use Rattle.boot_folder.specs.declared.folders.Folders.{Folders}
+use Rattle.boot_entries.specs.declared.folders.Folders.{Folders}
 use Rattle.boot_machine.specs.Prelude.{Files}
 use Rattle.menu_order.specs.declared.item.MenuItem.{MenuItem}
 use Rattle.keep_newest.proofs.Parting.{parts_menu}
 use Rattle.keep_newest.specs.Doomed.{doomed_records, kept_records}
 use Rattle.keep_newest.specs.Laws.{doomed_paths}
 use Rattle.tool_words.specs.declared.command.KeepWords.{KeepWords}
-use Rattle.command_plans.proofs.Declining.{done_next}
+use Rattle.command_plans.proofs.WordErrors.{done_next}
 use Rattle.command_plans.specs.Prelude.{folders_of, menu_at}
 use Rattle.entry_commands.specs.Counts.{count_in}
 use Rattle.entry_commands.specs.Keeping.{keep_result, menu_paths}

@@ -1,5 +1,5 @@
 mod Choices
-mod Declined
+mod WordError
 mod Firsts
 pub mod GoodEntries
 pub mod ImageNames

@@ -12,12 +12,12 @@ use Rattle.std.proofs.lemmas.Str.Parse.{digits_value_short}
 use Rattle.boot_base.specs.Limits.{file_limit}
 use Rattle.boot_base.specs.Paths.{Path, file_name_of}
 use Rattle.boot_machine.specs.Prelude.{Files}
-use Rattle.boot_folder.specs.Entries.{boot_menu, entries_of, entry_at, entry_if, entry_in, entry_of, own_path, stands_in}
-use Rattle.boot_folder.specs.Names.{named_by, parts_of_name}
-use Rattle.boot_folder.specs.Records.{Unfit, is_os_length, titled_item, type2_item, uki_from, uki_of, unless_missing, value_if_ok}
-use Rattle.boot_folder.specs.declared.fault.Missing.{Missing}
-use Rattle.boot_folder.specs.declared.fault.Missing.TheVariants as missing
-use Rattle.boot_folder.specs.declared.folders.Folders.{Folders}
+use Rattle.boot_entries.specs.Entries.{boot_menu, entries_of, entry_at, entry_if, entry_in, entry_of, own_path, stands_in}
+use Rattle.boot_entries.specs.Names.{named_by, parts_of_name}
+use Rattle.boot_entries.specs.Records.{Unfit, is_os_length, titled_item, type2_item, uki_from, uki_of, unless_missing, value_if_ok}
+use Rattle.boot_entries.specs.declared.fault.Missing.{Missing}
+use Rattle.boot_entries.specs.declared.fault.Missing.TheVariants as missing
+use Rattle.boot_entries.specs.declared.folders.Folders.{Folders}
 use Rattle.menu_order.proofs.CounterWritten.{numerals}
 use Rattle.menu_order.proofs.Menus.{menu_of-IsPermutation}
 use Rattle.menu_order.specs.Counter.{is_number}

@@ -1,12 +1,12 @@
 -- What `bootctl list --json` prints is read as the menu.
 use Rattle.std.proofs.Common.{◌≡◌, ℕ, Bool, true, false, cond, List, [], ◌∷◌, Option, Some, None, Ok, Err, refl, sym, ap, ◌∙◌, subst, find, nat_lt}
 use Rattle.boot_base.specs.declared.refusal.Refusal.{Refusal}
-use Rattle.boot_folder.specs.Entries.{boot_menu, entry_count}
+use Rattle.boot_entries.specs.Entries.{boot_menu, entry_count}
 use Rattle.menu_order.specs.declared.item.MenuItem.{MenuItem}
 use Rattle.list_json.proofs.HeldAnswers.{menus_read_back}
 use Rattle.list_json.specs.Lines.{ReadsAs, json_line}
 use Rattle.list_json.specs.Menus.{is_untold, menu_data}
-use Rattle.command_plans.proofs.Declining.{done_next}
+use Rattle.command_plans.proofs.WordErrors.{done_next}
 use Rattle.command_plans.proofs.Steps.{done_by}
 use Rattle.command_plans.specs.Prelude.{folders_of, menu_at}
 use Rattle.entry_commands.specs.Laws.{ListReadsBack}

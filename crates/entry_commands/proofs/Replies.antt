@@ -10,8 +10,8 @@ use Rattle.menu_order.specs.declared.bless.BlessVerb.TheVariants as verbs
 use Rattle.menu_order.specs.declared.bless.BlessChoice.{BlessChoice}
 use Rattle.menu_order.specs.declared.bless.BlessChoice.TheVariants as choices
 use Rattle.menu_order.specs.declared.bless.Present.{Present}
-use Rattle.boot_folder.specs.Entries.{folder_of}
-use Rattle.boot_folder.specs.Listing.{behind_newline, boot_lines, counter_lines, file_lines, item_text, key_lines, title_lines}
+use Rattle.boot_entries.specs.Entries.{folder_of}
+use Rattle.boot_entries.specs.Listing.{behind_newline, boot_lines, counter_lines, file_lines, item_text, key_lines, title_lines}
 use Rattle.boot_machine.specs.Prelude.{Files, has, move_in}
 use Rattle.command_plans.specs.Prelude.{Answer, answer_of_read, answer_or_refusal, done_answer, ◌>>=◌, path_under, printed_path, folders_of, menu_at}
 use Rattle.entry_commands.specs.Blessing.{bless_answer, bless_entry, bless_result, blessed_by, blessed_text, present_at, reported_paths, status_by, status_result, verb_text}

@@ -14,7 +14,7 @@ use Rattle.menu_order.specs.declared.bless.Present.{Present}
 use Rattle.boot_machine.specs.Disk.{Files, has}
 use Rattle.boot_machine.specs.Rows.{move_in}
 use Rattle.command_plans.specs.Answers.{Answer, answer_of_read, answer_or_refusal, done_answer}
-use Rattle.command_plans.specs.Declining.{◌>>=◌, path_in, path_under, printed_path}
+use Rattle.command_plans.specs.WordErrors.{◌>>=◌, path_in, path_under, printed_path}
 use Rattle.entry_commands.specs.declared.bless.EntryPaths.{EntryPaths}
 use Rattle.tool_words.specs.declared.command.BlessWord.{BlessWord}
 use Rattle.tool_words.specs.declared.command.BlessWord.TheVariants as words

@@ -5,12 +5,12 @@ use Rattle.boot_base.specs.Paths.{Path, file_name_of}
 use Rattle.boot_base.specs.declared.refusal.Refusal.{Refusal}
 use Rattle.boot_base.specs.declared.refusal.Refusal.TheVariants as refusals
 use Rattle.menu_order.specs.Renames.{booted_name_of}
-use Rattle.boot_folder.specs.Entries.{folder_of}
-use Rattle.boot_folder.specs.declared.folders.Folders.{Folders}
+use Rattle.boot_entries.specs.Entries.{folder_of}
+use Rattle.boot_entries.specs.declared.folders.Folders.{Folders}
 use Rattle.boot_machine.specs.Disk.{Files, has}
 use Rattle.boot_machine.specs.Rows.{move_in}
 use Rattle.command_plans.specs.Answers.{Answer, answer_or_refusal, done_answer}
-use Rattle.command_plans.specs.Declining.{◌>>=◌, path_under, printed_path}
+use Rattle.command_plans.specs.WordErrors.{◌>>=◌, path_under, printed_path}
 use Rattle.command_plans.specs.Folders.{folders_of}
 use Rattle.command_plans.specs.Menus.{menu_at}
 use Rattle.menu_order.specs.declared.item.MenuItem.{MenuItem}

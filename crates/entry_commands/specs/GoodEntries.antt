@@ -2,8 +2,8 @@
 use Rattle.std.specs.Prelude.{◌≡◌, ◌≢◌, ℕ, List, IfOk}
 use Rattle.boot_base.specs.Paths.{Path, file_name_of}
 use Rattle.menu_order.specs.Counter.{IsUncounted}
-use Rattle.boot_folder.specs.Entries.{IsEntry}
-use Rattle.boot_folder.specs.declared.folders.Folders.{Folders}
+use Rattle.boot_entries.specs.Entries.{IsEntry}
+use Rattle.boot_entries.specs.declared.folders.Folders.{Folders}
 use Rattle.boot_machine.specs.Disk.{Files}
 use Rattle.menu_order.specs.declared.bless.BlessVerb.TheVariants as verbs
 use Rattle.menu_order.specs.declared.item.MenuItem.{MenuItem}

@@ -10,15 +10,15 @@ use Rattle.menu_order.specs.Counter.{suffix_text, written_name}
 use Rattle.menu_order.specs.Splits.{has_suffix}
 use Rattle.menu_order.specs.declared.counted.Suffix.TheVariants.{Efi}
 use Rattle.entry_commands.specs.Counts.{count_in}
-use Rattle.boot_folder.specs.Missing.{missing_text}
-use Rattle.boot_folder.specs.Records.{Unfit, NotPe, NotUki, uki_of}
+use Rattle.boot_entries.specs.Missing.{missing_text}
+use Rattle.boot_entries.specs.Records.{Unfit, NotPe, NotUki, uki_of}
 use Rattle.boot_machine.specs.Disk.{Files}
 use Rattle.command_plans.specs.Answers.{Answer, answer_or_refusal, done_answer}
 use Rattle.command_plans.specs.Files.{bytes_at, if_given}
 use Rattle.command_plans.specs.Changes.{installed_text}
-use Rattle.command_plans.specs.Declining.{◌>>=◌, install_name, path_in, path_under}
-use Rattle.command_plans.specs.Unsaying.{UnsaidFor}
-use Rattle.command_plans.specs.declared.unsaid.Unsaid.{Unsaid}
+use Rattle.command_plans.specs.WordErrors.{◌>>=◌, install_name, path_in, path_under}
+use Rattle.command_plans.specs.ReadErrors.{ReadErrorFor}
+use Rattle.command_plans.specs.declared.read_error.ReadError.{ReadError}
 use Rattle.entry_commands.specs.declared.install.Installation.{Installation}
 use Rattle.menu_order.specs.declared.item.MenuItem.{MenuItem}
 use Rattle.pe_reader.specs.Reasons.{pe_reason_text}
@@ -57,9 +57,9 @@ entry_or (Err (NotPe check)) = Err (refusals.NotPe (pe_reason_text check.reason)
 entry_or (Err (NotUki missing)) = Err (refusals.NotUki (missing_text missing))
 
 -- the file is shown, or this is why it isn't
-abbrev pub ShowsEntry : Result (Unit {0}) Unsaid → Result MenuItem Refusal → Type 0
+abbrev pub ShowsEntry : Result (Unit {0}) ReadError → Result MenuItem Refusal → Type 0
 ShowsEntry result entry =
-    MatchResult result (λ _. (item : MenuItem) × (entry ≡ Ok item)) (λ unsaid. UnsaidFor unsaid entry)
+    MatchResult result (λ _. (item : MenuItem) × (entry ≡ Ok item)) (λ read_error. ReadErrorFor read_error entry)
 
 -- the bytes to be installed, of a file that is an entry of the menu where it comes to stand
 abbrev pub installed_image : Files → Installation → Result (List ℕ) Refusal

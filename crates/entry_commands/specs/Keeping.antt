@@ -9,7 +9,7 @@ use Rattle.boot_machine.specs.Disk.{Files}
 use Rattle.menu_order.specs.declared.item.MenuItem.{MenuItem}
 use Rattle.keep_newest.specs.Laws.{doomed_paths}
 use Rattle.tool_words.specs.declared.command.KeepWords.{KeepWords}
-use Rattle.command_plans.specs.Declining.{◌>>=◌, printed_path}
+use Rattle.command_plans.specs.WordErrors.{◌>>=◌, printed_path}
 use Rattle.command_plans.specs.Folders.{folders_of}
 use Rattle.command_plans.specs.Menus.{menu_at}
 use Rattle.entry_commands.specs.Counts.{count_in}

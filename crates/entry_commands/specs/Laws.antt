@@ -1,8 +1,8 @@
 -- What is printed as JSON is read as it is meant.
 use Rattle.std.specs.Prelude.{◌≡◌, ℕ, true, List, Ok}
 use Rattle.boot_machine.specs.Disk.{Files}
-use Rattle.boot_folder.specs.Entries.{boot_menu}
-use Rattle.boot_folder.specs.declared.folders.Folders.{Folders}
+use Rattle.boot_entries.specs.Entries.{boot_menu}
+use Rattle.boot_entries.specs.declared.folders.Folders.{Folders}
 use Rattle.list_json.specs.Lines.{ReadsAs}
 use Rattle.list_json.specs.Menus.{menu_data}
 use Rattle.command_plans.specs.Folders.{folders_of}

@@ -4,10 +4,10 @@ use Rattle.boot_base.specs.declared.refusal.Refusal.{Refusal}
 use Rattle.boot_base.specs.declared.refusal.Refusal.TheVariants as refusals
 use Rattle.boot_machine.specs.Disk.{Files}
 use Rattle.menu_order.specs.declared.item.MenuItem.{MenuItem}
-use Rattle.boot_folder.specs.Listing.{list_text}
+use Rattle.boot_entries.specs.Listing.{list_text}
 use Rattle.list_json.specs.Lines.{json_line}
 use Rattle.list_json.specs.Menus.{is_untold, menu_data}
-use Rattle.command_plans.specs.Declining.{◌>>=◌, printed_path}
+use Rattle.command_plans.specs.WordErrors.{◌>>=◌, printed_path}
 use Rattle.command_plans.specs.Folders.{folders_of}
 use Rattle.command_plans.specs.Menus.{menu_at}
 

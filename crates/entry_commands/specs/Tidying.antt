@@ -7,7 +7,7 @@ use Rattle.boot_machine.specs.Disk.{Files, has}
 use Rattle.command_plans.specs.Answers.{Answer, done_answer}
 use Rattle.command_plans.specs.Folders.{folders_of}
 use Rattle.command_plans.specs.Makeable.{cleaned_text}
-use Rattle.boot_folder.specs.declared.folders.Folders.{Folders}
+use Rattle.boot_entries.specs.declared.folders.Folders.{Folders}
 
 -- the view stays
 abbrev pub tidy_answer : Files → Folders → Answer

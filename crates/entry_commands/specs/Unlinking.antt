@@ -5,7 +5,7 @@ use Rattle.boot_base.specs.Layout.{entries_below, images_below}
 use Rattle.boot_base.specs.Paths.{Path, is_file_name, under}
 use Rattle.boot_base.specs.declared.refusal.Refusal.{Refusal}
 use Rattle.boot_base.specs.declared.refusal.Refusal.TheVariants as refusals
-use Rattle.command_plans.specs.Declining.{◌>>=◌, path_in, path_under}
+use Rattle.command_plans.specs.WordErrors.{◌>>=◌, path_in, path_under}
 
 -- an entry of type 1 (UAPI Boot Loader Specification)
 abbrev pub is_type1_name : List ℕ → Bool

@@ -4,14 +4,14 @@ ghost use Rattle.boot_base.specs.Paths.{beside, file_name_of, sibling_of};
 ghost use Rattle.menu_order.specs.Bless.{choice_of, target_of};
 ghost use Rattle.menu_order.specs.Renames.{bad_name_of, good_name_of};
 ghost use Rattle.boot_machine.specs.Prelude.{Counts, CountsDisk, Looks, State, TakesAtMost, has, seen};
-ghost use Rattle.command_plans.specs.Prelude.{CountsStop, CountsUnsaid, DeclinesWords, Means, Plans, PlansAs, RefusesWords, Says, answer_of_read, printed_path};
+ghost use Rattle.command_plans.specs.Prelude.{CountsRunError, CountsReadError, DeclinesWords, Means, Plans, PlansAs, RefusesWords, Says, answer_of_read, printed_path};
 ghost use Rattle.entry_commands.specs.Blessing.{bad_name_in, bless_answer, bless_entry, bless_result, blessed_by, blessed_from, blessed_text, entry_paths, good_name_in, name_or, path_at, present_at, reported_paths, status_by, status_result, verb_text};
 
 use crate::moves::{is_there, plan_move, plan_nothing};
 use boot_base::{BootPath, PathFault, Refusal, Text};
 use boot_machine::{DiskFault, Machine};
 use command_plans::{
-    Declined, Plan, Stop, Unsaid, answer_or_refusal, path_in, path_under, printed_path,
+    Plan, ReadError, RunError, WordError, answer_or_refusal, path_in, path_under, printed_path,
     text_or_refusal,
 };
 use menu_order::{BlessChoice, BlessVerb, Counted, Present, bless_choice};
@@ -30,20 +30,20 @@ struct EntryPaths {
 }
 
 // A name of the entry whose file is reported at a path, which has to have a counter.
-fn name_or(alloc: Global, path: &BootPath, name: Option<String>) -> Result<String, Declined>
+fn name_or(alloc: Global, path: &BootPath, name: Option<String>) -> Result<String, WordError>
     ensures { Means string_bytes result (name_or path.now (option_map string_bytes name)) }
 {
     match name {
         Some(name) => Ok(name),
         None => {
             let path = printed_path(alloc, path)?;
-            Err(Declined::Refused(Refusal::NoCounter { path }))
+            Err(WordError::Refused(Refusal::NoCounter { path }))
         }
     }
 }
 
 // The entry's good name, which is to have no counter.
-fn good_name_in(alloc: Global, path: &BootPath) -> Result<String, Declined>
+fn good_name_in(alloc: Global, path: &BootPath) -> Result<String, WordError>
     ensures means { Means string_bytes result (good_name_in path.now) }
     ensures name { IfOk result (λ name. good_name_of (file_name_of path.now) ≡ Some (string_bytes name)) }
 {
@@ -51,12 +51,12 @@ fn good_name_in(alloc: Global, path: &BootPath) -> Result<String, Declined>
     let good = name_or(alloc, path, found)?;
     if Counted::split(good.as_str()).is_some() {
         let text = Text::of(alloc, path.file_name())?;
-        return Err(Declined::Refused(Refusal::BadName { text }));
+        return Err(WordError::Refused(Refusal::BadName { text }));
     }
     Ok(good)
 }
 
-fn bad_name_in(alloc: Global, path: &BootPath) -> Result<String, Declined>
+fn bad_name_in(alloc: Global, path: &BootPath) -> Result<String, WordError>
     ensures means { Means string_bytes result (bad_name_in path.now) }
     ensures name { IfOk result (λ name. bad_name_of (file_name_of path.now) ≡ Some (string_bytes name)) }
 {
@@ -76,7 +76,7 @@ fn path_beside(alloc: Global, path: &BootPath, name: &str) -> Result<BootPath, A
     }
 }
 
-fn entry_paths(alloc: Global, counted: BootPath) -> Result<EntryPaths, Declined>
+fn entry_paths(alloc: Global, counted: BootPath) -> Result<EntryPaths, WordError>
     ensures { Means (λ paths. paths) result (entry_paths counted) }
 {
     counted.know_normal();
@@ -87,7 +87,7 @@ fn entry_paths(alloc: Global, counted: BootPath) -> Result<EntryPaths, Declined>
     Ok(EntryPaths { good, counted, bad })
 }
 
-fn reported_paths(alloc: Global, word: &str, esp: &str) -> Result<EntryPaths, Declined>
+fn reported_paths(alloc: Global, word: &str, esp: &str) -> Result<EntryPaths, WordError>
     ensures { Means (λ paths. paths) result (reported_paths word.now esp.now) }
 {
     let esp = path_in(alloc, esp)?;
@@ -162,10 +162,10 @@ fn bless_entry(
     verb: BlessVerb,
     paths: &EntryPaths,
     present: Present,
-) -> Result<Plan, Unsaid>
+) -> Result<Plan, ReadError>
     ensures plans { (s : State) → present ≡ present_at (seen s) paths.now
         → PlansAs s result (bless_entry (seen s) verb paths.now) }
-    ensures counts { (counts : Counts) → CountsUnsaid result counts counts }
+    ensures counts { (counts : Counts) → CountsReadError result counts counts }
 {
     let target = target_of(paths, verb);
     match bless_choice(verb, present) {
@@ -176,7 +176,7 @@ fn bless_entry(
         BlessChoice::FromGood => Ok(bless_from(alloc, verb, target, &paths.good)?),
         BlessChoice::FromCounted => Ok(bless_from(alloc, verb, target, &paths.counted)?),
         BlessChoice::FromBad => Ok(bless_from(alloc, verb, target, &paths.bad)?),
-        BlessChoice::NoSource => Err(Unsaid::Refused(no_source(alloc, &paths.counted)?)),
+        BlessChoice::NoSource => Err(ReadError::Refused(no_source(alloc, &paths.counted)?)),
     }
 }
 
@@ -193,10 +193,10 @@ fn bless<M: Machine>(
     word: &str,
     esp: &str,
     machine: &mut M,
-) -> Result<Plan, Unsaid>
+) -> Result<Plan, ReadError>
     ensures plans { IsTrue M.tells → PlansAs (M.state machine.old) result
         (bless_result (seen (M.state machine.old)) verb word.now esp.now) }
-    ensures looks { Looks M.tells M.time M.state M.counts (CountsUnsaid result) machine.old machine.new }
+    ensures looks { Looks M.tells M.time M.state M.counts (CountsReadError result) machine.old machine.new }
     ensures taken { IsTrue M.tells → TakesAtMost 0 (M.taken machine.old) (M.taken machine.new) }
     ensures words { DeclinesWords (reported_paths word.now esp.now) result }
 {
@@ -206,9 +206,9 @@ fn bless<M: Machine>(
 }
 
 // How an entry is marked.
-fn status_text(alloc: Global, paths: &EntryPaths, present: Present) -> Result<Vec<u8>, Unsaid>
+fn status_text(alloc: Global, paths: &EntryPaths, present: Present) -> Result<Vec<u8>, ReadError>
     ensures says { Says (λ text. text.items) result (status_by paths.now present) }
-    ensures counts { (counts : Counts) → CountsUnsaid result counts counts }
+    ensures counts { (counts : Counts) → CountsReadError result counts counts }
 {
     if present.counted {
         return Ok(b"indeterminate\n".to_vec(alloc)?);
@@ -219,7 +219,7 @@ fn status_text(alloc: Global, paths: &EntryPaths, present: Present) -> Result<Ve
     if present.bad {
         return Ok(b"bad\n".to_vec(alloc)?);
     }
-    Err(Unsaid::Refused(no_source(alloc, &paths.counted)?))
+    Err(ReadError::Refused(no_source(alloc, &paths.counted)?))
 }
 
 fn status<M: Machine>(
@@ -227,10 +227,10 @@ fn status<M: Machine>(
     word: &str,
     esp: &str,
     machine: &mut M,
-) -> Result<Vec<u8>, Unsaid>
+) -> Result<Vec<u8>, ReadError>
     ensures says { IsTrue M.tells → Says (λ text. text.items) result
         (status_result (seen (M.state machine.old)) word.now esp.now) }
-    ensures looks { Looks M.tells M.time M.state M.counts (CountsUnsaid result) machine.old machine.new }
+    ensures looks { Looks M.tells M.time M.state M.counts (CountsReadError result) machine.old machine.new }
     ensures taken { IsTrue M.tells → TakesAtMost 0 (M.taken machine.old) (M.taken machine.new) }
     ensures words { DeclinesWords (reported_paths word.now esp.now) result }
 {
@@ -247,10 +247,10 @@ pub fn plan_bless<M: Machine>(
     word: &str,
     esp: &str,
     machine: &mut M,
-) -> Result<Plan, Stop>
+) -> Result<Plan, RunError>
     ensures plans { IfOk result (λ plan. IsTrue M.tells → Plans (M.state machine.old) plan
         (bless_answer (seen (M.state machine.old)) verb word.now esp.now)) }
-    ensures looks { Looks M.tells M.time M.state M.counts (CountsStop result) machine.old machine.new }
+    ensures looks { Looks M.tells M.time M.state M.counts (CountsRunError result) machine.old machine.new }
     ensures taken { IsTrue M.tells → TakesAtMost 0 (M.taken machine.old) (M.taken machine.new) }
     ensures words { RefusesWords (reported_paths word.now esp.now) result }
 {

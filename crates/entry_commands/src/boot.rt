@@ -1,15 +1,17 @@
 //! `boot`.
 ghost use Rattle.std.specs.Prelude.{◌≡◌, ◌∷◌, true, [], Ok, IfOk, IsTrue, string_bytes, option_map};
-ghost use Rattle.boot_folder.specs.Entries.{IsEntry, folder_of};
+ghost use Rattle.boot_entries.specs.Entries.{IsEntry, folder_of};
 ghost use Rattle.boot_machine.specs.Prelude.{Looks, TakesAtMost, has, seen};
-ghost use Rattle.command_plans.specs.Prelude.{CountsStop, CountsUnsaid, DeclinesWords, Plans, PlansAs, RefusesWords, folders_of, menu_limit};
+ghost use Rattle.command_plans.specs.Prelude.{CountsRunError, CountsReadError, DeclinesWords, Plans, PlansAs, RefusesWords, folders_of, menu_limit};
 ghost use Rattle.entry_commands.specs.Booting.{boot_answer, boot_entry, boot_result, booted_entry, booted_text, renamed_entry};
 
 use crate::moves::{already_there, is_there, plan_move, plan_nothing};
 use boot_base::{BootPath, Refusal};
-use boot_folder::Folders;
+use boot_entries::Folders;
 use boot_machine::Machine;
-use command_plans::{Plan, Stop, Unsaid, answer_or_refusal, folders_in, menu_at, path_under};
+use command_plans::{
+    Plan, ReadError, RunError, answer_or_refusal, folders_in, menu_at, path_under,
+};
 use menu_order::{Counted, MenuItem, Suffix};
 use std::alloc::{AllocError, Global};
 
@@ -36,15 +38,15 @@ fn rename_entry<M: Machine>(
     from: &BootPath,
     to: BootPath,
     machine: &mut M,
-) -> Result<Plan, Unsaid>
+) -> Result<Plan, ReadError>
     requires there { IsTrue M.tells → has (seen (M.state machine.old)) from.now ≡ true }
     ensures plans { IsTrue M.tells
         → PlansAs (M.state machine.old) result (renamed_entry (seen (M.state machine.old)) from.now to) }
-    ensures looks { Looks M.tells M.time M.state M.counts (CountsUnsaid result) machine.old machine.new }
+    ensures looks { Looks M.tells M.time M.state M.counts (CountsReadError result) machine.old machine.new }
     ensures taken { IsTrue M.tells → TakesAtMost 0 (M.taken machine.old) (M.taken machine.new) }
 {
     if is_there(&to, machine)? {
-        return Err(Unsaid::Refused(already_there(alloc, &to)?));
+        return Err(ReadError::Refused(already_there(alloc, &to)?));
     }
     let text = booted_text(alloc, &to)?;
     Ok(plan_move(alloc, from, &to, text)?)
@@ -57,11 +59,11 @@ fn boot_named<M: Machine>(
     path: &BootPath,
     name: Option<String>,
     machine: &mut M,
-) -> Result<Plan, Unsaid>
+) -> Result<Plan, ReadError>
     requires there { IsTrue M.tells → has (seen (M.state machine.old)) path.now ≡ true }
     ensures plans { IsTrue M.tells → PlansAs (M.state machine.old) result
         (booted_entry (seen (M.state machine.old)) folder.now path.now (option_map string_bytes name)) }
-    ensures looks { Looks M.tells M.time M.state M.counts (CountsUnsaid result) machine.old machine.new }
+    ensures looks { Looks M.tells M.time M.state M.counts (CountsReadError result) machine.old machine.new }
     ensures taken { IsTrue M.tells → TakesAtMost 0 (M.taken machine.old) (M.taken machine.new) }
 {
     let Some(name) = name else {
@@ -77,11 +79,11 @@ fn boot_entry<M: Machine>(
     folders: &Folders,
     item: &MenuItem,
     machine: &mut M,
-) -> Result<Plan, Unsaid>
+) -> Result<Plan, ReadError>
     requires there { IsTrue M.tells → has (seen (M.state machine.old)) item.now.path ≡ true }
     ensures plans { IsTrue M.tells → PlansAs (M.state machine.old) result
         (boot_entry (seen (M.state machine.old)) folders.now item.now) }
-    ensures looks { Looks M.tells M.time M.state M.counts (CountsUnsaid result) machine.old machine.new }
+    ensures looks { Looks M.tells M.time M.state M.counts (CountsReadError result) machine.old machine.new }
     ensures taken { IsTrue M.tells → TakesAtMost 0 (M.taken machine.old) (M.taken machine.new) }
 {
     let name = Counted::booted_name(alloc, item.path.file_name())?;
@@ -89,10 +91,10 @@ fn boot_entry<M: Machine>(
     boot_named(alloc, folder, &item.path, name, machine)
 }
 
-fn boot<M: Machine>(alloc: Global, esp: &str, machine: &mut M) -> Result<Plan, Unsaid>
+fn boot<M: Machine>(alloc: Global, esp: &str, machine: &mut M) -> Result<Plan, ReadError>
     ensures plans { IsTrue M.tells
         → PlansAs (M.state machine.old) result (boot_result (seen (M.state machine.old)) esp.now) }
-    ensures looks { Looks M.tells M.time M.state M.counts (CountsUnsaid result) machine.old machine.new }
+    ensures looks { Looks M.tells M.time M.state M.counts (CountsReadError result) machine.old machine.new }
     ensures taken { IsTrue M.tells
         → TakesAtMost (menu_limit (M.state machine.old).files (folders_of esp.now)) (M.taken machine.old)
         (M.taken machine.new) }
@@ -102,15 +104,15 @@ fn boot<M: Machine>(alloc: Global, esp: &str, machine: &mut M) -> Result<Plan, U
     let menu = menu_at(alloc, &folders, machine)?;
     match menu.first() {
         Some(item) => boot_entry(alloc, &folders, item, machine),
-        None => Err(Unsaid::Refused(Refusal::NoEntries)),
+        None => Err(ReadError::Refused(Refusal::NoEntries)),
     }
 }
 
 /// What the counting of a boot of the first entry of the menu is going to do. Only headers and texts are read.
-pub fn plan_boot<M: Machine>(alloc: Global, esp: &str, machine: &mut M) -> Result<Plan, Stop>
+pub fn plan_boot<M: Machine>(alloc: Global, esp: &str, machine: &mut M) -> Result<Plan, RunError>
     ensures plans { IfOk result (λ plan. IsTrue M.tells
         → Plans (M.state machine.old) plan (boot_answer (seen (M.state machine.old)) esp.now)) }
-    ensures looks { Looks M.tells M.time M.state M.counts (CountsStop result) machine.old machine.new }
+    ensures looks { Looks M.tells M.time M.state M.counts (CountsRunError result) machine.old machine.new }
     ensures taken { IsTrue M.tells
         → TakesAtMost (menu_limit (M.state machine.old).files (folders_of esp.now)) (M.taken machine.old)
         (M.taken machine.new) }

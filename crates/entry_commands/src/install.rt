@@ -4,23 +4,23 @@ ghost use Rattle.boot_base.specs.Limits.{file_limit};
 ghost use Rattle.boot_base.specs.Paths.{file_name_of};
 ghost use Rattle.menu_order.specs.Splits.{has_suffix};
 ghost use Rattle.menu_order.specs.declared.counted.Suffix.TheVariants.{Efi};
-ghost use Rattle.boot_folder.specs.Items.{FailsAs, item_counts};
-ghost use Rattle.boot_folder.specs.Missing.{missing_text};
-ghost use Rattle.boot_folder.specs.Records.{Unfit, uki_of};
-ghost use Rattle.boot_folder.specs.Scanning.{image_limit};
+ghost use Rattle.boot_entries.specs.Items.{FailsAs, item_counts};
+ghost use Rattle.boot_entries.specs.Missing.{missing_text};
+ghost use Rattle.boot_entries.specs.Records.{Unfit, uki_of};
+ghost use Rattle.boot_entries.specs.Scanning.{image_limit};
 ghost use Rattle.boot_machine.specs.Prelude.{Counts, Looks, State, TakesAtMost, contents, seen};
-ghost use Rattle.command_plans.specs.Prelude.{CanCopy, CountsStop, CountsUnsaid, DeclinesWords, Means, Plans, PlansAs, RefusesWords, Says, UnsaidFor, if_given, unsaid_counts};
+ghost use Rattle.command_plans.specs.Prelude.{CanCopy, CountsRunError, CountsReadError, DeclinesWords, Means, Plans, PlansAs, RefusesWords, Says, ReadErrorFor, if_given, read_error_counts};
 ghost use Rattle.entry_commands.specs.Counts.{count_in, counter_limit};
 ghost use Rattle.entry_commands.specs.Installing.{IsImageName, ShowsEntry, entry_or, image_name, image_name_in, image_path, install_answer, install_result, installation_of, installed_entry, installed_image};
 ghost use Rattle.menu_order.specs.declared.item.MenuItem.{MenuItem};
 
 use crate::counts::count_in;
 use boot_base::{BootPath, IMAGES, PeText, Refusal, Text};
-use boot_folder::{ItemFault, Missing, uki_item};
+use boot_entries::{ItemFault, Missing, uki_item};
 use boot_machine::Machine;
 use command_plans::{
-    Declined, Plan, Stop, Unsaid, answer_or_refusal, check_name, file_under, installed_text,
-    not_pe, path_in, plan_copy, readable_size,
+    Plan, ReadError, RunError, WordError, answer_or_refusal, check_name, file_under,
+    installed_text, not_pe, path_in, plan_copy, readable_size,
 };
 use menu_order::{Counted, Suffix};
 use std::alloc::{AllocError, Global};
@@ -35,7 +35,7 @@ struct Installation {
 }
 
 // The tries that an option gives, if it is there.
-fn given_tries(alloc: Global, word: Option<&Text>) -> Result<Option<u32>, Declined>
+fn given_tries(alloc: Global, word: Option<&Text>) -> Result<Option<u32>, WordError>
     ensures means { Means (λ tries. tries) result (if_given count_in (option_map (λ text. text.now) word.entry)) }
     ensures limit { IfOk result (λ tries. IfSome tries (λ n. n ≤ counter_limit)) }
 {
@@ -57,7 +57,7 @@ fn image_name(alloc: Global, name: &str, tries: Option<u32>) -> Result<String, A
     }
 }
 
-fn image_name_in(alloc: Global, name: &str, tries: Option<&Text>) -> Result<String, Declined>
+fn image_name_in(alloc: Global, name: &str, tries: Option<&Text>) -> Result<String, WordError>
     ensures means { Means string_bytes result (image_name_in name.now (option_map (λ text. text.now) tries.entry)) }
     ensures name { IfOk result (λ file. IsImageName (string_bytes file)) }
 {
@@ -66,7 +66,7 @@ fn image_name_in(alloc: Global, name: &str, tries: Option<&Text>) -> Result<Stri
     Ok(image_name(alloc, name, tries)?)
 }
 
-fn image_path(alloc: Global, esp: &str, name: &str) -> Result<BootPath, Declined>
+fn image_path(alloc: Global, esp: &str, name: &str) -> Result<BootPath, WordError>
     ensures { Means (λ path. path) result (image_path esp.now name.now) }
 {
     let esp = path_in(alloc, esp)?;
@@ -79,7 +79,7 @@ fn installation_of(
     name: &str,
     tries: Option<&Text>,
     esp: &str,
-) -> Result<Installation, Declined>
+) -> Result<Installation, WordError>
     ensures means { Means (λ words. words) result
         (installation_of file.now name.now (option_map (λ text. text.now) tries.entry) esp.now) }
     ensures image { IfOk result (λ words. has_suffix Efi (file_name_of words.target) ≡ true) }
@@ -98,20 +98,20 @@ fn not_uki(alloc: Global, missing: Missing) -> Result<Refusal, AllocError>
 }
 
 // Why nothing is installed of a file that is no entry.
-fn unfit_unsaid(alloc: Global, fault: ItemFault) -> Unsaid
-    ensures meant { (entry : Result MenuItem Unfit) → FailsAs fault entry → UnsaidFor result (entry_or entry) }
-    ensures counts { (old new : Counts) → item_counts fault old new → unsaid_counts result old new }
+fn unfit_read_error(alloc: Global, fault: ItemFault) -> ReadError
+    ensures meant { (entry : Result MenuItem Unfit) → FailsAs fault entry → ReadErrorFor result (entry_or entry) }
+    ensures counts { (old new : Counts) → item_counts fault old new → read_error_counts result old new }
 {
     match fault {
-        ItemFault::Memory => Unsaid::Memory,
-        ItemFault::Disk => Unsaid::Disk,
+        ItemFault::Memory => ReadError::Memory,
+        ItemFault::Disk => ReadError::Disk,
         ItemFault::NotPe { reason, offset } => match not_pe(alloc, reason, offset) {
-            Ok(why) => Unsaid::Refused(why),
-            Err(AllocError) => Unsaid::Memory,
+            Ok(why) => ReadError::Refused(why),
+            Err(AllocError) => ReadError::Memory,
         },
         ItemFault::NotUki { missing } => match not_uki(alloc, missing) {
-            Ok(why) => Unsaid::Refused(why),
-            Err(AllocError) => Unsaid::Memory,
+            Ok(why) => ReadError::Refused(why),
+            Err(AllocError) => ReadError::Memory,
         },
     }
 }
@@ -122,13 +122,13 @@ fn check_entry<M: Machine>(
     words: &Installation,
     size: u64,
     machine: &mut M,
-) -> Result<(), Unsaid>
+) -> Result<(), ReadError>
     requires small { size ≤ file_limit }
     requires size { IsTrue M.tells → size ≡ length (contents (M.state machine.old).files words.now.from) }
     requires image { has_suffix Efi (file_name_of words.now.target) ≡ true }
     ensures says { IsTrue M.tells → ShowsEntry result
         (entry_or (uki_of words.now.target (contents (M.state machine.old).files words.now.from))) }
-    ensures looks { Looks M.tells M.time M.state M.counts (CountsUnsaid result) machine.old machine.new }
+    ensures looks { Looks M.tells M.time M.state M.counts (CountsReadError result) machine.old machine.new }
     ensures taken { IsTrue M.tells → TakesAtMost image_limit (M.taken machine.old) (M.taken machine.new) }
 {
     let target = words.target.copy(alloc)?;
@@ -137,7 +137,7 @@ fn check_entry<M: Machine>(
             drop(entry);
             Ok(())
         }
-        Err(fault) => Err(unfit_unsaid(alloc, fault)),
+        Err(fault) => Err(unfit_read_error(alloc, fault)),
     }
 }
 
@@ -146,12 +146,12 @@ fn check_image<M: Machine>(
     alloc: Global,
     words: &Installation,
     machine: &mut M,
-) -> Result<(), Unsaid>
+) -> Result<(), ReadError>
     requires image { has_suffix Efi (file_name_of words.now.target) ≡ true }
     ensures says { IsTrue M.tells → Says (λ _. contents (seen (M.state machine.old)) words.now.from) result
         (installed_image (seen (M.state machine.old)) words.now) }
     ensures can { OnOk result (IsTrue M.tells → CanCopy (M.state machine.old) words.now.from) }
-    ensures looks { Looks M.tells M.time M.state M.counts (CountsUnsaid result) machine.old machine.new }
+    ensures looks { Looks M.tells M.time M.state M.counts (CountsReadError result) machine.old machine.new }
     ensures taken { IsTrue M.tells → TakesAtMost image_limit (M.taken machine.old) (M.taken machine.new) }
 {
     let size = readable_size(alloc, &words.from, machine)?;
@@ -175,11 +175,11 @@ fn install<M: Machine>(
     tries: Option<&Text>,
     esp: &str,
     machine: &mut M,
-) -> Result<Plan, Unsaid>
+) -> Result<Plan, ReadError>
     ensures plans { IsTrue M.tells → PlansAs (M.state machine.old) result
         (install_result (seen (M.state machine.old)) file.now name.now
         (option_map (λ text. text.now) tries.entry) esp.now) }
-    ensures looks { Looks M.tells M.time M.state M.counts (CountsUnsaid result) machine.old machine.new }
+    ensures looks { Looks M.tells M.time M.state M.counts (CountsReadError result) machine.old machine.new }
     ensures taken { IsTrue M.tells → TakesAtMost image_limit (M.taken machine.old) (M.taken machine.new) }
     ensures words { DeclinesWords
         (installation_of file.now name.now (option_map (λ text. text.now) tries.entry) esp.now) result }
@@ -199,11 +199,11 @@ pub fn plan_install<M: Machine>(
     tries: Option<&Text>,
     esp: &str,
     machine: &mut M,
-) -> Result<Plan, Stop>
+) -> Result<Plan, RunError>
     ensures plans { IfOk result (λ plan. IsTrue M.tells → Plans (M.state machine.old) plan
         (install_answer (seen (M.state machine.old)) file.now name.now
         (option_map (λ text. text.now) tries.entry) esp.now)) }
-    ensures looks { Looks M.tells M.time M.state M.counts (CountsStop result) machine.old machine.new }
+    ensures looks { Looks M.tells M.time M.state M.counts (CountsRunError result) machine.old machine.new }
     ensures taken { IsTrue M.tells → TakesAtMost image_limit (M.taken machine.old) (M.taken machine.new) }
     ensures words { RefusesWords
         (installation_of file.now name.now (option_map (λ text. text.now) tries.entry) esp.now) result }

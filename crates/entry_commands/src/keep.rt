@@ -1,13 +1,13 @@
 //! `keep`.
 ghost use Rattle.std.specs.Prelude.{◌≡◌, ◌++◌, IfOk, IsTrue, OnOk};
 ghost use Rattle.boot_machine.specs.Prelude.{Counts, Looks, TakesAtMost, seen};
-ghost use Rattle.command_plans.specs.Prelude.{CountsUnsaid, Says, folders_of, menu_limit};
+ghost use Rattle.command_plans.specs.Prelude.{CountsReadError, Says, folders_of, menu_limit};
 ghost use Rattle.entry_commands.specs.Keeping.{keep_result, menu_paths, would_line, would_text};
 
 use crate::counts::count_in;
 use boot_base::{BootPath, Refusal};
 use boot_machine::Machine;
-use command_plans::{Unsaid, folders_in, menu_at};
+use command_plans::{ReadError, folders_in, menu_at};
 use keep_newest::doomed_paths;
 use menu_order::MenuItem;
 use std::alloc::{AllocError, Global};
@@ -19,12 +19,12 @@ fn menu_paths(
     menu: &[MenuItem],
     n: u32,
     per_key: bool,
-) -> Result<Vec<BootPath>, Unsaid>
+) -> Result<Vec<BootPath>, ReadError>
     ensures says { Says (λ paths. paths.items) result (menu_paths n per_key menu.now) }
-    ensures counts { (counts : Counts) → CountsUnsaid result counts counts }
+    ensures counts { (counts : Counts) → CountsReadError result counts counts }
 {
     if menu.is_empty() {
-        return Err(Unsaid::Refused(Refusal::NoEntries));
+        return Err(ReadError::Refused(Refusal::NoEntries));
     }
     Ok(doomed_paths(alloc, menu, n, per_key)?)
 }
@@ -35,10 +35,10 @@ pub fn keep_paths<M: Machine>(
     alloc: Global,
     words: &KeepWords,
     machine: &mut M,
-) -> Result<Vec<BootPath>, Unsaid>
+) -> Result<Vec<BootPath>, ReadError>
     ensures says { IsTrue M.tells
         → Says (λ paths. paths.items) result (keep_result (seen (M.state machine.old)) words.now) }
-    ensures looks { Looks M.tells M.time M.state M.counts (CountsUnsaid result) machine.old machine.new }
+    ensures looks { Looks M.tells M.time M.state M.counts (CountsReadError result) machine.old machine.new }
     ensures taken { IsTrue M.tells
         → TakesAtMost (menu_limit (M.state machine.old).files (folders_of words.now.esp)) (M.taken machine.old)
         (M.taken machine.new) }

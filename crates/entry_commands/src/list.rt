@@ -1,14 +1,16 @@
 //! `bootctl list`.
 ghost use Rattle.std.specs.Prelude.{◌≡◌, IfOk, IsTrue};
 ghost use Rattle.boot_machine.specs.Prelude.{Counts, Looks, TakesAtMost, seen};
-ghost use Rattle.command_plans.specs.Prelude.{CountsStop, CountsUnsaid, DeclinesWords, Plans, RefusesWords, Says, answer_of_read, folders_of, menu_limit, printed_path};
+ghost use Rattle.command_plans.specs.Prelude.{CountsRunError, CountsReadError, DeclinesWords, Plans, RefusesWords, Says, answer_of_read, folders_of, menu_limit, printed_path};
 ghost use Rattle.command_plans.specs.declared.plan.Change.TheVariants.{Nothing};
 ghost use Rattle.entry_commands.specs.Listing.{json_result, list_result, menu_result};
 
 use boot_base::Refusal;
-use boot_folder::list_text;
+use boot_entries::list_text;
 use boot_machine::Machine;
-use command_plans::{Plan, Stop, Unsaid, folders_in, menu_at, printed_path, text_or_refusal};
+use command_plans::{
+    Plan, ReadError, RunError, folders_in, menu_at, printed_path, text_or_refusal,
+};
 use list_json::{JsonFault, menu_json};
 use menu_order::MenuItem;
 use std::alloc::{AllocError, Global};
@@ -23,27 +25,27 @@ fn not_text(alloc: Global, entry: &MenuItem) -> Result<Refusal, AllocError>
 
 // The line of a menu.
 #[tactic(auto, using(crate::proofs::Untold::told_line, crate::proofs::Untold::told_refusal))]
-fn json_text(alloc: Global, menu: &[MenuItem]) -> Result<Vec<u8>, Unsaid>
+fn json_text(alloc: Global, menu: &[MenuItem]) -> Result<Vec<u8>, ReadError>
     ensures says { Says (λ text. text.items) result (json_result menu.now) }
-    ensures counts { (counts : Counts) → CountsUnsaid result counts counts }
+    ensures counts { (counts : Counts) → CountsReadError result counts counts }
 {
     match menu_json(alloc, menu) {
         Ok(line) => Ok(line),
-        Err(JsonFault::Memory) => Err(Unsaid::Memory),
+        Err(JsonFault::Memory) => Err(ReadError::Memory),
         Err(JsonFault::NotText { index }) => {
             let why = not_text(alloc, &menu[index])?;
-            Err(Unsaid::Refused(why))
+            Err(ReadError::Refused(why))
         }
     }
 }
 
 // The text of a menu, or its line.
-fn menu_text(alloc: Global, menu: &[MenuItem], json: bool) -> Result<Vec<u8>, Unsaid>
+fn menu_text(alloc: Global, menu: &[MenuItem], json: bool) -> Result<Vec<u8>, ReadError>
     ensures says { Says (λ text. text.items) result (menu_result json menu.now) }
-    ensures counts { (counts : Counts) → CountsUnsaid result counts counts }
+    ensures counts { (counts : Counts) → CountsReadError result counts counts }
 {
     if menu.is_empty() {
-        return Err(Unsaid::Refused(Refusal::NoEntries));
+        return Err(ReadError::Refused(Refusal::NoEntries));
     }
     if json {
         return json_text(alloc, menu);
@@ -56,10 +58,10 @@ fn list_result<M: Machine>(
     esp: &str,
     json: bool,
     machine: &mut M,
-) -> Result<Vec<u8>, Unsaid>
+) -> Result<Vec<u8>, ReadError>
     ensures says { IsTrue M.tells
         → Says (λ text. text.items) result (list_result (seen (M.state machine.old)) esp.now json) }
-    ensures looks { Looks M.tells M.time M.state M.counts (CountsUnsaid result) machine.old machine.new }
+    ensures looks { Looks M.tells M.time M.state M.counts (CountsReadError result) machine.old machine.new }
     ensures taken { IsTrue M.tells
         → TakesAtMost (menu_limit (M.state machine.old).files (folders_of esp.now)) (M.taken machine.old)
         (M.taken machine.new) }
@@ -77,11 +79,11 @@ pub fn plan_list<M: Machine>(
     esp: &str,
     json: bool,
     machine: &mut M,
-) -> Result<Plan, Stop>
+) -> Result<Plan, RunError>
     ensures plans { IfOk result (λ plan. IsTrue M.tells → Plans (M.state machine.old) plan
         (answer_of_read (seen (M.state machine.old)) (list_result (seen (M.state machine.old)) esp.now json))) }
     ensures idle { IfOk result (λ plan. plan.change ≡ Nothing) }
-    ensures looks { Looks M.tells M.time M.state M.counts (CountsStop result) machine.old machine.new }
+    ensures looks { Looks M.tells M.time M.state M.counts (CountsRunError result) machine.old machine.new }
     ensures taken { IsTrue M.tells
         → TakesAtMost (menu_limit (M.state machine.old).files (folders_of esp.now)) (M.taken machine.old)
         (M.taken machine.new) }

@@ -2,7 +2,7 @@
 use crate::fault::RowFault;
 use crate::words::bytes_of;
 use boot_base::BootPath;
-use boot_folder::{ScanFault, scan};
+use boot_entries::{ScanFault, scan};
 use memory_machine::{MemFile, MemMachine};
 use menu_order::MenuItem;
 use std::alloc::{AllocError, Global};

@@ -6,12 +6,12 @@ use Rattle.std.proofs.lemmas.List.Elements.{All-append, All-cons, All-head, All-
 use Rattle.std.proofs.lemmas.List.Sums.{sum_by-cons, sum_by_push}
 use Rattle.boot_base.specs.declared.refusal.Refusal.{Refusal}
 use Rattle.boot_machine.specs.Prelude.{State}
-use Rattle.command_plans.specs.Prelude.{each, Says, UnsaidFor}
+use Rattle.command_plans.specs.Prelude.{each, Says, ReadErrorFor}
 use Rattle.image_build.specs.declared.source.Source.{Source}
-use Rattle.command_plans.specs.declared.unsaid.Unsaid.{Unsaid}
-use Rattle.command_plans.specs.declared.unsaid.Unsaid.TheVariants as unsaid
+use Rattle.command_plans.specs.declared.read_error.ReadError.{ReadError}
+use Rattle.command_plans.specs.declared.read_error.ReadError.TheVariants as read_errors
 use Rattle.command_plans.proofs.Each.{each_more, each_refused}
-use Rattle.command_plans.proofs.Unsaying.{says_unsaid}
+use Rattle.command_plans.proofs.ReadErrors.{says_read_error}
 
 -- one more is made, of a state that stands
 pub made_more : {A B C : Type 0} (F : State → A → Result B Refusal) (V : State → C → B) (s now : State) (xs : List A) (made more : List C) (x : A) (y : C) → now ≡ s
@@ -25,18 +25,18 @@ all_more P s now made more y same before found is =
     let here = subst (λ (t : State). P t y) same found in
     subst (All (P s)) (sym is) (All-append (P s) made (y ∷ []) before (All-cons (P s) y [] here (All-nil (P s))))
 
-unsaid_each : {A B : Type 0} (F : State → A → Result B Refusal) (s now : State) (all xs rest : List A) (ys : List B) (x : A) (fault : Unsaid) → now ≡ s → all ≡ xs ++ x ∷ rest
-    → each (F s) xs ≡ Ok ys → UnsaidFor fault (F now x) → UnsaidFor fault (each (F s) all)
-unsaid_each F s now all xs rest ys x unsaid.Memory same is before why = tt
-unsaid_each F s now all xs rest ys x unsaid.Disk same is before why = tt
-unsaid_each F s now all xs rest ys x (unsaid.Refused refusal) same is before why =
+read_error_each : {A B : Type 0} (F : State → A → Result B Refusal) (s now : State) (all xs rest : List A) (ys : List B) (x : A) (fault : ReadError) → now ≡ s → all ≡ xs ++ x ∷ rest
+    → each (F s) xs ≡ Ok ys → ReadErrorFor fault (F now x) → ReadErrorFor fault (each (F s) all)
+read_error_each F s now all xs rest ys x read_errors.Memory same is before why = tt
+read_error_each F s now all xs rest ys x read_errors.Disk same is before why = tt
+read_error_each F s now all xs rest ys x (read_errors.Refused refusal) same is before why =
     ap (each (F s)) is ∙ each_refused (F s) xs ys x rest refusal before (subst (λ (t : State). F t x ≡ Err refusal) same why)
 
 -- one is refused, of a state that stands
-pub one_refused : {X A B : Type 0} (view : X → List B) (F : State → A → Result B Refusal) (s now : State) (all xs rest : List A) (ys : List B) (x : A) (fault : Unsaid) (result : Result X Unsaid)
-    → now ≡ s → all ≡ xs ++ x ∷ rest → each (F s) xs ≡ Ok ys → UnsaidFor fault (F now x) → IsErr result → IsErrAnd result (λ e. e ≡ fault) → Says view result (each (F s) all)
+pub one_refused : {X A B : Type 0} (view : X → List B) (F : State → A → Result B Refusal) (s now : State) (all xs rest : List A) (ys : List B) (x : A) (fault : ReadError) (result : Result X ReadError)
+    → now ≡ s → all ≡ xs ++ x ∷ rest → each (F s) xs ≡ Ok ys → ReadErrorFor fault (F now x) → IsErr result → IsErrAnd result (λ e. e ≡ fault) → Says view result (each (F s) all)
 one_refused view F s now all xs rest ys x fault result same is before why failed fails =
-    says_unsaid result fault view (each (F s) all) failed fails (unsaid_each F s now all xs rest ys x fault same is before why)
+    says_read_error result fault view (each (F s) all) failed fails (read_error_each F s now all xs rest ys x fault same is before why)
 
 -- what a list comes to, with one more on both sides
 pub sum_more : {A C : Type 0} (f : C → ℕ) (h : A → ℕ) (xs : List A) (made more : List C) (x : A) (y : C) → sum_by f made ≤ sum_by h xs → f y ≤ h x → more ≡ made ++ y ∷ []

@@ -7,8 +7,8 @@ use Rattle.std.proofs.lemmas.List.Folds.{prefix_len-append}
 use Rattle.std.proofs.lemmas.List.Sums.{prefix_len-le-length}
 use Rattle.uki_parts.specs.Sbat.{entries_among, is_sbat_newline, sbat_entries}
 use Rattle.command_plans.specs.Prelude.{Says}
-use Rattle.command_plans.specs.declared.unsaid.Unsaid.{Unsaid}
-use Rattle.command_plans.proofs.Unsaying.{unrefused}
+use Rattle.command_plans.specs.declared.read_error.ReadError.{ReadError}
+use Rattle.command_plans.proofs.ReadErrors.{unrefused}
 
 abbrev is_nul : ℕ → Bool
 is_nul byte = byte == 0
@@ -40,7 +40,7 @@ entries_kept raw loaded count is =
     ap (λ (text : List ℕ). entries_among (slice_split is_sbat_newline text)) (sym (cut_kept raw count) ∙ ap (before_first is_nul) (sym is))
 
 -- what is said of bytes is said of what is made of them
-pub says_made : {X : Type 0} (view : X → List ℕ) (made : List ℕ → List (List ℕ)) (result : Result X Unsaid) (bytes : List ℕ) (meant : List (List ℕ))
+pub says_made : {X : Type 0} (view : X → List ℕ) (made : List ℕ → List (List ℕ)) (result : Result X ReadError) (bytes : List ℕ) (meant : List (List ℕ))
     → made bytes ≡ meant → Says view result (Ok bytes) → Says (λ x. made (view x)) result (Ok meant)
 says_made view made (Ok x) bytes meant is said =
     let same : bytes ≡ view x = cc said in

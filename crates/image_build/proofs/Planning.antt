@@ -8,7 +8,7 @@ use Rattle.boot_base.specs.declared.refusal.Refusal.{Refusal}
 use Rattle.boot_base.specs.declared.temp_path.Target.{Target}
 use Rattle.boot_machine.specs.Prelude.{Files, State, seen, contents}
 use Rattle.std.specs.FinMap.{insert}
-use Rattle.command_plans.specs.Prelude.{done_answer, IsIdleIfRefused, IsMakeable, SaysCleaned, Plans, headers_or, PlansDeclined, PlansUnsaid, ◌>>=◌, DeclinedFor, UnsaidFor}
+use Rattle.command_plans.specs.Prelude.{done_answer, IsIdleIfRefused, IsMakeable, SaysCleaned, Plans, headers_or, PlansWordError, PlansReadError, ◌>>=◌, WordErrorFor, ReadErrorFor}
 use Rattle.command_plans.specs.declared.plan.Plan.{Plan as CommandPlan}
 use Rattle.command_plans.specs.declared.plan.Change.TheVariants as changes
 use Rattle.command_plans.specs.declared.outcome.Outcome.TheVariants as outcomes
@@ -36,10 +36,10 @@ use Rattle.image_build.specs.Planning.{HasItsLength, IsPlannable, IsPlannedOn, b
 use Rattle.image_build.specs.declared.planned.PlannedBuild.{PlannedBuild}
 use Rattle.pcr_values.specs.Prelude.{default_phase_paths, value_lines, all_banks}
 use Rattle.stub_replay.specs.Measured.{stub_pcr}
-use Rattle.command_plans.specs.declared.declined.Declined.{Declined}
-use Rattle.command_plans.specs.declared.declined.Declined.TheVariants as declines
-use Rattle.command_plans.specs.declared.unsaid.Unsaid.{Unsaid}
-use Rattle.command_plans.specs.declared.unsaid.Unsaid.TheVariants as unsaid
+use Rattle.command_plans.specs.declared.word_error.WordError.{WordError}
+use Rattle.command_plans.specs.declared.word_error.WordError.TheVariants as word_errors
+use Rattle.command_plans.specs.declared.read_error.ReadError.{ReadError}
+use Rattle.command_plans.specs.declared.read_error.ReadError.TheVariants as read_errors
 use Rattle.image_build.specs.Reads.{BuiltFrom, BuiltHasSizes, PartFrom, PartHasSizes, material_as}
 use Rattle.image_build.specs.declared.build_plan.ImagePlan.{ImagePlan}
 use Rattle.image_build.specs.declared.build_reads.BuildParts.{BuildParts}
@@ -184,28 +184,28 @@ pub build_by_name : (view : Files) (words : BuildWords) (found : BuildSources) �
 build_by_name view words found named = ap (λ (r : Result NamedFiles Refusal). r >>= build_named view) named
 
 -- a refusal of what is built is the answer
-pub unsaid_plan : (s : State) (words : BuildWords) (found : BuildSources) (why : Unsaid) (plan : CommandPlan) → named_files words ≡ Ok (named_as found)
-    → UnsaidFor why (build_named (seen s) (named_as found)) → PlansUnsaid why plan → Plans s plan (build_answer (seen s) words)
-unsaid_plan s words found unsaid.Memory plan named meant plans = absurd plans
-unsaid_plan s words found unsaid.Disk plan named meant plans = absurd plans
-unsaid_plan s words found (unsaid.Refused why) plan named meant plans =
+pub read_error_plan : (s : State) (words : BuildWords) (found : BuildSources) (why : ReadError) (plan : CommandPlan) → named_files words ≡ Ok (named_as found)
+    → ReadErrorFor why (build_named (seen s) (named_as found)) → PlansReadError why plan → Plans s plan (build_answer (seen s) words)
+read_error_plan s words found read_errors.Memory plan named meant plans = absurd plans
+read_error_plan s words found read_errors.Disk plan named meant plans = absurd plans
+read_error_plan s words found (read_errors.Refused why) plan named meant plans =
     subst (λ (r : Result BuiltImage Refusal). Plans s plan (built_answer (seen s) words.measure r)) (sym (build_by_name (seen s) words found named ∙ meant)) (plans s)
 
 -- and so is that of the words
-pub declined_plan : (s : State) (words : BuildWords) (declined : Declined) (plan : CommandPlan) → DeclinedFor declined (named_files words)
-    → PlansDeclined declined plan → Plans s plan (build_answer (seen s) words)
-declined_plan s words declines.Memory plan meant plans = absurd plans
-declined_plan s words (declines.Refused why) plan meant plans =
+pub word_error_plan : (s : State) (words : BuildWords) (word_error : WordError) (plan : CommandPlan) → WordErrorFor word_error (named_files words)
+    → PlansWordError word_error plan → Plans s plan (build_answer (seen s) words)
+word_error_plan s words word_errors.Memory plan meant plans = absurd plans
+word_error_plan s words (word_errors.Refused why) plan meant plans =
     subst (λ (r : Result BuiltImage Refusal). Plans s plan (built_answer (seen s) words.measure r)) (sym (ap (λ (r : Result NamedFiles Refusal). r >>= build_named (seen s)) meant)) (plans s)
 
-pub declined_as : (words : BuildWords) (declined : Declined) (why : Refusal) (plan : CommandPlan) → named_files words ≡ Err why
-    → DeclinedFor declined (named_files words) → PlansDeclined declined plan → PlansDeclined (declines.Refused why) plan
-declined_as words declines.Memory why plan is meant plans = absurd plans
-declined_as words (declines.Refused first) why plan is meant plans = subst (λ (r : Refusal). PlansDeclined (declines.Refused r) plan) (cc (is, meant)) plans
+pub word_error_as : (words : BuildWords) (word_error : WordError) (why : Refusal) (plan : CommandPlan) → named_files words ≡ Err why
+    → WordErrorFor word_error (named_files words) → PlansWordError word_error plan → PlansWordError (word_errors.Refused why) plan
+word_error_as words word_errors.Memory why plan is meant plans = absurd plans
+word_error_as words (word_errors.Refused first) why plan is meant plans = subst (λ (r : Refusal). PlansWordError (word_errors.Refused r) plan) (cc (is, meant)) plans
 
 -- words that name what is built are not declined
-pub not_declined : (words : BuildWords) (found : BuildSources) (why : Refusal) → named_files words ≡ Ok (named_as found) → named_files words ≡ Err why → ⊥
-not_declined words found why named is = absurd (cc (named, is))
+pub not_word_error : (words : BuildWords) (found : BuildSources) (why : Refusal) → named_files words ≡ Ok (named_as found) → named_files words ≡ Err why → ⊥
+not_word_error words found why named is = absurd (cc (named, is))
 
 -- what is said of a plan
 pub line_said : (view : Files) (plan : PlannedBuild) (measure : Bool) (size : ℕ) (line : List ℕ) → IsSourced plan.image.plan plan.image.sources view

@@ -29,7 +29,7 @@ use Rattle.tool_words.specs.declared.command.Given.{Given}
 use Rattle.tool_words.specs.declared.command.Given.TheVariants.{Inline, File}
 use Rattle.tool_words.specs.Meaning.{inline_or_file}
 use Rattle.command_plans.specs.Answers.{Answer, done_answer, refusal}
-use Rattle.command_plans.specs.Declining.{◌>>=◌, path_in, printed_path}
+use Rattle.command_plans.specs.WordErrors.{◌>>=◌, path_in, printed_path}
 use Rattle.image_build.specs.declared.source.Source.{Source}
 use Rattle.image_build.specs.declared.source.PartSources.{PartSources}
 use Rattle.image_build.specs.declared.source.BuildSources.{BuildSources}

@@ -3,10 +3,10 @@ ghost use Rattle.std.specs.Prelude.{◌≡◌, ◌≤◌, length, Bool, Err, IfE
 ghost use Rattle.boot_base.specs.Paths.{Path};
 ghost use Rattle.boot_base.specs.declared.refusal.Refusal.{Refusal};
 ghost use Rattle.boot_machine.specs.Prelude.{Counts, Files, Looks, State, TakesAtMost, contents, seen};
-ghost use Rattle.command_plans.specs.Prelude.{CountsStop, CountsUnsaid, Plans, Says, UnsaidFor, making_length, PlansDeclined};
+ghost use Rattle.command_plans.specs.Prelude.{CountsRunError, CountsReadError, Plans, Says, ReadErrorFor, making_length, PlansWordError};
 ghost use Rattle.image_writer.specs.Sourced.{IsSourced, planned_image};
 ghost use Rattle.boot_base.specs.Names.{shown_byte};
-ghost use Rattle.command_plans.specs.declared.declined.Declined.TheVariants as declines;
+ghost use Rattle.command_plans.specs.declared.word_error.WordError.TheVariants as word_errors;
 ghost use Rattle.image_build.specs.Building.{AreNamed, BuiltImage, build_answer, build_named, build_of, builder_refusal, named_as, named_files, built_answer, built_line, built_text, image_of};
 ghost use Rattle.image_build.specs.Imaged.{Images};
 ghost use Rattle.image_build.specs.Planning.{built_as, built_length, IsPlannable, IsPlannedOn, measuring_length, planning_length};
@@ -22,7 +22,9 @@ use crate::planned::PlannedBuild;
 use crate::source::BuildSources;
 use boot_base::{BootPath, Bytes, Refusal, Target, Text, shown_name};
 use boot_machine::Machine;
-use command_plans::{Change, Outcome, Plan, Stop, Unsaid, plan_declined, plan_unsaid, too_large};
+use command_plans::{
+    Change, Outcome, Plan, ReadError, RunError, plan_read_error, plan_word_error, too_large,
+};
 use pe_builder::LayoutFault;
 use std::alloc::{AllocError, Global};
 use tool_words::BuildWords;
@@ -58,7 +60,7 @@ fn builder_refusal(
 }
 
 // The plan of the image that is built of these, or the builder's first refusal.
-fn plan_parts(alloc: Global, built: BuildParts) -> Result<PlannedBuild, Unsaid>
+fn plan_parts(alloc: Global, built: BuildParts) -> Result<PlannedBuild, ReadError>
     requires { IsPlannable built }
     ensures says { (view : Files) → BuiltHasSizes (contents view) built
         → pe_of (contents view built.stub) ≡ Ok (headers_of built.head)
@@ -67,7 +69,7 @@ fn plan_parts(alloc: Global, built: BuildParts) -> Result<PlannedBuild, Unsaid>
         → pe_of (contents view built.stub) ≡ Ok (headers_of built.head)
         → IsPlannedOn view plan) }
     ensures output { IfOk result (λ plan. plan.output ≡ built.output) }
-    ensures counts { (counts : Counts) → CountsUnsaid result counts counts }
+    ensures counts { (counts : Counts) → CountsReadError result counts counts }
 {
     let BuildParts {
         stub,
@@ -88,7 +90,7 @@ fn plan_parts(alloc: Global, built: BuildParts) -> Result<PlannedBuild, Unsaid>
             head,
             output,
         }),
-        Err(fault) => Err(Unsaid::Refused(builder_refusal(alloc, &output, fault)?)),
+        Err(fault) => Err(ReadError::Refused(builder_refusal(alloc, &output, fault)?)),
     }
 }
 
@@ -97,12 +99,12 @@ fn planned_build<M: Machine>(
     alloc: Global,
     sources: BuildSources,
     machine: &mut M,
-) -> Result<PlannedBuild, Unsaid>
+) -> Result<PlannedBuild, ReadError>
     requires named { AreNamed sources }
     ensures says { IsTrue M.tells → Says (built_as (seen (M.state machine.old))) result
         (build_named (seen (M.state machine.old)) (named_as sources)) }
     ensures planned { IfOk result (λ plan. IsTrue M.tells → IsPlannedOn (seen (M.state machine.old)) plan) }
-    ensures looks { Looks M.tells M.time M.state M.counts (CountsUnsaid result) machine.old machine.new }
+    ensures looks { Looks M.tells M.time M.state M.counts (CountsReadError result) machine.old machine.new }
     ensures taken { IsTrue M.tells → TakesAtMost
         (reading_length (contents (seen (M.state machine.old))) (named_as sources))
         (M.taken machine.old) (M.taken machine.new) }
@@ -124,11 +126,11 @@ fn reply<M: Machine>(
     build: &PlannedBuild,
     measure: bool,
     machine: &mut M,
-) -> Result<Vec<u8>, Unsaid>
+) -> Result<Vec<u8>, ReadError>
     ensures says { IsTrue M.tells → IsPlannedOn (seen (M.state machine.old)) build.now
         → Says (λ text. text.items) result
         (Ok (built_text measure (built_as (seen (M.state machine.old)) build.now))) }
-    ensures looks { Looks M.tells M.time M.state M.counts (CountsUnsaid result) machine.old machine.new }
+    ensures looks { Looks M.tells M.time M.state M.counts (CountsReadError result) machine.old machine.new }
     ensures taken { IsTrue M.tells → IsPlannedOn (seen (M.state machine.old)) build.now → TakesAtMost
         (measuring_length measure (planned_image build.now.image.plan build.now.image.sources
         (seen (M.state machine.old))))
@@ -165,20 +167,20 @@ fn writing_plan(alloc: Global, build: PlannedBuild, text: Vec<u8>) -> Result<Pla
 }
 
 // The plan of the build of what the words name, or why there is none.
-fn plan_or_unsaid<M: Machine>(
+fn plan_or_read_error<M: Machine>(
     alloc: Global,
     words: &BuildWords,
     sources: BuildSources,
     machine: &mut M,
-) -> Result<Plan, Unsaid>
+) -> Result<Plan, ReadError>
     requires named { named_files words.now ≡ Ok (named_as sources) }
     ensures plans { IfOk result (λ plan. IsTrue M.tells → Plans (M.state machine.old) plan
         (build_answer (seen (M.state machine.old)) words.now)) }
-    ensures unsaid { IfErr result (λ unsaid. IsTrue M.tells
-        → UnsaidFor unsaid (build_named (seen (M.state machine.old)) (named_as sources))) }
+    ensures read_error { IfErr result (λ read_error. IsTrue M.tells
+        → ReadErrorFor read_error (build_named (seen (M.state machine.old)) (named_as sources))) }
     ensures writes { IfOk result (λ plan. IsTrue M.tells → making_length (seen (M.state machine.old)) plan.change
         ≤ built_length (build_of (seen (M.state machine.old)) words.now)) }
-    ensures looks { Looks M.tells M.time M.state M.counts (CountsUnsaid result) machine.old machine.new }
+    ensures looks { Looks M.tells M.time M.state M.counts (CountsReadError result) machine.old machine.new }
     ensures taken { IsTrue M.tells → TakesAtMost
         (planning_length (seen (M.state machine.old)) words.now.measure (Ok (named_as sources)))
         (M.taken machine.old) (M.taken machine.new) }
@@ -194,20 +196,20 @@ fn plan_sources<M: Machine>(
     words: &BuildWords,
     sources: BuildSources,
     machine: &mut M,
-) -> Result<Plan, Stop>
+) -> Result<Plan, RunError>
     requires named { named_files words.now ≡ Ok (named_as sources) }
     ensures plans { IfOk result (λ plan. IsTrue M.tells → Plans (M.state machine.old) plan
         (build_answer (seen (M.state machine.old)) words.now)) }
     ensures writes { IfOk result (λ plan. IsTrue M.tells → making_length (seen (M.state machine.old)) plan.change
         ≤ built_length (build_of (seen (M.state machine.old)) words.now)) }
-    ensures looks { Looks M.tells M.time M.state M.counts (CountsStop result) machine.old machine.new }
+    ensures looks { Looks M.tells M.time M.state M.counts (CountsRunError result) machine.old machine.new }
     ensures taken { IsTrue M.tells → TakesAtMost
         (planning_length (seen (M.state machine.old)) words.now.measure (Ok (named_as sources)))
         (M.taken machine.old) (M.taken machine.new) }
 {
-    match plan_or_unsaid(alloc, words, sources, machine) {
+    match plan_or_read_error(alloc, words, sources, machine) {
         Ok(plan) => Ok(plan),
-        Err(unsaid) => plan_unsaid(alloc, unsaid),
+        Err(read_error) => plan_read_error(alloc, read_error),
     }
 }
 
@@ -219,20 +221,20 @@ pub fn plan_build<M: Machine>(
     alloc: Global,
     words: &BuildWords,
     machine: &mut M,
-) -> Result<Plan, Stop>
+) -> Result<Plan, RunError>
     ensures plans { IfOk result (λ plan. IsTrue M.tells → Plans (M.state machine.old) plan
         (build_answer (seen (M.state machine.old)) words.now)) }
-    ensures declined { (why : Refusal) → named_files words.now ≡ Err why
-        → IfOk result (PlansDeclined (declines.Refused why)) }
+    ensures word_error { (why : Refusal) → named_files words.now ≡ Err why
+        → IfOk result (PlansWordError (word_errors.Refused why)) }
     ensures writes { IfOk result (λ plan. IsTrue M.tells → making_length (seen (M.state machine.old)) plan.change
         ≤ built_length (build_of (seen (M.state machine.old)) words.now)) }
-    ensures looks { Looks M.tells M.time M.state M.counts (CountsStop result) machine.old machine.new }
+    ensures looks { Looks M.tells M.time M.state M.counts (CountsRunError result) machine.old machine.new }
     ensures taken { IsTrue M.tells → TakesAtMost
         (planning_length (seen (M.state machine.old)) words.now.measure (named_files words.now))
         (M.taken machine.old) (M.taken machine.new) }
 {
     match build_sources(alloc, words) {
         Ok(sources) => plan_sources(alloc, words, sources, machine),
-        Err(declined) => Ok(plan_declined(alloc, declined)?),
+        Err(word_error) => Ok(plan_word_error(alloc, word_error)?),
     }
 }

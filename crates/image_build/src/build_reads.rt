@@ -8,13 +8,13 @@ ghost use Rattle.uki_parts.specs.Pieces.{HasSizes, Reading, bytes_of, piece_byte
 ghost use Rattle.uki_parts.specs.Sbat.{sbat_entries};
 ghost use Rattle.image_build.specs.Building.{contents_of, given_sbat, material_of, named_as, part_bytes, part_named, sbat_of, source_bytes};
 ghost use Rattle.boot_base.specs.Limits.{file_limit};
-ghost use Rattle.command_plans.specs.Prelude.{CountsUnsaid, Says, bytes_at, each};
+ghost use Rattle.command_plans.specs.Prelude.{CountsReadError, Says, bytes_at, each};
 ghost use Rattle.image_build.specs.Reads.{BuiltFrom, BuiltHasSizes, FilesFrom, FilesHaveSizes, IsKernel, PartFrom, PartHasSizes, contents_as, loaded_sbat_length, material_as, part_as, reading_length, source_file_length, source_limit};
 
 use crate::source::{BuildSources, PartSources, Source};
 use boot_base::BootPath;
 use boot_machine::Machine;
-use command_plans::{Unsaid, file_bytes, file_part, head_of_size, readable_size, sized_head};
+use command_plans::{ReadError, file_bytes, file_part, head_of_size, readable_size, sized_head};
 use pe_reader::{HeadFault, LoadedRange, Pe};
 use std::alloc::{AllocError, Global};
 use uki_parts::{
@@ -54,13 +54,17 @@ struct BuildFiles {
 }
 
 // The piece that a source gives, or its refusal.
-fn source_piece<M: Machine>(alloc: Global, source: Source, machine: &mut M) -> Result<Piece, Unsaid>
+fn source_piece<M: Machine>(
+    alloc: Global,
+    source: Source,
+    machine: &mut M,
+) -> Result<Piece, ReadError>
     ensures says { IsTrue M.tells → Says (piece_bytes (contents (seen (M.state machine.old)))) result
         (source_bytes (seen (M.state machine.old)) source) }
     ensures size { IfOk result (λ piece. IsTrue M.tells
         → length (piece_bytes (contents (seen (M.state machine.old))) piece) ≡ piece_length piece) }
     ensures limit { IfOk result (λ piece. piece_length piece ≤ source_limit source) }
-    ensures looks { Looks M.tells M.time M.state M.counts (CountsUnsaid result) machine.old machine.new }
+    ensures looks { Looks M.tells M.time M.state M.counts (CountsReadError result) machine.old machine.new }
     ensures taken { IsTrue M.tells → TakesAtMost 0 (M.taken machine.old) (M.taken machine.new) }
 {
     match source {
@@ -77,7 +81,7 @@ fn source_pieces<M: Machine>(
     alloc: Global,
     sources: Vec<Source>,
     machine: &mut M,
-) -> Result<Vec<Piece>, Unsaid>
+) -> Result<Vec<Piece>, ReadError>
     ensures says { IsTrue M.tells
         → Says (λ pieces. map (piece_bytes (contents (seen (M.state machine.old)))) pieces.items) result
         (each (source_bytes (seen (M.state machine.old))) sources.items) }
@@ -85,7 +89,7 @@ fn source_pieces<M: Machine>(
         → HasSizes (contents (seen (M.state machine.old))) pieces.items) }
     ensures limit { IfOk result (λ pieces. total_length pieces.items ≤ sum_by source_limit sources.items) }
     ensures count { IfOk result (λ pieces. length pieces.items ≡ length sources.items) }
-    ensures looks { Looks M.tells M.time M.state M.counts (CountsUnsaid result) machine.old machine.new }
+    ensures looks { Looks M.tells M.time M.state M.counts (CountsReadError result) machine.old machine.new }
     ensures taken { IsTrue M.tells → TakesAtMost 0 (M.taken machine.old) (M.taken machine.new) }
 {
     let mut pieces = Vec::new(alloc);
@@ -101,12 +105,12 @@ fn part_of_sources<M: Machine>(
     alloc: Global,
     sources: PartSources,
     machine: &mut M,
-) -> Result<Part, Unsaid>
+) -> Result<Part, ReadError>
     ensures says { IsTrue M.tells → Says (part_as (contents (seen (M.state machine.old)))) result
         (part_bytes (seen (M.state machine.old)) (part_named sources)) }
     ensures sizes { IfOk result (λ part. IsTrue M.tells → PartHasSizes (contents (seen (M.state machine.old))) part) }
     ensures from { IfOk result (PartFrom sources) }
-    ensures looks { Looks M.tells M.time M.state M.counts (CountsUnsaid result) machine.old machine.new }
+    ensures looks { Looks M.tells M.time M.state M.counts (CountsReadError result) machine.old machine.new }
     ensures taken { IsTrue M.tells → TakesAtMost 0 (M.taken machine.old) (M.taken machine.new) }
 {
     let PartSources {
@@ -131,14 +135,14 @@ fn parts_of_sources<M: Machine>(
     alloc: Global,
     sources: Vec<PartSources>,
     machine: &mut M,
-) -> Result<Vec<Part>, Unsaid>
+) -> Result<Vec<Part>, ReadError>
     ensures says { IsTrue M.tells
         → Says (λ parts. map (part_as (contents (seen (M.state machine.old)))) parts.items) result
         (each (part_bytes (seen (M.state machine.old))) (map part_named sources.items)) }
     ensures sizes { IfOk result (λ parts. IsTrue M.tells
         → All (PartHasSizes (contents (seen (M.state machine.old)))) parts.items) }
     ensures from { IfOk result (λ parts. AllZip PartFrom sources.items parts.items) }
-    ensures looks { Looks M.tells M.time M.state M.counts (CountsUnsaid result) machine.old machine.new }
+    ensures looks { Looks M.tells M.time M.state M.counts (CountsReadError result) machine.old machine.new }
     ensures taken { IsTrue M.tells → TakesAtMost 0 (M.taken machine.old) (M.taken machine.new) }
 {
     let mut parts = Vec::new(alloc);
@@ -155,14 +159,14 @@ fn raw_bytes<M: Machine>(
     path: &BootPath,
     range: LoadedRange,
     machine: &mut M,
-) -> Result<Vec<u8>, Unsaid>
+) -> Result<Vec<u8>, ReadError>
     requires place { range.place < 2 ^ 32 }
     requires size { range.length < 2 ^ 32 }
     ensures says { IsTrue M.tells → range.length
         ≤ length (drop range.place (contents (seen (M.state machine.old)) path.now))
         → Says (λ content. content.items) result
         (Ok (part (contents (seen (M.state machine.old)) path.now) range.place range.length)) }
-    ensures looks { Looks M.tells M.time M.state M.counts (CountsUnsaid result) machine.old machine.new }
+    ensures looks { Looks M.tells M.time M.state M.counts (CountsReadError result) machine.old machine.new }
     ensures taken { IsTrue M.tells → TakesAtMost range.length (M.taken machine.old) (M.taken machine.new) }
 {
     file_part(alloc, path, range.place, range.length, machine)
@@ -175,11 +179,11 @@ fn loaded_sbat<M: Machine>(
     path: &BootPath,
     head: &Pe,
     machine: &mut M,
-) -> Result<Vec<u8>, Unsaid>
+) -> Result<Vec<u8>, ReadError>
     requires { IsTrue M.tells → pe_of (contents (seen (M.state machine.old)) path.now) ≡ Ok (headers_of head.now) }
     ensures says { IsTrue M.tells → Says (λ content. sbat_entries content.items) result
         (Ok (sbat_entries (loaded_bytes (contents (seen (M.state machine.old)) path.now) sbat_name))) }
-    ensures looks { Looks M.tells M.time M.state M.counts (CountsUnsaid result) machine.old machine.new }
+    ensures looks { Looks M.tells M.time M.state M.counts (CountsReadError result) machine.old machine.new }
     ensures taken { IsTrue M.tells → TakesAtMost
         (loaded_sbat_length (contents (seen (M.state machine.old))) path.now)
         (M.taken machine.old) (M.taken machine.new) }
@@ -196,12 +200,12 @@ fn kernel_sbat<M: Machine>(
     path: &BootPath,
     size: u64,
     machine: &mut M,
-) -> Result<Vec<u8>, Unsaid>
+) -> Result<Vec<u8>, ReadError>
     requires small { size ≤ file_limit }
     requires size { IsTrue M.tells → size ≡ length (contents (seen (M.state machine.old)) path.now) }
     ensures says { IsTrue M.tells → Says (λ content. sbat_entries content.items) result
         (Ok (sbat_entries (loaded_bytes (contents (seen (M.state machine.old)) path.now) sbat_name))) }
-    ensures looks { Looks M.tells M.time M.state M.counts (CountsUnsaid result) machine.old machine.new }
+    ensures looks { Looks M.tells M.time M.state M.counts (CountsReadError result) machine.old machine.new }
     ensures taken { IsTrue M.tells → TakesAtMost
         (head_limit + loaded_sbat_length (contents (seen (M.state machine.old))) path.now)
         (M.taken machine.old) (M.taken machine.new) }
@@ -209,8 +213,8 @@ fn kernel_sbat<M: Machine>(
     match head_of_size(alloc, path, size, machine) {
         Ok(head) => loaded_sbat(alloc, path, &head, machine),
         Err(HeadFault::NotPe { .. }) => Ok(Vec::new(alloc)),
-        Err(HeadFault::Memory) => Err(Unsaid::Memory),
-        Err(HeadFault::Disk) => Err(Unsaid::Disk),
+        Err(HeadFault::Memory) => Err(ReadError::Memory),
+        Err(HeadFault::Disk) => Err(ReadError::Disk),
     }
 }
 
@@ -219,9 +223,9 @@ fn given_sbat<M: Machine>(
     alloc: Global,
     source: Option<Source>,
     machine: &mut M,
-) -> Result<Vec<u8>, Unsaid>
+) -> Result<Vec<u8>, ReadError>
     ensures says { IsTrue M.tells → Says (λ text. text.items) result (given_sbat (seen (M.state machine.old)) source) }
-    ensures looks { Looks M.tells M.time M.state M.counts (CountsUnsaid result) machine.old machine.new }
+    ensures looks { Looks M.tells M.time M.state M.counts (CountsReadError result) machine.old machine.new }
     ensures taken { IsTrue M.tells → TakesAtMost
         (source_file_length (contents (seen (M.state machine.old))) source)
         (M.taken machine.old) (M.taken machine.new) }
@@ -238,13 +242,13 @@ fn build_files<M: Machine>(
     alloc: Global,
     sources: BuildSources,
     machine: &mut M,
-) -> Result<BuildFiles, Unsaid>
+) -> Result<BuildFiles, ReadError>
     ensures says { IsTrue M.tells → Says (contents_as (contents (seen (M.state machine.old)))) result
         (contents_of (seen (M.state machine.old)) (named_as sources)) }
     ensures sizes { IfOk result (λ found. IsTrue M.tells
         → FilesHaveSizes (contents (seen (M.state machine.old))) found) }
     ensures from { IfOk result (FilesFrom sources) }
-    ensures looks { Looks M.tells M.time M.state M.counts (CountsUnsaid result) machine.old machine.new }
+    ensures looks { Looks M.tells M.time M.state M.counts (CountsReadError result) machine.old machine.new }
     ensures taken { IsTrue M.tells → TakesAtMost
         (source_file_length (contents (seen (M.state machine.old))) sources.sbat)
         (M.taken machine.old) (M.taken machine.new) }
@@ -277,7 +281,7 @@ fn image_sbat<M: Machine>(
     found: &BuildFiles,
     head: &Pe,
     machine: &mut M,
-) -> Result<Vec<u8>, Unsaid>
+) -> Result<Vec<u8>, ReadError>
     requires small { found.now.linux_length ≤ file_limit }
     requires size { IsTrue M.tells → found.now.linux_length
         ≡ length (contents (seen (M.state machine.old)) found.now.linux) }
@@ -285,7 +289,7 @@ fn image_sbat<M: Machine>(
         ≡ Ok (headers_of head.now) }
     ensures says { IsTrue M.tells → Says (λ text. text.items) result
         (Ok (sbat_of (contents_as (contents (seen (M.state machine.old))) found.now))) }
-    ensures looks { Looks M.tells M.time M.state M.counts (CountsUnsaid result) machine.old machine.new }
+    ensures looks { Looks M.tells M.time M.state M.counts (CountsReadError result) machine.old machine.new }
     ensures taken { IsTrue M.tells → TakesAtMost
         (loaded_sbat_length (contents (seen (M.state machine.old))) found.now.stub
         + (head_limit + loaded_sbat_length (contents (seen (M.state machine.old))) found.now.linux))
@@ -325,13 +329,13 @@ pub fn read_build<M: Machine>(
     alloc: Global,
     sources: BuildSources,
     machine: &mut M,
-) -> Result<BuildParts, Unsaid>
+) -> Result<BuildParts, ReadError>
     ensures says { IsTrue M.tells → Says (material_as (contents (seen (M.state machine.old)))) result
         (material_of (seen (M.state machine.old)) (named_as sources)) }
     ensures sizes { IfOk result (λ built. IsTrue M.tells
         → BuiltHasSizes (contents (seen (M.state machine.old))) built) }
     ensures from { IfOk result (BuiltFrom sources) }
-    ensures looks { Looks M.tells M.time M.state M.counts (CountsUnsaid result) machine.old machine.new }
+    ensures looks { Looks M.tells M.time M.state M.counts (CountsReadError result) machine.old machine.new }
     ensures taken { IsTrue M.tells → TakesAtMost
         (reading_length (contents (seen (M.state machine.old))) (named_as sources))
         (M.taken machine.old) (M.taken machine.new) }

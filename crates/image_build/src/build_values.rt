@@ -8,13 +8,13 @@ ghost use Rattle.pe_reader.specs.Prelude.{pe_of, loaded_bytes, headers_of};
 ghost use Rattle.stub_replay.specs.Measured.{measured_length, measured_list, stub_pcr};
 ghost use Rattle.uki_parts.specs.Names.{name_bytes};
 ghost use Rattle.uki_parts.specs.Pieces.{Reading};
-ghost use Rattle.command_plans.specs.Prelude.{CountsUnsaid, Says};
+ghost use Rattle.command_plans.specs.Prelude.{CountsReadError, Says};
 ghost use Rattle.image_build.specs.Planning.{IsContent, IsPlannedOn, kept_bytes, section_bytes};
 
 use crate::planned::PlannedBuild;
 use boot_base::{BootPath, PIECE_SIZE};
 use boot_machine::Machine;
-use command_plans::{Unsaid, banks_of, paths_of};
+use command_plans::{ReadError, banks_of, paths_of};
 use pcr_values::{Bank, Pcr, result_lines};
 use pe_reader::Pe;
 use std::alloc::{AllocError, Global};
@@ -91,14 +91,14 @@ fn registers<M: Machine>(
     plan: &PlannedBuild,
     banks: &[Bank],
     machine: &mut M,
-) -> Result<Vec<Pcr>, Unsaid>
+) -> Result<Vec<Pcr>, ReadError>
     ensures banks { IfOk result (λ registers. map pcr_bank registers.items ≡ banks.now) }
     ensures says { IsTrue M.tells → IsPlannedOn (seen (M.state machine.old)) plan.now
         → Says (λ registers. map pcr_value registers.items) result
         (Ok (map (fold_pcr
         (measured_list (planned_image plan.now.image.plan plan.now.image.sources (seen (M.state machine.old)))))
         banks.now)) }
-    ensures looks { Looks M.tells M.time M.state M.counts (CountsUnsaid result) machine.old machine.new }
+    ensures looks { Looks M.tells M.time M.state M.counts (CountsReadError result) machine.old machine.new }
     ensures taken { IsTrue M.tells → IsPlannedOn (seen (M.state machine.old)) plan.now → TakesAtMost
         (measured_length (planned_image plan.now.image.plan plan.now.image.sources (seen (M.state machine.old))))
         (M.taken machine.old) (M.taken machine.new) }
@@ -114,12 +114,12 @@ pub(crate) fn planned_values<M: Machine>(
     alloc: Global,
     plan: &PlannedBuild,
     machine: &mut M,
-) -> Result<Vec<u8>, Unsaid>
+) -> Result<Vec<u8>, ReadError>
     ensures says { IsTrue M.tells → IsPlannedOn (seen (M.state machine.old)) plan.now → Says (λ text. text.items) result
         (Ok (value_lines
         (stub_pcr (planned_image plan.now.image.plan plan.now.image.sources (seen (M.state machine.old))))
         all_banks default_phase_paths)) }
-    ensures looks { Looks M.tells M.time M.state M.counts (CountsUnsaid result) machine.old machine.new }
+    ensures looks { Looks M.tells M.time M.state M.counts (CountsReadError result) machine.old machine.new }
     ensures taken { IsTrue M.tells → IsPlannedOn (seen (M.state machine.old)) plan.now → TakesAtMost
         (measured_length (planned_image plan.now.image.plan plan.now.image.sources (seen (M.state machine.old))))
         (M.taken machine.old) (M.taken machine.new) }

@@ -8,7 +8,7 @@ ghost use Rattle.image_build.specs.Offers.{offered, offered_part};
 
 use crate::source::{BuildSources, PartSources, Source};
 use boot_base::{Bytes, Refusal, Text};
-use command_plans::{Declined, path_in, push};
+use command_plans::{WordError, path_in, push};
 use std::alloc::{AllocError, Global};
 use tool_words::{BuildWords, Given, inline_or_file};
 use uki_parts::{PartKind, SectionName, clean_cmdline};
@@ -24,14 +24,14 @@ enum Offer<'a> {
     Files(&'a [Text]),
 }
 
-fn bad_name(alloc: Global, text: &str) -> Result<Declined, AllocError>
-    ensures { IfOk result (λ declined. declined ≡ Declined.Refused (Refusal.BadSectionName text.now)) }
+fn bad_name(alloc: Global, text: &str) -> Result<WordError, AllocError>
+    ensures { IfOk result (λ word_error. word_error ≡ WordError.Refused (Refusal.BadSectionName text.now)) }
 {
     let text = Text::of(alloc, text)?;
-    Ok(Declined::Refused(Refusal::BadSectionName { text }))
+    Ok(WordError::Refused(Refusal::BadSectionName { text }))
 }
 
-fn section_name(alloc: Global, text: &str) -> Result<SectionName, Declined>
+fn section_name(alloc: Global, text: &str) -> Result<SectionName, WordError>
     ensures { Means (λ name. name) result (section_name text.now (read_name text.now)) }
 {
     match SectionName::read(text) {
@@ -41,7 +41,7 @@ fn section_name(alloc: Global, text: &str) -> Result<SectionName, Declined>
 }
 
 // The name in a value of `--section=`, and the text or the path behind its first colon.
-fn section_of(alloc: Global, value: &str) -> Result<(SectionName, Given), Declined>
+fn section_of(alloc: Global, value: &str) -> Result<(SectionName, Given), WordError>
     ensures { Means (λ section. section) result (section_of value.now) }
 {
     match value.split_once(':') {
@@ -54,7 +54,7 @@ fn section_of(alloc: Global, value: &str) -> Result<(SectionName, Given), Declin
     }
 }
 
-fn sections_of(alloc: Global, values: &[Text]) -> Result<Vec<(SectionName, Given)>, Declined>
+fn sections_of(alloc: Global, values: &[Text]) -> Result<Vec<(SectionName, Given)>, WordError>
     ensures { Means (λ sections. sections.items) result (each section_of values.now) }
 {
     let mut sections = Vec::new(alloc);
@@ -71,14 +71,14 @@ fn text_source(alloc: Global, text: &str) -> Result<Source, AllocError>
     Ok(Source::Said(Bytes::of(alloc, text.as_bytes())?))
 }
 
-fn file_source(alloc: Global, word: &str) -> Result<Source, Declined>
+fn file_source(alloc: Global, word: &str) -> Result<Source, WordError>
     ensures { Means (λ source. source) result (source_of (File word.now)) }
 {
     let path = path_in(alloc, word)?;
     Ok(Source::At(path))
 }
 
-fn source_of(alloc: Global, given: &Given) -> Result<Source, Declined>
+fn source_of(alloc: Global, given: &Given) -> Result<Source, WordError>
     ensures { Means (λ source. source) result (source_of given.now) }
 {
     match given {
@@ -88,7 +88,7 @@ fn source_of(alloc: Global, given: &Given) -> Result<Source, Declined>
 }
 
 // The source of the command line: whitespace of a text is cleaned.
-fn cmdline_source(alloc: Global, given: &Given) -> Result<Source, Declined>
+fn cmdline_source(alloc: Global, given: &Given) -> Result<Source, WordError>
     ensures { Means (λ source. source) result (source_of (clean given.now)) }
 {
     match given {
@@ -108,7 +108,7 @@ fn one_source(alloc: Global, source: Source) -> Result<Vec<Source>, AllocError>
     Ok(sources)
 }
 
-fn given_sources(alloc: Global, given: &Option<Given>) -> Result<Vec<Source>, Declined>
+fn given_sources(alloc: Global, given: &Option<Given>) -> Result<Vec<Source>, WordError>
     ensures { Means (λ sources. sources.items) result (each source_of (given_list given.now)) }
 {
     match given {
@@ -120,7 +120,7 @@ fn given_sources(alloc: Global, given: &Option<Given>) -> Result<Vec<Source>, De
     }
 }
 
-fn line_sources(alloc: Global, given: &Option<Given>) -> Result<Vec<Source>, Declined>
+fn line_sources(alloc: Global, given: &Option<Given>) -> Result<Vec<Source>, WordError>
     ensures { Means (λ sources. sources.items) result (each source_of (given_list (option_map clean given.now))) }
 {
     match given {
@@ -132,7 +132,7 @@ fn line_sources(alloc: Global, given: &Option<Given>) -> Result<Vec<Source>, Dec
     }
 }
 
-fn file_sources(alloc: Global, words: &[Text]) -> Result<Vec<Source>, Declined>
+fn file_sources(alloc: Global, words: &[Text]) -> Result<Vec<Source>, WordError>
     ensures { Means (λ sources. sources.items) result (each (λ word. source_of (File word)) words.now) }
 {
     let mut sources = Vec::new(alloc);
@@ -144,7 +144,7 @@ fn file_sources(alloc: Global, words: &[Text]) -> Result<Vec<Source>, Declined>
 }
 
 // The sources of what is given of a part, in their order.
-fn offered_sources(alloc: Global, offer: &Offer) -> Result<Vec<Source>, Declined>
+fn offered_sources(alloc: Global, offer: &Offer) -> Result<Vec<Source>, WordError>
     ensures { Means (λ sources. sources.items) result (each source_of (offered offer.now)) }
 {
     match offer {
@@ -181,7 +181,7 @@ fn append_offered(
     alloc: Global,
     row: &(PartKind, Offer),
     parts: &mut Vec<PartSources>,
-) -> Result<(), Declined>
+) -> Result<(), WordError>
     requires { IsTrue (is_some (fixed_name row.now.0)) }
     ensures { Means (λ _. map part_named parts.new.items) result
         (with_parts (map part_named parts.old.items) (offered_part row.now)) }
@@ -199,7 +199,7 @@ fn append_section(
     alloc: Global,
     section: &(SectionName, Given),
     parts: &mut Vec<PartSources>,
-) -> Result<(), Declined>
+) -> Result<(), WordError>
     ensures { Means (λ _. map part_named parts.new.items) result
         (with_parts (map part_named parts.old.items) (extra_part section.now ∷ [])) }
 {
@@ -219,7 +219,7 @@ fn append_sections(
     alloc: Global,
     sections: &[(SectionName, Given)],
     parts: &mut Vec<PartSources>,
-) -> Result<(), Declined>
+) -> Result<(), WordError>
     ensures { Means (λ _. map part_named parts.new.items) result
         (with_parts (map part_named parts.old.items) (map extra_part sections.now)) }
 {
@@ -234,7 +234,7 @@ fn parts_of(
     alloc: Global,
     words: &BuildWords,
     sections: &[(SectionName, Given)],
-) -> Result<Vec<PartSources>, Declined>
+) -> Result<Vec<PartSources>, WordError>
     ensures { Means (λ parts. map part_named parts.items) result
         (each sources_of (wanted_parts words.now sections.now)) }
 {
@@ -257,7 +257,7 @@ fn parts_of(
     Ok(parts)
 }
 
-fn optional_source(alloc: Global, given: &Option<Given>) -> Result<Option<Source>, Declined>
+fn optional_source(alloc: Global, given: &Option<Given>) -> Result<Option<Source>, WordError>
     ensures { Means (λ source. source) result (if_given source_of given.now) }
 {
     match given {
@@ -268,7 +268,7 @@ fn optional_source(alloc: Global, given: &Option<Given>) -> Result<Option<Source
 
 /// The files and texts that the words of a build name, and the path of its output, or the first refusal: of a value of
 /// `--section=`, and then of a word that is no path.
-pub fn build_sources(alloc: Global, words: &BuildWords) -> Result<BuildSources, Declined>
+pub fn build_sources(alloc: Global, words: &BuildWords) -> Result<BuildSources, WordError>
     ensures means { Means named_as result (named_files words.now) }
 {
     let sections = sections_of(alloc, words.sections.as_slice())?;

@@ -15,7 +15,7 @@ use Rattle.pe_reader.proofs.Ranges.{length-bytes_in, range_inside}
 use Rattle.list_json.specs.Sections.{SectionFacts, facts_of}
 use Rattle.list_json.specs.declared.inspection.Inspected.{Inspected}
 use Rattle.command_plans.specs.Prelude.{image_at}
-use Rattle.command_plans.proofs.Declining.{done_next}
+use Rattle.command_plans.proofs.WordErrors.{done_next}
 use Rattle.image_commands.specs.Told.{told_sections}
 use Rattle.image_commands.specs.Said.{inspection, inspection_at, section_facts}
 

@@ -12,7 +12,7 @@ use Rattle.list_json.specs.Registers.{values_data}
 use Rattle.list_json.specs.Sections.{sections_data}
 use Rattle.stub_replay.specs.Measured.{predicted_pcr, stub_pcr}
 use Rattle.stub_replay.specs.Ordered.{part_of}
-use Rattle.command_plans.proofs.Declining.{done_next}
+use Rattle.command_plans.proofs.WordErrors.{done_next}
 use Rattle.command_plans.proofs.Steps.{done_by, ok_is}
 use Rattle.command_plans.specs.Prelude.{banks_of, paths_of, path_in, bytes_at, each, headers_or, image_at}
 use Rattle.image_commands.specs.Calculating.{given_words, under_name}

@@ -14,14 +14,14 @@ use Rattle.stub_replay.specs.declared.measurable.Measurable.{Measurable}
 use Rattle.tool_words.specs.declared.command.CalculateWords.{CalculateWords}
 use Rattle.uki_parts.specs.Pieces.{HasSizes, Reading, bytes_of, piece_bytes, piece_length}
 use Rattle.uki_parts.specs.declared.piece.Piece.{Piece}
-use Rattle.command_plans.proofs.Declining.{done_next, means_declined}
+use Rattle.command_plans.proofs.WordErrors.{done_next, means_word_error}
 use Rattle.command_plans.proofs.Each.{bind_ok, each_cut, each_more, each_refused, none_made}
-use Rattle.command_plans.proofs.Unsaying.{says_unsaid}
-use Rattle.command_plans.specs.Prelude.{bytes_at, each, ◌>>=◌, DeclinedFor, Means, path_in, Says, UnsaidFor}
-use Rattle.command_plans.specs.declared.declined.Declined.{Declined}
-use Rattle.command_plans.specs.declared.declined.Declined.TheVariants.{Memory, Refused}
-use Rattle.command_plans.specs.declared.unsaid.Unsaid.{Unsaid}
-use Rattle.command_plans.specs.declared.unsaid.Unsaid.TheVariants.{Memory as WithoutMemory, Disk, Refused as UnsaidRefused}
+use Rattle.command_plans.proofs.ReadErrors.{says_read_error}
+use Rattle.command_plans.specs.Prelude.{bytes_at, each, ◌>>=◌, WordErrorFor, Means, path_in, Says, ReadErrorFor}
+use Rattle.command_plans.specs.declared.word_error.WordError.{WordError}
+use Rattle.command_plans.specs.declared.word_error.WordError.TheVariants.{Memory, Refused}
+use Rattle.command_plans.specs.declared.read_error.ReadError.{ReadError}
+use Rattle.command_plans.specs.declared.read_error.ReadError.TheVariants.{Memory as WithoutMemory, Disk, Refused as ReadErrorRefused}
 use Rattle.image_commands.specs.Calculating.{part_words, under_name}
 use Rattle.image_commands.specs.Parts.{HasItsSize, named_file, named_path, named_word}
 
@@ -62,10 +62,10 @@ word_more words i d word path paths more inside is made is_more before =
     (done_next (path_in word.now) path (λ made. Ok (name.now, made)) made)
     ∙ ap Ok (sym (ap (map named_path) is_more ∙ map-append named_path paths ((name, path) ∷ [])))
 
-declined_word : (words : List Word) (i : ℕ) (d : Word) (word : Bor (List ℕ)) (paths : List (List ℕ × Path)) (declined : Declined) → i < length words → (get_or words i d).1 ≡ Some word
-    → DeclinedFor declined (path_in word.now) → each (under_name path_in) (given_of (take i words)) ≡ Ok paths → DeclinedFor declined (each (under_name path_in) (given_of words))
-declined_word words i d word paths Memory inside is why before = tt
-declined_word words i d word paths (Refused refusal) inside is why before =
+word_error_at : (words : List Word) (i : ℕ) (d : Word) (word : Bor (List ℕ)) (paths : List (List ℕ × Path)) (word_error : WordError) → i < length words → (get_or words i d).1 ≡ Some word
+    → WordErrorFor word_error (path_in word.now) → each (under_name path_in) (given_of (take i words)) ≡ Ok paths → WordErrorFor word_error (each (under_name path_in) (given_of words))
+word_error_at words i d word paths Memory inside is why before = tt
+word_error_at words i d word paths (Refused refusal) inside is why before =
     let name = (get_or words i d).0 in
     ap (each (under_name path_in))
     (given_split words i d inside ∙ ap (λ (o : Option (Bor (List ℕ))). given_of (take i words) ++ (as_part name.now (option_copied o) ++ given_of (drop (i + 1) words))) is)
@@ -73,12 +73,12 @@ declined_word words i d word paths (Refused refusal) inside is why before =
     (ap (λ (r : Result Path Refusal). r >>= λ made. Ok (name.now, made)) why)
 
 -- one that is declined
-pub word_declined : {X : Type 0} (view : X → List (List ℕ × Path)) (words : List Word) (i : ℕ) (d : Word) (word : Bor (List ℕ))
-    (paths : List (List ℕ × Path)) (declined : Declined) (result : Result X Declined)
-    → i < length words → (get_or words i d).1 ≡ Some word → DeclinedFor declined (path_in word.now) → each (under_name path_in) (given_of (take i words)) ≡ Ok paths
-    → IsErr result → IsErrAnd result (λ e. e ≡ declined) → Means view result (each (under_name path_in) (given_of words))
-word_declined view words i d word paths declined result inside is why before failed fails =
-    means_declined result declined view (each (under_name path_in) (given_of words)) failed fails (declined_word words i d word paths declined inside is why before)
+pub word_error_of : {X : Type 0} (view : X → List (List ℕ × Path)) (words : List Word) (i : ℕ) (d : Word) (word : Bor (List ℕ))
+    (paths : List (List ℕ × Path)) (word_error : WordError) (result : Result X WordError)
+    → i < length words → (get_or words i d).1 ≡ Some word → WordErrorFor word_error (path_in word.now) → each (under_name path_in) (given_of (take i words)) ≡ Ok paths
+    → IsErr result → IsErrAnd result (λ e. e ≡ word_error) → Means view result (each (under_name path_in) (given_of words))
+word_error_of view words i d word paths word_error result inside is why before failed fails =
+    means_word_error result word_error view (each (under_name path_in) (given_of words)) failed fails (word_error_at words i d word paths word_error inside is why before)
 
 pub words_all : (words : List Word) (i : ℕ) (paths : List (List ℕ × Path)) → length words ≤ i
     → each (under_name path_in) (given_of (take i words)) ≡ Ok paths → each (under_name path_in) (given_of words) ≡ Ok paths
@@ -106,26 +106,26 @@ size_more s now files more name file same before found is =
     let here = subst (λ (t : State). HasItsSize (contents (seen t)) (name, file)) same found in
     subst (All P) (sym is) (All-append P files ((name, file) ∷ []) before (All-cons P (name, file) [] here (All-nil P)))
 
-unsaid_each : (s now : State) (all paths rest : List (Bor (List ℕ) × Path)) (files : List (Bor (List ℕ) × Piece)) (name : Bor (List ℕ)) (path : Path)
-    (fault : Unsaid)
+read_error_each : (s now : State) (all paths rest : List (Bor (List ℕ) × Path)) (files : List (Bor (List ℕ) × Piece)) (name : Bor (List ℕ)) (path : Path)
+    (fault : ReadError)
     → now ≡ s → all ≡ paths ++ (name, path) ∷ rest
-    → each (under_name (bytes_at (seen s))) (map named_path paths) ≡ Ok (map (named_file (contents (seen s))) files) → UnsaidFor fault (bytes_at (seen now) path)
-    → UnsaidFor fault (each (under_name (bytes_at (seen s))) (map named_path all))
-unsaid_each s now all paths rest files name path WithoutMemory same is before why = tt
-unsaid_each s now all paths rest files name path Disk same is before why = tt
-unsaid_each s now all paths rest files name path (UnsaidRefused refusal) same is before why =
+    → each (under_name (bytes_at (seen s))) (map named_path paths) ≡ Ok (map (named_file (contents (seen s))) files) → ReadErrorFor fault (bytes_at (seen now) path)
+    → ReadErrorFor fault (each (under_name (bytes_at (seen s))) (map named_path all))
+read_error_each s now all paths rest files name path WithoutMemory same is before why = tt
+read_error_each s now all paths rest files name path Disk same is before why = tt
+read_error_each s now all paths rest files name path (ReadErrorRefused refusal) same is before why =
     let here = subst (λ (t : State). bytes_at (seen t) path ≡ Err refusal) same why in
     ap (each (under_name (bytes_at (seen s)))) (ap (map named_path) is ∙ map-append named_path paths ((name, path) ∷ rest))
     ∙ each_refused (under_name (bytes_at (seen s))) (map named_path paths) _ (name.now, path) (map named_path rest) refusal before
     (ap (λ (r : Result (List ℕ) Refusal). r >>= λ made. Ok (name.now, made)) here)
 
 pub file_refused : {X : Type 0} (view : X → List (List ℕ × List ℕ)) (s now : State) (all paths rest : List (Bor (List ℕ) × Path))
-    (files : List (Bor (List ℕ) × Piece)) (name : Bor (List ℕ)) (path : Path) (fault : Unsaid) (result : Result X Unsaid)
+    (files : List (Bor (List ℕ) × Piece)) (name : Bor (List ℕ)) (path : Path) (fault : ReadError) (result : Result X ReadError)
     → now ≡ s → all ≡ paths ++ (name, path) ∷ rest
-    → each (under_name (bytes_at (seen s))) (map named_path paths) ≡ Ok (map (named_file (contents (seen s))) files) → UnsaidFor fault (bytes_at (seen now) path)
+    → each (under_name (bytes_at (seen s))) (map named_path paths) ≡ Ok (map (named_file (contents (seen s))) files) → ReadErrorFor fault (bytes_at (seen now) path)
     → IsErr result → IsErrAnd result (λ e. e ≡ fault) → Says view result (each (under_name (bytes_at (seen s))) (map named_path all))
 file_refused view s now all paths rest files name path fault result same is before why failed fails =
-    says_unsaid result fault view _ failed fails (unsaid_each s now all paths rest files name path fault same is before why)
+    says_read_error result fault view _ failed fails (read_error_each s now all paths rest files name path fault same is before why)
 
 -- a part's content more
 abbrev pub part_in : Bor (List ℕ) → Bor (List Piece) → Measurable

@@ -3,7 +3,7 @@ use Rattle.std.proofs.Common.{◌≡◌, ℕ, List, Ok, ap, ◌∙◌}
 use Rattle.boot_base.specs.Paths.{Path}
 use Rattle.boot_machine.specs.Prelude.{Files}
 use Rattle.image_commands.specs.Told.{told_values}
-use Rattle.command_plans.proofs.Declining.{done_next}
+use Rattle.command_plans.proofs.WordErrors.{done_next}
 use Rattle.command_plans.specs.Prelude.{bytes_at, each, path_in, banks_of, paths_of}
 use Rattle.pcr_values.specs.declared.bank.Bank.{Bank}
 use Rattle.stub_replay.specs.Ordered.{part_of, present_parts}

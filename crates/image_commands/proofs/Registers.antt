@@ -14,7 +14,7 @@ use Rattle.stub_replay.specs.Ordered.{present_parts}
 use Rattle.stub_replay.specs.Parts.{items_of}
 use Rattle.stub_replay.proofs.Ordered.{predicted_in_order}
 use Rattle.tool_words.specs.declared.command.CalculateWords.{CalculateWords}
-use Rattle.command_plans.proofs.Declining.{done_next}
+use Rattle.command_plans.proofs.WordErrors.{done_next}
 use Rattle.command_plans.specs.Prelude.{bytes_at, each, image_at, path_in, banks_of, paths_of}
 use Rattle.image_commands.proofs.Parts.{parts_in_order, words_in_order}
 use Rattle.image_commands.specs.Calculating.{calculate_result, part_words, under_name}

@@ -6,7 +6,7 @@ use Rattle.image_commands.specs.Told.{told_values}
 use Rattle.stub_replay.specs.Measured.{predicted_pcr}
 use Rattle.stub_replay.specs.Ordered.{part_of, present_parts}
 use Rattle.tool_words.specs.declared.command.CalculateWords.{CalculateWords}
-use Rattle.command_plans.specs.Declining.{◌>>=◌, path_in}
+use Rattle.command_plans.specs.WordErrors.{◌>>=◌, path_in}
 use Rattle.command_plans.specs.Files.{bytes_at, each}
 use Rattle.command_plans.specs.Choices.{banks_of, paths_of}
 

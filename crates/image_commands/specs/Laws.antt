@@ -10,7 +10,7 @@ use Rattle.pe_reader.specs.Grammar.{Headers}
 use Rattle.image_commands.specs.Said.{inspect_result, measure_result, section_facts}
 use Rattle.image_commands.specs.Told.{told_values}
 use Rattle.command_plans.specs.Files.{bytes_at, each, image_at}
-use Rattle.command_plans.specs.Declining.{path_in}
+use Rattle.command_plans.specs.WordErrors.{path_in}
 use Rattle.command_plans.specs.Choices.{banks_of, paths_of}
 use Rattle.stub_replay.specs.Measured.{Shows, measured_names, predicted_pcr, stub_pcr}
 use Rattle.stub_replay.specs.Ordered.{part_of}

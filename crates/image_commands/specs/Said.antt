@@ -13,7 +13,7 @@ use Rattle.pe_reader.specs.Grammar.{Headers, pe_of}
 use Rattle.boot_base.specs.Names.{short_name}
 use Rattle.pe_reader.specs.LoadedBytes.{loaded_bytes, loaded_by}
 use Rattle.stub_replay.specs.Measured.{stub_pcr}
-use Rattle.command_plans.specs.Declining.{◌>>=◌, path_in}
+use Rattle.command_plans.specs.WordErrors.{◌>>=◌, path_in}
 use Rattle.command_plans.specs.Files.{bytes_at, image_at}
 use Rattle.command_plans.specs.Choices.{banks_of, paths_of}
 

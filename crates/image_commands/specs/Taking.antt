@@ -6,7 +6,7 @@ use Rattle.pe_reader.specs.declared.fault.FailedCheck.{FailedCheck}
 use Rattle.pe_reader.specs.Grammar.{Headers}
 use Rattle.stub_replay.specs.Measured.{raw_length}
 use Rattle.tool_words.specs.declared.command.CalculateWords.{CalculateWords}
-use Rattle.command_plans.specs.Declining.{◌>>=◌, path_in}
+use Rattle.command_plans.specs.WordErrors.{◌>>=◌, path_in}
 use Rattle.command_plans.specs.Files.{bytes_at}
 use Rattle.image_commands.specs.Calculating.{given_words}
 

@@ -10,7 +10,7 @@ use Rattle.pcr_values.specs.ValueLines.{value_lines}
 use Rattle.list_json.specs.Lines.{json_line}
 use Rattle.list_json.specs.Registers.{values_data}
 use Rattle.list_json.specs.Sections.{SectionFacts, sections_data}
-use Rattle.command_plans.specs.Declining.{printed_path}
+use Rattle.command_plans.specs.WordErrors.{printed_path}
 
 -- what is printed behind a section's name: the number and the SHA-256 digest of its loaded bytes
 unfoldable pub measures : ℕ → List ℕ → List ℕ

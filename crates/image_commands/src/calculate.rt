@@ -5,7 +5,7 @@ ghost use Rattle.uki_parts.specs.Pieces.{Reading, piece_bytes, piece_length};
 ghost use Rattle.pcr_values.specs.Prelude.{fold_pcr, pcr_bank, pcr_value};
 ghost use Rattle.stub_replay.specs.Ordered.{present_parts};
 ghost use Rattle.stub_replay.specs.Parts.{HaveSizes, IsPlaced, items_of, named_bytes};
-ghost use Rattle.command_plans.specs.Prelude.{CountsStop, CountsUnsaid, DeclinesWords, Means, Plans, RefusesWords, Says, answer_of_read, bytes_at, each, path_in};
+ghost use Rattle.command_plans.specs.Prelude.{CountsRunError, CountsReadError, DeclinesWords, Means, Plans, RefusesWords, Says, answer_of_read, bytes_at, each, path_in};
 ghost use Rattle.command_plans.specs.declared.plan.Change.TheVariants.{Nothing};
 ghost use Rattle.image_commands.specs.Calculating.{calculate_result, given_words, under_name};
 ghost use Rattle.image_commands.specs.Parts.{HasItsSize, named_file, named_path, named_word};
@@ -15,7 +15,8 @@ use crate::told::told_values;
 use boot_base::{BootPath, PIECE_SIZE, Text};
 use boot_machine::Machine;
 use command_plans::{
-    Declined, Plan, Stop, Unsaid, banks_of, path_in, paths_of, push, readable_size, text_or_refusal,
+    Plan, ReadError, RunError, WordError, banks_of, path_in, paths_of, push, readable_size,
+    text_or_refusal,
 };
 use pcr_values::{Bank, Pcr};
 use std::alloc::{AllocError, Global};
@@ -38,7 +39,7 @@ fn text_of(word: &Option<Text>) -> Option<&str>
 fn given_paths(
     alloc: Global,
     words: &[(&'static [u8], Option<&str>)],
-) -> Result<Vec<(&'static [u8], BootPath)>, Declined>
+) -> Result<Vec<(&'static [u8], BootPath)>, WordError>
     ensures { Means (λ paths. map named_path paths.items) result
         (each (under_name path_in) (present_parts (map named_word words.now))) }
 {
@@ -57,7 +58,7 @@ fn given_paths(
 fn part_paths(
     alloc: Global,
     words: &CalculateWords,
-) -> Result<Vec<(&'static [u8], BootPath)>, Declined>
+) -> Result<Vec<(&'static [u8], BootPath)>, WordError>
     ensures { Means (λ paths. map named_path paths.items) result
         (each (under_name path_in) (given_words words.now)) }
 {
@@ -79,12 +80,12 @@ fn part_paths(
 }
 
 // The file at a path with its size, or its refusal.
-fn part_file<M: Machine>(alloc: Global, path: BootPath, machine: &mut M) -> Result<Piece, Unsaid>
+fn part_file<M: Machine>(alloc: Global, path: BootPath, machine: &mut M) -> Result<Piece, ReadError>
     ensures says { IsTrue M.tells → Says (piece_bytes (contents (seen (M.state machine.old)))) result
         (bytes_at (seen (M.state machine.old)) path) }
     ensures size { IfOk result (λ file. IsTrue M.tells
         → length (piece_bytes (contents (seen (M.state machine.old))) file) ≡ piece_length file) }
-    ensures looks { Looks M.tells M.time M.state M.counts (CountsUnsaid result) machine.old machine.new }
+    ensures looks { Looks M.tells M.time M.state M.counts (CountsReadError result) machine.old machine.new }
     ensures taken { IsTrue M.tells → TakesAtMost 0 (M.taken machine.old) (M.taken machine.new) }
 {
     let size = readable_size(alloc, &path, machine)?;
@@ -96,13 +97,13 @@ fn part_files<M: Machine>(
     alloc: Global,
     paths: Vec<(&'static [u8], BootPath)>,
     machine: &mut M,
-) -> Result<Vec<(&'static [u8], Piece)>, Unsaid>
+) -> Result<Vec<(&'static [u8], Piece)>, ReadError>
     ensures says { IsTrue M.tells
         → Says (λ files. map (named_file (contents (seen (M.state machine.old)))) files.items) result
         (each (under_name (bytes_at (seen (M.state machine.old)))) (map named_path paths.entry.items)) }
     ensures sizes { IfOk result (λ files. IsTrue M.tells
         → All (HasItsSize (contents (seen (M.state machine.old)))) files.items) }
-    ensures looks { Looks M.tells M.time M.state M.counts (CountsUnsaid result) machine.old machine.new }
+    ensures looks { Looks M.tells M.time M.state M.counts (CountsReadError result) machine.old machine.new }
     ensures taken { IsTrue M.tells → TakesAtMost 0 (M.taken machine.old) (M.taken machine.new) }
 {
     let mut files = Vec::new(alloc);
@@ -138,13 +139,13 @@ fn registers<M: Machine>(
     files: &[(&'static [u8], Piece)],
     banks: &[Bank],
     machine: &mut M,
-) -> Result<Vec<Pcr>, Unsaid>
+) -> Result<Vec<Pcr>, ReadError>
     ensures banks { IfOk result (λ registers. map pcr_bank registers.items ≡ banks.now) }
     ensures says { IsTrue M.tells → All (HasItsSize (contents (seen (M.state machine.old)))) files.now
         → Says (λ registers. map pcr_value registers.items) result
         (Ok (map (fold_pcr (items_of (map (named_file (contents (seen (M.state machine.old)))) files.now)))
         banks.now)) }
-    ensures looks { Looks M.tells M.time M.state M.counts (CountsUnsaid result) machine.old machine.new }
+    ensures looks { Looks M.tells M.time M.state M.counts (CountsReadError result) machine.old machine.new }
     ensures taken { IsTrue M.tells → All (HasItsSize (contents (seen (M.state machine.old)))) files.now
         → TakesAtMost (sum_by (λ part. length part.1)
         (map (named_file (contents (seen (M.state machine.old)))) files.now))
@@ -160,10 +161,10 @@ fn calculate_result<M: Machine>(
     alloc: Global,
     words: &CalculateWords,
     machine: &mut M,
-) -> Result<Vec<u8>, Unsaid>
+) -> Result<Vec<u8>, ReadError>
     ensures says { IsTrue M.tells → Says (λ text. text.items) result
         (calculate_result (seen (M.state machine.old)) words.now) }
-    ensures looks { Looks M.tells M.time M.state M.counts (CountsUnsaid result) machine.old machine.new }
+    ensures looks { Looks M.tells M.time M.state M.counts (CountsReadError result) machine.old machine.new }
     ensures words { DeclinesWords (each (under_name path_in) (given_words words.now)) result }
     ensures taken { IsTrue M.tells
         → TakesAtMost (named_length (seen (M.state machine.old)) words.now)
@@ -183,11 +184,11 @@ pub fn plan_calculate<M: Machine>(
     alloc: Global,
     words: &CalculateWords,
     machine: &mut M,
-) -> Result<Plan, Stop>
+) -> Result<Plan, RunError>
     ensures plans { IfOk result (λ plan. IsTrue M.tells → Plans (M.state machine.old) plan
         (answer_of_read (seen (M.state machine.old)) (calculate_result (seen (M.state machine.old)) words.now))) }
     ensures idle { IfOk result (λ plan. plan.change ≡ Nothing) }
-    ensures looks { Looks M.tells M.time M.state M.counts (CountsStop result) machine.old machine.new }
+    ensures looks { Looks M.tells M.time M.state M.counts (CountsRunError result) machine.old machine.new }
     ensures words { RefusesWords (each (under_name path_in) (given_words words.now)) result }
     ensures taken { IsTrue M.tells
         → TakesAtMost (named_length (seen (M.state machine.old)) words.now)

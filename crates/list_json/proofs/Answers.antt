@@ -7,7 +7,7 @@ use Rattle.menu_order.specs.declared.item.MenuItem.{MenuItem}
 use Rattle.pcr_values.specs.declared.bank.Bank.{Bank}
 use Rattle.serde_json.specs.Data.{string, array}
 use Rattle.serde_json.specs.View.{items_of}
-use Rattle.boot_folder.specs.Listing.{title_or_base}
+use Rattle.boot_entries.specs.Listing.{title_or_base}
 use Rattle.list_json.specs.Menus.{number_data, texts_array, joined_texts, name_members, key_members, counter_members, boot_members, entry_members, entry_data, menu_data}
 use Rattle.list_json.specs.Sections.{SectionFacts, section_data, section_members, sections_data}
 use Rattle.list_json.specs.Registers.{value_members, value_data, bank_member, register_member, registers_data, values_data}

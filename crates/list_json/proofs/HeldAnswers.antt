@@ -14,7 +14,7 @@ use Rattle.json.proofs.Printed.Utf8.{are_ascii, IsUtf8-are_ascii}
 use Rattle.serde_json.specs.Data.{string}
 use Rattle.serde_json.specs.View.{items_of}
 use Rattle.boot_base.specs.Names.{shown_byte}
-use Rattle.boot_folder.specs.Listing.{title_or_base}
+use Rattle.boot_entries.specs.Listing.{title_or_base}
 use Rattle.menu_order.specs.declared.item.Counter.{Counter}
 use Rattle.menu_order.specs.declared.item.MenuItem.{MenuItem}
 use Rattle.pcr_values.specs.declared.bank.Bank.{Bank}

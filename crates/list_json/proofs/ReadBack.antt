@@ -3,7 +3,7 @@ use Rattle.std.proofs.Common.{◌≡◌, ℕ, List, [], ◌∷◌, ◌++◌, map
 use Rattle.std.specs.Prelude.{⊤, option_map, option_and_then}
 use Rattle.menu_order.specs.declared.item.Counter.{Counter}
 use Rattle.menu_order.specs.declared.item.MenuItem.{MenuItem}
-use Rattle.boot_folder.specs.Listing.{title_or_base}
+use Rattle.boot_entries.specs.Listing.{title_or_base}
 use Rattle.serde_json.specs.Data.{Data, string, array, object, Members, no_members, put, item}
 use Rattle.serde_json.specs.Read.{of_json, of_items, of_members}
 use Rattle.serde_json.specs.View.{items_of}

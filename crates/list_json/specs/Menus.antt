@@ -8,7 +8,7 @@ use Rattle.menu_order.specs.declared.counted.Suffix.{Suffix}
 use Rattle.menu_order.specs.declared.counted.Suffix.TheVariants.{Conf, Efi}
 use Rattle.menu_order.specs.declared.item.Counter.{Counter}
 use Rattle.menu_order.specs.declared.item.MenuItem.{MenuItem}
-use Rattle.boot_folder.specs.Listing.{behind_space, status_text, title_or_base}
+use Rattle.boot_entries.specs.Listing.{behind_space, status_text, title_or_base}
 use Rattle.list_json.specs.Objects.{MaybeMember, object_of, are_text}
 
 -- the type of an entry by its file's suffix (UAPI Boot Loader Specification)

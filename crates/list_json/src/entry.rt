@@ -12,7 +12,7 @@ ghost use Rattle.list_json.specs.Tokens.{CounterReads, ReadsBack, state_rows, da
 use crate::fault::Untold;
 use crate::member::{write_bytes, write_item, write_maybe, write_number, write_str};
 use boot_base::{BootPath, Bytes};
-use boot_folder::{join_texts, status_text, title};
+use boot_entries::{join_texts, status_text, title};
 use json::Writer;
 use menu_order::{Counter, MenuItem, Suffix};
 use std::alloc::{AllocError, Global};

@@ -4,12 +4,12 @@ use Rattle.boot_base.specs.Limits.{text_limit}
 use Rattle.boot_base.specs.Paths.{Path}
 use Rattle.boot_base.specs.declared.refusal.Refusal.{Refusal}
 use Rattle.boot_base.specs.declared.refusal.Refusal.TheVariants as refusals
-use Rattle.boot_folder.specs.Entries.{boot_menu, entry_count}
-use Rattle.boot_folder.specs.declared.folders.Folders.{Folders}
+use Rattle.boot_entries.specs.Entries.{boot_menu, entry_count}
+use Rattle.boot_entries.specs.declared.folders.Folders.{Folders}
 use Rattle.boot_machine.specs.Prelude.{Files}
 use Rattle.command_plans.specs.Prelude.{◌>>=◌, printed_path, menu_at, Says}
-use Rattle.command_plans.specs.declared.unsaid.Unsaid.{Unsaid}
-use Rattle.command_plans.proofs.Declining.{done_next}
+use Rattle.command_plans.specs.declared.read_error.ReadError.{ReadError}
+use Rattle.command_plans.proofs.WordErrors.{done_next}
 use Rattle.loader_commands.specs.Laws.{ChangesOneKey, ShowsDefaultEntry}
 use Rattle.loader_commands.specs.Places.{conf_bytes, conf_path, loader_paths, within_limit}
 use Rattle.loader_commands.specs.Setting.{bad_value, conf_update, changed_text, value_in}
@@ -84,7 +84,7 @@ tells view word text is =
     }
 
 -- what is told of a menu is told of the ESP
-pub shown_by : {X : Type 0} (shows : X → List ℕ) (result : Result X Unsaid) (view : Files) (word : List ℕ) (paths : LoaderPaths) (bytes : List ℕ) (menu : List MenuItem)
+pub shown_by : {X : Type 0} (shows : X → List ℕ) (result : Result X ReadError) (view : Files) (word : List ℕ) (paths : LoaderPaths) (bytes : List ℕ) (menu : List MenuItem)
     → loader_paths word ≡ Ok paths → conf_bytes view paths.conf ≡ Ok bytes → menu_at view paths.folders ≡ Ok menu
     → Says shows result (menu_shown bytes menu) → Says shows result (show_result view word)
 shown_by shows result view word paths bytes menu paths_are bytes_are menu_is says =

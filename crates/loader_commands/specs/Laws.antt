@@ -1,7 +1,7 @@
 -- What the commands on loader.conf come to, in the terms of loader.conf(5).
 use Rattle.std.specs.Prelude.{◌≡◌, ℕ, List, [], ◌∷◌, ◌++◌, filter, map, slice_get, Some, Ok}
 use Rattle.boot_base.specs.Paths.{Path}
-use Rattle.boot_folder.specs.Entries.{boot_menu}
+use Rattle.boot_entries.specs.Entries.{boot_menu}
 use Rattle.boot_machine.specs.Disk.{Files}
 use Rattle.loader_commands.specs.Places.{conf_bytes, conf_path, loader_paths}
 use Rattle.loader_commands.specs.Setting.{conf_update}

@@ -6,7 +6,7 @@ use Rattle.boot_base.specs.Paths.{Path}
 use Rattle.boot_base.specs.declared.refusal.Refusal.{Refusal}
 use Rattle.boot_base.specs.declared.refusal.Refusal.TheVariants as refusals
 use Rattle.boot_machine.specs.Disk.{Files}
-use Rattle.command_plans.specs.Declining.{◌>>=◌, path_in, path_under, printed_path}
+use Rattle.command_plans.specs.WordErrors.{◌>>=◌, path_in, path_under, printed_path}
 use Rattle.command_plans.specs.Folders.{folders_of}
 use Rattle.loader_commands.specs.declared.places.LoaderPaths.{LoaderPaths}
 

@@ -6,7 +6,7 @@ use Rattle.boot_base.specs.declared.refusal.Refusal.{Refusal}
 use Rattle.boot_base.specs.declared.refusal.Refusal.TheVariants as refusals
 use Rattle.boot_machine.specs.Disk.{Files}
 use Rattle.command_plans.specs.Answers.{Answer, answer_or_refusal, done_answer}
-use Rattle.command_plans.specs.Declining.{◌>>=◌}
+use Rattle.command_plans.specs.WordErrors.{◌>>=◌}
 use Rattle.loader_commands.specs.Places.{conf_bytes, conf_path, within_limit}
 use Rattle.boot_texts.specs.Conf.{conf_key_name, may_be_value}
 use Rattle.boot_texts.specs.FileLines.{text_with_value}

@@ -5,7 +5,7 @@ use Rattle.boot_base.specs.declared.refusal.Refusal.TheVariants as refusals
 use Rattle.menu_order.specs.Ids.{entry_id}
 use Rattle.boot_machine.specs.Disk.{Files}
 use Rattle.command_plans.specs.Answers.{Answer, answer_of_read}
-use Rattle.command_plans.specs.Declining.{◌>>=◌, printed_path}
+use Rattle.command_plans.specs.WordErrors.{◌>>=◌, printed_path}
 use Rattle.command_plans.specs.Menus.{menu_at}
 use Rattle.loader_commands.specs.Places.{conf_bytes, loader_paths}
 use Rattle.boot_texts.specs.ConfChoice.{default_place}

@@ -2,14 +2,14 @@
 ghost use Rattle.std.specs.Prelude.{IsTrue};
 ghost use Rattle.boot_base.specs.Limits.{text_limit};
 ghost use Rattle.boot_machine.specs.Prelude.{Looks, TakesAtMost, seen};
-ghost use Rattle.command_plans.specs.Prelude.{CountsUnsaid, Means, Says};
+ghost use Rattle.command_plans.specs.Prelude.{CountsReadError, Means, Says};
 ghost use Rattle.loader_commands.specs.Places.{conf_bytes, conf_path, loader_paths};
 
 use boot_base::{BootPath, TEXT_LIMIT};
-use boot_folder::Folders;
+use boot_entries::Folders;
 use boot_machine::Machine;
 use command_plans::{
-    Declined, Unsaid, file_part, folders_in, path_in, path_under, seen_size, too_large,
+    ReadError, WordError, file_part, folders_in, path_in, path_under, seen_size, too_large,
 };
 use std::alloc::{AllocError, Global};
 
@@ -23,7 +23,7 @@ pub(crate) struct LoaderPaths {
 }
 
 /// The path of the loader.conf of the partition that a word names, or the first refusal.
-pub(crate) fn conf_path(alloc: Global, esp: &str) -> Result<BootPath, Declined>
+pub(crate) fn conf_path(alloc: Global, esp: &str) -> Result<BootPath, WordError>
     ensures means { Means (λ path. path) result (conf_path esp.now) }
 {
     let esp = path_in(alloc, esp)?;
@@ -32,7 +32,7 @@ pub(crate) fn conf_path(alloc: Global, esp: &str) -> Result<BootPath, Declined>
 }
 
 /// The paths of the partition that a word names, or the first refusal.
-pub(crate) fn loader_paths(alloc: Global, esp: &str) -> Result<LoaderPaths, Declined>
+pub(crate) fn loader_paths(alloc: Global, esp: &str) -> Result<LoaderPaths, WordError>
     ensures { Means (λ paths. paths) result (loader_paths esp.now) }
 {
     let folders = folders_in(alloc, esp)?;
@@ -45,15 +45,15 @@ pub(crate) fn conf_bytes<M: Machine>(
     alloc: Global,
     path: &BootPath,
     machine: &mut M,
-) -> Result<Vec<u8>, Unsaid>
+) -> Result<Vec<u8>, ReadError>
     ensures says { IsTrue M.tells → Says (λ bytes. bytes.items) result
         (conf_bytes (seen (M.state machine.old)) path.now) }
-    ensures looks { Looks M.tells M.time M.state M.counts (CountsUnsaid result) machine.old machine.new }
+    ensures looks { Looks M.tells M.time M.state M.counts (CountsReadError result) machine.old machine.new }
     ensures taken { IsTrue M.tells → TakesAtMost text_limit (M.taken machine.old) (M.taken machine.new) }
 {
     match seen_size(path, machine)? {
         None => Ok(Vec::new(alloc)),
-        Some(size) if size > TEXT_LIMIT => Err(Unsaid::Refused(too_large(alloc, path, size)?)),
+        Some(size) if size > TEXT_LIMIT => Err(ReadError::Refused(too_large(alloc, path, size)?)),
         Some(size) => file_part(alloc, path, 0, size, machine),
     }
 }

@@ -2,7 +2,7 @@
 ghost use Rattle.std.specs.Prelude.{◌≡◌, IfOk, IsTrue, OnOk};
 ghost use Rattle.boot_base.specs.Limits.{text_limit};
 ghost use Rattle.boot_machine.specs.Prelude.{Counts, Looks, TakesAtMost, seen};
-ghost use Rattle.command_plans.specs.Prelude.{CountsStop, CountsUnsaid, DeclinesWords, Means, Plans, PlansAs, RefusesWords, Says};
+ghost use Rattle.command_plans.specs.Prelude.{CountsRunError, CountsReadError, DeclinesWords, Means, Plans, PlansAs, RefusesWords, Says};
 ghost use Rattle.loader_commands.specs.Places.{within_limit};
 ghost use Rattle.loader_commands.specs.Setting.{bad_value, conf_update, conf_words, set_answer, set_result, set_text, changed_text, value_in};
 ghost use Rattle.boot_texts.specs.Conf.{IsConfValue, conf_key_name};
@@ -13,7 +13,9 @@ use crate::places::{conf_bytes, conf_path};
 use boot_base::{BootPath, Bytes, Refusal, TEXT_LIMIT, Target, Text};
 use boot_machine::Machine;
 use boot_texts::{ConfKey, may_be_value, with_key};
-use command_plans::{Change, Declined, Outcome, Plan, Stop, Unsaid, answer_or_refusal, too_large};
+use command_plans::{
+    Change, Outcome, Plan, ReadError, RunError, WordError, answer_or_refusal, too_large,
+};
 use std::alloc::{AllocError, Global};
 
 /// A change of a loader.conf: where it is written, its whole new text, and what is told of it.
@@ -35,24 +37,24 @@ fn bad_value(alloc: Global, key: ConfKey, word: &str) -> Result<Refusal, AllocEr
 }
 
 // The word may be written for the key, or the refusal of the word.
-fn check_value(alloc: Global, key: ConfKey, word: &str) -> Result<(), Declined>
+fn check_value(alloc: Global, key: ConfKey, word: &str) -> Result<(), WordError>
     ensures means { Means (λ _. word.now) result (value_in key word.now) }
     ensures fits { OnOk result (IsConfValue key word.now) }
 {
     if !may_be_value(key, word.as_bytes()) {
-        return Err(Declined::Refused(bad_value(alloc, key, word)?));
+        return Err(WordError::Refused(bad_value(alloc, key, word)?));
     }
     Ok(())
 }
 
 // The text, unless it is too long for the loader.conf at the path.
-fn within_limit(alloc: Global, path: &BootPath, text: Vec<u8>) -> Result<Vec<u8>, Unsaid>
+fn within_limit(alloc: Global, path: &BootPath, text: Vec<u8>) -> Result<Vec<u8>, ReadError>
     ensures says { Says (λ text. text.items) result (within_limit path.now text.items) }
-    ensures counts { (counts : Counts) → CountsUnsaid result counts counts }
+    ensures counts { (counts : Counts) → CountsReadError result counts counts }
 {
     let size = text.len() as u64;
     if size > TEXT_LIMIT {
-        return Err(Unsaid::Refused(too_large(alloc, path, size)?));
+        return Err(ReadError::Refused(too_large(alloc, path, size)?));
     }
     Ok(text)
 }
@@ -64,11 +66,11 @@ fn changed_text<M: Machine>(
     value: &str,
     path: &BootPath,
     machine: &mut M,
-) -> Result<Vec<u8>, Unsaid>
+) -> Result<Vec<u8>, ReadError>
     requires { IsConfValue key value.now }
     ensures says { IsTrue M.tells
         → Says (λ text. text.items) result (changed_text (seen (M.state machine.old)) key value.now path.now) }
-    ensures looks { Looks M.tells M.time M.state M.counts (CountsUnsaid result) machine.old machine.new }
+    ensures looks { Looks M.tells M.time M.state M.counts (CountsReadError result) machine.old machine.new }
     ensures taken { IsTrue M.tells → TakesAtMost text_limit (M.taken machine.old) (M.taken machine.new) }
 {
     let bytes = conf_bytes(alloc, path, machine)?;
@@ -110,11 +112,11 @@ fn conf_update<M: Machine>(
     value: &str,
     esp: &str,
     machine: &mut M,
-) -> Result<ConfChange, Unsaid>
+) -> Result<ConfChange, ReadError>
     ensures says { IsTrue M.tells → Says (λ change. (change.target.path, change.bytes)) result
         (conf_update (seen (M.state machine.old)) key value.now esp.now) }
     ensures text { IfOk result (λ change. change.text ≡ set_text key value.now) }
-    ensures looks { Looks M.tells M.time M.state M.counts (CountsUnsaid result) machine.old machine.new }
+    ensures looks { Looks M.tells M.time M.state M.counts (CountsReadError result) machine.old machine.new }
     ensures taken { IsTrue M.tells → TakesAtMost text_limit (M.taken machine.old) (M.taken machine.new) }
     ensures words { DeclinesWords (conf_words key value.now esp.now) result }
 {
@@ -131,10 +133,10 @@ fn set_plan<M: Machine>(
     value: &str,
     esp: &str,
     machine: &mut M,
-) -> Result<Plan, Unsaid>
+) -> Result<Plan, ReadError>
     ensures plans { IsTrue M.tells → PlansAs (M.state machine.old) result
         (set_result (seen (M.state machine.old)) key value.now esp.now) }
-    ensures looks { Looks M.tells M.time M.state M.counts (CountsUnsaid result) machine.old machine.new }
+    ensures looks { Looks M.tells M.time M.state M.counts (CountsReadError result) machine.old machine.new }
     ensures taken { IsTrue M.tells → TakesAtMost text_limit (M.taken machine.old) (M.taken machine.new) }
     ensures words { DeclinesWords (conf_words key value.now esp.now) result }
 {
@@ -156,10 +158,10 @@ pub fn plan_default<M: Machine>(
     pattern: &str,
     esp: &str,
     machine: &mut M,
-) -> Result<Plan, Stop>
+) -> Result<Plan, RunError>
     ensures plans { IfOk result (λ plan. IsTrue M.tells → Plans (M.state machine.old) plan
         (set_answer (seen (M.state machine.old)) keys.Default pattern.now esp.now)) }
-    ensures looks { Looks M.tells M.time M.state M.counts (CountsStop result) machine.old machine.new }
+    ensures looks { Looks M.tells M.time M.state M.counts (CountsRunError result) machine.old machine.new }
     ensures taken { IsTrue M.tells → TakesAtMost text_limit (M.taken machine.old) (M.taken machine.new) }
     ensures words { RefusesWords (conf_words keys.Default pattern.now esp.now) result }
 {
@@ -173,10 +175,10 @@ pub fn plan_timeout<M: Machine>(
     value: &str,
     esp: &str,
     machine: &mut M,
-) -> Result<Plan, Stop>
+) -> Result<Plan, RunError>
     ensures plans { IfOk result (λ plan. IsTrue M.tells → Plans (M.state machine.old) plan
         (set_answer (seen (M.state machine.old)) keys.Timeout value.now esp.now)) }
-    ensures looks { Looks M.tells M.time M.state M.counts (CountsStop result) machine.old machine.new }
+    ensures looks { Looks M.tells M.time M.state M.counts (CountsRunError result) machine.old machine.new }
     ensures taken { IsTrue M.tells → TakesAtMost text_limit (M.taken machine.old) (M.taken machine.new) }
     ensures words { RefusesWords (conf_words keys.Timeout value.now esp.now) result }
 {

@@ -1,7 +1,7 @@
 //! `loader show`.
 ghost use Rattle.std.specs.Prelude.{◌≡◌, IfOk, IsTrue, option_copied};
 ghost use Rattle.boot_machine.specs.Prelude.{Counts, Looks, TakesAtMost, seen};
-ghost use Rattle.command_plans.specs.Prelude.{CountsStop, CountsUnsaid, DeclinesWords, Plans, RefusesWords, Says};
+ghost use Rattle.command_plans.specs.Prelude.{CountsRunError, CountsReadError, DeclinesWords, Plans, RefusesWords, Says};
 ghost use Rattle.command_plans.specs.declared.plan.Change.TheVariants.{Nothing};
 ghost use Rattle.loader_commands.specs.Places.{loader_paths};
 ghost use Rattle.loader_commands.specs.Taking.{show_limit};
@@ -9,10 +9,10 @@ ghost use Rattle.loader_commands.specs.Showing.{default_item, menu_shown, show_a
 
 use crate::places::{conf_bytes, loader_paths};
 use boot_base::{Bytes, Refusal};
-use boot_folder::choose_entry;
+use boot_entries::choose_entry;
 use boot_machine::Machine;
 use boot_texts::LoaderConf;
-use command_plans::{Plan, Stop, Unsaid, menu_at, text_or_refusal};
+use command_plans::{Plan, ReadError, RunError, menu_at, text_or_refusal};
 use menu_order::MenuItem;
 use std::alloc::{AllocError, Global};
 
@@ -55,21 +55,21 @@ fn show_text(alloc: Global, item: &MenuItem, conf: &LoaderConf) -> Result<Vec<u8
 }
 
 // What is told of a menu by the bytes of a loader.conf.
-fn menu_shown(alloc: Global, bytes: &[u8], menu: &[MenuItem]) -> Result<Vec<u8>, Unsaid>
+fn menu_shown(alloc: Global, bytes: &[u8], menu: &[MenuItem]) -> Result<Vec<u8>, ReadError>
     ensures says { Says (λ text. text.items) result (menu_shown bytes.now menu.now) }
-    ensures counts { (counts : Counts) → CountsUnsaid result counts counts }
+    ensures counts { (counts : Counts) → CountsReadError result counts counts }
 {
     let conf = LoaderConf::read(alloc, bytes)?;
     match default_item(alloc, menu, &conf)? {
         Some(item) => Ok(show_text(alloc, item, &conf)?),
-        None => Err(Unsaid::Refused(Refusal::NoEntries)),
+        None => Err(ReadError::Refused(Refusal::NoEntries)),
     }
 }
 
-fn show_result<M: Machine>(alloc: Global, esp: &str, machine: &mut M) -> Result<Vec<u8>, Unsaid>
+fn show_result<M: Machine>(alloc: Global, esp: &str, machine: &mut M) -> Result<Vec<u8>, ReadError>
     ensures says { IsTrue M.tells
         → Says (λ text. text.items) result (show_result (seen (M.state machine.old)) esp.now) }
-    ensures looks { Looks M.tells M.time M.state M.counts (CountsUnsaid result) machine.old machine.new }
+    ensures looks { Looks M.tells M.time M.state M.counts (CountsReadError result) machine.old machine.new }
     ensures taken { IsTrue M.tells
         → TakesAtMost (show_limit (M.state machine.old).files (loader_paths esp.now)) (M.taken machine.old)
         (M.taken machine.new) }
@@ -83,11 +83,11 @@ fn show_result<M: Machine>(alloc: Global, esp: &str, machine: &mut M) -> Result<
 
 /// What is going to be told of the entry that boots by default in an EFI system partition: its id, its file and how
 /// long the menu waits. Of the entries only headers and texts are read, and at most 65,536 bytes of loader.conf.
-pub fn plan_show<M: Machine>(alloc: Global, esp: &str, machine: &mut M) -> Result<Plan, Stop>
+pub fn plan_show<M: Machine>(alloc: Global, esp: &str, machine: &mut M) -> Result<Plan, RunError>
     ensures plans { IfOk result (λ plan. IsTrue M.tells → Plans (M.state machine.old) plan
         (show_answer (seen (M.state machine.old)) esp.now)) }
     ensures idle { IfOk result (λ plan. plan.change ≡ Nothing) }
-    ensures looks { Looks M.tells M.time M.state M.counts (CountsStop result) machine.old machine.new }
+    ensures looks { Looks M.tells M.time M.state M.counts (CountsRunError result) machine.old machine.new }
     ensures taken { IsTrue M.tells
         → TakesAtMost (show_limit (M.state machine.old).files (loader_paths esp.now)) (M.taken machine.old)
         (M.taken machine.new) }

@@ -6,8 +6,8 @@ use Rattle.std.proofs.lemmas.List.Elements.{All-cons, All-nil}
 use Rattle.boot_base.specs.Layout.{entries_below, images_below}
 use Rattle.boot_base.specs.Paths.{Path, is_kept, is_slash, normal_of, under}
 use Rattle.boot_base.specs.declared.refusal.Refusal.TheVariants as refusals
-use Rattle.boot_folder.specs.Entries.{boot_menu, entry_count}
-use Rattle.boot_folder.specs.declared.folders.Folders.{Folders}
+use Rattle.boot_entries.specs.Entries.{boot_menu, entry_count}
+use Rattle.boot_entries.specs.declared.folders.Folders.{Folders}
 use Rattle.boot_machine.specs.Prelude.{Files}
 use Rattle.menu_order.specs.declared.item.MenuItem.{MenuItem}
 use Rattle.command_plans.specs.Prelude.{path_in, path_under, folders_of}

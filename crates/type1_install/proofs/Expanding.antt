@@ -8,15 +8,15 @@ use Rattle.boot_texts.specs.declared.entry.Type1.{Type1}
 use Rattle.tool_words.specs.declared.action.Action.{Action}
 use Rattle.tool_words.specs.declared.action.Action.TheVariants as action
 use Rattle.tool_words.specs.declared.command.Type1Words.{Type1Words}
-use Rattle.command_plans.specs.Prelude.{◌>>=◌, bytes_at, each, UnsaidFor}
-use Rattle.command_plans.specs.declared.unsaid.Unsaid.{Unsaid}
-use Rattle.command_plans.specs.declared.unsaid.Unsaid.TheVariants as unsaid
-use Rattle.command_plans.proofs.Declining.{done_next}
+use Rattle.command_plans.specs.Prelude.{◌>>=◌, bytes_at, each, ReadErrorFor}
+use Rattle.command_plans.specs.declared.read_error.ReadError.{ReadError}
+use Rattle.command_plans.specs.declared.read_error.ReadError.TheVariants as read_errors
+use Rattle.command_plans.proofs.WordErrors.{done_next}
 use Rattle.type1_install.specs.Installing.{Type1Plan, enter_of, entry_fields, install_commands, install_expansion, install_plan, planned_install, put_of, value_of_file}
 use Rattle.type1_install.specs.Payloads.{payload_folder}
 use Rattle.type1_install.specs.Shown.{fields_with, payload_at, payload_of, put_in, value_of_payload}
 use Rattle.type1_install.specs.declared.payload.Payload.{Payload}
-use Rattle.type1_install.proofs.Payloads.{unsaid_first}
+use Rattle.type1_install.proofs.Payloads.{read_error_first}
 
 -- ---- the payloads of files are made where their bytes are read
 
@@ -44,11 +44,11 @@ by_reads (Ok x) made found b is = (refl, cc)
 by_reads (Err why) made found b is = cc
 
 -- what is refused because of what was read is refused for that too if something else is made of it
-refused_too : {X A B : Type 0} (fault : Unsaid) (reads : Result X Refusal) (made : A) (b : B) → UnsaidFor fault (reads >>= λ x. Ok made) → UnsaidFor fault (reads >>= λ x. Ok b)
-refused_too unsaid.Memory reads made b why = tt
-refused_too unsaid.Disk reads made b why = tt
-refused_too (unsaid.Refused refusal) (Ok x) made b why = cc
-refused_too (unsaid.Refused refusal) (Err other) made b why = cc
+refused_too : {X A B : Type 0} (fault : ReadError) (reads : Result X Refusal) (made : A) (b : B) → ReadErrorFor fault (reads >>= λ x. Ok made) → ReadErrorFor fault (reads >>= λ x. Ok b)
+refused_too read_errors.Memory reads made b why = tt
+refused_too read_errors.Disk reads made b why = tt
+refused_too (read_errors.Refused refusal) (Ok x) made b why = cc
+refused_too (read_errors.Refused refusal) (Err other) made b why = cc
 
 -- ---- the whole
 
@@ -57,11 +57,11 @@ module _ (view : Files) (words : Type1Words) (plan : Type1Plan) (ok : install_pl
   files = plan.linux ∷ plan.initrds
 
   -- of files of which one is refused
-  pub expansion_refused : (fault : Unsaid) → UnsaidFor fault (each (payload_at view) (plan.linux ∷ plan.initrds)) → UnsaidFor fault (install_expansion view words)
+  pub expansion_refused : (fault : ReadError) → ReadErrorFor fault (each (payload_at view) (plan.linux ∷ plan.initrds)) → ReadErrorFor fault (install_expansion view words)
   unfolding install_expansion
   expansion_refused fault why =
-      subst (UnsaidFor fault) (sym (done_next (install_plan words) plan (planned_install view) ok))
-      (refused_too fault (each (bytes_at view) files) (map (payload_of view) files) (install_commands view plan) (subst (UnsaidFor fault) (each_payloads view files) why))
+      subst (ReadErrorFor fault) (sym (done_next (install_plan words) plan (planned_install view) ok))
+      (refused_too fault (each (bytes_at view) files) (map (payload_of view) files) (install_commands view plan) (subst (ReadErrorFor fault) (each_payloads view files) why))
 
   commands_are : (linux : Payload) (initrds : List Payload) → map (payload_of view) files ≡ linux ∷ initrds
       → install_commands view plan ≡ put_in (payload_folder plan.esp) linux ∷
@@ -93,15 +93,15 @@ module _ (view : Files) (words : Type1Words) (plan : Type1Plan) (ok : install_pl
 -- ---- the kernel and then the initrds
 
 module _ (view : Files) (file : Path) (files : List Path) where
-  pub first_unsaid : (fault : Unsaid) → UnsaidFor fault (payload_at view file) → UnsaidFor fault (each (payload_at view) (file ∷ files))
+  pub first_read_error : (fault : ReadError) → ReadErrorFor fault (payload_at view file) → ReadErrorFor fault (each (payload_at view) (file ∷ files))
   unfolding each
-  first_unsaid fault why = unsaid_first fault (payload_at view file) _ why
+  first_read_error fault why = read_error_first fault (payload_at view file) _ why
 
   module _ (first : Payload) (is : payload_at view file ≡ Ok first) where
-    pub later_unsaid : (fault : Unsaid) → UnsaidFor fault (each (payload_at view) files) → UnsaidFor fault (each (payload_at view) (file ∷ files))
+    pub later_read_error : (fault : ReadError) → ReadErrorFor fault (each (payload_at view) files) → ReadErrorFor fault (each (payload_at view) (file ∷ files))
     unfolding each
-    later_unsaid fault why =
-        subst (UnsaidFor fault) (sym (done_next (payload_at view file) first _ is)) (unsaid_first fault (each (payload_at view) files) _ why)
+    later_read_error fault why =
+        subst (ReadErrorFor fault) (sym (done_next (payload_at view file) first _ is)) (read_error_first fault (each (payload_at view) files) _ why)
 
     pub both_made : (others : List Payload) → each (payload_at view) files ≡ Ok others → each (payload_at view) (file ∷ files) ≡ Ok (first ∷ others)
     unfolding each

@@ -12,7 +12,7 @@ use Rattle.boot_base.specs.Paths.{Path, components, file_name_of, is_kept, is_pa
 use Rattle.boot_base.specs.declared.refusal.Refusal.TheVariants as refusals
 use Rattle.boot_base.proofs.Normal.{path-some}
 use Rattle.boot_machine.specs.Prelude.{Files, contents}
-use Rattle.boot_folder.proofs.Places.{file_name_under}
+use Rattle.boot_entries.proofs.Places.{file_name_under}
 use Rattle.command_plans.specs.Prelude.{path_under, printed_path, bytes_at, each, readable_bytes}
 use Rattle.command_plans.proofs.ReadPaths.{read_if, read_of}
 use Rattle.boot_base.proofs.Beside.{file_name_whole, normal_more}

@@ -5,9 +5,9 @@ use Rattle.std.proofs.lemmas.List.Elements.{All-contains, All-weaker, All-contai
 use Rattle.boot_base.specs.Paths.{Path, under}
 use Rattle.boot_base.specs.declared.refusal.Refusal.{Refusal}
 use Rattle.boot_machine.specs.Prelude.{Files, has, IsNamesOf}
-use Rattle.command_plans.specs.Prelude.{UnsaidFor}
-use Rattle.command_plans.specs.declared.unsaid.Unsaid.{Unsaid}
-use Rattle.command_plans.specs.declared.unsaid.Unsaid.TheVariants as unsaid
+use Rattle.command_plans.specs.Prelude.{ReadErrorFor}
+use Rattle.command_plans.specs.declared.read_error.ReadError.{ReadError}
+use Rattle.command_plans.specs.declared.read_error.ReadError.TheVariants as read_errors
 use Rattle.type1_install.specs.Unnamed.{IsNoRefusal}
 use Rattle.type1_install.specs.Sweeping.{HasPayloadTemps, IsBesidePayload, is_payload_temp, temps_beside}
 
@@ -63,7 +63,7 @@ module _ (folder : Path) where
       All-contains (IsKept (temps_beside folder names)) names name (each_kept names) ((are.each name).1 (is_name, there)) temp
 
 -- nothing is refused there
-pub unsaid_any : {X : Type 0} (fault : Unsaid) (meant : Result X Refusal) → IsNoRefusal fault → UnsaidFor fault meant
-unsaid_any unsaid.Memory meant is = tt
-unsaid_any unsaid.Disk meant is = tt
-unsaid_any (unsaid.Refused why) meant is = absurd is
+pub read_error_any : {X : Type 0} (fault : ReadError) (meant : Result X Refusal) → IsNoRefusal fault → ReadErrorFor fault meant
+read_error_any read_errors.Memory meant is = tt
+read_error_any read_errors.Disk meant is = tt
+read_error_any (read_errors.Refused why) meant is = absurd is

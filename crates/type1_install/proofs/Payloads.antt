@@ -9,10 +9,10 @@ use Rattle.boot_machine.specs.Prelude.{Files, contents}
 use Rattle.boot_texts.specs.EntryText.{is_hex_lower, is_payload_name}
 use Rattle.pcr_values.specs.Prelude.{digest_of}
 use Rattle.pcr_values.specs.declared.bank.Bank.TheVariants.{Sha256}
-use Rattle.command_plans.specs.Prelude.{◌>>=◌, bytes_at, each, UnsaidFor}
-use Rattle.command_plans.specs.declared.unsaid.Unsaid.{Unsaid}
-use Rattle.command_plans.specs.declared.unsaid.Unsaid.TheVariants as unsaid
-use Rattle.command_plans.proofs.Declining.{done_next}
+use Rattle.command_plans.specs.Prelude.{◌>>=◌, bytes_at, each, ReadErrorFor}
+use Rattle.command_plans.specs.declared.read_error.ReadError.{ReadError}
+use Rattle.command_plans.specs.declared.read_error.ReadError.TheVariants as read_errors
+use Rattle.command_plans.proofs.WordErrors.{done_next}
 use Rattle.command_plans.proofs.Each.{each_refused}
 use Rattle.std.proofs.lemmas.List.{drop_more, take-append-drop}
 use Rattle.type1_install.specs.Payloads.{payload_name}
@@ -34,11 +34,11 @@ hex_name bytes name count small is =
 
 -- ---- one payload
 
-pub unsaid_first : {X Y : Type 0} (fault : Unsaid) (first : Result X Refusal) (next : X → Result Y Refusal) → UnsaidFor fault first
-    → UnsaidFor fault (first >>= next)
-unsaid_first unsaid.Memory first next why = tt
-unsaid_first unsaid.Disk first next why = tt
-unsaid_first (unsaid.Refused refusal) first next why = ap (λ (r : Result _ Refusal). r >>= next) why
+pub read_error_first : {X Y : Type 0} (fault : ReadError) (first : Result X Refusal) (next : X → Result Y Refusal) → ReadErrorFor fault first
+    → ReadErrorFor fault (first >>= next)
+read_error_first read_errors.Memory first next why = tt
+read_error_first read_errors.Disk first next why = tt
+read_error_first (read_errors.Refused refusal) first next why = ap (λ (r : Result _ Refusal). r >>= next) why
 
 pub payload_made : (view files : Files) (file copy : Path) (bytes digest name : List ℕ) → bytes_at view file ≡ Ok bytes
     → contents view file ≡ contents files file → digest ≡ digest_of Sha256 (contents files file) → name ≡ encode_lower digest → copy ≡ file
@@ -51,10 +51,10 @@ payload_made view files file copy bytes digest name read held digest_is name_is 
 
 -- ---- one payload after the other
 
-pub taken_unsaid : {A B : Type 0} (f : A → Result B Refusal) (xs : List A) (i : ℕ) (ys : List B) (x d : A) (fault : Unsaid) → i < length xs
-    → each f (take i xs) ≡ Ok ys → x ≡ get_or xs i d → UnsaidFor fault (f x) → UnsaidFor fault (each f xs)
-taken_unsaid f xs i ys x d unsaid.Memory inside before is_item why = tt
-taken_unsaid f xs i ys x d unsaid.Disk inside before is_item why = tt
-taken_unsaid f xs i ys x d (unsaid.Refused refusal) inside before is_item why =
+pub taken_read_error : {A B : Type 0} (f : A → Result B Refusal) (xs : List A) (i : ℕ) (ys : List B) (x d : A) (fault : ReadError) → i < length xs
+    → each f (take i xs) ≡ Ok ys → x ≡ get_or xs i d → ReadErrorFor fault (f x) → ReadErrorFor fault (each f xs)
+taken_read_error f xs i ys x d read_errors.Memory inside before is_item why = tt
+taken_read_error f xs i ys x d read_errors.Disk inside before is_item why = tt
+taken_read_error f xs i ys x d (read_errors.Refused refusal) inside before is_item why =
     ap (each f) (sym (take-append-drop i xs) ∙ ap (λ l. take i xs ++ l) (drop_more xs i d inside))
     ∙ each_refused f (take i xs) ys (get_or xs i d) _ refusal before (ap f (sym is_item) ∙ why)

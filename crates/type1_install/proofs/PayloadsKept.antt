@@ -9,7 +9,7 @@ use Rattle.menu_order.specs.Splits.{has_suffix, stem_of}
 use Rattle.menu_order.proofs.Splitting.{suffix_cut}
 use Rattle.menu_order.specs.declared.counted.Suffix.{Suffix}
 use Rattle.menu_order.specs.declared.counted.Suffix.TheVariants.{Conf, Efi}
-use Rattle.boot_folder.proofs.Places.{file_name_under, name_parts}
+use Rattle.boot_entries.proofs.Places.{file_name_under, name_parts}
 use Rattle.boot_machine.specs.Prelude.{Files, has}
 use Rattle.boot_machine.specs.proofs.Maps.{cases_same, get-insert_apart, get-insert_here}
 use Rattle.boot_texts.specs.BootEntries.{type1_of}

@@ -9,24 +9,24 @@ use Rattle.boot_texts.specs.EntryText.{is_payload_name}
 use Rattle.menu_order.specs.declared.item.MenuItem.{MenuItem}
 use Rattle.type1_install.specs.Payloads.{is_named_by, item_names, path_of_value, named_values, names_path}
 use Rattle.boot_base.specs.declared.refusal.Refusal.{Refusal}
-use Rattle.command_plans.specs.Prelude.{Says, UnsaidFor}
-use Rattle.command_plans.specs.declared.unsaid.Unsaid.{Unsaid}
-use Rattle.command_plans.specs.declared.unsaid.Unsaid.TheVariants as unsaid
+use Rattle.command_plans.specs.Prelude.{Says, ReadErrorFor}
+use Rattle.command_plans.specs.declared.read_error.ReadError.{ReadError}
+use Rattle.command_plans.specs.declared.read_error.ReadError.TheVariants as read_errors
 use Rattle.type1_install.specs.Unnamed.{IsNoRefusal, paths_named_by, unnamed_among}
 
 -- ---- what fails before the paths are found
 
 -- what is meant is left open where nothing is refused
-left_open : {Y : Type 0} (fault : Unsaid) (meant : Result Y Refusal) → IsNoRefusal fault → UnsaidFor fault meant
-left_open unsaid.Memory meant none = tt
-left_open unsaid.Disk meant none = tt
-left_open (unsaid.Refused why) meant none = absurd none
+left_open : {Y : Type 0} (fault : ReadError) (meant : Result Y Refusal) → IsNoRefusal fault → ReadErrorFor fault meant
+left_open read_errors.Memory meant none = tt
+left_open read_errors.Disk meant none = tt
+left_open (read_errors.Refused why) meant none = absurd none
 
-pub fault_says : {X Y : Type 0} (view : X → Y) (fault : Unsaid) (result : Result X Unsaid) (meant : Result Y Refusal)
+pub fault_says : {X Y : Type 0} (view : X → Y) (fault : ReadError) (result : Result X ReadError) (meant : Result Y Refusal)
     → IsErr result → IsErrAnd result (λ e. e ≡ fault) → IsNoRefusal fault → Says view result meant
 fault_says view fault (Ok x) meant failed is none = cc
 fault_says view fault (Err e) meant failed is none =
-    subst (λ (f : Unsaid). UnsaidFor f meant) (sym is) (left_open fault meant none)
+    subst (λ (f : ReadError). ReadErrorFor f meant) (sym is) (left_open fault meant none)
 
 -- ---- the paths that are named
 

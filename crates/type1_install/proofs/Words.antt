@@ -2,10 +2,10 @@
 use Rattle.std.proofs.Common.{◌≡◌, ℕ, List, ◌∷◌, Result, Ok, Err, ap, ◌∙◌}
 use Rattle.boot_base.specs.Paths.{Path}
 use Rattle.boot_base.specs.declared.refusal.Refusal.{Refusal}
-use Rattle.command_plans.specs.Prelude.{◌>>=◌, DeclinedFor, Means, each}
-use Rattle.command_plans.specs.declared.declined.Declined.{Declined}
-use Rattle.command_plans.specs.declared.declined.Declined.TheVariants.{Memory, Refused}
-use Rattle.command_plans.proofs.Declining.{declined_first, done_next}
+use Rattle.command_plans.specs.Prelude.{◌>>=◌, WordErrorFor, Means, each}
+use Rattle.command_plans.specs.declared.word_error.WordError.{WordError}
+use Rattle.command_plans.specs.declared.word_error.WordError.TheVariants.{Memory, Refused}
+use Rattle.command_plans.proofs.WordErrors.{word_error_first, done_next}
 use Rattle.tool_words.specs.declared.command.Type1Words.{Type1Words}
 use Rattle.type1_install.specs.Installing.{entry_file, files_in, install_plan, place_in, install_source}
 use Rattle.type1_install.specs.Shown.{files_shown, place_shown, plan_shown}
@@ -14,9 +14,9 @@ use Rattle.type1_install.specs.declared.install_words.PayloadFiles.{PayloadFiles
 
 module _ (f : Path → Result Path Refusal) (x : Path) (xs : List Path) where
   -- the first is declined
-  pub first_declined : (declined : Declined) → DeclinedFor declined (f x) → DeclinedFor declined (each f (x ∷ xs))
+  pub first_word_error : (word_error : WordError) → WordErrorFor word_error (f x) → WordErrorFor word_error (each f (x ∷ xs))
   unfolding each
-  first_declined declined why = declined_first declined (f x) (λ y. each f xs >>= λ ys. Ok (y ∷ ys)) why
+  first_word_error word_error why = word_error_first word_error (f x) (λ y. each f xs >>= λ ys. Ok (y ∷ ys)) why
 
   whole : f x ≡ Ok x → each f (x ∷ xs) ≡ (each f xs >>= λ ys. Ok (x ∷ ys))
   unfolding each
@@ -26,7 +26,7 @@ module _ (f : Path → Result Path Refusal) (x : Path) (xs : List Path) where
   next_of q = q >>= λ ys. Ok (x ∷ ys)
 
   -- the first is taken, and the others are as they are
-  pub also_first : (result : Result (Unit {0}) Declined) → f x ≡ Ok x → Means (λ _. xs) result (each f xs) → Means (λ _. x ∷ xs) result (each f (x ∷ xs))
+  pub also_first : (result : Result (Unit {0}) WordError) → f x ≡ Ok x → Means (λ _. xs) result (each f xs) → Means (λ _. x ∷ xs) result (each f (x ∷ xs))
   unfolding next_of
   also_first (Ok done) first more = whole first ∙ ap next_of more
   also_first (Err Memory) first more = tt

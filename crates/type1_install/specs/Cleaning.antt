@@ -8,7 +8,7 @@ use Rattle.boot_machine.specs.Disk.{Files}
 use Rattle.menu_order.specs.declared.item.MenuItem.{MenuItem}
 use Rattle.tool_words.specs.declared.action.Action.{Action}
 use Rattle.tool_words.specs.declared.action.Action.TheVariants as action
-use Rattle.command_plans.specs.Declining.{◌>>=◌, path_in, path_under}
+use Rattle.command_plans.specs.WordErrors.{◌>>=◌, path_in, path_under}
 use Rattle.command_plans.specs.Folders.{folders_of}
 use Rattle.command_plans.specs.Menus.{menu_at}
 use Rattle.type1_install.specs.Installing.{payload_probe}

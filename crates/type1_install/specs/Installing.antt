@@ -15,7 +15,7 @@ use Rattle.tool_words.specs.declared.action.Action.{Action}
 use Rattle.tool_words.specs.declared.action.Action.TheVariants as action
 use Rattle.tool_words.specs.declared.command.EntryTexts.{EntryTexts}
 use Rattle.tool_words.specs.declared.command.Type1Words.{Type1Words}
-use Rattle.command_plans.specs.Declining.{◌>>=◌, install_name, path_in, path_under, printed_path}
+use Rattle.command_plans.specs.WordErrors.{◌>>=◌, install_name, path_in, path_under, printed_path}
 use Rattle.command_plans.specs.Files.{bytes_at, each, if_given}
 use Rattle.type1_install.specs.Payloads.{payload_folder, payload_name, payload_path}
 

@@ -12,7 +12,7 @@ use Rattle.pcr_values.specs.Banks.{digest_of}
 use Rattle.pcr_values.specs.declared.bank.Bank.TheVariants as banks
 use Rattle.boot_machine.specs.Disk.{Files}
 use Rattle.menu_order.specs.declared.item.MenuItem.{MenuItem}
-use Rattle.boot_folder.specs.declared.folders.Folders.{Folders}
+use Rattle.boot_entries.specs.declared.folders.Folders.{Folders}
 use Rattle.boot_texts.specs.EntryText.{is_payload_name}
 
 -- the name of a payload's file: its SHA-256 in hexadecimal digits

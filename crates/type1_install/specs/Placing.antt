@@ -8,7 +8,7 @@ use Rattle.boot_machine.specs.Disk.{Files}
 use Rattle.boot_machine.specs.Rows.{contents}
 use Rattle.command_plans.specs.Answers.{Answer, answer_or_refusal, done_answer}
 use Rattle.command_plans.specs.Changes.{installed_text}
-use Rattle.command_plans.specs.Declining.{◌>>=◌, printed_path}
+use Rattle.command_plans.specs.WordErrors.{◌>>=◌, printed_path}
 use Rattle.command_plans.specs.Files.{bytes_at}
 use Rattle.command_plans.specs.declared.plan.Change.{Change}
 use Rattle.command_plans.specs.declared.plan.Change.TheVariants.{Nothing}

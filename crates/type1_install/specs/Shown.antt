@@ -8,7 +8,7 @@ use Rattle.boot_texts.specs.EntryText.{IsFieldIf, is_payload_name, payload_value
 use Rattle.boot_texts.specs.declared.entry.Type1.{Type1}
 use Rattle.tool_words.specs.declared.action.Action.{Action}
 use Rattle.tool_words.specs.declared.action.Action.TheVariants as action
-use Rattle.command_plans.specs.Declining.{◌>>=◌}
+use Rattle.command_plans.specs.WordErrors.{◌>>=◌}
 use Rattle.command_plans.specs.Files.{bytes_at}
 use Rattle.tool_words.specs.declared.command.EntryTexts.{EntryTexts}
 use Rattle.type1_install.specs.Installing.{EntryPlace, SourceFiles, Type1Plan, entry_fields}

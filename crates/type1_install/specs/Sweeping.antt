@@ -4,7 +4,7 @@ use Rattle.boot_base.specs.Paths.{Path, is_file_name, is_temp, under}
 use Rattle.boot_base.specs.declared.refusal.Refusal.{Refusal}
 use Rattle.boot_machine.specs.Disk.{Files, has}
 use Rattle.boot_texts.specs.EntryText.{is_payload_name}
-use Rattle.command_plans.specs.Declining.{◌>>=◌, path_in, path_under}
+use Rattle.command_plans.specs.WordErrors.{◌>>=◌, path_in, path_under}
 use Rattle.type1_install.specs.Installing.{payload_probe}
 use Rattle.type1_install.specs.Payloads.{payload_folder}
 

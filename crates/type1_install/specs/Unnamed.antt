@@ -4,15 +4,15 @@ use Rattle.std.specs.List.{filter_map, list_any}
 use Rattle.boot_base.specs.Paths.{Path, under}
 use Rattle.boot_texts.specs.EntryText.{is_payload_name}
 use Rattle.menu_order.specs.declared.item.MenuItem.{MenuItem}
-use Rattle.command_plans.specs.declared.unsaid.Unsaid.{Unsaid}
-use Rattle.command_plans.specs.declared.unsaid.Unsaid.TheVariants as unsaid
+use Rattle.command_plans.specs.declared.read_error.ReadError.{ReadError}
+use Rattle.command_plans.specs.declared.read_error.ReadError.TheVariants as read_errors
 use Rattle.type1_install.specs.Payloads.{item_names, path_of_value, named_values}
 
 -- memory ran out or the disk failed, and nothing is refused
-abbrev pub IsNoRefusal : Unsaid → Type 0
-IsNoRefusal unsaid.Memory = Unit {0}
-IsNoRefusal unsaid.Disk = Unit {0}
-IsNoRefusal (unsaid.Refused why) = ⊥
+abbrev pub IsNoRefusal : ReadError → Type 0
+IsNoRefusal read_errors.Memory = Unit {0}
+IsNoRefusal read_errors.Disk = Unit {0}
+IsNoRefusal (read_errors.Refused why) = ⊥
 
 -- the paths below the ESP that an entry names
 abbrev pub paths_named_by : Path → MenuItem → List Path

@@ -2,7 +2,7 @@
 ghost use Rattle.std.specs.Prelude.{◌≡◌, All, IfErr, IfOk, IsTrue, map};
 ghost use Rattle.boot_machine.specs.Prelude.{Looks, TakesAtMost, seen, IsNamesOf};
 ghost use Rattle.tool_words.specs.declared.action.Action.TheVariants.{Remove};
-ghost use Rattle.command_plans.specs.Prelude.{CountsUnsaid, Says, folders_of, menu_limit};
+ghost use Rattle.command_plans.specs.Prelude.{CountsReadError, Says, folders_of, menu_limit};
 ghost use Rattle.type1_install.specs.Cleaning.{cleanup_expansion, unnamed_payloads};
 ghost use Rattle.type1_install.specs.Payloads.{HasRoom, payload_folder};
 ghost use Rattle.type1_install.specs.Unnamed.{IsNoRefusal};
@@ -11,7 +11,7 @@ use crate::naming::unnamed;
 use crate::place::payload_folder;
 use boot_base::{BootPath, FileName};
 use boot_machine::Machine;
-use command_plans::{Unsaid, folders_in, menu_at, path_in, push};
+use command_plans::{ReadError, folders_in, menu_at, path_in, push};
 use menu_order::MenuItem;
 use std::alloc::{AllocError, Global};
 use tool_words::Action;
@@ -21,11 +21,11 @@ pub(crate) fn names_in<M: Machine>(
     alloc: Global,
     folder: &BootPath,
     machine: &mut M,
-) -> Result<Vec<FileName>, Unsaid>
+) -> Result<Vec<FileName>, ReadError>
     ensures names { IfOk result (λ names. IsTrue M.tells
         → IsNamesOf (M.state machine.old).files folder.now names.items) }
     ensures faults { IfErr result IsNoRefusal }
-    ensures looks { Looks M.tells M.time M.state M.counts (CountsUnsaid result) machine.old machine.new }
+    ensures looks { Looks M.tells M.time M.state M.counts (CountsReadError result) machine.old machine.new }
     ensures taken { IsTrue M.tells → TakesAtMost 0 (M.taken machine.old) (M.taken machine.new) }
 {
     Ok(machine.names(alloc, folder)?)
@@ -38,13 +38,13 @@ fn unnamed_payloads<M: Machine>(
     folder: &BootPath,
     items: &[MenuItem],
     machine: &mut M,
-) -> Result<Vec<BootPath>, Unsaid>
+) -> Result<Vec<BootPath>, ReadError>
     requires folder { folder.now ≡ payload_folder esp.now }
     requires room { HasRoom folder.now }
     ensures paths { IfOk result (λ paths. IsTrue M.tells
         → unnamed_payloads (seen (M.state machine.old)) esp.now items.now ≡ paths.items) }
     ensures faults { IfErr result IsNoRefusal }
-    ensures looks { Looks M.tells M.time M.state M.counts (CountsUnsaid result) machine.old machine.new }
+    ensures looks { Looks M.tells M.time M.state M.counts (CountsReadError result) machine.old machine.new }
     ensures taken { IsTrue M.tells → TakesAtMost 0 (M.taken machine.old) (M.taken machine.new) }
 {
     let names = names_in(alloc, folder, machine)?;
@@ -69,10 +69,10 @@ pub fn cleanup_expansion<M: Machine>(
     alloc: Global,
     esp: &str,
     machine: &mut M,
-) -> Result<Vec<Action>, Unsaid>
+) -> Result<Vec<Action>, ReadError>
     ensures says { IsTrue M.tells → Says (λ commands. commands.items) result
         (cleanup_expansion (seen (M.state machine.old)) esp.now) }
-    ensures looks { Looks M.tells M.time M.state M.counts (CountsUnsaid result) machine.old machine.new }
+    ensures looks { Looks M.tells M.time M.state M.counts (CountsReadError result) machine.old machine.new }
     ensures taken { IsTrue M.tells
         → TakesAtMost (menu_limit (M.state machine.old).files (folders_of esp.now)) (M.taken machine.old)
         (M.taken machine.new) }

@@ -9,7 +9,7 @@ ghost use Rattle.type1_install.specs.Shown.{AreFields, files_shown, place_shown,
 use crate::place::payload_folder;
 use boot_base::{BootPath, ENTRIES, Refusal, Text};
 use boot_texts::is_field;
-use command_plans::{Declined, check_name, file_under, path_in, printed_path, push};
+use command_plans::{WordError, check_name, file_under, path_in, printed_path, push};
 use menu_order::Suffix;
 use std::alloc::{AllocError, Global};
 use tool_words::{EntryTexts, Type1Words};
@@ -42,17 +42,17 @@ pub(crate) struct EntryRoom {
 }
 
 // The refusal of a text that may not stand in an entry.
-fn check_field(alloc: Global, text: &Text) -> Result<(), Declined>
+fn check_field(alloc: Global, text: &Text) -> Result<(), WordError>
     ensures { Means (λ _. text.now) result (field_text text.now) }
 {
     if is_field(text.as_str().as_bytes()) {
         return Ok(());
     }
     let text = Text::of(alloc, text.as_str())?;
-    Err(Declined::Refused(Refusal::BadField { text }))
+    Err(WordError::Refused(Refusal::BadField { text }))
 }
 
-fn check_given(alloc: Global, text: &Option<Text>) -> Result<(), Declined>
+fn check_given(alloc: Global, text: &Option<Text>) -> Result<(), WordError>
     ensures { Means (λ _. text.now) result (if_given field_text text.now) }
 {
     match text {
@@ -62,7 +62,7 @@ fn check_given(alloc: Global, text: &Option<Text>) -> Result<(), Declined>
 }
 
 // The refusal of the first text that may not stand in an entry.
-fn check_texts(alloc: Global, texts: &EntryTexts) -> Result<(), Declined>
+fn check_texts(alloc: Global, texts: &EntryTexts) -> Result<(), WordError>
     ensures { Means (λ _. texts.now) result (texts_in texts.now) }
 {
     check_given(alloc, &texts.title)?;
@@ -73,17 +73,17 @@ fn check_texts(alloc: Global, texts: &EntryTexts) -> Result<(), Declined>
 }
 
 // The refusal of more initrds than an entry may have.
-fn check_count(words: &[Text]) -> Result<(), Declined>
+fn check_count(words: &[Text]) -> Result<(), WordError>
     ensures { Means (λ _. words.now) result (initrds_in words.now) }
 {
     if words.len() > INITRD_LIMIT {
         let count = words.len() as u64;
-        return Err(Declined::Refused(Refusal::TooManyFiles { count }));
+        return Err(WordError::Refused(Refusal::TooManyFiles { count }));
     }
     Ok(())
 }
 
-fn entry_file(alloc: Global, words: &Type1Words) -> Result<String, Declined>
+fn entry_file(alloc: Global, words: &Type1Words) -> Result<String, WordError>
     ensures { Means string_bytes result (entry_file words.now) }
 {
     let name = words.name.as_str();
@@ -94,7 +94,7 @@ fn entry_file(alloc: Global, words: &Type1Words) -> Result<String, Declined>
 }
 
 // The paths of these words, or the refusal of the first that is none.
-fn paths_in(alloc: Global, words: &[Text]) -> Result<Vec<BootPath>, Declined>
+fn paths_in(alloc: Global, words: &[Text]) -> Result<Vec<BootPath>, WordError>
     ensures { Means (λ paths. paths.items) result (each path_in words.now) }
 {
     let mut paths = Vec::new(alloc);
@@ -105,7 +105,7 @@ fn paths_in(alloc: Global, words: &[Text]) -> Result<Vec<BootPath>, Declined>
     Ok(paths)
 }
 
-fn files_in(alloc: Global, words: &Type1Words) -> Result<PayloadFiles, Declined>
+fn files_in(alloc: Global, words: &Type1Words) -> Result<PayloadFiles, WordError>
     ensures { Means files_shown result (files_in words.now) }
 {
     let linux = path_in(alloc, words.linux.as_str())?;
@@ -113,7 +113,7 @@ fn files_in(alloc: Global, words: &Type1Words) -> Result<PayloadFiles, Declined>
     Ok(PayloadFiles { linux, initrds })
 }
 
-fn place_in(alloc: Global, word: &str, name: &str) -> Result<EntryRoom, Declined>
+fn place_in(alloc: Global, word: &str, name: &str) -> Result<EntryRoom, WordError>
     ensures means { Means place_shown result (place_in word.now name.now) }
     ensures folder { IfOk result (λ place. place.folder ≡ payload_folder place.esp) }
     ensures room { IfOk result (λ place. HasRoom place.folder) }
@@ -134,18 +134,18 @@ fn is_in(alloc: Global, folder: &BootPath, path: &BootPath) -> Result<bool, Allo
 }
 
 // The refusal of a file that lies directly in the ESP's folder of payloads.
-fn check_source(alloc: Global, place: &EntryRoom, path: &BootPath) -> Result<(), Declined>
+fn check_source(alloc: Global, place: &EntryRoom, path: &BootPath) -> Result<(), WordError>
     requires { place.now.folder ≡ payload_folder place.now.esp }
     ensures { Means (λ _. path.now) result (install_source place.now.esp path.now) }
 {
     if is_in(alloc, &place.folder, path)? {
         let path = printed_path(alloc, path)?;
-        return Err(Declined::Refused(Refusal::PayloadSource { path }));
+        return Err(WordError::Refused(Refusal::PayloadSource { path }));
     }
     Ok(())
 }
 
-fn check_initrds(alloc: Global, place: &EntryRoom, paths: &[BootPath]) -> Result<(), Declined>
+fn check_initrds(alloc: Global, place: &EntryRoom, paths: &[BootPath]) -> Result<(), WordError>
     requires { place.now.folder ≡ payload_folder place.now.esp }
     ensures { Means (λ _. paths.now) result (each (install_source place.now.esp) paths.now) }
 {
@@ -156,7 +156,7 @@ fn check_initrds(alloc: Global, place: &EntryRoom, paths: &[BootPath]) -> Result
 }
 
 // The refusal of the first file that lies directly in the ESP's folder of payloads.
-fn check_sources(alloc: Global, place: &EntryRoom, files: &PayloadFiles) -> Result<(), Declined>
+fn check_sources(alloc: Global, place: &EntryRoom, files: &PayloadFiles) -> Result<(), WordError>
     requires { place.now.folder ≡ payload_folder place.now.esp }
     ensures { Means (λ _. files.now.linux ∷ files.now.initrds.items) result
         (each (install_source place.now.esp) (files.now.linux ∷ files.now.initrds.items)) }
@@ -166,7 +166,7 @@ fn check_sources(alloc: Global, place: &EntryRoom, files: &PayloadFiles) -> Resu
 }
 
 /// What the words of an installation say, or what they are refused for.
-pub(crate) fn install_plan(alloc: Global, words: &Type1Words) -> Result<InstallPlan, Declined>
+pub(crate) fn install_plan(alloc: Global, words: &Type1Words) -> Result<InstallPlan, WordError>
     ensures means { Means (plan_shown words.now.texts) result (install_plan words.now) }
     ensures folder { IfOk result (λ plan. plan.place.folder ≡ payload_folder plan.place.esp) }
     ensures room { IfOk result (λ plan. HasRoom plan.place.folder) }

@@ -3,7 +3,7 @@ ghost use Rattle.std.specs.Prelude.{◌≡◌, ◌≤◌, ◌++◌, ◌∷◌, [
 ghost use Rattle.boot_machine.specs.Prelude.{Looks, TakesAtMost, seen};
 ghost use Rattle.boot_texts.specs.EntryText.{entry_text};
 ghost use Rattle.tool_words.specs.declared.action.Action.TheVariants.{Enter};
-ghost use Rattle.command_plans.specs.Prelude.{CountsUnsaid, Says};
+ghost use Rattle.command_plans.specs.Prelude.{CountsReadError, Says};
 ghost use Rattle.type1_install.specs.Installing.{install_expansion, install_plan, installing_length};
 ghost use Rattle.type1_install.specs.Shown.{AreFields, HasPayloadName, fields_with, put_in, value_of_payload};
 ghost use Rattle.type1_install.specs.Payloads.{HasRoom};
@@ -14,7 +14,7 @@ use crate::place::payload_path;
 use boot_base::{BootPath, Bytes, BytesList, PAYLOADS, PIECE_SIZE, Text};
 use boot_machine::Machine;
 use boot_texts::{Type1, entry_text};
-use command_plans::{Unsaid, push};
+use command_plans::{ReadError, push};
 use std::alloc::{AllocError, Global};
 use tool_words::{Action, EntryTexts, Type1Words};
 
@@ -163,10 +163,10 @@ pub fn install_expansion<M: Machine>(
     alloc: Global,
     words: &Type1Words,
     machine: &mut M,
-) -> Result<Vec<Action>, Unsaid>
+) -> Result<Vec<Action>, ReadError>
     ensures says { IsTrue M.tells → Says (λ commands. commands.items) result
         (install_expansion (seen (M.state machine.old)) words.now) }
-    ensures looks { Looks M.tells M.time M.state M.counts (CountsUnsaid result) machine.old machine.new }
+    ensures looks { Looks M.tells M.time M.state M.counts (CountsReadError result) machine.old machine.new }
     ensures taken { IsTrue M.tells → TakesAtMost
         (installing_length (seen (M.state machine.old)) (install_plan words.now)) (M.taken machine.old)
         (M.taken machine.new) }

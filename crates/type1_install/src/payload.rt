@@ -5,13 +5,13 @@ ghost use Rattle.boot_machine.specs.Prelude.{Looks, TakesAtMost, seen};
 ghost use Rattle.boot_texts.specs.EntryText.{is_payload_name};
 ghost use Rattle.pcr_values.specs.Prelude.{bank_of, bytes_of_digest};
 ghost use Rattle.pcr_values.specs.declared.bank.Bank.TheVariants.{Sha256};
-ghost use Rattle.command_plans.specs.Prelude.{CountsUnsaid, Says, bytes_at, each};
+ghost use Rattle.command_plans.specs.Prelude.{CountsReadError, Says, bytes_at, each};
 ghost use Rattle.type1_install.specs.Installing.{digesting_length};
 ghost use Rattle.type1_install.specs.Shown.{HasPayloadName, payload_at};
 
 use boot_base::{BootPath, Buffer, Text};
 use boot_machine::Machine;
-use command_plans::{Unsaid, push, readable_size};
+use command_plans::{ReadError, push, readable_size};
 use file_digests::file_digest;
 use pcr_values::{Bank, Digest};
 use std::alloc::{AllocError, Global};
@@ -46,11 +46,11 @@ pub(crate) fn payload_at<M: Machine>(
     file: &BootPath,
     machine: &mut M,
     buffer: &mut Buffer,
-) -> Result<Payload, Unsaid>
+) -> Result<Payload, ReadError>
     ensures says { IsTrue M.tells
         → Says (λ payload. payload) result (payload_at (seen (M.state machine.old)) file.now) }
     ensures name { IfOk result HasPayloadName }
-    ensures looks { Looks M.tells M.time M.state M.counts (CountsUnsaid result) machine.old machine.new }
+    ensures looks { Looks M.tells M.time M.state M.counts (CountsReadError result) machine.old machine.new }
     ensures taken { IsTrue M.tells → TakesAtMost
         (digesting_length (bytes_at (seen (M.state machine.old)) file.now)) (M.taken machine.old)
         (M.taken machine.new) }
@@ -68,12 +68,12 @@ pub(crate) fn payloads_at<M: Machine>(
     files: &[BootPath],
     machine: &mut M,
     buffer: &mut Buffer,
-) -> Result<Vec<Payload>, Unsaid>
+) -> Result<Vec<Payload>, ReadError>
     ensures says { IsTrue M.tells → Says (λ payloads. payloads.items) result
         (each (payload_at (seen (M.state machine.old))) files.now) }
     ensures names { IfOk result (λ payloads. All HasPayloadName payloads.items) }
     ensures count { IfOk result (λ payloads. length payloads.items ≡ length files.now) }
-    ensures looks { Looks M.tells M.time M.state M.counts (CountsUnsaid result) machine.old machine.new }
+    ensures looks { Looks M.tells M.time M.state M.counts (CountsReadError result) machine.old machine.new }
     ensures taken { IsTrue M.tells → TakesAtMost
         (sum_by (λ file. digesting_length (bytes_at (seen (M.state machine.old)) file)) files.now)
         (M.taken machine.old) (M.taken machine.new) }

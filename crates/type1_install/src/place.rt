@@ -7,14 +7,14 @@ ghost use Rattle.type1_install.specs.Installing.{payload_probe};
 ghost use Rattle.type1_install.specs.Payloads.{HasRoom, payload_folder};
 
 use boot_base::{BootPath, PAYLOADS, PathFault};
-use command_plans::{Declined, file_under};
+use command_plans::{WordError, file_under};
 use std::alloc::{AllocError, Global};
 
 /// A name as long as that of each payload.
 const PROBE_NAME: &str = "0000000000000000000000000000000000000000000000000000000000000000";
 
 /// The folder of an ESP's payloads, or the refusal of the longest path in it.
-pub(crate) fn payload_folder(alloc: Global, esp: &BootPath) -> Result<BootPath, Declined>
+pub(crate) fn payload_folder(alloc: Global, esp: &BootPath) -> Result<BootPath, WordError>
     ensures means { Means (λ folder. under folder (replicate 64 48)) result (path_under esp.now payload_probe) }
     ensures folder { IfOk result (λ folder. folder ≡ payload_folder esp.now) }
     ensures room { IfOk result (λ folder. HasRoom folder) }

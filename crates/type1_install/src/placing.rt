@@ -3,7 +3,7 @@ ghost use Rattle.std.specs.Prelude.{◌≡◌, ◌↔◌, ◌≤◌, ℕ, length
 ghost use Rattle.std.specs.FinMap.{get, insert};
 ghost use Rattle.boot_base.specs.Limits.{file_limit};
 ghost use Rattle.boot_machine.specs.Prelude.{Looks, State, TakesAtMost, contents, seen};
-ghost use Rattle.command_plans.specs.Prelude.{CanCopy, CountsStop, CountsUnsaid, Plans, PlansAs, done_answer, unlink_answer};
+ghost use Rattle.command_plans.specs.Prelude.{CanCopy, CountsRunError, CountsReadError, Plans, PlansAs, done_answer, unlink_answer};
 ghost use Rattle.type1_install.specs.Unnamed.{IsNoRefusal};
 ghost use Rattle.type1_install.specs.Placing.{LeavesStanding, comparing_length, enter_answer, payload_text, put_answer, put_result};
 
@@ -11,8 +11,8 @@ use crate::alike::are_alike;
 use boot_base::{BootPath, Bytes, Target};
 use boot_machine::Machine;
 use command_plans::{
-    Change, Outcome, Plan, Stop, Unsaid, installed_text, plan_copy, plan_removal, plan_unsaid,
-    readable_size,
+    Change, Outcome, Plan, ReadError, RunError, installed_text, plan_copy, plan_read_error,
+    plan_removal, readable_size,
 };
 use std::alloc::{AllocError, Global};
 
@@ -56,14 +56,14 @@ fn is_copied<M: Machine>(
     size: u64,
     target: &BootPath,
     machine: &mut M,
-) -> Result<bool, Unsaid>
+) -> Result<bool, ReadError>
     requires limit { size ≤ file_limit }
     ensures copied { IfOk result (λ copied. IsTrue M.tells
         → length (contents (M.state machine.old).files file.now) ≡ size
         → (copied ≡ true)
         ↔ (get (seen (M.state machine.old)) target.now ≡ Some (contents (M.state machine.old).files file.now))) }
     ensures faults { IfErr result IsNoRefusal }
-    ensures looks { Looks M.tells M.time M.state M.counts (CountsUnsaid result) machine.old machine.new }
+    ensures looks { Looks M.tells M.time M.state M.counts (CountsReadError result) machine.old machine.new }
     ensures taken { IsTrue M.tells → length (contents (seen (M.state machine.old)) file.now) ≡ size → TakesAtMost
         (comparing_length (seen (M.state machine.old)) file.now target.now) (M.taken machine.old)
         (M.taken machine.new) }
@@ -71,9 +71,9 @@ fn is_copied<M: Machine>(
     match readable_size(alloc, target, machine) {
         Ok(length) if length == size => Ok(are_alike(file, target, size, machine)?),
         Ok(_) => Ok(false),
-        Err(Unsaid::Memory) => Err(Unsaid::Memory),
-        Err(Unsaid::Disk) => Err(Unsaid::Disk),
-        Err(Unsaid::Refused(why)) => {
+        Err(ReadError::Memory) => Err(ReadError::Memory),
+        Err(ReadError::Disk) => Err(ReadError::Disk),
+        Err(ReadError::Refused(why)) => {
             drop(why);
             Ok(false)
         }
@@ -85,12 +85,12 @@ fn put<M: Machine>(
     file: &BootPath,
     target: &BootPath,
     machine: &mut M,
-) -> Result<Plan, Unsaid>
+) -> Result<Plan, ReadError>
     ensures plans { IsTrue M.tells → PlansAs (M.state machine.old) result
         (put_result (seen (M.state machine.old)) file.now target.now) }
     ensures stands { IfOk result (λ plan. IsTrue M.tells
         → LeavesStanding (seen (M.state machine.old)) file.now target.now plan.change) }
-    ensures looks { Looks M.tells M.time M.state M.counts (CountsUnsaid result) machine.old machine.new }
+    ensures looks { Looks M.tells M.time M.state M.counts (CountsReadError result) machine.old machine.new }
     ensures taken { IsTrue M.tells → TakesAtMost
         (comparing_length (seen (M.state machine.old)) file.now target.now) (M.taken machine.old)
         (M.taken machine.new) }
@@ -109,19 +109,19 @@ pub fn plan_put<M: Machine>(
     file: &BootPath,
     target: &BootPath,
     machine: &mut M,
-) -> Result<Plan, Stop>
+) -> Result<Plan, RunError>
     ensures plans { IfOk result (λ plan. IsTrue M.tells → Plans (M.state machine.old) plan
         (put_answer (seen (M.state machine.old)) file.now target.now)) }
     ensures stands { IfOk result (λ plan. IsTrue M.tells
         → LeavesStanding (seen (M.state machine.old)) file.now target.now plan.change) }
-    ensures looks { Looks M.tells M.time M.state M.counts (CountsStop result) machine.old machine.new }
+    ensures looks { Looks M.tells M.time M.state M.counts (CountsRunError result) machine.old machine.new }
     ensures taken { IsTrue M.tells → TakesAtMost
         (comparing_length (seen (M.state machine.old)) file.now target.now) (M.taken machine.old)
         (M.taken machine.new) }
 {
     match put(alloc, file, target, machine) {
         Ok(plan) => Ok(plan),
-        Err(unsaid) => plan_unsaid(alloc, unsaid),
+        Err(read_error) => plan_read_error(alloc, read_error),
     }
 }
 
@@ -144,10 +144,10 @@ pub fn plan_remove<M: Machine>(
     alloc: Global,
     path: &BootPath,
     machine: &mut M,
-) -> Result<Plan, Stop>
+) -> Result<Plan, RunError>
     ensures plans { IfOk result (λ plan. IsTrue M.tells → Plans (M.state machine.old) plan
         (unlink_answer (seen (M.state machine.old)) path.now)) }
-    ensures looks { Looks M.tells M.time M.state M.counts (CountsStop result) machine.old machine.new }
+    ensures looks { Looks M.tells M.time M.state M.counts (CountsRunError result) machine.old machine.new }
     ensures taken { IsTrue M.tells → TakesAtMost 0 (M.taken machine.old) (M.taken machine.new) }
 {
     let path = path.copy(alloc)?;

@@ -3,7 +3,7 @@ ghost use Rattle.std.specs.Prelude.{◌≡◌, ◌-◌, All, IfErr, IfOk, IsTrue
 ghost use Rattle.std.specs.List.{IsDistinct};
 ghost use Rattle.boot_machine.specs.Prelude.{Looks, TakesAtMost, has};
 ghost use Rattle.boot_texts.specs.EntryText.{is_payload_name};
-ghost use Rattle.command_plans.specs.Prelude.{CountsUnsaid, UnsaidFor};
+ghost use Rattle.command_plans.specs.Prelude.{CountsReadError, ReadErrorFor};
 ghost use Rattle.type1_install.specs.Unnamed.{IsNoRefusal};
 ghost use Rattle.type1_install.specs.Sweeping.{FindsBeside, HasPayloadTemps, IsBesidePayload, StandsBeside, payload_esp, temps_beside};
 
@@ -12,7 +12,7 @@ use crate::place::payload_folder;
 use boot_base::{BootPath, FileName, TEMP_SUFFIX, TempPath};
 use boot_machine::Machine;
 use boot_texts::is_payload_name;
-use command_plans::{Unsaid, each_once, path_in};
+use command_plans::{ReadError, each_once, path_in};
 use std::alloc::{AllocError, Global};
 
 // Whether a payload's name stands before the last four bytes.
@@ -47,7 +47,7 @@ fn leftovers_of<M: Machine>(
     alloc: Global,
     folder: &BootPath,
     machine: &mut M,
-) -> Result<Vec<TempPath>, Unsaid>
+) -> Result<Vec<TempPath>, ReadError>
     ensures distinct { IfOk result (λ temps. IsDistinct bytes_eq temps.items) }
     ensures there { IfOk result (λ temps. IsTrue M.tells
         → All (λ temp. has (M.state machine.old).files temp ≡ true) temps.items) }
@@ -55,7 +55,7 @@ fn leftovers_of<M: Machine>(
         → HasPayloadTemps (M.state machine.old).files folder.now temps.items) }
     ensures within { IfOk result (λ temps. All (IsBesidePayload folder.now) temps.items) }
     ensures faults { IfErr result IsNoRefusal }
-    ensures looks { Looks M.tells M.time M.state M.counts (CountsUnsaid result) machine.old machine.new }
+    ensures looks { Looks M.tells M.time M.state M.counts (CountsReadError result) machine.old machine.new }
     ensures taken { IsTrue M.tells → TakesAtMost 0 (M.taken machine.old) (M.taken machine.new) }
 {
     let names = names_in(alloc, folder, machine)?;
@@ -67,15 +67,15 @@ pub fn payload_leftovers<M: Machine>(
     alloc: Global,
     esp: &str,
     machine: &mut M,
-) -> Result<Vec<TempPath>, Unsaid>
+) -> Result<Vec<TempPath>, ReadError>
     ensures distinct { IfOk result (λ temps. IsDistinct bytes_eq temps.items) }
     ensures there { IfOk result (λ temps. IsTrue M.tells
         → All (λ temp. has (M.state machine.old).files temp ≡ true) temps.items) }
     ensures all { IfOk result (λ temps. IsTrue M.tells
         → FindsBeside (payload_esp esp.now) (M.state machine.old).files temps.items) }
     ensures within { IfOk result (λ temps. All (StandsBeside (payload_esp esp.now)) temps.items) }
-    ensures refused { IfErr result (λ unsaid. UnsaidFor unsaid (payload_esp esp.now)) }
-    ensures looks { Looks M.tells M.time M.state M.counts (CountsUnsaid result) machine.old machine.new }
+    ensures refused { IfErr result (λ read_error. ReadErrorFor read_error (payload_esp esp.now)) }
+    ensures looks { Looks M.tells M.time M.state M.counts (CountsReadError result) machine.old machine.new }
     ensures taken { IsTrue M.tells → TakesAtMost 0 (M.taken machine.old) (M.taken machine.new) }
 {
     let esp = path_in(alloc, esp)?;

@@ -12,6 +12,6 @@ returns-in-Ok-clause-actions c meant said =
 pub returns-in-Err-clause-actions : goal.returns-in-Err-clause-actions
 returns-in-Err-clause-actions c =
     IfOk-weaker c.refuse.result _ _
-    (λ refused refuses meant said. refused_so (λ actions. actions) c.in-Err.unsaid refused.items meant refuses
+    (λ refused refuses meant said. refused_so (λ actions. actions) c.in-Err.read_error refused.items meant refuses
     (subst (λ r. Says (λ actions. actions.items) r meant) c.in-Err.is said))
     c.refuse.ensures.refuses

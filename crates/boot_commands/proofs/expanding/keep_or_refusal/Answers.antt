@@ -31,6 +31,6 @@ returns-in_ok-removals-in-Ok-2-clause-actions c meant said =
 pub returns-in-Err-clause-actions : goal.returns-in-Err-clause-actions
 returns-in-Err-clause-actions c =
     IfOk-weaker c.refuse.result _ _
-    (λ refused refuses meant said. refused_so (keep_actions c.args.dry_run) c.in-Err.unsaid refused.items meant refuses
+    (λ refused refuses meant said. refused_so (keep_actions c.args.dry_run) c.in-Err.read_error refused.items meant refuses
     (subst (λ r. Says (λ paths. paths.items) r meant) c.in-Err.is said))
     c.refuse.ensures.refuses

@@ -13,6 +13,6 @@ returns-in_ok-tell-in-Ok-clause-actions c meant said =
 pub returns-in-Err-clause-actions : goal.returns-in-Err-clause-actions
 returns-in-Err-clause-actions c =
     IfOk-weaker c.refuse.result _ _
-    (λ refused refuses meant said. refused_so (λ text. action.Tell text ∷ []) c.in-Err.unsaid refused.items meant refuses
+    (λ refused refuses meant said. refused_so (λ text. action.Tell text ∷ []) c.in-Err.read_error refused.items meant refuses
     (subst (λ r. Says (λ text. text.items) r meant) c.in-Err.is said))
     c.refuse.ensures.refuses

@@ -3,7 +3,7 @@ use Rattle.std.proofs.lemmas.Bool.{cases_Bool}
 use Rattle.std.proofs.lemmas.List.{take_more, take_all}
 use Rattle.std.proofs.lemmas.List.Elements.{All-nil, All-push}
 use Rattle.boot_machine.specs.Prelude.{IsRested, recovered_now}
-use Rattle.command_plans.specs.declared.outcome.Stop.TheVariants.{Disk}
+use Rattle.command_plans.specs.declared.outcome.RunError.TheVariants.{Disk}
 use Rattle.boot_run.specs.Endings.{AllTidied}
 use Rattle.boot_run.specs.Lines.{TidiedBy, has_command, is_unread}
 use Rattle.boot_machine.proofs.Elapsing.{at_once}

@@ -2,13 +2,13 @@ use Rattle.std.proofs.Common.{◌≡◌, ℕ, List, take, ◌∙◌, subst}
 use Rattle.boot_machine.specs.Prelude.{EachSince, on_channel, with_printed, PrintsPart}
 use Rattle.boot_machine.specs.declared.machine.Channel.TheVariants.{Err}
 use Rattle.boot_run.specs.AskedLines.{usage_line}
-use Rattle.boot_run.proofs.Topping.{usage_done, usage_failed, usage_unsaid}
+use Rattle.boot_run.proofs.Topping.{usage_done, usage_failed, usage_read_error}
 use Rattle.boot_run.proofs.top.print_usage.Goals as goal
 
 pub returns-in_default-clause-runs : goal.returns-in_default-clause-runs
 returns-in_default-clause-runs g c told =
     let old = c.args.machine.now in
-    usage_unsaid g.M.Machine.time g.M.Machine.state old (on_channel Err (usage_line c.args.reason.now)) (λ m o left. g.met.M.Machine.only_now old m o told left)
+    usage_read_error g.M.Machine.time g.M.Machine.state old (on_channel Err (usage_line c.args.reason.now)) (λ m o left. g.met.M.Machine.only_now old m o told left)
 
 pub returns-in-Ok-print_all-clause-runs : goal.returns-in-Ok-print_all-clause-runs
 returns-in-Ok-print_all-clause-runs g c told =

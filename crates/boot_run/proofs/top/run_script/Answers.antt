@@ -3,7 +3,7 @@ use Rattle.std.specs.FinMap.{get}
 use Rattle.boot_machine.specs.Prelude.{Files, IsRested, State, recovered_now}
 use Rattle.boot_machine.proofs.Seeing.{sees}
 use Rattle.tool_words.specs.declared.command.Command.TheVariants as command
-use Rattle.command_plans.specs.declared.outcome.Stop.{Stop}
+use Rattle.command_plans.specs.declared.outcome.RunError.{RunError}
 use Rattle.boot_run.specs.AskedLines.{lines_at}
 use Rattle.boot_run.specs.Endings.{AllTidied, ended_by}
 use Rattle.boot_run.specs.Lines.{has_command}
@@ -22,7 +22,7 @@ returns-in_err-lines g c = record {
   runs = λ told firm.
       let old = c.args.machine.now in
       no_script g.M.Machine.time g.M.Machine.state old c.read_script.new.machine (lines_at (g.M.Machine.state old) command.Script) c.in_err-lines.field-0.0
-      _ (λ is. c.in_err-lines.ensures.no_disk (ap (λ (stop : Stop). Err stop) is)) c.from_residual.ensures.0 c.from_residual.ensures.1
+      _ (λ is. c.in_err-lines.ensures.no_disk (ap (λ (stop : RunError). Err stop) is)) c.from_residual.ensures.0 c.from_residual.ensures.1
       (λ m image. sees (g.M.Machine.state old) (g.met.M.Machine.sound old told) firm m image) firm (c.read_script.ensures.same told) (c.read_script.ensures.moments told);
   synced = λ told firm.
       script_unsynced g.M.Machine.time g.M.Machine.state c.args.machine.now c.read_script.new.machine

@@ -1,7 +1,7 @@
 use Rattle.std.proofs.Common.{◌≡◌, false, List, refl, sym, ap, ◌∙◌, subst, rules, Ok, All}
 use Rattle.boot_machine.specs.Prelude.{Files, recovered_now}
 use Rattle.tool_words.specs.declared.command.Command.TheVariants as command
-use Rattle.command_plans.specs.declared.outcome.Stop.TheVariants.{Memory as MemoryStop}
+use Rattle.command_plans.specs.declared.outcome.RunError.TheVariants.{Memory as MemoryError}
 use Rattle.boot_run.specs.AskedLines.{lines_at}
 use Rattle.boot_run.specs.Endings.{ended_by}
 use Rattle.boot_run.specs.Lines.{is_unread}
@@ -49,7 +49,7 @@ returns-in_err-lines g c = record {
       let old = c.args.machine.now in
       let found = begins_at (g.M.Machine.state old) c.args.command in
       subst (λ (l : List Line). RunsTo g.M.Machine.time g.M.Machine.state old c.find_actions-actions.new.machine l c.from_residual-in_err-lines.result) (sym found.whole)
-      (runs_not g.M.Machine.time g.M.Machine.state old c.find_actions-actions.new.machine found.line found.rest c.from_residual-in_err-lines.result MemoryStop
+      (runs_not g.M.Machine.time g.M.Machine.state old c.find_actions-actions.new.machine found.line found.rest c.from_residual-in_err-lines.result MemoryError
       c.from_residual-in_err-lines.ensures.0 c.from_residual-in_err-lines.ensures.1 (g.met.M.Machine.sound old told) firm
       (c.find_actions-actions.ensures.recovers told firm) (c.find_actions-actions.ensures.keeps told).printed);
   synced = λ told firm.

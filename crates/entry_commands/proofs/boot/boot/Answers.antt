@@ -1,5 +1,5 @@
 use Rattle.std.proofs.Common.{◌≡◌, true, sym, subst, rules}
-use Rattle.boot_folder.specs.Entries.{IsEntry}
+use Rattle.boot_entries.specs.Entries.{IsEntry}
 use Rattle.boot_machine.specs.Prelude.{State, has, seen}
 use Rattle.boot_machine.proofs.Reading.{looks_none, looks_on}
 use Rattle.menu_order.specs.Menu.{IsMenu}

@@ -1,8 +1,8 @@
 use Rattle.std.proofs.Common.{◌∙◌, ap, sym, Ok}
-use Rattle.command_plans.proofs.Declining.{means_declined}
+use Rattle.command_plans.proofs.WordErrors.{means_word_error}
 use Rattle.tool_words.specs.declared.command.Given.TheVariants.{File}
 use Rattle.image_build.specs.Building.{source_of}
-use Rattle.command_plans.proofs.Each.{each_none, each_taken, taken_declined}
+use Rattle.command_plans.proofs.Each.{each_none, each_taken, taken_word_error}
 use Rattle.image_build.proofs.build_words.file_sources.Goals as goal
 
 pub loop-word-init : goal.loop-word-init
@@ -10,8 +10,8 @@ loop-word-init c = each_none _ ∙ ap Ok (sym c.new-sources.ensures.items)
 
 pub returns-in_err-source : goal.returns-in_err-source
 returns-in_err-source c =
-    means_declined _ c.in_err-source.field-0.0 _ _ c.from_residual.ensures.0 c.from_residual.ensures.1
-    (taken_declined (λ word. source_of (File word)) c.args.words.now c.loop-word.word-index c.loop-word.sources.items c.as_str.result.now
+    means_word_error _ c.in_err-source.field-0.0 _ _ c.from_residual.ensures.0 c.from_residual.ensures.1
+    (taken_word_error (λ word. source_of (File word)) c.args.words.now c.loop-word.word-index c.loop-word.sources.items c.as_str.result.now
     c.word-item.result c.in_err-source.field-0.0 c.loop-word-test.true c.loop-word.invariant
     (c.as_str.ensures ∙ c.word-item.is) c.in_err-source.ensures)
 

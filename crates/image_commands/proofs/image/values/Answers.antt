@@ -6,12 +6,12 @@ use Rattle.pe_reader.specs.Prelude.{headers_of}
 use Rattle.boot_machine.proofs.Reading.{looks_on}
 use Rattle.image_commands.proofs.Registers.{values_are}
 use Rattle.image_commands.proofs.Taking.{image_taken}
-use Rattle.command_plans.proofs.Unsaying.{says_unsaid, unrefused}
+use Rattle.command_plans.proofs.ReadErrors.{says_read_error, unrefused}
 use Rattle.image_commands.proofs.image.values.Goals as goal
 
 pub returns-in_err-registers-clause-says : goal.returns-in_err-registers-clause-says
 returns-in_err-registers-clause-says g c told =
-    says_unsaid c.from_residual-in_err-registers.result c.in_err-registers.field-0.0 _ _ c.from_residual-in_err-registers.ensures.0 c.from_residual-in_err-registers.ensures.1
+    says_read_error c.from_residual-in_err-registers.result c.in_err-registers.field-0.0 _ _ c.from_residual-in_err-registers.ensures.0 c.from_residual-in_err-registers.ensures.1
     (unrefused c.in_err-registers.field-0.0 _ _ (c.in_err-registers.ensures.says told))
 
 pub returns-in_err-registers-clause-looks : goal.returns-in_err-registers-clause-looks

@@ -7,7 +7,7 @@ use Rattle.pcr_values.specs.declared.bank.Bank.TheVariants as banks
 use Rattle.list_json.specs.declared.inspection.Inspected.{Inspected}
 use Rattle.image_commands.proofs.Inspecting.{all_more, item_inside, facts_more, unwrapped}
 use Rattle.image_commands.proofs.Taking.{all_sections_taken, sections_taken}
-use Rattle.command_plans.proofs.Unsaying.{says_unsaid, unrefused}
+use Rattle.command_plans.proofs.ReadErrors.{says_read_error, unrefused}
 use Rattle.image_commands.proofs.inspect.inspected_sections.Goals as goal
 
 pub loop-section-init : goal.loop-section-init
@@ -30,7 +30,7 @@ returns-in_err-section-clause-looks g c = record {
 pub returns-in_err-section-clause-says : goal.returns-in_err-section-clause-says
 returns-in_err-section-clause-says g c told =
     let same = ap (λ (s : State). contents s.files c.args.path.now) (c.loop-section.invariant.reads told).same in
-    says_unsaid c.from_residual.result c.in_err-section.field-0.0 _ _ c.from_residual.ensures.0 c.from_residual.ensures.1
+    says_read_error c.from_residual.result c.in_err-section.field-0.0 _ _ c.from_residual.ensures.0 c.from_residual.ensures.1
     (unrefused c.in_err-section.field-0.0 _ _ (c.in_err-section.ensures.says told
     (item_inside (contents (g.M.Machine.state c.args.machine.now).files c.args.path.now) _ (headers_of c.args.head.now)
     c.sections-section-items.result.now c.loop-section.section-index _ (c.requires.head

@@ -1,8 +1,8 @@
 use Rattle.std.proofs.Common.{◌∙◌, ◌++◌, ◌∷◌, [], ap, sym, take}
 use Rattle.std.proofs.lemmas.List.{take_more}
 use Rattle.boot_base.specs.Paths.{Path}
-use Rattle.command_plans.proofs.Declining.{means_declined}
-use Rattle.command_plans.proofs.Each.{each_none, each_taken, taken_declined}
+use Rattle.command_plans.proofs.WordErrors.{means_word_error}
+use Rattle.command_plans.proofs.Each.{each_none, each_taken, taken_word_error}
 use Rattle.type1_install.specs.Installing.{install_source}
 use Rattle.type1_install.proofs.install_words.check_initrds.Goals as goal
 
@@ -11,8 +11,8 @@ loop-path-init c = each_none _
 
 pub returns-in_err-check_source : goal.returns-in_err-check_source
 returns-in_err-check_source c =
-    means_declined _ c.in_err-check_source.field-0.0 _ _ c.from_residual.ensures.0 c.from_residual.ensures.1
-    (taken_declined (install_source c.args.place.now.esp) c.args.paths.now c.loop-path.path-index
+    means_word_error _ c.in_err-check_source.field-0.0 _ _ c.from_residual.ensures.0 c.from_residual.ensures.1
+    (taken_word_error (install_source c.args.place.now.esp) c.args.paths.now c.loop-path.path-index
     (take c.loop-path.path-index c.args.paths.now) c.path-item.result c.path-item.result c.in_err-check_source.field-0.0
     c.loop-path-test.true c.loop-path.invariant c.path-item.is c.in_err-check_source.ensures)
 

@@ -2,15 +2,15 @@ use Rattle.std.proofs.Common.{◌≡◌, ◌∙◌, ◌∷◌, ◌++◌, [], Ok,
 use Rattle.boot_base.specs.Paths.{Path}
 use Rattle.boot_machine.specs.Prelude.{State, TakesAtMost, seen}
 use Rattle.boot_machine.proofs.Reading.{looks_none, looks_on}
-use Rattle.command_plans.specs.Prelude.{bytes_at, each, UnsaidFor}
-use Rattle.command_plans.proofs.Unsaying.{says_unsaid}
+use Rattle.command_plans.specs.Prelude.{bytes_at, each, ReadErrorFor}
+use Rattle.command_plans.proofs.ReadErrors.{says_read_error}
 use Rattle.boot_texts.specs.EntryText.{entry_text}
 use Rattle.tool_words.specs.declared.action.Action.{Action}
 use Rattle.tool_words.specs.declared.action.Action.TheVariants as action
 use Rattle.type1_install.specs.Installing.{digesting_length, install_plan}
 use Rattle.type1_install.specs.Shown.{HasPayloadName, fields_with, payload_at, plan_shown, put_in}
 use Rattle.type1_install.specs.declared.payload.Payload.{Payload}
-use Rattle.type1_install.proofs.Expanding.{both_made, expansion_made, expansion_refused, first_unsaid, later_unsaid}
+use Rattle.type1_install.proofs.Expanding.{both_made, expansion_made, expansion_refused, first_read_error, later_read_error}
 use Rattle.type1_install.proofs.Taken.{installed}
 use Rattle.type1_install.proofs.installation.install_expansion.Goals as goal
 
@@ -22,8 +22,8 @@ returns-in_err-linux-clause-says g c told =
     let view = seen (g.M.Machine.state c.args.machine.now) in
     let plan = plan_shown c.args.words.now.texts c.in_ok-plan.plan in
     let why = c.in_err-linux.field-0.0 in
-    says_unsaid c.from_residual-in_err-linux.result why _ _ c.from_residual-in_err-linux.ensures.0 c.from_residual-in_err-linux.ensures.1
-    (expansion_refused view c.args.words.now plan c.in_ok-plan.ensures.means why (first_unsaid view plan.linux plan.initrds why (c.in_err-linux.ensures.says told)))
+    says_read_error c.from_residual-in_err-linux.result why _ _ c.from_residual-in_err-linux.ensures.0 c.from_residual-in_err-linux.ensures.1
+    (expansion_refused view c.args.words.now plan c.in_ok-plan.ensures.means why (first_read_error view plan.linux plan.initrds why (c.in_err-linux.ensures.says told)))
 
 pub returns-in_err-initrds-clause-says : goal.returns-in_err-initrds-clause-says
 returns-in_err-initrds-clause-says g c told =
@@ -31,11 +31,11 @@ returns-in_err-initrds-clause-says g c told =
     let plan = plan_shown c.args.words.now.texts c.in_ok-plan.plan in
     let why = c.in_err-initrds.field-0.0 in
     let same = (c.payload_at.ensures.looks.reads told).same in
-    let later : UnsaidFor why (each (payload_at view) plan.initrds) =
-    subst (λ (files : List Path). UnsaidFor why (each (payload_at view) files)) c.deref.ensures.value
-    (subst (λ (s : State). UnsaidFor why (each (payload_at (seen s)) c.deref.result.now)) same (c.in_err-initrds.ensures.says told)) in
-    says_unsaid c.from_residual-in_err-initrds.result why _ _ c.from_residual-in_err-initrds.ensures.0 c.from_residual-in_err-initrds.ensures.1
-    (expansion_refused view c.args.words.now plan c.in_ok-plan.ensures.means why (later_unsaid view plan.linux plan.initrds c.in_ok-linux.linux (c.in_ok-linux.ensures.says told) why later))
+    let later : ReadErrorFor why (each (payload_at view) plan.initrds) =
+    subst (λ (files : List Path). ReadErrorFor why (each (payload_at view) files)) c.deref.ensures.value
+    (subst (λ (s : State). ReadErrorFor why (each (payload_at (seen s)) c.deref.result.now)) same (c.in_err-initrds.ensures.says told)) in
+    says_read_error c.from_residual-in_err-initrds.result why _ _ c.from_residual-in_err-initrds.ensures.0 c.from_residual-in_err-initrds.ensures.1
+    (expansion_refused view c.args.words.now plan c.in_ok-plan.ensures.means why (later_read_error view plan.linux plan.initrds c.in_ok-linux.linux (c.in_ok-linux.ensures.says told) why later))
 
 pub returns-in_err-initrds-clause-looks : goal.returns-in_err-initrds-clause-looks
 returns-in_err-initrds-clause-looks g c = looks_on c.payload_at.ensures.looks c.payloads_at.ensures.looks (search rules)

@@ -2,16 +2,16 @@ use Rattle.std.proofs.Common.{◌∙◌, ap, length, sym, rules}
 use Rattle.boot_machine.specs.Prelude.{State, contents, seen}
 use Rattle.boot_machine.proofs.Reading.{looks_on}
 use Rattle.command_plans.specs.Prelude.{bytes_at}
-use Rattle.command_plans.proofs.Unsaying.{says_unsaid}
-use Rattle.type1_install.proofs.Payloads.{payload_made, unsaid_first}
+use Rattle.command_plans.proofs.ReadErrors.{says_read_error}
+use Rattle.type1_install.proofs.Payloads.{payload_made, read_error_first}
 use Rattle.type1_install.proofs.Taken.{digested}
 use Rattle.type1_install.proofs.payload.payload_at.Goals as goal
 
 pub returns-in_err-size-clause-says : goal.returns-in_err-size-clause-says
 returns-in_err-size-clause-says g c told =
     let view = seen (g.M.Machine.state c.args.machine.now) in
-    says_unsaid c.from_residual.result c.in_err-size.field-0.0 _ _ c.from_residual.ensures.0 c.from_residual.ensures.1
-    (unsaid_first c.in_err-size.field-0.0 (bytes_at view c.args.file.now) _ (c.in_err-size.ensures.file told))
+    says_read_error c.from_residual.result c.in_err-size.field-0.0 _ _ c.from_residual.ensures.0 c.from_residual.ensures.1
+    (read_error_first c.in_err-size.field-0.0 (bytes_at view c.args.file.now) _ (c.in_err-size.ensures.file told))
 
 pub returns-in_err-digest-clause-looks : goal.returns-in_err-digest-clause-looks
 returns-in_err-digest-clause-looks g c = looks_on c.readable_size.ensures.looks c.file_digest.ensures.looks (search rules)

@@ -4,12 +4,12 @@ use Rattle.std.proofs.lemmas.List.Sums.{sum_by-take-le}
 use Rattle.boot_base.specs.Paths.{Path}
 use Rattle.boot_machine.specs.Prelude.{State, TakesAtMost, seen}
 use Rattle.boot_machine.proofs.Reading.{reads_none, reads_on}
-use Rattle.command_plans.specs.Prelude.{bytes_at, UnsaidFor}
+use Rattle.command_plans.specs.Prelude.{bytes_at, ReadErrorFor}
 use Rattle.command_plans.proofs.Each.{each_none, each_taken}
-use Rattle.command_plans.proofs.Unsaying.{says_unsaid}
+use Rattle.command_plans.proofs.ReadErrors.{says_read_error}
 use Rattle.type1_install.specs.Installing.{digesting_length}
 use Rattle.type1_install.specs.Shown.{HasPayloadName, payload_at}
-use Rattle.type1_install.proofs.Payloads.{taken_unsaid}
+use Rattle.type1_install.proofs.Payloads.{taken_read_error}
 use Rattle.type1_install.proofs.Taken.{last_read, more_read}
 use Rattle.type1_install.proofs.payload.payloads_at.Goals as goal
 
@@ -27,9 +27,9 @@ pub returns-in_err-payload-clause-says : goal.returns-in_err-payload-clause-says
 returns-in_err-payload-clause-says g c told =
     let before = c.loop-file.invariant in
     let first = g.M.Machine.state c.args.machine.now in
-    says_unsaid c.from_residual.result c.in_err-payload.field-0.0 _ _ c.from_residual.ensures.0 c.from_residual.ensures.1
-    (taken_unsaid (payload_at (seen first)) c.args.files.now c.loop-file.file-index c.loop-file.payloads.items c.file-item.result c.file-item.result c.in_err-payload.field-0.0 c.loop-file-test.true (before.found told) c.file-item.is
-    (subst (λ (s : State). UnsaidFor c.in_err-payload.field-0.0 (payload_at (seen s) c.file-item.result)) (before.reads told).same (c.in_err-payload.ensures.says told)))
+    says_read_error c.from_residual.result c.in_err-payload.field-0.0 _ _ c.from_residual.ensures.0 c.from_residual.ensures.1
+    (taken_read_error (payload_at (seen first)) c.args.files.now c.loop-file.file-index c.loop-file.payloads.items c.file-item.result c.file-item.result c.in_err-payload.field-0.0 c.loop-file-test.true (before.found told) c.file-item.is
+    (subst (λ (s : State). ReadErrorFor c.in_err-payload.field-0.0 (payload_at (seen s) c.file-item.result)) (before.reads told).same (c.in_err-payload.ensures.says told)))
 
 pub returns-in_err-payload-clause-looks : goal.returns-in_err-payload-clause-looks
 returns-in_err-payload-clause-looks g c = record {

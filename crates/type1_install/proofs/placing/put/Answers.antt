@@ -3,7 +3,7 @@ use Rattle.std.specs.FinMap.{get, insert}
 use Rattle.boot_machine.specs.Prelude.{State, contents, seen}
 use Rattle.boot_machine.proofs.Reading.{looks_on}
 use Rattle.command_plans.specs.Prelude.{Answer, done_answer, bytes_at}
-use Rattle.command_plans.proofs.Declining.{done_next}
+use Rattle.command_plans.proofs.WordErrors.{done_next}
 use Rattle.type1_install.specs.Placing.{payload_text}
 use Rattle.type1_install.proofs.placing.put.Goals as goal
 

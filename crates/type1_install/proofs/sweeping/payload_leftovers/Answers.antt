@@ -3,11 +3,11 @@ use Rattle.std.proofs.lemmas.Result.{IfErr-weaker, IfOk-weaker}
 use Rattle.boot_base.specs.Paths.{Path, under}
 use Rattle.boot_base.specs.declared.refusal.Refusal.{Refusal}
 use Rattle.boot_machine.proofs.Reading.{looks_none}
-use Rattle.command_plans.specs.Prelude.{UnsaidFor, path_under}
-use Rattle.command_plans.proofs.Declining.{done_next}
+use Rattle.command_plans.specs.Prelude.{ReadErrorFor, path_under}
+use Rattle.command_plans.proofs.WordErrors.{done_next}
 use Rattle.type1_install.specs.Installing.{payload_probe}
 use Rattle.type1_install.specs.Sweeping.{FindsBeside, HasPayloadTemps, IsBesidePayload, StandsBeside, payload_esp}
-use Rattle.type1_install.proofs.Leftovers.{unsaid_any}
+use Rattle.type1_install.proofs.Leftovers.{read_error_any}
 use Rattle.type1_install.proofs.sweeping.payload_leftovers.Given as given
 use Rattle.type1_install.proofs.sweeping.payload_leftovers.Goals.{After-leftovers_of}
 use Rattle.type1_install.proofs.sweeping.payload_leftovers.Goals as goal
@@ -41,4 +41,4 @@ returns-clause-within g c =
 
 pub returns-clause-refused : goal.returns-clause-refused
 returns-clause-refused g c =
-    IfErr-weaker c.leftovers_of.result _ (λ unsaid. UnsaidFor unsaid (payload_esp c.args.esp.now)) (λ unsaid is. unsaid_any unsaid (payload_esp c.args.esp.now) is) c.leftovers_of.ensures.faults
+    IfErr-weaker c.leftovers_of.result _ (λ read_error. ReadErrorFor read_error (payload_esp c.args.esp.now)) (λ read_error is. read_error_any read_error (payload_esp c.args.esp.now) is) c.leftovers_of.ensures.faults
