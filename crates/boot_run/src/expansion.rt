@@ -7,7 +7,7 @@ ghost use Rattle.boot_commands.specs.Expanding.{StandsFor};
 ghost use Rattle.boot_commands.specs.Sweeps.{KeepsUnswept, SweptBy};
 ghost use Rattle.install_steps.specs.Recovery.{RecoversTo, SameFrom};
 ghost use Rattle.install_steps.specs.Steps.{CanStep, Keeps, Lacks, LeavesAlone, NoNewTemp, StepsTo};
-ghost use Rattle.command_plans.specs.Prelude.{CountsRunError, LeavesRested, is_refusal};
+ghost use Rattle.command_plans.specs.Prelude.{CountsRunError, LeavesRested};
 ghost use Rattle.boot_run.specs.Lines.{is_unread};
 ghost use Rattle.boot_run.specs.RunsTo.{RunsTo};
 ghost use Rattle.boot_run.specs.Spared.{AllKeep};
@@ -20,7 +20,7 @@ use crate::recovery::recover_rename;
 use boot_base::TempPath;
 use boot_commands::{expand, find_leftovers};
 use boot_machine::{DiskFault, Machine};
-use command_plans::{Outcome, RunError};
+use command_plans::RunError;
 use install_steps::drop_leftovers;
 use std::alloc::{AllocError, Global};
 use tool_words::{Action, Several};
@@ -83,15 +83,6 @@ pub fn action_lines(alloc: Global, actions: Vec<Action>) -> Result<Vec<Line>, Al
     Ok(lines)
 }
 
-fn is_refused(outcome: Outcome) -> bool
-    ensures { result ≡ is_refusal outcome }
-{
-    match outcome {
-        Outcome::Done => false,
-        Outcome::Refused { .. } => true,
-    }
-}
-
 /// The actions of a command, one after the other up to the first one that is refused: whether one is. A fault of the
 /// machine and want of memory end the run too.
 pub fn run_actions<M: Machine>(
@@ -112,7 +103,7 @@ pub fn run_actions<M: Machine>(
 {
     for line in lines {
         let outcome = run_line(alloc, line, machine)?;
-        if is_refused(outcome) {
+        if outcome.is_refused() {
             return Ok(true);
         }
     }

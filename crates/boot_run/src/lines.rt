@@ -253,10 +253,7 @@ fn is_begun(begun: bool, line: &Line) -> bool
 fn some_refused(refused: bool, outcome: Outcome) -> bool
     ensures { result ≡ (refused || is_refusal outcome) }
 {
-    match outcome {
-        Outcome::Done => refused,
-        Outcome::Refused { .. } => true,
-    }
+    refused || outcome.is_refused()
 }
 
 /// The lines of a script, one after the other: whether some reply is a refusal. A refused line doesn't end the run; a

@@ -1,6 +1,6 @@
 //! What a command comes to, and why it comes to nothing.
 ghost use Rattle.std.specs.Prelude.{◌≡◌};
-ghost use Rattle.command_plans.specs.Prelude.{channel_of};
+ghost use Rattle.command_plans.specs.Prelude.{channel_of, is_refusal};
 
 use boot_machine::{Channel, DiskFault, PipeFault, ReadFault};
 use std::alloc::AllocError;
@@ -20,6 +20,16 @@ impl Outcome {
         match self {
             Outcome::Done => Channel::Out,
             Outcome::Refused { .. } => Channel::Err,
+        }
+    }
+
+    /// Whether the command was refused.
+    pub fn is_refused(self) -> bool
+        ensures { result ≡ is_refusal self }
+    {
+        match self {
+            Outcome::Done => false,
+            Outcome::Refused { .. } => true,
         }
     }
 }

@@ -121,7 +121,7 @@ impl<C: Calls + Drop, E: Print + Drop> Changes<C, E> {
     pub fn change_near(&mut self, path: &str) -> io::Result<()>
         ensures { self.new ≡ self.old }
     {
-        keep_note(&mut self.is_unsure, self.named.remove(path))?;
+        keep_note(&mut self.is_unsure, self.named.change(path))?;
         Ok(())
     }
 
@@ -130,7 +130,7 @@ impl<C: Calls + Drop, E: Print + Drop> Changes<C, E> {
     pub fn create(&mut self, path: &str, mode: u32) -> io::Result<C::File>
         ensures { IsTrue C.tells → NameWaits (C.waits self.old) (C.waits self.new) path.now }
     {
-        keep_note(&mut self.is_unsure, self.named.remove(path))?;
+        keep_note(&mut self.is_unsure, self.named.change(path))?;
         self.calls.create(path, mode)
     }
 
@@ -180,7 +180,7 @@ impl<C: Calls + Drop, E: Print + Drop> Changes<C, E> {
         if !is_open_at(&self.calls, from, made.file()) {
             return Err(changed_fault());
         }
-        keep_note(&mut self.is_unsure, self.named.rename_known(from, to))?;
+        keep_note(&mut self.is_unsure, self.named.rename(from, to))?;
         self.calls.put(from, to, made, held)
     }
 
@@ -192,7 +192,7 @@ impl<C: Calls + Drop, E: Print + Drop> Changes<C, E> {
             → MayGo (C.tree self.old) to.now (option_map (λ file. C.inode file.now) held.entry)) }
     {
         self.require_leave(to, "", held)?;
-        keep_note(&mut self.is_unsure, self.named.rename_known(from, to))?;
+        keep_note(&mut self.is_unsure, self.named.rename(from, to))?;
         self.calls.rename(from, to, held)
     }
 
@@ -205,7 +205,7 @@ impl<C: Calls + Drop, E: Print + Drop> Changes<C, E> {
     {
         self.require_leave(path, "", held)?;
         let removed = copy_path(self.alloc, path)?;
-        keep_note(&mut self.is_unsure, self.named.remove(path))?;
+        keep_note(&mut self.is_unsure, self.named.change(path))?;
         self.calls.unlink(path, held)?;
         self.removed = Some(removed);
         Ok(())

@@ -212,11 +212,8 @@ name_covered named old new path more there covers waits = record {
 
 pub names_are_covered : NamesAreCovered
 names_are_covered named old new path covers waits = (
-  name_covered named old new path (folders_above path) (parent_above path) covers waits,
-  (
-    name_covered named old new path (parent_folder path ∷ []) (itself (parent_folder path)) covers waits,
-    name_covered named old new path (unsettled named.settled (folders_above path)) (parent_unsettled named.settled path) covers waits,
-  ),
+  name_covered named old new path (parent_folder path ∷ []) (itself (parent_folder path)) covers waits,
+  name_covered named old new path (unsettled named.settled (folders_above path)) (parent_unsettled named.settled path) covers waits,
 )
 
 rename_covered : (named : Named) (old new : Waiting) (from to : List ℕ) (front back : List (List ℕ))
@@ -243,11 +240,9 @@ rename_covered named old new from to front back to_there from_there covers waits
     }
 
 pub renames_are_covered : RenamesAreCovered
-renames_are_covered named old new from to covers waits = (
-  rename_covered named old new from to (folders_above to) (folders_above from) (parent_above to) (parent_above from) covers waits,
-  rename_covered named old new from to (unsettled named.settled (folders_above to)) (unsettled named.settled (folders_above from))
-      (parent_unsettled named.settled to) (parent_unsettled named.settled from) covers waits,
-)
+renames_are_covered named old new from to covers waits =
+    rename_covered named old new from to (unsettled named.settled (folders_above to)) (unsettled named.settled (folders_above from))
+    (parent_unsettled named.settled to) (parent_unsettled named.settled from) covers waits
 
 -- a path that is taken away takes no other one with it
 without_kept : (paths : List (List ℕ)) (path other : List ℕ) → (path ≡ other → ⊥) → has_path paths other ≡ true

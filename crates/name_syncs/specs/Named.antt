@@ -31,13 +31,9 @@ owned named path = record named { own = with_folder named.own (parent_folder pat
 abbrev pub made_at : Named → List ℕ → Named
 made_at named folder = record (owned named folder) { changed = with_folder named.changed (parent_folder folder) }
 
--- a name comes, maybe with folders above it
+-- A file comes or goes. Its own folder has changed, and those above it that aren't settled are synced too.
 abbrev pub changed_at : Named → List ℕ → Named
-changed_at named path = record (owned named path) { changed = with_folders named.changed (folders_above path) }
-
--- a file goes
-abbrev pub removed_at : Named → List ℕ → Named
-removed_at named path =
+changed_at named path =
     record (owned named path) { changed = with_folders named.changed (unsettled named.settled (folders_above path)) }
 
 -- a file gets a new name, and these folders have changed
@@ -47,14 +43,9 @@ renamed_with named from to folders = record (owned (owned named to) from) {
   changed = with_folders named.changed folders;
 }
 
--- a file gets a new name: the folders above that come before those above the old one
+-- A file gets a new name: its new folder comes before its old one, each with those above it that aren't settled.
 abbrev pub renamed_to : Named → List ℕ → List ℕ → Named
-renamed_to named from to = renamed_with named from to (folders_above to ++ folders_above from)
-
--- A file gets a new name. The folders above that come before those above the old one, both without each that is settled
--- like the folder below it.
-abbrev pub renamed_known : Named → List ℕ → List ℕ → Named
-renamed_known named from to =
+renamed_to named from to =
     renamed_with named from to
     (unsettled named.settled (folders_above to) ++ unsettled named.settled (folders_above from))
 
@@ -100,13 +91,13 @@ pub record RenameWaits (old new : Waiting) (from to : List ℕ) : Type 0 where
 abbrev pub NamesAreCovered : Type 0
 NamesAreCovered =
     (named : Named) (old new : Waiting) (path : List ℕ) → Covers named old → NameWaits old new path
-    → Covers (changed_at named path) new × (Covers (made_at named path) new × Covers (removed_at named path) new)
+    → Covers (made_at named path) new × Covers (changed_at named path) new
 
--- If all that waited was noted, so is all that waits after a rename, also if it is noted without settled folders above.
+-- If all that waited was noted, so is all that waits after a rename.
 abbrev pub RenamesAreCovered : Type 0
 RenamesAreCovered =
     (named : Named) (old new : Waiting) (from to : List ℕ) → Covers named old → RenameWaits old new from to
-    → Covers (renamed_to named from to) new × Covers (renamed_known named from to) new
+    → Covers (renamed_to named from to) new
 
 -- If all that waits was noted, it still is without the note of a renamed file that doesn't wait any more.
 abbrev pub SettledAreCovered : Type 0

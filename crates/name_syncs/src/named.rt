@@ -21,7 +21,7 @@ pub struct Named {
 
 impl Named {
     ghost use Rattle.std.specs.Prelude.{◌≡◌, [], false, OnOk};
-    ghost use Rattle.name_syncs.specs.Named.{changed_at, looked_again, looked_at, looked_into, looked_into_again, made_at, removed_at, renamed_known, renamed_to, renamed_with, settled_at};
+    ghost use Rattle.name_syncs.specs.Named.{changed_at, looked_again, looked_at, looked_into, looked_into_again, made_at, renamed_to, renamed_with, settled_at};
     ghost use Rattle.name_syncs.specs.Folders.{listed};
 
     /// Nothing. It takes no memory.
@@ -84,14 +84,6 @@ impl Named {
         self.look_into(folder)
     }
 
-    /// A name comes or goes, or a folder above it.
-    pub fn change(&mut self, path: &str) -> Result<(), AllocError>
-        ensures { OnOk result (self.new ≡ changed_at self.old path.now) }
-    {
-        self.own.add(folder_of(path))?;
-        self.changed.add_above(path)
-    }
-
     /// A folder is made.
     pub fn make(&mut self, folder: &str) -> Result<(), AllocError>
         ensures { OnOk result (self.new ≡ made_at self.old folder.now) }
@@ -100,18 +92,10 @@ impl Named {
         self.changed.add(folder_of(folder))
     }
 
-    /// A file gets a new name. The folder in which that name comes is synced before the one in which the old one goes.
+    /// A file gets a new name. The folder in which that name comes is synced before the one in which the old one goes. The
+    /// folders above these two that were synced since the last reply need no second sync.
     pub fn rename(&mut self, from: &str, to: &str) -> Result<(), AllocError>
         ensures { OnOk result (self.new ≡ renamed_to self.old from.now to.now) }
-    {
-        self.own_rename(from, to)?;
-        self.changed.add_above(to)?;
-        self.changed.add_above(from)
-    }
-
-    /// A file gets a new name, and the folders above its own that were synced since the last reply need no second sync.
-    pub fn rename_known(&mut self, from: &str, to: &str) -> Result<(), AllocError>
-        ensures { OnOk result (self.new ≡ renamed_known self.old from.now to.now) }
     {
         self.own_rename(from, to)?;
         self.changed.add_unsettled(to, &self.settled)?;
@@ -127,9 +111,9 @@ impl Named {
         self.own.add(folder_of(from))
     }
 
-    /// A file goes. The folders above its own that were synced since the last reply need no second sync.
-    pub fn remove(&mut self, path: &str) -> Result<(), AllocError>
-        ensures { OnOk result (self.new ≡ removed_at self.old path.now) }
+    /// A file comes or goes. The folders above its own that were synced since the last reply need no second sync.
+    pub fn change(&mut self, path: &str) -> Result<(), AllocError>
+        ensures { OnOk result (self.new ≡ changed_at self.old path.now) }
     {
         self.own.add(folder_of(path))?;
         self.changed.add_unsettled(path, &self.settled)
