@@ -7,8 +7,8 @@ import fcntl
 import os
 import subprocess
 
-from lab import Trouble
-from lab.host import tool, write_files
+from lab import Trouble, mapper
+from lab.host import write_files
 from lab.kernels import Modules
 
 C = ctypes.CDLL(None, use_errno=True)
@@ -122,17 +122,16 @@ def recorded(disk, log_size=64 << 20):
     with open(log, "wb") as file:
         file.truncate(log_size)
     with Loop(0, disk) as first, Loop(1, log) as second:
-        table = f"0 {os.path.getsize(disk) // 512} log-writes {first.path} {second.path}"
-        dmsetup("create", "recorded", "--table", table)
+        mapper.create("recorded", [f"0 {os.path.getsize(disk) // 512} log-writes {first.path} {second.path}"])
         try:
             yield log
         finally:
-            dmsetup("remove", "recorded")
+            mapper.remove("recorded")
 
 
 def mark_reply(number):
     """Notes in the log that a reply was given."""
-    dmsetup("message", "recorded", "0", f"mark reply-{number}")
+    mapper.tell("recorded", f"mark reply-{number}")
 
 
 def make_files(files, folder):
@@ -152,7 +151,3 @@ def run_check(words, disk, allowed=(0, 1, 4, 5)):
 
 def is_read_only(folder):
     return bool(os.statvfs(folder).f_flag & os.ST_RDONLY)
-
-
-def dmsetup(*words):
-    tool("dmsetup", "--noudevsync", *words)

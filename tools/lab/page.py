@@ -6,9 +6,9 @@ import re
 import shutil
 import subprocess
 
-from lab import TOP, Trouble
+from lab import TOP, Trouble, mapper
 from lab.cases import LIST, start_files
-from lab.disks import MAKE_EXT4, MENDINGS, MS_BIND, ROOM, Loop, dmsetup, make_files, mark_reply, mount, recorded, unmount
+from lab.disks import MAKE_EXT4, MENDINGS, MS_BIND, ROOM, Loop, make_files, mark_reply, mount, recorded, unmount
 from lab.host import quoted, tool, write_files
 from lab.looks import Guest
 from lab.recordings import moments
@@ -106,8 +106,8 @@ class Page(Guest):
         with contextlib.ExitStack() as stack:
             log = stack.enter_context(recorded(f"{ROOM}/disk", 128 << 20))
             for name, start, count in (("root", 0, root), ("partition", root, partition)):
-                dmsetup("create", name, "--table", f"0 {count} linear /dev/dm-0 {start}")
-                stack.callback(dmsetup, "remove", name)
+                mapper.create(name, [f"0 {count} linear /dev/dm-0 {start}"])
+                stack.callback(mapper.remove, name)
             at = stack.enter_context(System("/dev/dm-1", "/dev/dm-2"))
             for number, words in enumerate(commands, 1):
                 replies.append(self.run(words, at))

@@ -5,8 +5,8 @@ import os
 import random
 import time
 
-from lab import Trouble
-from lab.disks import FILE_SYSTEMS, MENDINGS, MS_RDONLY, ROOM, Loop, dmsetup, make_files, mount, recorded, run_check, unmount
+from lab import Trouble, mapper
+from lab.disks import FILE_SYSTEMS, MENDINGS, MS_RDONLY, ROOM, Loop, make_files, mount, recorded, run_check, unmount
 from lab.host import tool, write_files
 
 # Where the starting folder is: on the partition's own file system, or on ext4.
@@ -41,33 +41,28 @@ class Device:
     def __init__(self, number, file):
         self.loop, self.name = Loop(number, file), f"disk{number}"
         self.count = os.path.getsize(file) // 512
-        dmsetup("create", self.name, "--table", f"0 {self.count} {self.linear(0)}")
+        mapper.create(self.name, [f"0 {self.count} {self.linear(0)}"])
         self.path = f"/dev/dm-{number}"
         wait_until(lambda: os.path.exists(self.path))
 
     def fail_all(self):
         """Lets each write and each flush fail. What is read is read."""
-        self.load([f"0 {self.count} flakey {self.loop.path} 0 0 1 1 error_writes"])
+        mapper.replace(self.name, [f"0 {self.count} flakey {self.loop.path} 0 0 1 1 error_writes"])
 
     def fail_some(self, first, end):
         """Lets the writes to some sectors fail, and no flush."""
         parts = [(0, first, self.linear), (first, end, lambda _: "error"), (end, self.count, self.linear)]
-        self.load([f"{start} {stop - start} {target(start)}" for start, stop, target in parts if stop > start])
+        table = [f"{start} {stop - start} {target(start)}" for start, stop, target in parts if stop > start]
+        mapper.replace(self.name, table)
 
     def work(self):
-        self.load([f"0 {self.count} {self.linear(0)}"])
+        mapper.replace(self.name, [f"0 {self.count} {self.linear(0)}"])
 
     def linear(self, place):
         return f"linear {self.loop.path} {place}"
 
-    def load(self, table):
-        write_files({"table": "\n".join([*table, ""]).encode()}, ROOM)
-        dmsetup("load", self.name, f"{ROOM}/table")
-        # Without these flags the file system would be synced first.
-        dmsetup("resume", "--noflush", "--nolockfs", self.name)
-
     def close(self):
-        dmsetup("remove", self.name)
+        mapper.remove(self.name)
         self.loop.__exit__()
 
 
@@ -125,8 +120,8 @@ class System:
         with contextlib.ExitStack() as stack:
             log, place = stack.enter_context(recorded(f"{ROOM}/whole")), 0
             for number, (kind, _, path) in enumerate(self.parts, 1):
-                dmsetup("create", f"part{number}", "--table", f"0 {kind.size // 512} linear /dev/dm-0 {place}")
-                stack.callback(dmsetup, "remove", f"part{number}")
+                mapper.create(f"part{number}", [f"0 {kind.size // 512} linear /dev/dm-0 {place}"])
+                stack.callback(mapper.remove, f"part{number}")
                 mount(f"/dev/dm-{number}", f"{self.at}{path}", kind.kind)
                 stack.callback(unmount, f"{self.at}{path}")
                 place += kind.size // 512
