@@ -58,11 +58,11 @@ class View:
         for above, folders, names in os.walk(folder, onerror=self.miss):
             folders[:] = [it for it in folders if it not in passed and self.is_of_a_run(it)]
             for name in filter(self.is_of_a_run, names):
-                path = os.path.relpath(os.path.join(above, name), folder)
+                path = f"{above}/{name}"[len(folder) + 1 :]
                 self.has_intent |= name == INTENT
                 self.has_alias |= is_alias(path)
                 if not PASSING.fullmatch(name):
-                    self.tree[path] = self.read(os.path.join(above, name))
+                    self.tree[path] = self.read(f"{above}/{name}")
 
     def miss(self, _):
         self.is_away = True
