@@ -26,7 +26,9 @@ pub struct LookedFile<F: Drop> {
 impl<F: Drop> LookedFile<F> {
     /// A file that was opened at a path, and has so many bytes.
     pub fn new(alloc: Global, path: String, file: F, size: u64) -> Self
+        ensures path { result.path ≡ path }
         ensures file { result.file ≡ file }
+        ensures size { result.size ≡ size }
         ensures head { result.head.items ≡ [] }
     {
         LookedFile {
@@ -71,17 +73,10 @@ impl<F: Drop> LookedFile<F> {
         if !self.head.is_empty() {
             return Ok(());
         }
-        self.head.resize(self.size.min(HEAD_SIZE) as usize, 0)?;
-        let answer = read_full(calls, &self.file, 0, &mut self.head);
-        match answer {
-            Ok(count) => {
-                self.head.truncate(count);
-                Ok(())
-            }
-            Err(error) => {
-                self.head.clear();
-                Err(error)
-            }
-        }
+        let mut bytes = [0; HEAD_SIZE as usize];
+        let room = &mut bytes[..self.size.min(HEAD_SIZE) as usize];
+        let count = read_full(calls, &self.file, 0, room)?;
+        self.head.extend_from_slice(&room[..count])?;
+        Ok(())
     }
 }
