@@ -1,5 +1,6 @@
 """Trees: the digest of each file's bytes by its path. A tree in a set is the frozenset of its items."""
 import collections
+import functools
 import hashlib
 import os
 import re
@@ -24,6 +25,7 @@ JUNK = re.compile(r"FSCK\d+\.\d+|.*[^\w.+~-].*", re.A | re.I | re.S)
 UNMARKED = re.compile(r"(~\d(\.[^a-z\s]{1,3})?|/[^a-z\s/.]{1,8}\.EFI)\s*\n  Contains a free cluster")
 
 
+@functools.cache
 def is_alias(path):
     return bool(ALIAS.fullmatch(os.path.basename(path)))
 
