@@ -13,6 +13,7 @@ VERSION = (4, 0, 0)
 
 
 def ask(command, name, data=b"", targets=0, flags=0):
+    """Asks the kernel for something of a device."""
     size = HEAD.size + len(data)
     head = HEAD.pack(*VERSION, size, HEAD.size, targets, 0, flags, 0, 0, 0, name.encode(), b"")
     control = os.open(CONTROL, os.O_RDWR)
@@ -26,8 +27,8 @@ def targets_of(table):
     """A table's lines as the kernel takes them: start, length, kind, and the words for the kind."""
     data = b""
     for line in table:
-        start, length, kind, words = line.split(" ", 3)
-        words = words.encode() + b"\0"
+        start, length, kind, *words = line.split(" ", 3)
+        words = "".join(words).encode() + b"\0"
         words += bytes(-len(words) % 8)
         data += TARGET.pack(int(start), int(length), 0, TARGET.size + len(words), kind.encode()) + words
     return data
