@@ -58,8 +58,10 @@ class Trap:
             with subprocess.Popen([self.program, *words], pass_fds=(asked, told), **how) as child:
                 os.close(asked)
                 os.close(told)
-                calls = list(self.follow(ask, answer, before, after))
-                os.close(answer)
+                try:
+                    calls = list(self.follow(ask, answer, before, after))
+                finally:  # the program ends if nobody answers it any more
+                    os.close(answer)
             out.seek(0)
             log.seek(0)
             if child.returncode > 100:
