@@ -8,21 +8,21 @@ use Rattle.command_plans.specs.declared.outcome.MachineFault.TheVariants as faul
 use Rattle.command_plans.specs.declared.outcome.RunError.{RunError}
 use Rattle.command_plans.specs.declared.outcome.RunError.TheVariants as run_errors
 use Rattle.command_plans.specs.declared.plan.Change.{Change}
-use Rattle.boot_commands.specs.Commands.{LeavesTidied, TidiesTo, stop_tidies}
+use Rattle.boot_commands.specs.Commands.{LeavesTidied, TidiesTo, run_error_tidies}
 
-stopped : {T : Type 0} (result : Result T RunError) (stop : RunError) (c : One) (old new : State) → IsErr result → IsErrAnd result (λ s. s ≡ stop) → stop_tidies stop c old new → TidiesTo result c old new
+stopped : {T : Type 0} (result : Result T RunError) (stop : RunError) (c : One) (old new : State) → IsErr result → IsErrAnd result (λ s. s ≡ stop) → run_error_tidies stop c old new → TidiesTo result c old new
 stopped (Ok v) stop c old new failed is tidies = cc
-stopped (Err e) stop c old new failed is tidies = subst (λ (s : RunError). stop_tidies s c old new) (sym is) tidies
+stopped (Err e) stop c old new failed is tidies = subst (λ (s : RunError). run_error_tidies s c old new) (sym is) tidies
 
 -- nothing was printed
-untold : (stop : RunError) (c : One) (old new : State) → new ≡ old → stop_tidies stop c old new
+untold : (stop : RunError) (c : One) (old new : State) → new ≡ old → run_error_tidies stop c old new
 untold run_errors.Disk c old new same = tt
 untold run_errors.Pipe c old new same = λ differs. absurd (differs (ap (λ (s : State). s.printed) same))
 untold run_errors.Memory c old new same = tt
 
 -- the change was made, but where the disk failed
 made_or_not : (fault : MachineFault) (change : Change) (c : One) (old new : State)
-    → ((files : Files) → Drops change old.files files → LeavesTidied c files) → fault_drops fault change old.files new.files → stop_tidies (run_error_of fault) c old new
+    → ((files : Files) → Drops change old.files files → LeavesTidied c files) → fault_drops fault change old.files new.files → run_error_tidies (run_error_of fault) c old new
 made_or_not faults.Disk change c old new so dropped = tt
 made_or_not faults.Pipe change c old new so dropped = λ differs. so new.files dropped
 

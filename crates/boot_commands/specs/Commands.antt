@@ -39,15 +39,16 @@ LeavesTidied (one.Tidy esp) files = IsTidied esp files
 LeavesTidied c files = Unit {0}
 
 -- a command has tidied that is done, or that printed a part of its reply before a pipe failed
-abbrev pub stop_tidies : RunError → One → State → State → Type 0
-stop_tidies run_errors.Disk c old new = Unit {0}
-stop_tidies run_errors.Pipe c old new = new.printed ≢ old.printed → LeavesTidied c new.files
-stop_tidies run_errors.Memory c old new = Unit {0}
+abbrev pub run_error_tidies : RunError → One → State → State → Type 0
+run_error_tidies run_errors.Disk c old new = Unit {0}
+run_error_tidies run_errors.Pipe c old new = new.printed ≢ old.printed → LeavesTidied c new.files
+run_error_tidies run_errors.Memory c old new = Unit {0}
 
--- what of temporary files is gone after a command, by what it returned: after Ok it has tidied, after a stop as far as
--- that tells
+-- what of temporary files is gone after a command, by what it returned: after Ok it has tidied, after an error as far
+-- as that tells
 abbrev pub TidiesTo : {T : Type 0} → Result T RunError → One → State → State → Type 0
-TidiesTo result c old new = MatchResult result (λ _. LeavesTidied c new.files) (λ stop. stop_tidies stop c old new)
+TidiesTo result c old new =
+    MatchResult result (λ _. LeavesTidied c new.files) (λ error. run_error_tidies error c old new)
 
 -- these temporary files may be those of this command: those of a tidying stand in its two folders
 abbrev pub MayOwn : One → List Path → Type 0

@@ -15,7 +15,7 @@ use Rattle.boot_run.specs.Lines.{Prints}
 use Rattle.boot_run.specs.Step.{PrintsUnread}
 use Rattle.boot_run.specs.declared.line.Line.{Line}
 
--- it is so after Ok, and after a pipe's failure where something was printed
+-- what an error leaves of it: it is so after a pipe's failure if something was printed
 abbrev pub at_part : RunError → State → State → Type 0 → Type 0
 at_part run_errors.Disk old new P = Unit {0}
 at_part run_errors.Pipe old new P = new.printed ≢ old.printed → P
@@ -23,7 +23,7 @@ at_part run_errors.Memory old new P = Unit {0}
 
 -- it is so after Ok, and after a pipe's failure if something was printed
 abbrev pub WherePrinted : {T : Type 0} → Result T RunError → State → State → Type 0 → Type 0
-WherePrinted result old new P = MatchResult result (λ _. P) (λ stop. at_part stop old new P)
+WherePrinted result old new P = MatchResult result (λ _. P) (λ error. at_part error old new P)
 
 -- At some time the names were all synced. Each moment up to it has one property, and each from it on the other.
 pub record FromSync {M : Type 0} (time : Timeline M) (state : M → State)
@@ -46,8 +46,8 @@ pub record PerformsBehind {M : Type 0} (time : Timeline M) (state : M → State)
     (result : Result Outcome RunError) : Type 0 where
   pub firm : IsFirm (state new)
   pub ok : IfOk result (DoesDeed deed (state old) (state new))
-  pub err : IfErr result (λ stop. Adds (state old).printed (state new).printed
-      (λ part. BreaksBehind deed (recovered_views (state old)) (recovered_views (state new)) part (end_of stop)))
+  pub err : IfErr result (λ error. Adds (state old).printed (state new).printed
+      (λ part. BreaksBehind deed (recovered_views (state old)) (recovered_views (state new)) part (end_of error)))
   pub moments : EachSince time old new (λ image sent. Adds (state old).printed sent
       (λ part. Breaks deed (recovered_views (state old)) (recovered_view image ∷ []) part Stopped))
 
@@ -84,8 +84,8 @@ pub record RunsTo {M : Type 0} (time : Timeline M) (state : M → State)
     (result : Result Bool RunError) : Type 0 where
   pub firm : IsFirm (state new)
   pub ok : IfOk result (AllDone (state old) (state new) lines)
-  pub err : IfErr result (λ stop. Adds (state old).printed (state new).printed
-      (λ sent. Runs (recovered_views (state old)) lines (recovered_views (state new)) sent (end_of stop)))
+  pub err : IfErr result (λ error. Adds (state old).printed (state new).printed
+      (λ sent. Runs (recovered_views (state old)) lines (recovered_views (state new)) sent (end_of error)))
   pub moments : EachSince time old new (λ image printed. Adds (state old).printed printed
       (λ sent. Runs (recovered_views (state old)) lines (recovered_view image ∷ []) sent Stopped))
 

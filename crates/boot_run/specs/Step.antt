@@ -68,8 +68,8 @@ pub record IsLate (old : List Files) (lines : List Line) (new : List Files) (end
   pub equal : end ≢ DiskFails → (v w : Files) → IsIn v new → IsIn w new → v ≡ w
   pub no_memory : end ≡ NoMemory → (v : Files) → IsIn v new → v ≡ view_after (latest_view old) (take k lines)
 
--- From the state old a run over these lines may print this and leave the state new, at a status or a stop. A fault of
--- the disk comes at a line: not all are acknowledged then.
+-- From the state old a run over these lines may print this and leave the state new, at a status, an error or a stop. A
+-- fault of the disk comes at a line: not all are acknowledged then.
 pub record Step (old : List Files) (lines : List Line) (new : List Files) (sent : Sent) (end : End) : Type 0 where
   pub acked : ℕ
   pub is_acked : Acknowledges (replies (latest_view old) lines) sent acked

@@ -15,18 +15,18 @@ use Rattle.command_plans.specs.declared.outcome.RunError.TheVariants as run_erro
 use Rattle.command_plans.specs.declared.outcome.MachineFault.{MachineFault}
 use Rattle.command_plans.specs.declared.outcome.MachineFault.TheVariants as faults
 
--- the end that a stop makes of a run
+-- how a run ends by an error
 abbrev pub end_of : RunError → End
 end_of run_errors.Disk = DiskFails
 end_of run_errors.Pipe = PipeFails
 end_of run_errors.Memory = NoMemory
 
--- a fault of the machine as a stop
+-- a fault of the machine as an error of the run
 abbrev pub run_error_of : MachineFault → RunError
 run_error_of faults.Disk = run_errors.Disk
 run_error_of faults.Pipe = run_errors.Pipe
 
--- a failure to read, as a stop
+-- a failure to read as an error of the run
 abbrev pub run_error_of_read : ReadFault → RunError
 run_error_of_read reads.Memory = run_errors.Memory
 run_error_of_read reads.Disk = run_errors.Disk
@@ -52,15 +52,15 @@ pub record Performs {M E : Type 0} (time : Timeline M) (state : M → State)
       (λ image sent. Adds (state old).printed sent
       (λ part. Breaks deed (recovered_views (state old)) (recovered_view image ∷ []) part Stopped))
 
--- the counts at each stop
+-- the counts at each error
 abbrev pub run_error_counts : RunError → Counts → Counts → Type 0
 run_error_counts run_errors.Disk old new = DiskFailed old new
 run_error_counts run_errors.Pipe old new = PipeFailed old new
 run_error_counts run_errors.Memory old new = new ≡ old
 
--- a stop of disk or pipe comes only where its count rose, and every other answer leaves both counts
+-- an error of disk or pipe comes only where its count rose, and every other answer leaves both counts
 abbrev pub CountsRunError : {T : Type 0} → Result T RunError → Counts → Counts → Type 0
-CountsRunError result old new = MatchResult result (λ _. new ≡ old) (λ stop. run_error_counts stop old new)
+CountsRunError result old new = MatchResult result (λ _. new ≡ old) (λ error. run_error_counts error old new)
 
 -- a machine's fault of disk or pipe comes only if its count rose, and every other answer leaves both counts
 abbrev pub CountsFault : {T : Type 0} → Result T MachineFault → Counts → Counts → Type 0
@@ -75,7 +75,7 @@ run_error_temps run_errors.Memory old new = NoNewTemp old new
 
 -- whatever was returned, no temporary file is left that wasn't there, but after a fault of the disk
 abbrev pub LeavesNoTemp : {T : Type 0} → Result T RunError → State → State → Type 0
-LeavesNoTemp result old new = MatchResult result (λ _. NoNewTemp old new) (λ stop. run_error_temps stop old new)
+LeavesNoTemp result old new = MatchResult result (λ _. NoNewTemp old new) (λ error. run_error_temps error old new)
 
 -- whatever the machine answered, no temporary file is left that wasn't there, but maybe after a fault of the disk
 abbrev pub LeavesNoTempBy : {T : Type 0} → Result T MachineFault → State → State → Type 0
@@ -90,7 +90,7 @@ run_error_rests run_errors.Memory new = IsRested new
 
 -- whatever was returned, the machine is rested, but maybe after a fault of the disk
 abbrev pub LeavesRested : {T : Type 0} → Result T RunError → State → Type 0
-LeavesRested result new = MatchResult result (λ _. IsRested new) (λ stop. run_error_rests stop new)
+LeavesRested result new = MatchResult result (λ _. IsRested new) (λ error. run_error_rests error new)
 
 -- whatever the machine answered, it is rested, but maybe after a fault of the disk
 abbrev pub LeavesRestedBy : {T : Type 0} → Result T MachineFault → State → Type 0

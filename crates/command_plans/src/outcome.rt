@@ -80,7 +80,7 @@ impl From<MachineFault> for RunError {
     ghost use Rattle.std.specs.Prelude.{◌≡◌};
     ghost use Rattle.command_plans.specs.Performs.{run_error_of};
 
-    ghost from_gives = { λ fault stop. stop ≡ run_error_of fault };
+    ghost from_gives = { λ fault error. error ≡ run_error_of fault };
 
     fn from(fault: MachineFault) -> RunError {
         match fault {
@@ -94,7 +94,7 @@ impl From<DiskFault> for RunError {
     ghost use Rattle.std.specs.Prelude.{◌≡◌};
     ghost use Rattle.command_plans.specs.declared.outcome.RunError.TheVariants as run_errors;
 
-    ghost from_gives = { λ _ stop. stop ≡ run_errors.Disk };
+    ghost from_gives = { λ _ error. error ≡ run_errors.Disk };
 
     fn from(_: DiskFault) -> RunError {
         RunError::Disk
@@ -105,7 +105,7 @@ impl From<PipeFault> for RunError {
     ghost use Rattle.std.specs.Prelude.{◌≡◌};
     ghost use Rattle.command_plans.specs.declared.outcome.RunError.TheVariants as run_errors;
 
-    ghost from_gives = { λ _ stop. stop ≡ run_errors.Pipe };
+    ghost from_gives = { λ _ error. error ≡ run_errors.Pipe };
 
     fn from(_: PipeFault) -> RunError {
         RunError::Pipe
@@ -116,7 +116,7 @@ impl From<AllocError> for RunError {
     ghost use Rattle.std.specs.Prelude.{◌≡◌};
     ghost use Rattle.command_plans.specs.declared.outcome.RunError.TheVariants as run_errors;
 
-    ghost from_gives = { λ _ stop. stop ≡ run_errors.Memory };
+    ghost from_gives = { λ _ error. error ≡ run_errors.Memory };
 
     fn from(_: AllocError) -> RunError {
         RunError::Memory
@@ -127,7 +127,7 @@ impl From<ReadFault> for RunError {
     ghost use Rattle.std.specs.Prelude.{◌≡◌};
     ghost use Rattle.command_plans.specs.Performs.{run_error_of_read};
 
-    ghost from_gives = { λ fault stop. stop ≡ run_error_of_read fault };
+    ghost from_gives = { λ fault error. error ≡ run_error_of_read fault };
 
     fn from(fault: ReadFault) -> RunError {
         match fault {
