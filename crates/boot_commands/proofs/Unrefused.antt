@@ -23,9 +23,9 @@ use Rattle.boot_machine.proofs.Listing.{same_bytes}
 use Rattle.boot_machine.specs.proofs.Maps.{cases_same, get-insert_apart, get-insert_here, get-remove_apart}
 use Rattle.menu_order.proofs.Lists.{Contains-head, Contains-later}
 use Rattle.menu_order.specs.declared.item.MenuItem.{MenuItem}
-use Rattle.keep_newest.proofs.Parting.{parts_menu}
-use Rattle.keep_newest.specs.Doomed.{doomed_records, kept_records}
-use Rattle.keep_newest.specs.Laws.{doomed_paths}
+use Rattle.menu_order.proofs.Parting.{parts_menu}
+use Rattle.menu_order.specs.Doomed.{doomed_records, kept_records}
+use Rattle.menu_order.specs.KeepLaws.{doomed_paths}
 use Rattle.command_plans.specs.Prelude.{Answer, answer_or_refusal, done_answer, is_refusal, removal, ◌>>=◌, path_in, path_under, printed_path, bytes_at, each, readable_bytes, folders_of, menu_at}
 use Rattle.command_plans.proofs.Steps.{done_by, err_ok, ok_is}
 use Rattle.tool_words.specs.declared.command.Several.{Several}

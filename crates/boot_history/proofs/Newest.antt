@@ -15,10 +15,10 @@ use Rattle.boot_entries.proofs.Removing.{count_removed, menu_own, menu_removed}
 use Rattle.boot_machine.specs.Prelude.{Files, is_same_path, latest_view}
 use Rattle.boot_machine.specs.proofs.Maps.{get-remove, is_same_path-true, same_files}
 use Rattle.command_plans.specs.Prelude.{removal, unlink_answer, ◌>>=◌, menu_at}
-use Rattle.keep_newest.specs.Doomed.{doomed_records, kept_records}
-use Rattle.keep_newest.specs.Laws.{doomed_paths}
-use Rattle.keep_newest.proofs.Again.{keeps_on}
-use Rattle.keep_newest.proofs.Without.{kept_without}
+use Rattle.menu_order.specs.Doomed.{doomed_records, kept_records}
+use Rattle.menu_order.specs.KeepLaws.{doomed_paths}
+use Rattle.menu_order.proofs.Again.{keeps_on}
+use Rattle.menu_order.proofs.Without.{kept_without}
 use Rattle.menu_order.specs.declared.item.MenuItem.{MenuItem}
 use Rattle.tool_words.specs.Meaning.{meaning}
 use Rattle.tool_words.specs.declared.action.Action.{Action}

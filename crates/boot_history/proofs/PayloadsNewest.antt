@@ -10,7 +10,7 @@ use Rattle.boot_entries.proofs.Places.{file_name_under, name_parts}
 use Rattle.boot_machine.specs.Prelude.{Files}
 use Rattle.command_plans.proofs.Steps.{done_by}
 use Rattle.command_plans.specs.Prelude.{folders_of, menu_at}
-use Rattle.keep_newest.specs.Doomed.{doomed_records}
+use Rattle.menu_order.specs.Doomed.{doomed_records}
 use Rattle.menu_order.proofs.Lists.{Contains-head, Contains-later}
 use Rattle.menu_order.specs.Splits.{has_suffix}
 use Rattle.menu_order.specs.declared.item.MenuItem.{MenuItem}

@@ -5,8 +5,8 @@ use Rattle.boot_base.specs.Paths.{Path}
 use Rattle.boot_machine.specs.Disk.{Files}
 use Rattle.boot_machine.specs.Sent.{latest_view}
 use Rattle.menu_order.specs.declared.item.MenuItem.{MenuItem}
-use Rattle.keep_newest.specs.Doomed.{doomed_records, kept_records}
-use Rattle.keep_newest.specs.Laws.{doomed_paths}
+use Rattle.menu_order.specs.Doomed.{doomed_records, kept_records}
+use Rattle.menu_order.specs.KeepLaws.{doomed_paths}
 use Rattle.boot_entries.specs.Entries.{boot_menu, entry_count, entry_limit}
 use Rattle.boot_entries.specs.Removals.{menu_without}
 use Rattle.boot_entries.specs.declared.folders.Folders.{Folders}

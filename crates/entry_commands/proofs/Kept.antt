@@ -6,9 +6,9 @@ use Rattle.boot_base.specs.Paths.{Path}
 use Rattle.boot_entries.specs.declared.folders.Folders.{Folders}
 use Rattle.boot_machine.specs.Prelude.{Files}
 use Rattle.menu_order.specs.declared.item.MenuItem.{MenuItem}
-use Rattle.keep_newest.proofs.Parting.{parts_menu}
-use Rattle.keep_newest.specs.Doomed.{doomed_records, kept_records}
-use Rattle.keep_newest.specs.Laws.{doomed_paths}
+use Rattle.menu_order.proofs.Parting.{parts_menu}
+use Rattle.menu_order.specs.Doomed.{doomed_records, kept_records}
+use Rattle.menu_order.specs.KeepLaws.{doomed_paths}
 use Rattle.tool_words.specs.declared.command.KeepWords.{KeepWords}
 use Rattle.command_plans.proofs.WordErrors.{done_next}
 use Rattle.command_plans.specs.Prelude.{folders_of, menu_at}

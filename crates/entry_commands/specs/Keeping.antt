@@ -7,7 +7,7 @@ use Rattle.boot_base.specs.declared.refusal.Refusal.{Refusal}
 use Rattle.boot_base.specs.declared.refusal.Refusal.TheVariants as refusals
 use Rattle.boot_machine.specs.Disk.{Files}
 use Rattle.menu_order.specs.declared.item.MenuItem.{MenuItem}
-use Rattle.keep_newest.specs.Laws.{doomed_paths}
+use Rattle.menu_order.specs.KeepLaws.{doomed_paths}
 use Rattle.tool_words.specs.declared.command.KeepWords.{KeepWords}
 use Rattle.command_plans.specs.WordErrors.{◌>>=◌, printed_path}
 use Rattle.command_plans.specs.Folders.{folders_of}

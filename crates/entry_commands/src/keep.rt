@@ -8,8 +8,7 @@ use crate::counts::count_in;
 use boot_base::{BootPath, Refusal};
 use boot_machine::Machine;
 use command_plans::{ReadError, folders_in, menu_at};
-use keep_newest::doomed_paths;
-use menu_order::MenuItem;
+use menu_order::{MenuItem, doomed_paths};
 use std::alloc::{AllocError, Global};
 use tool_words::KeepWords;
 

@@ -2,10 +2,10 @@
 use Rattle.std.proofs.Common.{◌≡◌, ℕ, ◌+◌, ◌≤◌, ◌<◌, Bool, true, false, not, cond, ◌&&◌, ◌||◌, List, [], ◌∷◌, ◌++◌, Option, Some, None, reverse, refl, sym, ap, ◌∙◌, subst, ⊎_elim, arith, append_assoc, nat_lt, if◌then◌else◌, lt-ltb, append-nil}
 use Rattle.std.proofs.lemmas.Cmp.{nat_list_eq_equiv}
 use Rattle.menu_order.specs.declared.item.MenuItem.{MenuItem}
-use Rattle.keep_newest.specs.Doomed.{doomed_behind, doomed_records, group_of, group_size, has_good, is_good, is_in, is_kept_record, kept_behind, kept_records, same_group}
-use Rattle.keep_newest.specs.Laws.{KeepsOnce}
-use Rattle.keep_newest.proofs.Walking.{along, kept_one, kept_walk}
-use Rattle.keep_newest.proofs.Counting.{good_kept, good_push, size_kept, size_push, why_kept}
+use Rattle.menu_order.specs.Doomed.{doomed_behind, doomed_records, group_of, group_size, has_good, is_good, is_in, is_kept_record, kept_behind, kept_records, same_group}
+use Rattle.menu_order.specs.KeepLaws.{KeepsOnce}
+use Rattle.menu_order.proofs.Walking.{along, kept_one, kept_walk}
+use Rattle.menu_order.proofs.Counting.{good_kept, good_push, size_kept, size_push, why_kept}
 
 -- what is doomed of one record more
 pub doomed_push : (n : ℕ) (per_key : Bool) (earlier later : List MenuItem) (item : MenuItem)

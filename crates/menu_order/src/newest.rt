@@ -1,11 +1,11 @@
 //! The entries that go.
 ghost use Rattle.std.specs.Prelude.{◌≡◌, ◌<◌, ◌+◌, ◌^◌, All, IfOk, length, map, not, ◌||◌, ◌&&◌, nat_lt, slice_get, [], filter_map};
-ghost use Rattle.keep_newest.specs.Doomed.{doomed_records, doomed_places, group_of, is_good, places_behind};
-ghost use Rattle.keep_newest.specs.Laws.{doomed_paths};
-ghost use Rattle.keep_newest.specs.Tallies.{key_in};
+ghost use Rattle.menu_order.specs.Doomed.{doomed_records, doomed_places, group_of, is_good, places_behind};
+ghost use Rattle.menu_order.specs.KeepLaws.{doomed_paths};
+ghost use Rattle.menu_order.specs.Tallies.{key_in};
 
+use crate::item::MenuItem;
 use boot_base::BootPath;
-use menu_order::MenuItem;
 use std::alloc::{AllocError, Global};
 use std::collections::BTreeMap;
 

@@ -1,7 +1,7 @@
 -- What holds of a menu and of what is kept of it, record by record.
 use Rattle.std.proofs.Common.{ℕ, Bool, List, [], ◌∷◌, ◌++◌, sym, subst, append_assoc, if◌then◌else◌, append-nil}
 use Rattle.menu_order.specs.declared.item.MenuItem.{MenuItem}
-use Rattle.keep_newest.specs.Doomed.{is_kept_record, kept_behind, kept_records}
+use Rattle.menu_order.specs.Doomed.{is_kept_record, kept_behind, kept_records}
 
 -- what is kept of one record
 abbrev pub kept_one : ℕ → Bool → List MenuItem → MenuItem → List MenuItem

@@ -7,10 +7,10 @@ use Rattle.std.proofs.lemmas.Cmp.{nat_list_eq_equiv}
 use Rattle.std.proofs.lemmas.List.{append-nil, length-take-le, take_more}
 use Rattle.std.proofs.lemmas.List.Sums.{count_by-le-length}
 use Rattle.menu_order.specs.declared.item.MenuItem.{MenuItem}
-use Rattle.keep_newest.specs.declared.newest.Tally.{Tally}
-use Rattle.keep_newest.specs.Doomed.{group_of, group_size, has_good, is_good, is_in, is_kept_record, places_behind, same_group}
-use Rattle.keep_newest.specs.Tallies.{AreTallies, Group, by_key, key_in, no_tally, tally_of}
-use Rattle.keep_newest.proofs.Counting.{good_push, same_is, size_push}
+use Rattle.menu_order.specs.declared.newest.Tally.{Tally}
+use Rattle.menu_order.specs.Doomed.{group_of, group_size, has_good, is_good, is_in, is_kept_record, places_behind, same_group}
+use Rattle.menu_order.specs.Tallies.{AreTallies, Group, by_key, key_in, no_tally, tally_of}
+use Rattle.menu_order.proofs.Counting.{good_push, same_is, size_push}
 
 -- ---- places
 

@@ -7,10 +7,10 @@ use Rattle.std.proofs.lemmas.List.Elements.{filter_agree, filter-append}
 use Rattle.std.proofs.lemmas.Map.Keys.{IsDistinct-head, IsDistinct-tail}
 use Rattle.menu_order.specs.Menu.{HaveOwnPaths}
 use Rattle.menu_order.specs.declared.item.MenuItem.{MenuItem}
-use Rattle.keep_newest.specs.Doomed.{doomed_behind, doomed_records, is_kept_record, kept_behind}
-use Rattle.keep_newest.specs.Laws.{KeepsOn, doomed_paths}
-use Rattle.keep_newest.proofs.Once.{rest_stays}
-use Rattle.keep_newest.proofs.Without.{IsApart, apart_doomed, goes, goes_back, kept_is, not_among, paths_of}
+use Rattle.menu_order.specs.Doomed.{doomed_behind, doomed_records, is_kept_record, kept_behind}
+use Rattle.menu_order.specs.KeepLaws.{KeepsOn, doomed_paths}
+use Rattle.menu_order.proofs.Once.{rest_stays}
+use Rattle.menu_order.proofs.Without.{IsApart, apart_doomed, goes, goes_back, kept_is, not_among, paths_of}
 
 -- ---- a cut of a list
 

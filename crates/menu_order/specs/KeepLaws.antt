@@ -4,7 +4,7 @@ use Rattle.std.specs.List.{filter_map, list_any}
 use Rattle.std.specs.Option.{option_to_list}
 use Rattle.menu_order.specs.Menu.{HaveOwnPaths}
 use Rattle.menu_order.specs.declared.item.MenuItem.{MenuItem}
-use Rattle.keep_newest.specs.Doomed.{doomed_places, doomed_records, group_size, has_good, is_good, is_in, kept_records}
+use Rattle.menu_order.specs.Doomed.{doomed_places, doomed_records, group_size, has_good, is_good, is_in, kept_records}
 
 -- kept and doomed are the menu
 abbrev pub PartsMenu : Type 0

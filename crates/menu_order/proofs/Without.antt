@@ -7,8 +7,8 @@ use Rattle.std.proofs.lemmas.List.Elements.{filter_agree}
 use Rattle.std.proofs.lemmas.List.Sorted.{IsPermutation-map, IsPermutation-reverse, list_any-IsPermutation}
 use Rattle.std.proofs.lemmas.Map.Keys.{IsDistinct-head, IsDistinct-tail}
 use Rattle.menu_order.specs.declared.item.MenuItem.{MenuItem}
-use Rattle.keep_newest.specs.Doomed.{doomed_behind, doomed_records, is_kept_record, kept_behind, kept_records}
-use Rattle.keep_newest.specs.Laws.{KeptWithout}
+use Rattle.menu_order.specs.Doomed.{doomed_behind, doomed_records, is_kept_record, kept_behind, kept_records}
+use Rattle.menu_order.specs.KeepLaws.{KeptWithout}
 
 abbrev pub paths_of : List MenuItem → List (List ℕ)
 paths_of items = map (λ (item : MenuItem). item.path) items

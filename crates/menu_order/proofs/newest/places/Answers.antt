@@ -1,11 +1,11 @@
 -- What is seen of each group so far tells whether the next entry is kept.
 use Rattle.std.proofs.Common.{◌≡◌, not, ◌&&◌, ◌||◌, ◌++◌, ◌∷◌, [], ap, sym, ◌∙◌, take, arith, List, ℕ, nat_lt, unwrap_or, if◌then◌else◌, append-nil}
-use Rattle.keep_newest.specs.declared.newest.Tally.{Tally}
-use Rattle.keep_newest.specs.Doomed.{group_of, is_good, is_kept_record, places_behind}
-use Rattle.keep_newest.specs.Tallies.{no_tally, tally_of}
-use Rattle.keep_newest.proofs.Tallying.{none_yet, place_more, size_within, tallies_more}
-use Rattle.keep_newest.proofs.newest.places.Goals as goal
-use Rattle.keep_newest.proofs.newest.places.Goals.{then-not-is_kept+in_ok-push, else-not-is_kept}
+use Rattle.menu_order.specs.declared.newest.Tally.{Tally}
+use Rattle.menu_order.specs.Doomed.{group_of, is_good, is_kept_record, places_behind}
+use Rattle.menu_order.specs.Tallies.{no_tally, tally_of}
+use Rattle.menu_order.proofs.Tallying.{none_yet, place_more, size_within, tallies_more}
+use Rattle.menu_order.proofs.newest.places.Goals as goal
+use Rattle.menu_order.proofs.newest.places.Goals.{then-not-is_kept+in_ok-push, else-not-is_kept}
 
 pub with_one-requires : goal.with_one-requires
 with_one-requires c =

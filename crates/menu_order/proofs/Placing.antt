@@ -5,8 +5,8 @@ use Rattle.std.proofs.lemmas.List.{append-nil, map-append, reverse-append, take_
 use Rattle.std.proofs.lemmas.List.Elements.{All-append, All-cons, All-nil, filter_map-append}
 use Rattle.std.proofs.lemmas.List.Kept.{AllPairs-cons}
 use Rattle.menu_order.specs.declared.item.MenuItem.{MenuItem}
-use Rattle.keep_newest.specs.Doomed.{doomed_behind, doomed_records, doomed_places, is_kept_record, places_behind}
-use Rattle.keep_newest.specs.Laws.{PlacesDescend, PlacesDoomed}
+use Rattle.menu_order.specs.Doomed.{doomed_behind, doomed_records, doomed_places, is_kept_record, places_behind}
+use Rattle.menu_order.specs.KeepLaws.{PlacesDescend, PlacesDoomed}
 
 -- ---- lists from their last element on
 

@@ -5,8 +5,8 @@ use Rattle.std.proofs.lemmas.List.Sums.{sum_by_push}
 use Rattle.std.proofs.lemmas.List.Folds.{list_any-append}
 use Rattle.std.proofs.lemmas.Slice.Eq.{bytes_eq-Decides}
 use Rattle.menu_order.specs.declared.item.MenuItem.{MenuItem}
-use Rattle.keep_newest.specs.Doomed.{group_of, group_size, has_good, is_good, is_in, is_kept_record, kept_records, same_group}
-use Rattle.keep_newest.proofs.Walking.{kept_one, kept_walk}
+use Rattle.menu_order.specs.Doomed.{group_of, group_size, has_good, is_good, is_in, is_kept_record, kept_records, same_group}
+use Rattle.menu_order.proofs.Walking.{kept_one, kept_walk}
 
 -- two groups that are one are equal
 pub same_is : (group other : Option (List ℕ)) → same_group group other ≡ true → group ≡ other

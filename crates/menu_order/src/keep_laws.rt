@@ -1,5 +1,5 @@
 //! The laws of keeping the newest.
-ghost use Rattle.keep_newest.specs.Laws.{KeepsFew, KeepsFirst, KeepsGood, KeepsGroup, KeepsOn, KeepsOnce, KeptWithout, PartsMenu, PlacesDescend, PlacesDoomed};
+ghost use Rattle.menu_order.specs.KeepLaws.{KeepsFew, KeepsFirst, KeepsGood, KeepsGroup, KeepsOn, KeepsOnce, KeptWithout, PartsMenu, PlacesDescend, PlacesDoomed};
 
 /// The laws of keeping the newest, which hold of all menus: what is kept and what is doomed are the menu; the places are
 /// those of the doomed entries, and descend; of each group its first n entries are kept, and if none of these is good its

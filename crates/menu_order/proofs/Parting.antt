@@ -2,8 +2,8 @@
 use Rattle.std.proofs.Common.{ℕ, Bool, true, false, List, [], ◌∷◌, ◌++◌, reverse, IsPermutation, if◌then◌else◌}
 use Rattle.std.proofs.lemmas.List.Sorted.{IsPermutation-append_right, IsPermutation-cons, IsPermutation-middle, IsPermutation-refl, IsPermutation-reverse, IsPermutation-sym, IsPermutation-trans}
 use Rattle.menu_order.specs.declared.item.MenuItem.{MenuItem}
-use Rattle.keep_newest.specs.Doomed.{doomed_behind, doomed_records, is_kept_record, kept_behind, kept_records}
-use Rattle.keep_newest.specs.Laws.{PartsMenu}
+use Rattle.menu_order.specs.Doomed.{doomed_behind, doomed_records, is_kept_record, kept_behind, kept_records}
+use Rattle.menu_order.specs.KeepLaws.{PartsMenu}
 
 -- a record goes to the one or to the other
 one_more : (item : MenuItem) (later kept doomed : List MenuItem) (keep : Bool) → IsPermutation later (kept ++ doomed)

@@ -3,9 +3,9 @@ use Rattle.std.proofs.Common.{◌≡◌, ℕ, zero, suc, ◌+◌, ◌≤◌, Boo
 use Rattle.std.specs.List.{list_any}
 use Rattle.std.proofs.lemmas.List.Elements.{filter-append}
 use Rattle.menu_order.specs.declared.item.MenuItem.{MenuItem}
-use Rattle.keep_newest.specs.Doomed.{group_of, group_size, has_good, is_good, is_in, is_kept_record, kept_behind, kept_records}
-use Rattle.keep_newest.specs.Laws.{KeepsGroup}
-use Rattle.keep_newest.proofs.Counting.{good_push, or_false, same_is, size_push}
+use Rattle.menu_order.specs.Doomed.{group_of, group_size, has_good, is_good, is_in, is_kept_record, kept_behind, kept_records}
+use Rattle.menu_order.specs.KeepLaws.{KeepsGroup}
+use Rattle.menu_order.proofs.Counting.{good_push, or_false, same_is, size_push}
 
 -- what is kept of a group's rest, behind so many of its records, among which a good one is or isn't
 rest_kept : ℕ → ℕ → Bool → List MenuItem → List MenuItem

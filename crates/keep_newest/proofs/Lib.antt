@@ -1,9 +1,0 @@
-pub mod Walking
-pub mod Counting
-pub mod Once
-pub mod Again
-pub mod Parting
-pub mod Placing
-pub mod Without
-pub mod Tallying
-mod Groups
