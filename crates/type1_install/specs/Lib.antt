@@ -1,3 +1,5 @@
+pub mod proofs
+pub mod Hashing
 pub mod Payloads
 pub mod Placing
 pub mod Installing

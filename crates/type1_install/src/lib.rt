@@ -2,7 +2,8 @@
 //! digests, where entries name them.
 //!
 //! `type1 install` and `type1 cleanup` stand for several commands each, which are found by reads alone: a file is put
-//! at the place of its payload, an entry is entered, a payload is removed. Each of these is planned here too.
+//! at the place of its payload, an entry is entered, a payload is removed. Each of these is planned here too. The digest
+//! is that of the whole file, which is read in pieces.
 #![tactic(auto)]
 
 mod alike;
@@ -14,6 +15,7 @@ mod payload;
 mod place;
 mod placing;
 mod sweeping;
+mod whole;
 
 pub use cleanup::{cleanup_expansion, removals};
 pub use installation::install_expansion;

@@ -9,10 +9,10 @@ ghost use Rattle.command_plans.specs.Prelude.{CountsReadError, Says, bytes_at, e
 ghost use Rattle.type1_install.specs.Installing.{digesting_length};
 ghost use Rattle.type1_install.specs.Shown.{HasPayloadName, payload_at};
 
+use crate::whole::file_digest;
 use boot_base::{BootPath, Buffer, Text};
 use boot_machine::Machine;
 use command_plans::{ReadError, push, readable_size};
-use file_digests::file_digest;
 use pcr_values::{Bank, Digest};
 use std::alloc::{AllocError, Global};
 

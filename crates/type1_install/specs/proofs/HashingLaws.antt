@@ -3,7 +3,7 @@ use Rattle.std.specs.Prelude.{ℕ, List, [], ◌++◌}
 use Rattle.std.proofs.Common.{sym, subst, append_assoc, append-nil}
 use Rattle.pcr_values.specs.declared.data_hash.DataHash.{DataHash}
 use Rattle.pcr_values.specs.Hashes.{HoldsData}
-use Rattle.file_digests.specs.Hashing.{HashesOn}
+use Rattle.type1_install.specs.Hashing.{HashesOn}
 
 -- nothing is taken
 pub hashes_none : (hash : DataHash) → HashesOn [] hash hash

@@ -1,5 +1,5 @@
 use Rattle.boot_machine.proofs.Reading.{reads_none}
-use Rattle.file_digests.proofs.whole.FileHashByteSink.take.Goals as goal
+use Rattle.type1_install.proofs.whole.FileHashByteSink.take.Goals as goal
 
 pub returns-clause-took : goal.returns-clause-took
 returns-clause-took g c = (

@@ -17,8 +17,8 @@ impl<M: Machine> ByteSink<M> for FileHash {
     ghost use Rattle.std.proofs.Common.{ap};
     ghost use Rattle.boot_machine.specs.Prelude.{contents};
     ghost use Rattle.boot_machine.proofs.Reading.{reads_on};
-    ghost use Rattle.file_digests.specs.Hashing.{HashesReading};
-    ghost use Rattle.file_digests.specs.proofs.HashingLaws.{hashes_none, hashes_more};
+    ghost use Rattle.type1_install.specs.Hashing.{HashesReading};
+    ghost use Rattle.type1_install.specs.proofs.HashingLaws.{hashes_none, hashes_more};
 
     ghost can_take = { λ s m. Unit {0} };
 
@@ -47,7 +47,7 @@ impl<M: Machine> ByteSink<M> for FileHash {
 /// # Errors
 ///
 /// Only where the machine has counted a fault of the disk.
-pub fn file_digest<M: Machine>(
+pub(crate) fn file_digest<M: Machine>(
     bank: Bank,
     machine: &mut M,
     path: &BootPath,

@@ -1,2 +1,0 @@
-pub mod proofs
-pub mod Hashing
