@@ -4,8 +4,8 @@ use Rattle.word_grammar.specs.Grammar.{Word}
 use Rattle.boot_machine.specs.Prelude.{Files, State, recovered_view, IsImage, EachSince, Adds, IsPrefix, recovered_now, recovered_views}
 use Rattle.boot_machine.specs.declared.machine.Printed.{Printed}
 use Rattle.boot_machine.proofs.Seeing.{latest_view-recovered_views}
-use Rattle.machine_fuse.specs.Fuse.{fuse_time, inner_of}
-use Rattle.machine_fuse.specs.declared.fuse.Fuse.{Fuse}
+use Rattle.memory_machine.specs.Fuse.{fuse_time, inner_of}
+use Rattle.memory_machine.specs.declared.fuse.Fuse.{Fuse}
 use Rattle.memory_machine.specs.proofs.EventLaws.{image_input, now_counts}
 use Rattle.memory_machine.specs.Events.{after_stop}
 use Rattle.memory_machine.specs.Memory.{mem_clock, mem_events, mem_input, mem_start, mem_state, mem_time}

@@ -9,8 +9,7 @@ ghost use Rattle.boot_run.specs.declared.line.Line.{Line};
 ghost use Rattle.boot_history.specs.Histories.{StopsBy};
 
 use boot_run::run;
-use machine_fuse::Fuse;
-use memory_machine::{CrashChoice, MemMachine};
+use memory_machine::{CrashChoice, Fuse, MemMachine};
 use std::alloc::{AllocError, Global};
 
 /// Runs the program on a machine in memory and stops it after so many calls: each later call fails, and then the chosen

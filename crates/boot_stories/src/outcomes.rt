@@ -4,8 +4,7 @@ use crate::known::Known;
 use crate::left::left_text;
 use crate::replies::{acknowledged_lines, answer, count_lines, reply_text, status_of};
 use crate::story::Story;
-use machine_fuse::Fuse;
-use memory_machine::{CrashChoice, FailMode, MemMachine};
+use memory_machine::{CrashChoice, FailMode, Fuse, MemMachine};
 use std::alloc::{AllocError, Global};
 use tool_words::split_line;
 

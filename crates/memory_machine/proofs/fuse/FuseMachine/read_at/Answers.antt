@@ -1,6 +1,6 @@
 -- Field by field, so that a refusal names the field.
 use Rattle.std.proofs.Common.{rules}
-use Rattle.machine_fuse.proofs.fuse.FuseMachine.read_at.Goals as goal
+use Rattle.memory_machine.proofs.fuse.FuseMachine.read_at.Goals as goal
 
 pub returns-clause-call : goal.returns-clause-call
 returns-clause-call g c = record {
