@@ -1,6 +1,7 @@
-// Runs in turn, and a run that is stopped.
+// Runs in turn, and a run that is stopped; and which entries go if the newest are kept.
 mod fickle;
 mod minds;
+mod newest;
 
 use crate::{run_and_stop, run_each, stop_law};
 use boot_base::BootPath;

@@ -18,8 +18,6 @@ mod key;
 mod lexeme;
 mod menu;
 mod newest;
-#[cfg(test)]
-mod newest_tests;
 mod version;
 mod version_key;
 
