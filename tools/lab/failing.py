@@ -36,7 +36,7 @@ THENS = {
 }
 BY_ITSELF = "by itself"  # what fails is what the system writes by itself before the call
 # What of it is tried if not all of a sync fails, and by the start in a quick run.
-OF_PARTS = ["nothing", "same"]
+OF_PARTS = ["nothing", "same", "list, same"]
 QUICK = {"on": ["nothing", "check, list, same"], "off": ["nothing", "same"]}
 
 
