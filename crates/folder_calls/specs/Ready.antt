@@ -1,5 +1,5 @@
 -- What has to be on the disk before a folder is synced, and what the system tells of that.
-use Rattle.std.specs.Prelude.{◌≡◌, ℕ, true, false, List, [], ◌∷◌, All, Option, codes}
+use Rattle.std.specs.Prelude.{◌≡◌, ℕ, Bool, true, false, List, [], ◌∷◌, All, Option, codes}
 use Rattle.std.specs.IoError.{error_kind}
 use Rattle.std.specs.Option.{option_map_or}
 use Rattle.std.specs.declared.io.Error.{Error}
@@ -45,3 +45,7 @@ TellsOfFile disk path found = option_map_or is_fat_file found false ≡ false �
 -- a call is refused only if there is something that this run may not open
 abbrev pub IsRefusal : Waiting → Error → Type 0
 IsRefusal disk error = error_kind error ≡ PermissionDenied → IsShutOut disk
+
+-- behind a failed sync a folder of FAT was tried: the system has looked for its clusters in the table
+abbrev pub IsTried : Waiting → (List ℕ → Bool) → List ℕ → Type 0
+IsTried disk doubts folder = disk.fat folder ≡ true → doubts folder ≡ false

@@ -63,6 +63,9 @@ pub trait Calls {
     /// Which file an open one is.
     ghost inode: { Self.File → Inode };
 
+    /// The folders whose sync has failed and that weren't tried since.
+    ghost doubts: { Self → List ℕ → Bool };
+
     /// What a path leads to: what stands there itself, if that is no link.
     fn find(&self, path: &str) -> io::Result<Option<Found>>
         ensures leads { IfOk result (λ found. IsTrue tells → found ≡ (tree self.now).leads path.now) }
@@ -150,6 +153,11 @@ pub trait Calls {
         requires { IsTrue tells → MayGo (tree self.old) path.now (option_map (λ file. inode file.now) held) }
         ensures { IsTrue tells → NameWaits (waits self.old) (waits self.new) path.now };
 
+    /// Takes back the name that a file has got in this run, and that isn't synced: nothing more waits for the disk then.
+    fn take_back(&mut self, path: &str, file: &Locked<Self::File>) -> io::Result<()>
+        requires { IsTrue tells → MayGo (tree self.old) path.now (Some (inode file.now)) }
+        ensures { IsTrue tells → waits self.new ≡ waits self.old };
+
     /// Syncs the file at a path, and tells whether one is there.
     fn sync_file(&mut self, path: &str) -> io::Result<bool>
         ensures asks { IsTrue tells → Asks (FileAt path.now ∷ []) (waits self.old) (waits self.new) }
@@ -181,6 +189,13 @@ pub trait Calls {
             → (waits self.new).syncs folder.now ≡ false) }
         ensures refused { IfErr result (λ failure. IsTrue tells → failure.is_refused ≡ true
             → IsShutOut (waits self.new)) };
+
+    /// Behind a failed sync: makes names in a folder until it has grown or the system makes none, and takes them back. FAT's
+    /// driver reads the folder's chain in the table for that. If that doesn't know the folder's last cluster, since its own write has
+    /// failed, the driver makes the file system read-only: so no later command takes for saved what the disk hasn't got.
+    fn try_folder(&mut self, folder: &str)
+        ensures quiet { IsTrue tells → waits self.new ≡ waits self.old }
+        ensures tried { IsTrue tells → doubts self.new folder.now ≡ false };
 
     /// Whether the file system of a path that is gone can be written: a rename of the name to itself, which changes nothing.
     fn try_name(&self, path: &str) -> io::Result<()>;

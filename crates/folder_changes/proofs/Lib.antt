@@ -1,5 +1,4 @@
 mod Noting
 mod Clearing
 mod NoTwin
-mod SameStart
 mod Listing

@@ -2,10 +2,9 @@
 ghost use Rattle.std.specs.Prelude.{◌≡◌, IfOk, IsTrue, false, true};
 ghost use Rattle.folder_changes.specs.Shown.{is_shown};
 
-use crate::paths::path_in;
 use crate::twins::has_name;
 use fat_rules::can_be_alias_of;
-use folder_calls::{Calls, Found};
+use folder_calls::{Calls, Found, path_in};
 use name_syncs::parted;
 use std::alloc::Global;
 use std::io;

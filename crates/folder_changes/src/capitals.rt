@@ -6,10 +6,8 @@ ghost use Rattle.folder_changes.specs.Shown.{is_shown};
 ghost use Rattle.folder_changes.specs.Ways.{HasNoOtherBytes, IsInTheWay};
 
 use crate::aliases::is_alias_of_listed;
-use crate::paths::path_in;
-use crate::same_bytes::has_same_bytes;
 use crate::twins::{has_name, is_shown, name_in_capitals, unlisted_fault};
-use folder_calls::{Calls, Found};
+use folder_calls::{Calls, Found, has_same_bytes, path_in};
 use name_syncs::parted;
 use std::alloc::Global;
 use std::io;

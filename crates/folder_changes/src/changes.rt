@@ -1,19 +1,18 @@
 //! The calls that change a folder, with what they leave to be synced.
-ghost use Rattle.std.specs.Prelude.{◌≡◌, [], ◌∷◌, IfOk, IsTrue, None, Ok, OnErr, OnOk, false, true};
+ghost use Rattle.std.specs.Prelude.{◌≡◌, [], ◌∷◌, IfErr, IfOk, IsTrue, None, Ok, OnErr, OnOk, false, true};
 ghost use Rattle.std.specs.Option.{option_map};
 ghost use Rattle.boot_base.specs.Paths.{file_name_of};
 ghost use Rattle.name_syncs.specs.Folders.{parent_folder};
 ghost use Rattle.name_syncs.specs.Named.{Covers, NameWaits, NothingWaits, RenameWaits};
 ghost use Rattle.name_syncs.specs.Waiting.{AsksAmong, FileAt, FolderAt, IsOnDisk, KeepsSynced};
 ghost use Rattle.folder_calls.specs.Calls.{MayGo, MayGoBut, inode_of};
+ghost use Rattle.folder_calls.specs.Ready.{IsTried};
 ghost use Rattle.folder_calls.specs.Tree.{is_fat_file};
 
-use crate::paths::copy_path;
 use crate::ready::Ready;
-use crate::reports::Reports;
 use crate::sync::{KeptFile, is_open_at};
-use crate::twins::{Twins, changed_fault, leave_of, shared_fault, twins_of};
-use folder_calls::{Calls, Found, Locked};
+use crate::twins::{Twins, leave_of, shared_fault, twins_of};
+use folder_calls::{Calls, Found, Locked, Reports, changed_fault, copy_path};
 use name_syncs::{Disk, Named, folder_of, parted, sync_names};
 use std::alloc::{AllocError, Global};
 use std::marker::Model;
@@ -212,7 +211,7 @@ impl<C: Calls + Drop, E: Print + Drop> Changes<C, E> {
     }
 
     // What stands at a path may go. One name isn't asked whether it is that of a twin.
-    fn require_leave(
+    pub(crate) fn require_leave(
         &mut self,
         path: &str,
         but: &str,
@@ -278,8 +277,21 @@ impl<C: Calls + Drop, E: Print + Drop> Changes<C, E> {
         require_sync_before(self.is_unsure)
     }
 
-    /// Syncs the bytes of the file at a path by an open one, which is the one that stands there.
+    /// Syncs the bytes of the file at a path by an open one, which is the one that stands there. If that fails its folder is
+    /// tried.
     pub fn sync_bytes(&mut self, path: &str, file: &Locked<C::File>) -> io::Result<()>
+        ensures written { IfOk result (λ _. IsTrue C.tells → C.written self.new path.now ≡ false) }
+        ensures tried { IfErr result (λ _. IsTrue C.tells
+            → IsTried (C.waits self.new) (C.doubts self.new) (parent_folder path.now)) }
+    {
+        let answer = self.sync_written(path, file);
+        if answer.is_err() {
+            self.fail_sync(folder_of(path));
+        }
+        answer
+    }
+
+    fn sync_written(&mut self, path: &str, file: &Locked<C::File>) -> io::Result<()>
         ensures { IfOk result (λ _. IsTrue C.tells → C.written self.new path.now ≡ false) }
     {
         require_sync_before(self.is_unsure)?;
@@ -300,7 +312,7 @@ impl<C: Calls + Drop, E: Print + Drop> Changes<C, E> {
         ensures left { IfOk result (λ _. IsTrue C.tells → (C.waits self.new).left (FileAt path.now) ≡ false) }
         ensures folder { IfOk result (λ _. IsTrue C.tells → IsOnDisk (C.waits self.new) (parent_folder path.now)) }
     {
-        match self.calls.sync_file(path) {
+        match self.sync_found(path) {
             Ok(true) => {}
             Ok(false) => return Err(self.give_up_gone()),
             Err(fault) => {
@@ -327,6 +339,18 @@ impl<C: Calls + Drop, E: Print + Drop> Changes<C, E> {
                 Err(failure.fault)
             }
         }
+    }
+
+    /// Syncs a new folder with the one above it. If that fails both are tried.
+    pub fn sync_new_folder(&mut self, folder: &str) -> io::Result<()>
+        ensures kept { IsTrue C.tells → KeepsSynced (C.waits self.old) (C.waits self.new) }
+        ensures tried { IfErr result (λ _. IsTrue C.tells → IsTried (C.waits self.new) (C.doubts self.new) folder.now) }
+    {
+        let answer = self.sync_names_in(folder_of(folder));
+        if answer.is_err() {
+            self.try_folder(folder);
+        }
+        answer
     }
 
     // What this run has changed isn't there to be synced.

@@ -15,13 +15,11 @@ ghost use Rattle.folder_changes.specs.Rescues.{HasFolderOffFat, HaveBytes, IsRes
 ghost use Rattle.folder_changes.specs.Shown.{StandsListed, is_shown};
 
 use crate::capitals::{fat_file_at, file_at};
-use crate::paths::{copy_path, path_in};
-use crate::same_bytes::has_same_bytes;
 use crate::twins::{is_shown, shared_fault, spelling_at};
 use boot_base::IntentNames;
 pub use fat_rules::Removal;
 use fat_rules::{Facts, Step, can_be_alias_of, may_share, removal_of, step_of_none, step_of_one};
-use folder_calls::{Calls, Found};
+use folder_calls::{Calls, Found, copy_path, has_same_bytes, path_in};
 use name_syncs::{folder_of, parted};
 use std::alloc::Global;
 use std::io;

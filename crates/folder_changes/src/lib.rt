@@ -6,10 +6,7 @@ mod aliases;
 mod capitals;
 mod changes;
 mod half;
-mod paths;
 mod ready;
-mod reports;
-mod same_bytes;
 mod sync;
 mod twins;
 
@@ -17,7 +14,5 @@ pub use aliases::{free_alias, is_alias_of_listed};
 pub use capitals::{fat_file_at, file_at, is_spelled, path_in_the_way, require_spelled};
 pub use changes::Changes;
 pub use half::{Removal, Rescue, removal_of_old, rescue_of};
-pub use paths::{copy_path, path_in};
-pub use reports::Reports;
 pub use sync::KeptFile;
 pub use twins::Twins;

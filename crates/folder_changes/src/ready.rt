@@ -16,9 +16,8 @@ ghost use Rattle.folder_calls.specs.Tree.{is_fat_file, is_fat_folder, is_folder}
 ghost use Rattle.folder_changes.specs.Clear.{IsClear};
 
 use crate::changes::Changes;
-use crate::paths::path_in;
 use boot_base::{ENTRIES, IMAGES, Text, ends_as_temp};
-use folder_calls::{Calls, Found};
+use folder_calls::{Calls, Found, path_in};
 use name_syncs::{Disk, FolderSet, Named, parted};
 use std::alloc::Global;
 use std::{io, mem};
@@ -69,7 +68,7 @@ fn is_folder(found: Option<Found>) -> bool
 }
 
 // Whether a folder was found that may be of FAT.
-fn is_fat_folder(found: Option<Found>) -> bool
+pub(crate) fn is_fat_folder(found: Option<Found>) -> bool
     ensures { result ≡ option_map_or is_fat_folder found false }
 {
     match found {
@@ -225,7 +224,7 @@ impl<C: Calls + Drop, E: Print + Drop> Changes<C, E> {
         if !is_fat_file(self.calls.find_itself(path)?) {
             return Ok(());
         }
-        self.calls.sync_file(path)?;
+        self.sync_found(path)?;
         Ok(())
     }
 

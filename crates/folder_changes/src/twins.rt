@@ -14,10 +14,8 @@ ghost use Rattle.folder_changes.specs.Shown.{HasCapitals, HasNoCapitals, IsShown
 ghost use Rattle.folder_changes.specs.Sought.{is_twins_name};
 ghost use Rattle.folder_calls.specs.Calls.{IsAloneBut, MayGoBut, inode_of, is_twin, looks_alike};
 
-use crate::paths::{copy_path, path_in};
-use crate::same_bytes::has_same_bytes;
 use fat_rules::{is_in_capitals, is_same_in_capitals, may_be_of_one_file, may_share};
-use folder_calls::{Calls, Found, Locked};
+use folder_calls::{Calls, Found, Locked, changed_fault, copy_path, has_same_bytes, path_in};
 use name_syncs::parted;
 use std::alloc::{AllocError, Global};
 use std::io;
@@ -202,16 +200,6 @@ pub(crate) fn shared_fault() -> io::Error
     ensures { error_kind result ≡ ErrorKind.Other }
 {
     io::Error::other("may be one file under two names: run fsck.vfat -a, then this command again")
-}
-
-// What stands at a path isn't what this run holds there.
-pub(crate) fn changed_fault() -> io::Error
-    ensures { error_kind result ≡ ErrorKind.WouldBlock }
-{
-    io::Error::new(
-        ErrorKind::WouldBlock,
-        "another run has changed what stands there",
-    )
 }
 
 /// How the folder of a file that is there shows it.

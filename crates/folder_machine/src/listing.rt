@@ -5,8 +5,7 @@ ghost use Rattle.boot_base.specs.Paths.{is_file_name};
 ghost use Rattle.folder_machine.specs.Listing.{files_in, leads_to_file};
 
 use boot_base::{FileName, PathFault};
-use folder_calls::Calls;
-use folder_changes::path_in;
+use folder_calls::{Calls, path_in};
 use std::alloc::Global;
 use std::io;
 use std::io::ErrorKind;

@@ -14,8 +14,8 @@ ghost use Rattle.folder_machine.specs.Refusing.{other_move_fault};
 
 use crate::intent::{HeldIntent, require_no_other_move};
 use boot_base::{INTENT, TEMP_SUFFIX};
-use folder_calls::{Calls, Found, Hold};
-use folder_changes::{Changes, KeptFile, Reports, Twins, copy_path};
+use folder_calls::{Calls, Found, Hold, Reports, copy_path};
+use folder_changes::{Changes, KeptFile, Twins};
 use folder_locks::{
     Locks, LookedFile, hold_files, hold_folders, is_payload, require_all_same, require_same,
 };
@@ -221,7 +221,7 @@ impl<C: Calls + Drop, E: Print + Drop> System<C, E> {
         self.changes.make_folder(folder)?;
         let made = self.changes.calls().find(folder)?;
         if made.is_some_and(|made| made.is_fat_folder()) {
-            self.changes.sync_names_in(folder_of(folder))?;
+            self.changes.sync_new_folder(folder)?;
         }
         Ok(())
     }

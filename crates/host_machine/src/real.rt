@@ -4,6 +4,7 @@ ghost use Rattle.host_machine.specs.Told.{path_for_system};
 
 use crate::answers::{file_answer, read_once, read_once_at, repeated};
 use crate::found::found_of;
+use crate::growth::grow;
 use crate::streams::StandIns;
 use folder_calls::{
     Access, Calls, Found, Hold, LockFault, Locked, folder_answer, if_allowed, if_new, if_there,
@@ -73,6 +74,8 @@ impl<R: Runtime<File = File> + AllocGlobal> Calls for RealFolder<R> {
     ghost written = { λ _ _. false };
 
     ghost inode = { λ _. inode_untold };
+
+    ghost doubts = { λ _ _. false };
 
     fn find(&self, path: &str) -> io::Result<Option<Found>> {
         let found = if_there(repeated(|| fs::metadata(&self.rt, system_path(path))))?;
@@ -156,6 +159,10 @@ impl<R: Runtime<File = File> + AllocGlobal> Calls for RealFolder<R> {
         repeated(|| fs::remove_file(&self.rt, path))
     }
 
+    fn take_back(&mut self, path: &str, _file: &Locked<File>) -> io::Result<()> {
+        repeated(|| fs::remove_file(&self.rt, path))
+    }
+
     fn sync_file(&mut self, path: &str) -> io::Result<bool> {
         match self.open_file(path)? {
             Some(file) => file_answer(file.sync_all()),
@@ -173,6 +180,10 @@ impl<R: Runtime<File = File> + AllocGlobal> Calls for RealFolder<R> {
             Ok(None) => Ok(false),
             Err(fault) => folder_answer(Err(fault)),
         }
+    }
+
+    fn try_folder(&mut self, folder: &str) {
+        let _ = grow(&self.rt, system_path(folder));
     }
 
     fn try_name(&self, path: &str) -> io::Result<()> {

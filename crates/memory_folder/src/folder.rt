@@ -178,7 +178,7 @@ impl MemoryFolder {
 }
 
 impl Calls for MemoryFolder {
-    ghost use Rattle.std.specs.Prelude.{true};
+    ghost use Rattle.std.specs.Prelude.{false, true};
     ghost use Rattle.memory_folder.specs.Folder.{inode_of_file, memory_tree, memory_waits, memory_written};
 
     type File = MemoryFile;
@@ -192,6 +192,8 @@ impl Calls for MemoryFolder {
     ghost written = { memory_written };
 
     ghost inode = { inode_of_file };
+
+    ghost doubts = { λ _ _. false };
 
     fn find(&self, path: &str) -> io::Result<Option<Found>> {
         self.find_itself(path)
@@ -309,6 +311,14 @@ impl Calls for MemoryFolder {
         Ok(())
     }
 
+    fn take_back(&mut self, path: &str, _file: &Locked<MemoryFile>) -> io::Result<()> {
+        if !self.notes.has_name_in(folder_of(path)) {
+            return Err(io::Error::other("no name waits there"));
+        }
+        self.entries.retain(|entry| entry.path.as_str() != path);
+        Ok(())
+    }
+
     fn sync_file(&mut self, path: &str) -> io::Result<bool> {
         self.notes.sync_file(path);
         Ok(self.has_file(path))
@@ -328,6 +338,8 @@ impl Calls for MemoryFolder {
         self.notes.sync_folder(folder);
         Ok(is_there)
     }
+
+    fn try_folder(&mut self, _folder: &str) {}
 
     fn try_name(&self, _path: &str) -> io::Result<()> {
         Ok(())

@@ -35,6 +35,11 @@ impl Notes {
         }
     }
 
+    // Whether names have come or gone in a folder.
+    pub(crate) fn has_name_in(&self, folder: &str) -> bool {
+        self.folders.has(folder)
+    }
+
     // The name of a path comes or goes.
     pub(crate) fn note_name(&mut self, path: &str) -> Result<(), AllocError>
         ensures { NameWaits (noted_waits self.old) (noted_waits self.new) path.now }

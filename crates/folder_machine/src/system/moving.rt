@@ -10,10 +10,8 @@ use super::{System, Written, is_private, temp_of};
 use crate::intent::require_intent;
 use crate::kept::{PRIVATE, require_not_written, require_replaceable};
 use boot_base::{INTENT, INTENT_LIMIT};
-use folder_calls::{Calls, Found, Hold};
-use folder_changes::{
-    KeptFile, copy_path, free_alias, is_alias_of_listed, path_in_the_way, require_spelled,
-};
+use folder_calls::{Calls, Found, Hold, copy_path};
+use folder_changes::{KeptFile, free_alias, is_alias_of_listed, path_in_the_way, require_spelled};
 use name_syncs::folder_of;
 use std::io;
 
@@ -35,6 +33,7 @@ impl<C: Calls + Drop, E: Print + Drop> System<C, E> {
         self.put(from, to, &written, replaced)?;
         self.changes.keep_moved(KeptFile {
             path: kept,
+            goes_again: written.is_fat && replaced.is_none(),
             ..written.kept
         });
         Ok(())

@@ -7,10 +7,8 @@ ghost use Rattle.folder_machine.specs.Moving.{LeftAreSynced, NameIsSynced, left_
 use super::System;
 use crate::intent::HeldIntent;
 use boot_base::{INTENT, IntentNames};
-use folder_calls::Calls;
-use folder_changes::{
-    Removal, Rescue, copy_path, fat_file_at, is_alias_of_listed, removal_of_old, rescue_of,
-};
+use folder_calls::{Calls, copy_path};
+use folder_changes::{Removal, Rescue, fat_file_at, is_alias_of_listed, removal_of_old, rescue_of};
 use std::io;
 
 impl<C: Calls + Drop, E: Print + Drop> System<C, E> {

@@ -9,8 +9,8 @@ ghost use Rattle.folder_machine.specs.Opening.{IsFileAt};
 use super::{System, Written, is_private, output_of};
 use crate::kept::{Created, PRIVATE, PUBLIC, create_locked, open_locked, require_replaceable};
 use boot_base::{INTENT, TEMP_SUFFIX};
-use folder_calls::{Access, Calls, Hold};
-use folder_changes::{KeptFile, copy_path};
+use folder_calls::{Access, Calls, Hold, copy_path};
+use folder_changes::KeptFile;
 use name_syncs::folder_of;
 use std::alloc::AllocError;
 use std::io;
@@ -46,6 +46,7 @@ impl<C: Calls + Drop, E: Print + Drop> System<C, E> {
                 path: kept,
                 file: created.file,
                 is_made: true,
+                goes_again: false,
             },
             made: created.given,
             is_fat: created.found.is_fat_file(),
@@ -140,6 +141,7 @@ impl<C: Calls + Drop, E: Print + Drop> System<C, E> {
                 path: kept,
                 file,
                 is_made: false,
+                goes_again: false,
             },
             made: None,
             is_fat: found.is_fat_file(),

@@ -24,20 +24,20 @@ pub(crate) fn has(ran: &Ran, path: &str) -> bool {
     ran.files.iter().any(|kept| kept.path.as_str() == path)
 }
 
-// The bytes of the first entry under its new name, in a file of its own.
-fn put_new(alloc: Global, shelf: &SharedShelf) -> io::Result<()> {
-    let bytes = at_work(shelf)?.bytes_of(alloc, OLD)?;
-    at_work(shelf)?.put_file(NEW, bytes)?;
-    Ok(())
+// An intent, and the bytes of the first entry under its new name too, in a file of its own.
+fn start_with_both(alloc: Global) -> io::Result<SharedShelf> {
+    let shelf = start(alloc)?;
+    let bytes = at_work(&shelf)?.bytes_of(alloc, OLD)?;
+    at_work(&shelf)?.put_file(NEW, bytes)?;
+    put_intent(alloc, &shelf)?;
+    Ok(shelf)
 }
 
 // A recovery removes the old name of a rename if both names are there, and the folder lists them.
 #[test]
 fn a_recovery_keeps_the_new_name(rt: HostRuntime) -> Result<(), Fail> {
     let alloc = rt.alloc();
-    let shelf = start(alloc)?;
-    put_new(alloc, &shelf)?;
-    put_intent(alloc, &shelf)?;
+    let shelf = start_with_both(alloc)?;
     let ran = run_line(alloc, &shelf, "bootctl list")?;
     assert_eq!(rt; ran.status, 0);
     assert!(rt; has(&ran, NEW));
@@ -51,9 +51,7 @@ fn a_recovery_keeps_the_new_name(rt: HostRuntime) -> Result<(), Fail> {
 #[test]
 fn a_recovery_keeps_the_old_name_if_the_new_one_is_not_listed(rt: HostRuntime) -> Result<(), Fail> {
     let alloc = rt.alloc();
-    let shelf = start(alloc)?;
-    put_new(alloc, &shelf)?;
-    put_intent(alloc, &shelf)?;
+    let shelf = start_with_both(alloc)?;
     at_work(&shelf)?.hide(NEW);
     for _ in 0..2 {
         let ran = run_line(alloc, &shelf, "bootctl list")?;
@@ -109,15 +107,24 @@ fn a_file_in_capitals_stays(rt: HostRuntime) -> Result<(), Fail> {
     Ok(())
 }
 
+// Two files with these bytes that were written in the same two seconds.
+fn start_with_alike(alloc: Global, one: &[u8], other: &[u8]) -> io::Result<SharedShelf> {
+    let shelf = start(alloc)?;
+    for (path, bytes) in [
+        ("efi/EFI/Linux/one+3.efi", one),
+        ("efi/EFI/Linux/one+4.efi", other),
+    ] {
+        at_work(&shelf)?.put_file(path, bytes.to_vec(alloc)?)?;
+        at_work(&shelf)?.give_time(path, 8);
+    }
+    Ok(shelf)
+}
+
 // Two images of one length that were written in the same two seconds are two files. They were taken for one.
 #[test]
 fn files_that_look_alike_are_two(rt: HostRuntime) -> Result<(), Fail> {
     let alloc = rt.alloc();
-    let shelf = start(alloc)?;
-    at_work(&shelf)?.put_file("efi/EFI/Linux/one+3.efi", b"aa".to_vec(alloc)?)?;
-    at_work(&shelf)?.put_file("efi/EFI/Linux/one+4.efi", b"ab".to_vec(alloc)?)?;
-    at_work(&shelf)?.give_time("efi/EFI/Linux/one+3.efi", 8);
-    at_work(&shelf)?.give_time("efi/EFI/Linux/one+4.efi", 8);
+    let shelf = start_with_alike(alloc, b"aa", b"ab")?;
     let ran = run_line(alloc, &shelf, "bootctl unlink one+3.efi")?;
     assert_eq!(rt; ran.status, 0);
     assert!(rt; !has(&ran, "efi/EFI/Linux/one+3.efi"));
@@ -128,11 +135,7 @@ fn files_that_look_alike_are_two(rt: HostRuntime) -> Result<(), Fail> {
 #[test]
 fn names_over_the_same_bytes_may_be_one_file(rt: HostRuntime) -> Result<(), Fail> {
     let alloc = rt.alloc();
-    let shelf = start(alloc)?;
-    at_work(&shelf)?.put_file("efi/EFI/Linux/one+3.efi", b"aa".to_vec(alloc)?)?;
-    at_work(&shelf)?.put_file("efi/EFI/Linux/one+4.efi", b"aa".to_vec(alloc)?)?;
-    at_work(&shelf)?.give_time("efi/EFI/Linux/one+3.efi", 8);
-    at_work(&shelf)?.give_time("efi/EFI/Linux/one+4.efi", 8);
+    let shelf = start_with_alike(alloc, b"aa", b"aa")?;
     let ran = run_line(alloc, &shelf, "bootctl unlink one+3.efi")?;
     assert_eq!(rt; ran.status, 3);
     assert!(rt; has(&ran, "efi/EFI/Linux/one+3.efi"));

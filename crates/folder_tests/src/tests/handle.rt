@@ -160,6 +160,8 @@ impl<T: Trouble + Drop> Calls for Handle<T> {
 
     ghost inode = { λ _. (0, 0) };
 
+    ghost doubts = { λ _ _. false };
+
     fn find(&self, path: &str) -> io::Result<Option<Found>> {
         Ok(self.begin()?.find(path))
     }
@@ -230,6 +232,10 @@ impl<T: Trouble + Drop> Calls for Handle<T> {
         self.act("unlink", path)?.unlink(path)
     }
 
+    fn take_back(&mut self, path: &str, _file: &Locked<OpenFile>) -> io::Result<()> {
+        self.act("take back", path)?.unlink(path)
+    }
+
     fn sync_file(&mut self, path: &str) -> io::Result<bool> {
         let shelf = self.act("sync file", path)?;
         if !shelf.has_file(path) {
@@ -249,6 +255,10 @@ impl<T: Trouble + Drop> Calls for Handle<T> {
             Ok(is_there) => Ok(is_there),
             Err(fault) => folder_answer(Err(fault)),
         }
+    }
+
+    fn try_folder(&mut self, folder: &str) {
+        let _ = self.act("try folder", folder);
     }
 
     fn try_name(&self, _path: &str) -> io::Result<()> {

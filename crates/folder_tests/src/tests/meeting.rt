@@ -176,18 +176,12 @@ fn letter_at(alloc: Global, pair: &Pair<'_>, call: u64) -> io::Result<Option<cha
         return Ok(None);
     };
     let letter = letter_of(pair, &first, &second);
-    let is_right = match letter {
-        'g' => recovers(alloc, &shelf, &first.files, pair.first, &pair.back.1, false)?,
-        'r' => recovers(
-            alloc,
-            &shelf,
-            &first.files,
-            pair.second,
-            &pair.forth.1,
-            false,
-        )?,
-        _ => true,
+    let (line, wanted) = match letter {
+        'g' => (pair.first, &pair.back.1),
+        'r' => (pair.second, &pair.forth.1),
+        _ => return Ok(Some(letter)),
     };
+    let is_right = recovers(alloc, &shelf, &first.files, line, wanted, false)?;
     Ok(Some(if is_right { letter } else { 'w' }))
 }
 

@@ -27,20 +27,15 @@ struct Node {
 
 impl Node {
     fn is_at(&self, path: &str) -> bool {
-        match &self.path {
-            Some(own) => own.as_str() == path,
-            None => false,
-        }
+        self.path.as_ref().is_some_and(|own| own.as_str() == path)
     }
 
     fn is_below(&self, folder: &str) -> bool {
-        match &self.path {
-            Some(own) => own
-                .as_str()
-                .strip_prefix(folder)
-                .is_some_and(|rest| rest.starts_with('/')),
-            None => false,
-        }
+        let rest = self
+            .path
+            .as_ref()
+            .and_then(|own| own.as_str().strip_prefix(folder));
+        rest.is_some_and(|rest| rest.starts_with('/'))
     }
 }
 
@@ -90,18 +85,12 @@ fn require(holds: bool, kind: ErrorKind) -> io::Result<()> {
 }
 
 fn require_no_fault(fault: Option<ErrorKind>) -> io::Result<()> {
-    match fault {
-        Some(kind) => Err(io::Error::from(kind)),
-        None => Ok(()),
-    }
+    fault.map_or(Ok(()), |kind| Err(io::Error::from(kind)))
 }
 
 // Whether an open file has the lock that isn't the one of that number.
 fn is_of_other(lock: &Lock, number: u64) -> bool {
-    match lock.number.upgrade() {
-        Some(other) => *other != number,
-        None => false,
-    }
+    lock.number.upgrade().is_some_and(|other| *other != number)
 }
 
 impl Shelf {
@@ -146,7 +135,7 @@ impl Shelf {
 
     /// The bytes of a file.
     pub(crate) fn bytes_of(&self, alloc: Global, path: &str) -> io::Result<Vec<u8>> {
-        match self.node_at(path).and_then(|place| self.nodes.get(place)) {
+        match self.node(path) {
             Some(node) => Ok(node.bytes.as_slice().to_vec(alloc)?),
             None => Err(io::Error::from(ErrorKind::NotFound)),
         }
@@ -228,6 +217,10 @@ impl Shelf {
         self.nodes.iter().position(|node| node.is_at(path))
     }
 
+    fn node(&self, path: &str) -> Option<&Node> {
+        self.nodes.iter().find(|node| node.is_at(path))
+    }
+
     fn found(&self, place: usize) -> Option<Found> {
         let node = self.nodes.get(place)?;
         let facts = Facts {
@@ -280,7 +273,7 @@ impl Shelf {
 
     /// Syncs what is found at a path.
     pub(crate) fn sync(&self, path: &str) -> io::Result<()> {
-        match self.node_at(path).and_then(|place| self.nodes.get(place)) {
+        match self.node(path) {
             Some(node) => require_no_fault(node.sync_fault),
             None => Err(io::Error::from(ErrorKind::NotFound)),
         }

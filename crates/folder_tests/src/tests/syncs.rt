@@ -2,7 +2,7 @@
 //! and not with its folder.
 use super::fat::{NEW, OLD, has, put_intent};
 use super::handle::{Ran, SharedShelf, Trouble, at_work, run_line, run_telling, run_with};
-use super::start;
+use super::{command_of, start};
 use boot_base::INTENT;
 use name_syncs::folder_of;
 use std::alloc::Global;
@@ -12,12 +12,10 @@ use std::test::Fail;
 
 const IMAGES: &str = "efi/EFI/Linux";
 
-const GOOD: &str = "bless good EFI/Linux/one+2-1.efi";
-
 /// Commands that look and change elsewhere than in some of the folders in which this program replaces files.
 const ELSEWHERE: [&str; 2] = ["loader set-timeout 7", "bootctl unlink five.efi"];
 
-/// The folders in which this program replaces files.
+/// The folders in which this program replaces files, and which `bootctl list` looks at.
 const REPLACED: [&str; 3] = [IMAGES, "efi/loader", "efi/loader/entries"];
 
 /// Files in these folders.
@@ -35,9 +33,6 @@ const GOING: [(&str, &str); 2] = [
     ("bootctl unlink five.efi", IMAGES),
 ];
 
-/// Folders that `bootctl list` only looks at.
-const LOOKED_AT: [&str; 3] = [IMAGES, "efi/loader/entries", "efi/loader"];
-
 /// A folder that was only looked at may have these: this run may not open it, or its file system syncs no folders.
 const PASSED_OVER: [ErrorKind; 4] = [
     ErrorKind::PermissionDenied,
@@ -46,22 +41,25 @@ const PASSED_OVER: [ErrorKind; 4] = [
     ErrorKind::ReadOnlyFilesystem,
 ];
 
-/// A folder is taken away behind the call whose line in the log is the last one.
+/// A folder is taken away, or can't be synced any more, behind the call whose line in the log is the last one.
 #[derive(Drop)]
-struct TakesAway<'a> {
+struct Befalls<'a> {
     behind: &'a str,
     folder: &'a str,
+    fault: Option<ErrorKind>,
 }
 
-impl Trouble for TakesAway<'_> {
+impl Trouble for Befalls<'_> {
     fn come(&self, _call: u64, shelf: &SharedShelf) -> io::Result<()> {
         let mut shelf = at_work(shelf)?;
         let is_behind = shelf
             .log()
             .last()
             .is_some_and(|line| line.as_str() == self.behind);
-        if is_behind {
-            shelf.take_away(self.folder);
+        match self.fault {
+            _ if !is_behind => {}
+            Some(fault) => shelf.spoil(self.folder, fault),
+            None => shelf.take_away(self.folder),
         }
         Ok(())
     }
@@ -78,12 +76,6 @@ fn log_behind(alloc: Global, shelf: &SharedShelf, line: &str) -> io::Result<Vec<
 // The place of the first line that is this one.
 fn place_of(log: &[String], line: &str) -> Option<usize> {
     log.iter().position(|logged| logged.as_str() == line)
-}
-
-// The place of the first line that begins so.
-fn place_of_any(log: &[String], beginning: &str) -> Option<usize> {
-    log.iter()
-        .position(|logged| logged.as_str().starts_with(beginning))
 }
 
 // The first line behind a place that isn't the sync of a file.
@@ -108,20 +100,14 @@ pub(super) fn says(alloc: Global, ran: &Ran, words: &str) -> io::Result<bool> {
     Ok(said.is_ok_and(|said| said.as_str().contains(words)))
 }
 
-// A kill has left the intent of a counted boot behind the rename.
-fn start_behind_rename(alloc: Global) -> io::Result<SharedShelf> {
-    let shelf = start(alloc)?;
-    put_intent(alloc, &shelf)?;
-    at_work(&shelf)?.rename(OLD, NEW)?;
-    Ok(shelf)
-}
-
 // A killed run has renamed a file, and hasn't synced it. The next one dropped the intent, synced the folder alone, and a
 // cut left the entry with 0 bytes: its new name was on the disk, and its start and length weren't.
 #[test]
 fn an_intent_goes_behind_the_sync_of_its_file(rt: HostRuntime) -> Result<(), Fail> {
     let alloc = rt.alloc();
-    let shelf = start_behind_rename(alloc)?;
+    let shelf = start(alloc)?;
+    put_intent(alloc, &shelf)?;
+    at_work(&shelf)?.rename(OLD, NEW)?;
     let log = log_behind(alloc, &shelf, "bootctl list")?;
     let log = log.as_slice();
     let file = place_of(log, "sync file efi/EFI/Linux/one+1-2.efi");
@@ -141,7 +127,9 @@ fn files_that_may_be_replaced_are_synced_first(rt: HostRuntime) -> Result<(), Fa
     for line in ELSEWHERE {
         let log = log_behind(alloc, &start(alloc)?, line)?;
         let log = log.as_slice();
-        let first = place_of_any(log, "sync folder ");
+        let first = log
+            .iter()
+            .position(|line| line.as_str().starts_with("sync folder "));
         for path in LEFT {
             let synced = format!(in alloc; "sync file {path}")?;
             let place = place_of(log, synced.as_str());
@@ -164,11 +152,29 @@ fn a_new_folder_is_synced_with_the_one_above(rt: HostRuntime) -> Result<(), Fail
     let alloc = rt.alloc();
     let shelf = start(alloc)?;
     at_work(&shelf)?.take_away("efi/boot_tools");
-    let log = log_behind(alloc, &shelf, "type1 install new --linux=in/kernel")?;
+    let log = log_behind(alloc, &shelf, command_of("type1")?)?;
     let log = log.as_slice();
     let made = place_of(log, "make folder efi/boot_tools");
     let next = made.and_then(|made| next_but_files(log, made));
     assert!(rt; next == Some("sync folder efi"));
+    Ok(())
+}
+
+// If the write of the table alone fails the system finds in memory what the table doesn't know: a new folder, or a cluster
+// more for one. So the same again was answered with 0, and a cut took the folder.
+#[test]
+fn a_new_folder_is_tried_behind_a_sync_that_fails(rt: HostRuntime) -> Result<(), Fail> {
+    let alloc = rt.alloc();
+    let shelf = start(alloc)?;
+    at_work(&shelf)?.take_away("efi/boot_tools");
+    let trouble = Befalls {
+        behind: "make folder efi/boot_tools",
+        folder: "efi",
+        fault: Some(ErrorKind::Other),
+    };
+    let ran = run_with(alloc, &shelf, command_of("type1")?, trouble)?;
+    assert_eq!(rt; ran.status, 3);
+    assert!(rt; place_of(at_work(&shelf)?.log(), "try folder efi/boot_tools").is_some());
     Ok(())
 }
 
@@ -197,11 +203,12 @@ fn a_folder_that_is_not_listed_is_a_fault(rt: HostRuntime) -> Result<(), Fail> {
 fn a_changed_folder_that_is_gone_is_a_fault(rt: HostRuntime) -> Result<(), Fail> {
     let alloc = rt.alloc();
     let shelf = start(alloc)?;
-    let trouble = TakesAway {
+    let trouble = Befalls {
         behind: "sync file efi/EFI/Linux/one.efi",
         folder: IMAGES,
+        fault: None,
     };
-    let ran = run_with(alloc, &shelf, GOOD, trouble)?;
+    let ran = run_with(alloc, &shelf, command_of("good")?, trouble)?;
     assert_eq!(rt; ran.status, 3);
     assert!(rt; ran.said.is_empty());
     assert!(rt; has(&ran, INTENT));
@@ -213,11 +220,13 @@ fn a_changed_folder_that_is_gone_is_a_fault(rt: HostRuntime) -> Result<(), Fail>
 #[test]
 fn an_error_of_a_folder_that_was_looked_at_is_a_fault(rt: HostRuntime) -> Result<(), Fail> {
     let alloc = rt.alloc();
-    for folder in LOOKED_AT {
+    for folder in REPLACED {
         let shelf = start(alloc)?;
         at_work(&shelf)?.spoil(folder, ErrorKind::Other);
         let ran = run_line(alloc, &shelf, "bootctl list")?;
         assert_eq!(rt; ran.status, 3, "{folder}");
+        let tried = format!(in alloc; "try folder {folder}")?;
+        assert!(rt; place_of(at_work(&shelf)?.log(), tried.as_str()).is_some());
     }
     Ok(())
 }

@@ -1,5 +1,5 @@
 use Rattle.std.proofs.Common.{◌≡◌, ◌≤◌, ◌-◌, IsTrue, take}
-use Rattle.folder_changes.proofs.same_bytes.have_same_start.Given as goal
+use Rattle.folder_calls.proofs.same_bytes.have_same_start.Given as goal
 
 -- so far they are the same
 abbrev pub invariant-loop-at : goal.invariant-loop-at

@@ -1,16 +1,19 @@
 //! Files that are compared by their bytes.
 ghost use Rattle.std.specs.Prelude.{◌≡◌, ◌+◌, ◌<◌, ◌≤◌, ◌^◌, IfOk, IsTrue, bytes_eq, drop, false, length, take};
+ghost use Rattle.std.specs.IoError.{error_kind};
 ghost use Rattle.folder_calls.specs.Calls.{has_same_bytes, inode_of, same_start};
 
-use crate::twins::changed_fault;
-use folder_calls::{Access, Calls, Found, read_full};
+use crate::calls::{Access, Calls};
+use crate::found::Found;
+use crate::reads::read_full;
 use std::io;
+use std::io::ErrorKind;
 
 /// How many bytes of two files are compared at a time.
 const PIECE: usize = 4096;
 
 /// Whether two files, which were found at these paths, have the same bytes. They are compared up to the first difference.
-pub(crate) fn has_same_bytes<C: Calls>(
+pub fn has_same_bytes<C: Calls>(
     calls: &C,
     path: &str,
     found: &Found,
@@ -75,4 +78,14 @@ fn is_same_piece<C: Calls>(
     let read = read_full(calls, file, at, &mut piece[..count])?;
     let other_read = read_full(calls, other, at, &mut other_piece[..count])?;
     Ok(&piece[..read] == &other_piece[..other_read])
+}
+
+/// What stands at a path isn't what this run holds there.
+pub fn changed_fault() -> io::Error
+    ensures { error_kind result ≡ ErrorKind.WouldBlock }
+{
+    io::Error::new(
+        ErrorKind::WouldBlock,
+        "another run has changed what stands there",
+    )
 }

@@ -1,7 +1,7 @@
 //! What is told on standard error: each call that failed.
 ghost use Rattle.std.specs.Prelude.{◌≡◌, false};
 
-use folder_calls::write_all_bytes;
+use crate::writes::write_all_bytes;
 use std::io;
 
 /// Standard error, and whether each failure is told there.

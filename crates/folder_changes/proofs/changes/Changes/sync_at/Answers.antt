@@ -1,5 +1,5 @@
 use Rattle.folder_changes.proofs.Clearing.{known_still}
-use Rattle.folder_changes.proofs.sync.ChangesDisk.sync_file.Goals as goal
+use Rattle.folder_changes.proofs.changes.Changes.sync_at.Goals as goal
 
 pub invariant_of-self : goal.invariant_of-self
 invariant_of-self g c tells =

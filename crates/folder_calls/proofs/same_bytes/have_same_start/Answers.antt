@@ -1,6 +1,6 @@
 use Rattle.std.proofs.Common.{◌≡◌, false, arith, take, drop, sym, ◌∙◌, bytes_eq}
-use Rattle.folder_changes.proofs.SameStart.{differ_there, same_more}
-use Rattle.folder_changes.proofs.same_bytes.have_same_start.Goals as goal
+use Rattle.folder_calls.proofs.SameStart.{differ_there, same_more}
+use Rattle.folder_calls.proofs.same_bytes.have_same_start.Goals as goal
 
 pub returns-then-not-branch : goal.returns-then-not-branch
 returns-then-not-branch g c tells =

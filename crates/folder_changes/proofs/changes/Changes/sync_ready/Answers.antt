@@ -2,7 +2,7 @@ use Rattle.std.proofs.Common.{[], ◌∷◌, IsTrue}
 use Rattle.name_syncs.specs.Waiting.{AsksAmong, FolderAt}
 use Rattle.name_syncs.proofs.Syncing.{among_then, asks_among}
 use Rattle.folder_changes.proofs.Clearing.{if_there, known_still, others_of, others_then}
-use Rattle.folder_changes.proofs.sync.ChangesDisk.sync_folder.Goals as goal
+use Rattle.folder_changes.proofs.changes.Changes.sync_ready.Goals as goal
 
 pub invariant_of-self : goal.invariant_of-self
 invariant_of-self g c tells =

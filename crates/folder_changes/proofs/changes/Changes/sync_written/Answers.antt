@@ -1,5 +1,5 @@
 use Rattle.folder_changes.proofs.Clearing.{known_after}
-use Rattle.folder_changes.proofs.changes.Changes.sync_bytes.Goals as goal
+use Rattle.folder_changes.proofs.changes.Changes.sync_written.Goals as goal
 
 pub invariant_of-self : goal.invariant_of-self
 invariant_of-self g c tells =
