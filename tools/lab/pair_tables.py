@@ -56,6 +56,7 @@ COMMANDS = {
     "script of boots": "script\nboot\nbootctl list\nboot\n",
 }
 LOOKS = {"status", "list", "identify", "inspect", "image", "image one", "calculate", "dry run", "show"}
+BEGINS_ANEW = LOOKS - {"dry run"}  # if what one of these reads is changed under it
 MANY = {"keep", "keep all", "cleanup", "type1", "type1 other", "type1 again", "type1 of five", "type1 of new"}
 NEVER_HELD = {("build", "build second"), ("build second", "build"), ("calculate", "build")}
 # For each first run the second ones.

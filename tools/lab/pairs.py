@@ -12,7 +12,7 @@ import time
 from lab.host import write_files
 from lab.intents import INTENT, names_moved
 from lab.pair_files import boot_files, leftovers, names_in_entries, start_files
-from lab.pair_tables import COMMANDS, LOOKS, MANY, NEVER_HELD
+from lab.pair_tables import BEGINS_ANEW, COMMANDS, LOOKS, MANY, NEVER_HELD
 
 HOME = "at/boot"  # where a run starts
 ABOVE = "at"
@@ -237,12 +237,13 @@ class Bench:
                 write_files({path: new}, self.room)
         return True
 
-    def judge(self, seen):
-        """The column of an outcome, and what is to be told of it in words."""
+    def judge(self, seen, is_whole):
+        """The column of an outcome, and what is to be told of it in words. The second run may have been whole while the
+        first one stood still."""
         left, column = self.left(), WRONG
         logs = ["".join(it for it in self.lines_of(number) if it.startswith("boot_tools: ")) for number in (0, 1)]
         held = [number for number in (0, 1) if seen[number].status == 3]
-        if held and self.is_allowed(held) and self.ends_intents(seen.tree) and self.is_expected(seen, held):
+        if held and self.is_allowed(held, is_whole) and self.ends_intents(seen.tree) and self.is_expected(seen, held):
             column = (FIRST_HELD, SECOND_HELD)[held[0]] if len(held) == 1 else BOTH_HELD
         elif not held and not left:
             column = SERIAL if seen in self.serial else BETWEEN if seen in self.between else WRONG
@@ -251,11 +252,14 @@ class Bench:
                 return WRONG, f"doesn't say why it ends with 3: {shortened(logs[number])}"
         return column, self.told(seen, left) if column in (BOTH_HELD, WRONG) else ""
 
-    def is_allowed(self, held):
-        """Whether these may end with 3 beside the others: what changes files isn't held by what only looks."""
+    def is_allowed(self, held, is_whole):
+        """Whether these may end with 3 beside the others: what changes files isn't held by what only looks, and that begins
+        anew behind a whole run."""
         names = tuple(self.case[:2])
         if len(held) == 2:
             return True
+        if is_whole and held == [0] and names[0] in BEGINS_ANEW:
+            return False
         return names not in NEVER_HELD and (names[1 - held[0]] not in LOOKS or names[held[0]] in LOOKS)
 
     def is_expected(self, seen, held):
@@ -324,11 +328,12 @@ def ranges(calls):
 class Tally:
     """The counts of a pair, and what was to be told, with its places."""
 
-    def __init__(self, bench, name):
-        self.bench, self.name, self.counts, self.told = bench, name, [0] * len(COLUMNS), collections.defaultdict(list)
+    def __init__(self, bench, name, is_whole=False):
+        self.bench, self.name, self.is_whole = bench, name, is_whole
+        self.counts, self.told = [0] * len(COLUMNS), collections.defaultdict(list)
 
     def add(self, seen, place):
-        column, told = self.bench.judge(seen)
+        column, told = self.bench.judge(seen, self.is_whole)
         self.counts[ALL] += 1
         self.counts[column] += 1
         if told:
@@ -342,7 +347,7 @@ def every_moment(task):
     """The counts of a pair whose first run is stopped at each call, and what was wrong, with its calls."""
     program, stopper, room, name, case = task
     with tempfile.TemporaryDirectory(dir=room) as folder:
-        tally = Tally(Bench(program, stopper, folder, case), name)
+        tally = Tally(Bench(program, stopper, folder, case), name, is_whole=True)
         for number in itertools.count(1):
             seen, *call = tally.bench.in_turns([number])
             if not seen:

@@ -24,12 +24,13 @@ def wait_until(is_so):
 
 
 def refuses_changes(folder):
-    """Whether no file can be made in a folder, since its file system takes no changes."""
+    """Whether no file can be made in a folder, since its file system takes no changes. After an aborted journal Linux
+    6.1 answers EROFS, and 7.2 EIO."""
     try:
         with open(f"{folder}/probe", "x"):
             os.unlink(f"{folder}/probe")
     except OSError as error:
-        if error.errno != errno.EROFS:
+        if error.errno not in (errno.EROFS, errno.EIO):
             raise
         return True
     return False

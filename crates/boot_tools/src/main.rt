@@ -8,6 +8,7 @@
 
 mod build;
 mod passed;
+mod tries;
 
 use boot_run::{Ended, run};
 use build::report_build;
@@ -17,6 +18,7 @@ use std::io::ErrorKind;
 use std::process::ExitCode;
 use std::rt::Env;
 use std::{env, io};
+use tries::tries_of;
 
 fn main(rt: HostRuntime) -> ExitCode {
     let are_wanted = reports_are_wanted(&rt);
@@ -26,9 +28,14 @@ fn main(rt: HostRuntime) -> ExitCode {
     let Ok(words) = given_words(&rt) else {
         return ExitCode::from(Ended::Memory.status());
     };
-    let mut machine = host_machine(rt, rt.stderr()).with_reports(are_wanted);
-    let status = run(rt.alloc(), &words, &mut machine);
-    drop(machine);
+    let mut status = Ended::Disk.status();
+    for _ in 0..tries_of(rt.alloc(), &words) {
+        let mut machine = host_machine(rt, rt.stderr()).with_reports(are_wanted);
+        status = run(rt.alloc(), &words, &mut machine);
+        if status != Ended::Disk.status() || !machine.has_met_other_run() {
+            break;
+        }
+    }
     if are_wanted && status <= 1 {
         report_passed_over(rt, &words);
     }

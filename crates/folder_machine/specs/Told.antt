@@ -1,7 +1,9 @@
 -- What the machine on a real folder tells: its counts, and nothing of what it holds.
-use Rattle.std.specs.Prelude.{◌≡◌, [], Result, MatchResult}
+use Rattle.std.specs.Prelude.{◌≡◌, Bool, true, false, [], Result, MatchResult}
 use Rattle.std.specs.FinMap as map
 use Rattle.std.specs.FinSet as set
+use Rattle.std.specs.declared.io.ErrorKind.{ErrorKind}
+use Rattle.std.specs.declared.io.ErrorKind.TheVariants.{WouldBlock}
 use Rattle.boot_machine.specs.Counts.{Counts, DiskFailsOnce, PipeFailsOnce}
 use Rattle.boot_machine.specs.Disk.{State}
 use Rattle.boot_machine.specs.declared.fault.ReadFault.{ReadFault}
@@ -38,3 +40,8 @@ pub record CountsCall (causes once : Counts → Counts → Type 0) (old new : Fa
 -- the state that no clause speaks of
 abbrev pub no_state : State
 no_state = record { files = map.empty; earlier = []; soft = set.empty; printed = []; input = [] }
+
+-- a call has failed since another run is in the way
+abbrev pub says_other_run : ErrorKind → Bool
+says_other_run WouldBlock = true
+says_other_run _ = false

@@ -1,16 +1,20 @@
 //! How often the system has failed.
-ghost use Rattle.std.specs.Prelude.{◌≡◌, IfOk};
+ghost use Rattle.std.specs.Prelude.{◌≡◌, IfErr, IfOk};
+ghost use Rattle.std.specs.IoError.{error_kind};
 ghost use Rattle.boot_machine.specs.Prelude.{CountsDisk, CountsPipe, DiskFailsOnce, PipeFailsOnce, DiskFailed, PipeFailed};
-ghost use Rattle.folder_machine.specs.Told.{CountsCall, CountsDiskOnce, CountsPipeOnce};
+ghost use Rattle.folder_machine.specs.Told.{CountsCall, CountsDiskOnce, CountsPipeOnce, says_other_run};
 
 use boot_machine::{DiskFault, PipeFault};
 use std::io;
+use std::io::ErrorKind;
 
 /// How often the system has failed so far. The counts stand still at the last value of their type.
 #[derive(Drop)]
 pub(crate) struct Faults {
     pub(crate) disk: u64,
     pub(crate) pipe: u64,
+    /// whether the disk's last failure was that another run is in the way
+    pub(crate) is_other_run: bool,
 }
 
 impl Faults {
@@ -32,11 +36,13 @@ impl Faults {
     pub(crate) fn disk<T: Drop>(&mut self, answer: io::Result<T>) -> Result<T, DiskFault>
         ensures call { CountsCall (CountsDisk result) (CountsDiskOnce result) self.old self.new }
         ensures value { IfOk result (λ value. answer ≡ Ok value) }
+        ensures cause { IfErr answer (λ error. self.new.is_other_run ≡ says_other_run (error_kind error)) }
     {
         match answer {
             Ok(value) => Ok(value),
-            Err(_) => {
+            Err(error) => {
                 self.disk_failed();
+                self.is_other_run = is_other_run(&error);
                 Err(DiskFault)
             }
         }
@@ -55,4 +61,11 @@ impl Faults {
             }
         }
     }
+}
+
+// Whether a call has failed since another run is in the way.
+fn is_other_run(error: &io::Error) -> bool
+    ensures { result ≡ says_other_run (error_kind error.now) }
+{
+    matches!(error.kind(), ErrorKind::WouldBlock)
 }

@@ -19,10 +19,11 @@ pub struct FolderMachine<C: Calls + Drop, E: Print + Drop> {
 }
 
 impl<C: Calls + Drop, E: Print + Drop> FolderMachine<C, E> {
-    ghost use Rattle.std.specs.Prelude.{IsTrue};
+    ghost use Rattle.std.specs.Prelude.{IfErr, IsTrue};
+    ghost use Rattle.std.specs.IoError.{error_kind};
     ghost use Rattle.name_syncs.specs.Named.{NothingWaits};
     ghost use Rattle.boot_machine.specs.Prelude.{CountsDisk, CountsPipe};
-    ghost use Rattle.folder_machine.specs.Told.{CountsCall, CountsDiskOnce, CountsPipeOnce};
+    ghost use Rattle.folder_machine.specs.Told.{CountsCall, CountsDiskOnce, CountsPipeOnce, says_other_run};
 
     /// The machine over these calls, with `err` for what is printed on Err. No call has failed yet, and none
     /// that fails is told of.
@@ -31,7 +32,11 @@ impl<C: Calls + Drop, E: Print + Drop> FolderMachine<C, E> {
     {
         FolderMachine {
             system: System::new(alloc, calls, err),
-            faults: Faults { disk: 0, pipe: 0 },
+            faults: Faults {
+                disk: 0,
+                pipe: 0,
+                is_other_run: false,
+            },
         }
     }
 
@@ -56,6 +61,13 @@ impl<C: Calls + Drop, E: Print + Drop> FolderMachine<C, E> {
         self.faults.pipe
     }
 
+    /// Whether the disk's last failure was that another run is in the way.
+    pub fn has_met_other_run(&self) -> bool
+        ensures { result ≡ self.now.faults.is_other_run }
+    {
+        self.faults.is_other_run
+    }
+
     // Passes an answer of the disk on, and tells of a failure and counts it.
     fn disk<T: Drop>(
         &mut self,
@@ -65,6 +77,7 @@ impl<C: Calls + Drop, E: Print + Drop> FolderMachine<C, E> {
     ) -> Result<T, DiskFault>
         ensures call { CountsCall (CountsDisk result) (CountsDiskOnce result) self.old.faults self.new.faults }
         ensures value { IfOk result (λ value. answer ≡ Ok value) }
+        ensures cause { IfErr answer (λ error. self.new.faults.is_other_run ≡ says_other_run (error_kind error)) }
         ensures same { self.new.system.changes ≡ self.old.system.changes }
     {
         let answer = self.system.reports().report(call, path, answer);
