@@ -278,7 +278,33 @@ def wrong_refusals():
             yield f"{STORIES}: `{text}` isn't what refusal {at} prints"
 
 
+def wrong_uses():
+    """A refusal that no command makes, no row or story prints or no command of the manual names, and a wrong number of all."""
+    told = re.findall(r"^refusal (\d+): ", STORIES.read_text(), re.MULTILINE)
+    of_commands = MANUAL.read_text().partition(".Sh COMMANDS")[2].partition("\n.Sh ")[0]
+    lists = re.findall(r"^Refusals?\b(.*?)(?=^\.Ss |\Z)", of_commands, re.MULTILINE | re.DOTALL)
+    listed = re.findall(r"\d+", " ".join(lists))
+    made = "".join(file.read_text() for crate in sorted(crates() - {"boot_base", "text_rows"}) for file in sources(crate))
+    specs = sorted(pathlib.Path("crates").glob("*/specs/**/*.antt"))
+    meant = "".join(file.read_text() for file in specs if file != IN_SPEC)
+    asked = pathlib.Path("crates/text_rows/stdin").read_text(encoding="latin-1")
+    numbers = re.findall(r"Refusal::(\w+)(?: \{ \.\. \})? => (\d+),", IN_CODE.read_text())
+    for name, at in numbers:
+        there = {
+            "made by a command": re.search(rf"Refusal::{name}\b", made),
+            "in a definition of a command": re.search(rf"\b\w+\.{name}\b", meant),
+            "in a row of text_rows": re.search(rf"^refusal-line {name}\b", asked, re.MULTILINE),
+            "in a story": at in told,
+            "among the refusals of a command of the manual": at in listed,
+        }
+        yield from (f"{IN_CODE}: refusal {at}, {name}, isn't {place}" for place, found in there.items() if not found)
+    for file, form in (IN_CODE, r"from 1 to (\d+)\."), (pathlib.Path("docs/TASKS.md"), r"each of the (\d+) comes"):
+        for it in re.findall(form, file.read_text()):
+            if int(it) != len(numbers):
+                yield f"{file}: {it} refusals, and there are {len(numbers)}"
+
+
 def wrong():
     """All of it."""
-    for check in wrong_claims, wrong_clauses, wrong_counts, wrong_groups, wrong_refusals:
+    for check in wrong_claims, wrong_clauses, wrong_counts, wrong_groups, wrong_refusals, wrong_uses:
         yield from check()

@@ -8,10 +8,13 @@ import re
 import sys
 import typing
 
+from lab.program_model.words import GRAMMAR as MODEL
+
 GRAMMAR = pathlib.Path("crates/word_grammar/src/grammar.rt")
 BANKS = pathlib.Path("crates/pcr_values/src/bank.rt")
 PHASES = pathlib.Path("crates/pcr_values/src/phase_path.rt")
 REFUSALS = pathlib.Path("docs/REFUSALS.md")
+STORIES = pathlib.Path("crates/boot_stories/stdin")
 
 OPTION = re.compile(r'option!\("(--[a-z0-9-]+)", (Required|Once|Repeated|Flag)(?:, (\w+))?\)')
 OPTIONS = re.compile(r"static (\w+): &\[OptionRow\] = &\[(.*?)\];", re.S)
@@ -132,6 +135,20 @@ def operand_kinds(command):
     """What the operands of a command are, in order."""
     given = OPERANDS.get(command.words, ())
     return [*given, *["text"] * (command.operands - len(given))]
+
+
+def without_story():
+    """The options that no line of the stories has, and the commands that the model's grammar knows otherwise."""
+    lines = STORIES.read_text(encoding="latin-1").splitlines()
+    marks = {"required": "!", "repeated": "*", "flag": "?", "once": ""}
+    for command in commands():
+        own = [line.split() for line in lines if f" {command.words} " in f"{line} "]
+        for option in command.options:
+            if not any(word.partition("=")[0] == option.text for words in own for word in words):
+                yield f"{STORIES}: {command.words} {option.text} stands in no line"
+        known = {marks[option.takes] + option.text for option in command.options}
+        if known != set(MODEL.get(tuple(command.words.split()), (0, ()))[1]):
+            yield f"tools/lab/program_model/words.py: {command.words} has other options"
 
 
 def kinds_of_nothing():
