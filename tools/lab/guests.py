@@ -87,6 +87,7 @@ class Host:
         os.chmod(f"{room}/init", 0o755)
         words = [self.args.uml, "mem=512M", "rootfstype=hostfs", "rootflags=/", "rw", f"init={room}/init"]
         words += [f"uml_dir={room}", "con=null", "con0=null,fd:1", "quiet", "rcupdate.rcu_expedited=1"]
+        words += ["seccomp=auto"]  # with this a guest of Linux 7.2 is twice as fast. 6.1 passes it over
         self.start(words, f"{room}/console")
         said = []
         if os.path.exists(f"{room}/said"):
