@@ -11,23 +11,37 @@ Before that it says so, without mending anything. So each disk is looked at in t
   check  the check mends at once. What is wrong then is counted apart as `by-check`, if the check has said that it
          takes old bytes for a name
   page   a check that mends nothing comes first. If it says so, nothing is mended: all that was acknowledged must be
-         found by a mount that only reads. (If the check would mend it well, that is counted apart as `away`: a folder
-         that was growing can't be read before.) Otherwise it is as before, and nothing may be wrong
+         copied by a mount that only reads, file by file as the page says. (If the check would mend it well, that is
+         counted apart as `away`: a folder that was growing can't be read before.) Otherwise it is as before, and
+         nothing may be wrong
+
+Linux 7.2 takes no new name in a folder with old bytes behind its last one. That is counted apart as `end-mark`. Then
+the folder is made anew as the page says, and the same is looked at once more.
 """
 import itertools
+import os
 import random
+import re
+import subprocess
+import tempfile
 
 from lab.before import LETTERS, files_of
 from lab.cases import CASES, LIST
+from lab.disks import ROOM
+from lab.host import tool
 from lab.recordings import entries_of
 from lab.trees import EMPTY, UNREADABLE, View, digest, is_boot_file, told
 from lab.trials import CHECK_ERRS, Command, Trials, fault_of_reply, odd_paths, words_of
 
 KINDS = ["lost", "order", "stuck", "text", "unread"]
-OWN = ["by-check", "stopped", "away"]
+OWN = ["by-check", "stopped", "away", "end-mark"]
 BY = [("case", "way"), ("fs", "start")]
 POSITIONS, QUICK = ["full0", "full3", "edge", "new"], ["full0"]
 CHOICES, QUICK_CHOICES = 30, 8
+
+# The line for a name that isn't taken, and what the kernel says if that is since old bytes stand behind the last one.
+NOT_TAKEN = re.compile(r"boot_tools: \w+ (\S+): Input/output error")
+END_MARK = "allocated dir entry found after end-of-directory marker"
 
 
 def jobs(args):
@@ -123,11 +137,14 @@ class Sectors(Trials):
             yield self.row(place | {"way": "page"}, [], [], stopped, OWN)
 
     def read_only(self, disks, states, kind):
-        """What isn't found by a mount that only reads, with its kind."""
+        """What isn't copied by a mount that only reads, with its kind. Linux 7.2 lists no more of a folder behind a name of
+        old bytes with a slash in it, and `cp -a` then copies nothing of that folder."""
         self.system.put(disks)
         try:
-            with self.system.mounted(is_read_only=True) as at:
-                tree = View(at).tree
+            with self.system.mounted(is_read_only=True) as at, tempfile.TemporaryDirectory(dir=ROOM) as copy:
+                words = ["find", ".", "-type", "f", "-exec", "cp", "-a", "--parents", "{}", copy, ";"]
+                subprocess.run(words, cwd=at, capture_output=True)
+                tree = View(copy).tree
         except OSError as error:
             yield kind, f"the disk: {error.strerror}"
             return
@@ -138,26 +155,38 @@ class Sectors(Trials):
     def mend(self, states, again):
         """Lets the check mend the disk, lists and runs the command again: the statuses, the log and the faults."""
         said = self.system.check()
-        faults = []
+        tool("dmesg", "--clear")
         try:
             with self.system.mounted() as at:
-                first = self.run(Command(LIST, False))
-                faults += self.faults_of_view(View(at), states, is_end=False)
-                second = self.run(again)
-                then = self.states_after(states, again, second)
-                faults += self.faults_of_view(View(at), then or states, is_end=True)
+                ran, states, faults = self.list_and_run(at, states, again)
+            folder = folder_at_its_end(ran[-1])
+            if folder and states:
+                with self.system.mounted() as at:
+                    make_anew(f"{at}/{folder}")
+                    kept = [it for it in faults if it != ("stuck", ran[-1].log)]
+                    ran, _, faults = self.list_and_run(at, states, again)
+                    faults += [("end-mark", folder), *kept]
         except OSError as error:
             return [], said[-200:], [("lost", f"the disk: {error.strerror}")]
+        return [it.status for it in ran], ran[-1].log or ran[0].log, faults
+
+    def list_and_run(self, at, states, again):
+        """Lists and runs a command: the runs, what may be there then, and the faults."""
+        ran = [self.run(Command(LIST, False))]
+        faults = self.faults_of_view(View(at), states, is_end=False)
+        ran.append(self.run(again))
+        then = self.states_after(states, again, ran[-1])
+        faults += self.faults_of_view(View(at), then or states, is_end=True)
         if not then:
-            faults.append(fault_of_reply(again, second))
-        for ran in (first, second):
-            if ran.status == 3:
-                faults.append(("stuck", ran.log))
-        return [first.status, second.status], second.log or first.log, faults
+            faults.append(fault_of_reply(again, ran[-1]))
+        return ran, then, faults + [("stuck", it.log) for it in ran if it.status == 3]
 
     def faults_of_view(self, view, states, is_end):
         """What is wrong with the files behind a check: lost bytes, and in the end any other than those of a state."""
-        tree = view.named()
+        return list(self.faults_of_tree(view.named(), states, is_end))
+
+    @staticmethod
+    def faults_of_tree(tree, states, is_end):
         for path, it in sorted(frozenset.intersection(*states)):
             if dict(tree).get(path) != it:
                 yield "lost", f"{path} {told(dict(tree).get(path))}"
@@ -168,6 +197,19 @@ class Sectors(Trials):
                 yield "lost", next(path for path, other in next(iter(states)) if other == it)
         elif odd_paths(tree, states):
             yield "order", words_of(odd_paths(tree, states), tree)
+
+
+def folder_at_its_end(ran):
+    """The folder that takes no new name since old bytes stand behind its last one, if a run has ended so."""
+    name = NOT_TAKEN.search(ran.log)
+    return os.path.dirname(name[1]) if name and ran.status == 3 and END_MARK in tool("dmesg") else None
+
+
+def make_anew(folder):
+    """Copies a folder, and puts the copy in its place, as the page says."""
+    new = f"{os.path.dirname(folder)}/new"
+    for words in (["cp", "-a", folder, new], ["sync"], ["rm", "-r", folder], ["mv", new, folder], ["sync"]):
+        tool(*words)
 
 
 def rows(job):
