@@ -5,6 +5,8 @@ use Rattle.name_syncs.specs.Folders.{parent_folder, path_in}
 use Rattle.fat_rules.specs.Sharing.{may_share}
 use Rattle.fat_rules.specs.Twins.{may_be_of_one_file}
 use Rattle.folder_calls.specs.Tree.{Tree, is_fat_file, is_file, same_inode}
+use Rattle.folder_calls.specs.declared.calls.Hold.{Hold}
+use Rattle.folder_calls.specs.declared.calls.Hold.TheVariants.{Alone}
 use Rattle.folder_calls.specs.declared.found.Found.{Found}
 
 -- a file by its number, and that of its file system
@@ -14,6 +16,14 @@ Inode = ℕ × ℕ
 -- that of what was found
 abbrev pub inode_of : Found → Inode
 inode_of found = (found.device, found.inode)
+
+-- what is locked, and who else may hold it
+abbrev pub Locking : Type 0
+Locking = Inode × Hold
+
+-- no other run may hold it
+abbrev pub alone : Inode → Locking
+alone inode = (inode, Alone)
 
 -- So many of these bytes were read: the buffer begins with them, and there are some if there is one and room for it.
 pub record ReadsSome (bytes into : List ℕ) (count : ℕ) : Type 0 where
@@ -56,22 +66,26 @@ IsAloneBut tree path but found =
     is_fat_file found ≡ true
     → All (λ name. not (bytes_eq name but) && names_twin tree path found name ≡ false) (tree.names (parent_folder path))
 
--- What goes at a path may be freed: it is a file that this run holds by its lock, and shares its clusters with no name but
--- maybe one.
-pub record MayFree (tree : Tree) (path but : List ℕ) (held : Option Inode) (found : Found) : Type 0 where
-  pub locked : held ≡ Some (inode_of found)
+-- What goes at a path may be freed: it is a file that this run holds alone, and shares its clusters with no name but maybe
+-- one.
+pub record MayFree (tree : Tree) (path but : List ℕ) (held : Option Locking) (found : Found) : Type 0 where
+  pub locked : held ≡ Some (alone (inode_of found))
   pub alone : IsAloneBut tree path but found
 
--- If a regular file stands at a path it may be freed: this run holds it by its lock, and it shares its clusters with no
--- name but maybe one.
-abbrev pub MayGoBut : Tree → List ℕ → List ℕ → Option Inode → Type 0
+-- If a regular file stands at a path it may be freed: this run holds it alone, and it shares its clusters with no name but
+-- maybe one.
+abbrev pub MayGoBut : Tree → List ℕ → List ℕ → Option Locking → Type 0
 MayGoBut tree path but held = IfSome (tree.stands path) (λ found. is_file found ≡ true → MayFree tree path but held found)
 
--- If a regular file stands at a path it may be freed: this run holds it by its lock, and it shares its clusters with no
--- name at all. The name that is left out is empty, so it is no file's.
-abbrev pub MayGo : Tree → List ℕ → Option Inode → Type 0
+-- If a regular file stands at a path it may be freed: this run holds it alone, and it shares its clusters with no name at
+-- all. The name that is left out is empty, so it is no file's.
+abbrev pub MayGo : Tree → List ℕ → Option Locking → Type 0
 MayGo tree path held = MayGoBut tree path [] held
 
 -- the open file stands at a path
 abbrev pub IsOpenAt : Tree → List ℕ → Inode → Type 0
 IsOpenAt tree path inode = IsSomeAnd (tree.stands path) (λ found. inode_of found ≡ inode)
+
+-- a file stands at a path that is held alone
+abbrev pub IsLockedAt : Tree → List ℕ → Locking → Type 0
+IsLockedAt tree path locking = IsSomeAnd (tree.stands path) (λ found. alone (inode_of found) ≡ locking)

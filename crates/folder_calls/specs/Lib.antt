@@ -4,3 +4,4 @@ pub mod Ready
 pub mod Answers
 pub mod Locks
 pub mod Written
+pub mod Rows

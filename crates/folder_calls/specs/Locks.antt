@@ -28,21 +28,27 @@ abbrev pub keeps_no_locks : Error → Bool
 keeps_no_locks error = says_no_locks (error_kind error) || is_bad_descriptor (raw_os_error error)
 
 -- why a lock has failed
-abbrev pub lock_fault : Error → LockFault
-lock_fault error = if keeps_no_locks error then KeepsNone error else Disk error
+abbrev pub lock_fault : Error → LockFault (Unit {0})
+lock_fault error = if keeps_no_locks error then KeepsNone error tt else Disk error
 
 -- what the answer to a lock means
-abbrev pub lock_answer : Result (Unit {0}) TryLockError → Result (Unit {0}) LockFault
+abbrev pub lock_answer : Result (Unit {0}) TryLockError → Result (Unit {0}) (LockFault (Unit {0}))
 lock_answer (Ok locked) = Ok locked
 lock_answer (Err Held) = Err Taken
 lock_answer (Err (Failed error)) = Err (lock_fault error)
 
--- the answer to a lock, but Ok if it failed only because the file system keeps no locks
-abbrev pub locked_if_kept : Result (Unit {0}) LockFault → Result (Unit {0}) LockFault
-locked_if_kept (Ok locked) = Ok locked
-locked_if_kept (Err Taken) = Err Taken
-locked_if_kept (Err (KeepsNone error)) = Ok tt
-locked_if_kept (Err (Disk error)) = Err (Disk error)
+-- what a lock stands for on a file system that keeps none
+abbrev pub IfKeepsNone : {L : Type 0} → LockFault L → (L → Type 0) → Type 0
+IfKeepsNone Taken holds = Unit {0}
+IfKeepsNone (KeepsNone error lock) holds = holds lock
+IfKeepsNone (Disk error) holds = Unit {0}
+
+-- the answer to a lock, and whether its file system has kept it: nobody is held up on one that keeps none
+abbrev pub kept_lock : {L : Type 0} → Result L (LockFault L) → Result (L × Bool) (LockFault L)
+kept_lock (Ok lock) = Ok (lock, true)
+kept_lock (Err Taken) = Err Taken
+kept_lock (Err (KeepsNone error lock)) = Ok (lock, false)
+kept_lock (Err (Disk error)) = Err (Disk error)
 
 -- what is held in the one way needs no lock to be held in the other
 abbrev pub is_enough : Hold → Hold → Bool

@@ -69,7 +69,7 @@ pub fn if_allowed(answer: io::Result<()>) -> io::Result<bool>
 }
 
 /// What the answer to a lock means.
-pub fn lock_answer(answer: Result<(), TryLockError>) -> Result<(), LockFault>
+pub fn lock_answer(answer: Result<(), TryLockError>) -> Result<(), LockFault<()>>
     ensures { result ≡ lock_answer answer }
 {
     match answer {
@@ -79,11 +79,11 @@ pub fn lock_answer(answer: Result<(), TryLockError>) -> Result<(), LockFault>
     }
 }
 
-fn lock_fault(error: io::Error) -> LockFault
+fn lock_fault(error: io::Error) -> LockFault<()>
     ensures { result ≡ lock_fault error }
 {
     if keeps_no_locks(&error) {
-        LockFault::KeepsNone(error)
+        LockFault::KeepsNone(error, ())
     } else {
         LockFault::Disk(error)
     }

@@ -1,15 +1,16 @@
 //! The calls of the system.
-ghost use Rattle.std.specs.Prelude.{◌≡◌, ◌≤◌, [], ◌∷◌, Bool, ℕ, IfErr, IfOk, IfSome, IsTrue, List, Option, Some, None, drop, false, true, is_some, length, map, string_bytes};
+ghost use Rattle.std.specs.Prelude.{◌≡◌, ◌≤◌, [], ◌∷◌, Bool, ℕ, IfErr, IfOk, IfSome, IsTrue, List, OnOk, Option, Some, None, drop, false, true, is_some, length, map, string_bytes};
 ghost use Rattle.std.specs.Option.{option_map};
 ghost use Rattle.name_syncs.specs.Named.{NameWaits, RenameWaits};
 ghost use Rattle.name_syncs.specs.Waiting.{Asks, FileAt, FolderAt, IsShutOut, KeepsSynced, ListsLeft, Waiting};
 ghost use Rattle.boot_base.specs.Paths.{file_name_of};
-ghost use Rattle.folder_calls.specs.Calls.{Inode, IsOpenAt, MayGo, MayGoBut, ReadsSome, inode_of};
+ghost use Rattle.folder_calls.specs.Calls.{Inode, IsLockedAt, IsOpenAt, Locking, MayGo, MayGoBut, ReadsSome, inode_of};
+ghost use Rattle.folder_calls.specs.Locks.{IfKeepsNone};
+ghost use Rattle.folder_calls.specs.Rows.{FolderRow, GoneRow, MadeRow, MovedRow, WrittenRow};
 ghost use Rattle.folder_calls.specs.Ready.{IsRefusal, MaySync, TellsOfFile, TellsOfFolder};
 ghost use Rattle.folder_calls.specs.Tree.{Tree, has_link, is_fat_file};
 
 use crate::found::Found;
-use crate::locked::Locked;
 use name_syncs::FolderFault;
 use std::alloc::Global;
 use std::io;
@@ -25,11 +26,11 @@ pub enum Hold {
 
 /// Why a file or a folder isn't locked.
 #[derive(Drop)]
-pub enum LockFault {
+pub enum LockFault<L: Drop> {
     /// Another run holds it.
     Taken,
-    /// Its file system keeps no locks.
-    KeepsNone(io::Error),
+    /// Its file system keeps no locks, and holds nobody up. The lock stands for that.
+    KeepsNone(io::Error, L),
     Disk(io::Error),
 }
 
@@ -48,6 +49,9 @@ pub trait Calls {
     /// An open file or folder. It is closed, and its lock given back, when it is dropped.
     type File: Drop;
 
+    /// That an open file or folder was locked. Who has it has asked for the lock, which goes when the file is closed.
+    type Lock: Drop;
+
     /// Folders of this type tell what stands and what waits. Of the others no clause says so.
     ghost tells: { Bool };
 
@@ -62,6 +66,9 @@ pub trait Calls {
 
     /// Which file an open one is.
     ghost inode: { Self.File → Inode };
+
+    /// What a lock is on, and who else may hold that.
+    ghost locks: { Self.Lock → Locking };
 
     /// The folders whose sync has failed and that weren't tried since.
     ghost doubts: { Self → List ℕ → Bool };
@@ -107,14 +114,21 @@ pub trait Calls {
             → ReadsSome (drop at ((tree self.now).bytes (inode file.now))) into.new n) };
 
     /// Locks an open file or folder.
-    fn lock(&self, file: &Self::File, hold: Hold) -> Result<(), LockFault>;
+    fn lock(&self, file: &Self::File, hold: Hold) -> Result<Self::Lock, LockFault<Self::Lock>>
+        ensures held { IfOk result (λ lock. IsTrue tells → locks lock ≡ (inode file.now, hold)) }
+        ensures unkept { IfErr result (λ fault. IsTrue tells
+            → IfKeepsNone fault (λ lock. locks lock ≡ (inode file.now, hold))) };
 
     /// Makes an empty file of that mode, to write to it, where nothing stands.
     fn create(&mut self, path: &str, mode: u32) -> io::Result<Self::File>
-        ensures { IsTrue tells → NameWaits (waits self.old) (waits self.new) path.now };
+        ensures row { IfOk result (λ file. IsTrue tells
+            → MadeRow (tree self.old) (tree self.new) path.now (inode file)) }
+        ensures waits { IsTrue tells → NameWaits (waits self.old) (waits self.new) path.now };
 
     /// Writes all of the bytes behind what an open file has.
     fn append(&mut self, file: &mut Self::File, bytes: &[u8]) -> io::Result<()>
+        ensures row { OnOk result (IsTrue tells
+            → WrittenRow (tree self.old) (tree self.new) (inode file.old) bytes.now) }
         ensures same { IsTrue tells → inode file.new ≡ inode file.old }
         ensures quiet { IsTrue tells → waits self.new ≡ waits self.old };
 
@@ -127,36 +141,41 @@ pub trait Calls {
 
     /// Makes a folder, unless something stands there.
     fn make_folder(&mut self, folder: &str) -> io::Result<()>
-        ensures { IsTrue tells → NameWaits (waits self.old) (waits self.new) folder.now };
+        ensures row { OnOk result (IsTrue tells → FolderRow (tree self.new) folder.now) }
+        ensures waits { IsTrue tells → NameWaits (waits self.old) (waits self.new) folder.now };
 
-    /// Gives a file another path. What stood there goes: if it is a file, it is one that is held.
-    fn rename(&mut self, from: &str, to: &str, held: Option<&Locked<Self::File>>) -> io::Result<()>
-        requires { IsTrue tells → MayGo (tree self.old) to.now (option_map (λ file. inode file.now) held) }
-        ensures { IsTrue tells → RenameWaits (waits self.old) (waits self.new) from.now to.now };
+    /// Gives a file another path. What stood there goes: if it is a file, it is one that is held alone.
+    fn rename(&mut self, from: &str, to: &str, held: Option<&Self::Lock>) -> io::Result<()>
+        requires { IsTrue tells → MayGo (tree self.old) to.now (option_map (λ lock. locks lock.now) held) }
+        ensures row { OnOk result (IsTrue tells → MovedRow (tree self.old) (tree self.new) from.now to.now) }
+        ensures waits { IsTrue tells → RenameWaits (waits self.old) (waits self.new) from.now to.now };
 
-    /// Gives a file that this run has made, and has open, another path. What stood there goes: if it is a file, it is
-    /// one that is held, and it shares no clusters with the new one.
+    /// Gives a file that this run has made, and holds, another path. What stood there goes: if it is a file, it is
+    /// one that is held alone, and it shares no clusters with the new one.
     fn put(
         &mut self,
         from: &str,
         to: &str,
-        made: &Locked<Self::File>,
-        held: Option<&Locked<Self::File>>,
+        made: &Self::Lock,
+        held: Option<&Self::Lock>,
     ) -> io::Result<()>
         requires goes { IsTrue tells
-            → MayGoBut (tree self.old) to.now (file_name_of from.now) (option_map (λ file. inode file.now) held) }
-        requires made { IsTrue tells → IsOpenAt (tree self.old) from.now (inode made.now) }
-        ensures { IsTrue tells → RenameWaits (waits self.old) (waits self.new) from.now to.now };
+            → MayGoBut (tree self.old) to.now (file_name_of from.now) (option_map (λ lock. locks lock.now) held) }
+        requires made { IsTrue tells → IsLockedAt (tree self.old) from.now (locks made.now) }
+        ensures row { OnOk result (IsTrue tells → MovedRow (tree self.old) (tree self.new) from.now to.now) }
+        ensures waits { IsTrue tells → RenameWaits (waits self.old) (waits self.new) from.now to.now };
 
-    /// Removes what isn't a folder: if it is a file, it is one that is held.
-    fn unlink(&mut self, path: &str, held: Option<&Locked<Self::File>>) -> io::Result<()>
-        requires { IsTrue tells → MayGo (tree self.old) path.now (option_map (λ file. inode file.now) held) }
-        ensures { IsTrue tells → NameWaits (waits self.old) (waits self.new) path.now };
+    /// Removes what isn't a folder: if it is a file, it is one that is held alone.
+    fn unlink(&mut self, path: &str, held: Option<&Self::Lock>) -> io::Result<()>
+        requires { IsTrue tells → MayGo (tree self.old) path.now (option_map (λ lock. locks lock.now) held) }
+        ensures row { OnOk result (IsTrue tells → GoneRow (tree self.new) path.now) }
+        ensures waits { IsTrue tells → NameWaits (waits self.old) (waits self.new) path.now };
 
     /// Takes back the name that a file has got in this run, and that isn't synced: nothing more waits for the disk then.
-    fn take_back(&mut self, path: &str, file: &Locked<Self::File>) -> io::Result<()>
-        requires { IsTrue tells → MayGo (tree self.old) path.now (Some (inode file.now)) }
-        ensures { IsTrue tells → waits self.new ≡ waits self.old };
+    fn take_back(&mut self, path: &str, held: &Self::Lock) -> io::Result<()>
+        requires { IsTrue tells → MayGo (tree self.old) path.now (Some (locks held.now)) }
+        ensures row { OnOk result (IsTrue tells → GoneRow (tree self.new) path.now) }
+        ensures quiet { IsTrue tells → waits self.new ≡ waits self.old };
 
     /// Syncs the file at a path, and tells whether one is there.
     fn sync_file(&mut self, path: &str) -> io::Result<bool>

@@ -1,16 +1,17 @@
 //! The calls that change a folder, with what they leave to be synced.
-ghost use Rattle.std.specs.Prelude.{◌≡◌, [], ◌∷◌, IfErr, IfOk, IsTrue, None, Ok, OnErr, OnOk, false, true};
+ghost use Rattle.std.specs.Prelude.{◌≡◌, [], ◌∷◌, IfErr, IfOk, IsTrue, None, Ok, OnErr, OnOk, Some, false, true};
 ghost use Rattle.std.specs.Option.{option_map};
 ghost use Rattle.boot_base.specs.Paths.{file_name_of};
 ghost use Rattle.name_syncs.specs.Folders.{parent_folder};
 ghost use Rattle.name_syncs.specs.Named.{Covers, NameWaits, NothingWaits, RenameWaits};
 ghost use Rattle.name_syncs.specs.Waiting.{AsksAmong, FileAt, FolderAt, IsOnDisk, KeepsSynced};
-ghost use Rattle.folder_calls.specs.Calls.{MayGo, MayGoBut, inode_of};
+ghost use Rattle.folder_calls.specs.Calls.{MayGo, MayGoBut, alone, inode_of};
 ghost use Rattle.folder_calls.specs.Ready.{IsTried};
+ghost use Rattle.folder_calls.specs.Rows.{FolderRow, GoneRow, MadeRow, MovedRow, WrittenRow, inode_at};
 ghost use Rattle.folder_calls.specs.Tree.{is_fat_file};
 
 use crate::ready::Ready;
-use crate::sync::{KeptFile, is_open_at};
+use crate::sync::{KeptFile, is_open_at, require_held_at};
 use crate::twins::{Twins, leave_of, shared_fault, twins_of};
 use folder_calls::{Calls, Found, Locked, Reports, changed_fault, copy_path};
 use name_syncs::{Disk, Named, folder_of, parted, sync_names};
@@ -28,7 +29,7 @@ pub struct Changes<C: Calls + Drop, E: Print + Drop> {
     /// the folders of which is known that they may be synced
     pub(crate) ready: Ready,
     /// a renamed file that is still open
-    pub(crate) moved: Option<KeptFile<C::File>>,
+    pub(crate) moved: Option<KeptFile<C>>,
     /// the file that was removed last, until the names are synced
     removed: Option<String>,
     /// two names that may be of one file, for which a call has failed
@@ -127,7 +128,9 @@ impl<C: Calls + Drop, E: Print + Drop> Changes<C, E> {
     /// Makes an empty file of that mode, where nothing stands.
     #[tactic(auto, using(crate::proofs::Noting::name_waits_same))]
     pub fn create(&mut self, path: &str, mode: u32) -> io::Result<C::File>
-        ensures { IsTrue C.tells → NameWaits (C.waits self.old) (C.waits self.new) path.now }
+        ensures row { IfOk result (λ file. IsTrue C.tells
+            → MadeRow (C.tree self.old) (C.tree self.new) path.now (C.inode file)) }
+        ensures waits { IsTrue C.tells → NameWaits (C.waits self.old) (C.waits self.new) path.now }
     {
         keep_note(&mut self.is_unsure, self.named.change(path))?;
         self.calls.create(path, mode)
@@ -136,14 +139,17 @@ impl<C: Calls + Drop, E: Print + Drop> Changes<C, E> {
     /// Makes a folder, unless something stands there.
     #[tactic(auto, using(crate::proofs::Noting::name_waits_same))]
     pub fn make_folder(&mut self, folder: &str) -> io::Result<()>
-        ensures { IsTrue C.tells → NameWaits (C.waits self.old) (C.waits self.new) folder.now }
+        ensures row { OnOk result (IsTrue C.tells → FolderRow (C.tree self.new) folder.now) }
+        ensures waits { IsTrue C.tells → NameWaits (C.waits self.old) (C.waits self.new) folder.now }
     {
         keep_note(&mut self.is_unsure, self.named.make(folder))?;
         self.calls.make_folder(folder)
     }
 
     /// Writes all of the bytes behind what an open file has.
-    pub fn append(&mut self, file: &mut Locked<C::File>, bytes: &[u8]) -> io::Result<()>
+    pub fn append(&mut self, file: &mut Locked<C>, bytes: &[u8]) -> io::Result<()>
+        ensures row { OnOk result (IsTrue C.tells
+            → WrittenRow (C.tree self.old) (C.tree self.new) (C.inode file.old) bytes.now) }
         ensures quiet { IsTrue C.tells → C.waits self.new ≡ C.waits self.old }
         ensures same { IsTrue C.tells → C.inode file.new ≡ C.inode file.old }
     {
@@ -159,70 +165,78 @@ impl<C: Calls + Drop, E: Print + Drop> Changes<C, E> {
         self.calls.set_mode(file, found, mode)
     }
 
-    /// Puts a file that this run has made in its place. What stands there goes: a file must be held, and have no twin.
+    /// Puts a file that this run has made in its place. What stands there goes: a file must be held alone, and have no twin.
     /// The two may look alike.
     #[tactic(auto, using(crate::proofs::Noting::rename_waits_same))]
     pub fn put(
         &mut self,
         from: &str,
         to: &str,
-        made: &Locked<C::File>,
-        held: Option<&Locked<C::File>>,
+        made: &Locked<C>,
+        held: Option<&Locked<C>>,
     ) -> io::Result<()>
+        ensures row { OnOk result (IsTrue C.tells → MovedRow (C.tree self.old) (C.tree self.new) from.now to.now) }
+        ensures made { OnOk result (IsTrue C.tells
+            → inode_at (C.tree self.new) to.now ≡ Some (C.inode made.now)) }
         ensures waits { IsTrue C.tells → RenameWaits (C.waits self.old) (C.waits self.new) from.now to.now }
         ensures leave { IfOk result (λ _. IsTrue C.tells
             → MayGoBut (C.tree self.old) to.now (file_name_of from.now)
-            (option_map (λ file. C.inode file.now) held.entry)) }
+            (option_map (λ file. alone (C.inode file.now)) held.entry)) }
     {
         let (_, name) = parted(from);
-        self.require_leave(to, name, held)?;
-        if !is_open_at(&self.calls, from, made.file()) {
-            return Err(changed_fault());
-        }
+        let lock = self.require_leave(to, name, held)?;
+        let made = require_held_at(&self.calls, from, made)?;
         keep_note(&mut self.is_unsure, self.named.rename(from, to))?;
-        self.calls.put(from, to, made, held)
+        self.calls.put(from, to, made, lock)
     }
 
-    /// Gives a file another path. What stands there goes: a file must be held, and have no twin.
+    /// Gives a file another path. What stands there goes: a file must be held alone, and have no twin.
     #[tactic(auto, using(crate::proofs::Noting::rename_waits_same))]
-    pub fn rename(&mut self, from: &str, to: &str, held: Option<&Locked<C::File>>) -> io::Result<()>
+    pub fn rename(&mut self, from: &str, to: &str, held: Option<&Locked<C>>) -> io::Result<()>
+        ensures row { OnOk result (IsTrue C.tells → MovedRow (C.tree self.old) (C.tree self.new) from.now to.now) }
         ensures waits { IsTrue C.tells → RenameWaits (C.waits self.old) (C.waits self.new) from.now to.now }
         ensures leave { IfOk result (λ _. IsTrue C.tells
-            → MayGo (C.tree self.old) to.now (option_map (λ file. C.inode file.now) held.entry)) }
+            → MayGo (C.tree self.old) to.now (option_map (λ file. alone (C.inode file.now)) held.entry)) }
     {
-        self.require_leave(to, "", held)?;
+        let lock = self.require_leave(to, "", held)?;
         keep_note(&mut self.is_unsure, self.named.rename(from, to))?;
-        self.calls.rename(from, to, held)
+        self.calls.rename(from, to, lock)
     }
 
-    /// Removes a file: it must be held, and have no twin.
+    /// Removes a file: it must be held alone, and have no twin.
     #[tactic(auto, using(crate::proofs::Noting::name_waits_same))]
-    pub fn unlink(&mut self, path: &str, held: Option<&Locked<C::File>>) -> io::Result<()>
+    pub fn unlink(&mut self, path: &str, held: Option<&Locked<C>>) -> io::Result<()>
+        ensures row { OnOk result (IsTrue C.tells → GoneRow (C.tree self.new) path.now) }
         ensures waits { IsTrue C.tells → NameWaits (C.waits self.old) (C.waits self.new) path.now }
         ensures leave { IfOk result (λ _. IsTrue C.tells
-            → MayGo (C.tree self.old) path.now (option_map (λ file. C.inode file.now) held.entry)) }
+            → MayGo (C.tree self.old) path.now (option_map (λ file. alone (C.inode file.now)) held.entry)) }
     {
-        self.require_leave(path, "", held)?;
+        let lock = self.require_leave(path, "", held)?;
         let removed = copy_path(self.alloc, path)?;
         keep_note(&mut self.is_unsure, self.named.change(path))?;
-        self.calls.unlink(path, held)?;
+        self.calls.unlink(path, lock)?;
         self.removed = Some(removed);
         Ok(())
     }
 
-    // What stands at a path may go. One name isn't asked whether it is that of a twin.
-    pub(crate) fn require_leave(
+    // What stands at a path may go, by the lock that is given back if it is a file. One name isn't asked whether it is that
+    // of a twin.
+    pub(crate) fn require_leave<'a>(
         &mut self,
         path: &str,
         but: &str,
-        held: Option<&Locked<C::File>>,
-    ) -> io::Result<()>
+        held: Option<&'a Locked<C>>,
+    ) -> io::Result<Option<&'a C::Lock>>
         ensures same { self.new ≡ self.old }
+        ensures lock { IfOk result (λ lock. IsTrue C.tells
+            → MayGoBut (C.tree self.old) path.now but.now (option_map (λ lock. C.locks lock.now) lock)) }
         ensures leave { IfOk result (λ _. IsTrue C.tells
-            → MayGoBut (C.tree self.old) path.now but.now (option_map (λ file. C.inode file.now) held.entry)) }
+            → MayGoBut (C.tree self.old) path.now but.now
+            (option_map (λ file. alone (C.inode file.now)) held.entry)) }
     {
-        let twins = leave_of(&self.calls, self.alloc, path, but, held)?;
-        self.require_no_twins(twins)
+        let (twins, lock) = leave_of(&self.calls, self.alloc, path, but, held)?;
+        self.require_no_twins(twins)?;
+        Ok(lock)
     }
 
     // There are no twins. If there are, they are kept to be told of: those that a call has failed for stay, whatever it then
@@ -279,7 +293,7 @@ impl<C: Calls + Drop, E: Print + Drop> Changes<C, E> {
 
     /// Syncs the bytes of the file at a path by an open one, which is the one that stands there. If that fails its folder is
     /// tried.
-    pub fn sync_bytes(&mut self, path: &str, file: &Locked<C::File>) -> io::Result<()>
+    pub fn sync_bytes(&mut self, path: &str, file: &Locked<C>) -> io::Result<()>
         ensures written { IfOk result (λ _. IsTrue C.tells → C.written self.new path.now ≡ false) }
         ensures tried { IfErr result (λ _. IsTrue C.tells
             → IsTried (C.waits self.new) (C.doubts self.new) (parent_folder path.now)) }
@@ -291,7 +305,7 @@ impl<C: Calls + Drop, E: Print + Drop> Changes<C, E> {
         answer
     }
 
-    fn sync_written(&mut self, path: &str, file: &Locked<C::File>) -> io::Result<()>
+    fn sync_written(&mut self, path: &str, file: &Locked<C>) -> io::Result<()>
         ensures { IfOk result (λ _. IsTrue C.tells → C.written self.new path.now ≡ false) }
     {
         require_sync_before(self.is_unsure)?;
@@ -402,14 +416,14 @@ impl<C: Calls + Drop, E: Print + Drop> Changes<C, E> {
     }
 
     /// A renamed file that is held is the one at that path, until its name is synced.
-    pub fn keep_moved(&mut self, moved: KeptFile<C::File>)
+    pub fn keep_moved(&mut self, moved: KeptFile<C>)
         ensures { self.new ≡ self.old }
     {
         self.moved = Some(moved);
     }
 
     /// The renamed file that is held, and is held here no longer.
-    pub fn take_moved(&mut self) -> Option<KeptFile<C::File>>
+    pub fn take_moved(&mut self) -> Option<KeptFile<C>>
         ensures { self.new ≡ self.old }
     {
         self.moved.take()

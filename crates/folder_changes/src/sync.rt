@@ -1,30 +1,31 @@
 //! The syncs of what has changed, and their faults as they are told.
-ghost use Rattle.std.specs.Prelude.{◌≡◌, [], ◌∷◌, IfErr, IfOk, IfSome, IsTrue, bytes_eq, false, string_bytes, true};
+ghost use Rattle.std.specs.Prelude.{◌≡◌, [], ◌∷◌, IfErr, IfOk, IfSome, IsTrue, Some, bytes_eq, false, string_bytes, true};
 ghost use Rattle.std.specs.IoError.{error_kind};
 ghost use Rattle.name_syncs.specs.Folders.{parent_folder};
 ghost use Rattle.name_syncs.specs.Waiting.{Asks, AsksAmong, FileAt, FolderAt, IsOnDisk, IsShutOut};
 ghost use Rattle.folder_calls.specs.Answers.{says_closed};
-ghost use Rattle.folder_calls.specs.Calls.{IsOpenAt};
+ghost use Rattle.folder_calls.specs.Calls.{IsLockedAt, IsOpenAt};
 ghost use Rattle.folder_calls.specs.Ready.{IsRefusal, IsTried};
+ghost use Rattle.folder_calls.specs.Rows.{inode_at};
 
 use crate::changes::Changes;
 use crate::ready::is_fat_folder;
-use folder_calls::{Calls, Locked, is_closed};
+use folder_calls::{Calls, Locked, changed_fault, is_closed};
 use name_syncs::{Disk, FolderFault, folder_of};
 use std::io;
 
 /// A file that is held open, and the path that it has.
 #[derive(Drop)]
-pub struct KeptFile<F: Drop> {
+pub struct KeptFile<C: Calls> {
     pub path: String,
-    pub file: Locked<F>,
+    pub file: Locked<C>,
     /// whether this run has made it
     pub is_made: bool,
     /// whether its name goes again if a sync fails: it may stand on FAT, and nothing stood there before
     pub goes_again: bool,
 }
 
-impl<F: Drop> KeptFile<F> {
+impl<C: Calls> KeptFile<C> {
     /// Whether it has that path.
     pub fn is_at(&self, path: &str) -> bool
         ensures { result ≡ bytes_eq (string_bytes self.now.path) path.now }
@@ -178,9 +179,9 @@ impl<C: Calls + Drop, E: Print + Drop> Changes<C, E> {
         };
         let path = moved.path.as_str();
         if moved.goes_again
-            && let Ok(()) = self.require_leave(path, "", Some(&moved.file))
+            && let Ok(Some(lock)) = self.require_leave(path, "", Some(&moved.file))
         {
-            let _ = self.calls.take_back(path, &moved.file);
+            let _ = self.calls.take_back(path, lock);
         }
     }
 
@@ -200,7 +201,7 @@ impl<C: Calls + Drop, E: Print + Drop> Changes<C, E> {
 fn opened_at<'a, C: Calls>(
     calls: &C,
     path: &str,
-    moved: &'a Option<KeptFile<C::File>>,
+    moved: &'a Option<KeptFile<C>>,
 ) -> Option<&'a C::File>
     ensures { IfSome result (λ file. IsTrue C.tells → IsOpenAt (C.tree calls.now) path.now (C.inode file.now)) }
 {
@@ -224,4 +225,21 @@ pub(crate) fn is_open_at<C: Calls>(calls: &C, path: &str, file: &C::File) -> boo
         (Ok(Some(found)), Ok(opened)) => opened.is_same(&found),
         _ => false,
     }
+}
+
+// A file that this run holds alone must stand at a path. It gives the lock.
+pub(crate) fn require_held_at<'a, C: Calls>(
+    calls: &C,
+    path: &str,
+    held: &'a Locked<C>,
+) -> io::Result<&'a C::Lock>
+    ensures lock { IfOk result (λ lock. IsTrue C.tells → IsLockedAt (C.tree calls.now) path.now (C.locks lock.now)) }
+    ensures held { IfOk result (λ _. IsTrue C.tells → inode_at (C.tree calls.now) path.now ≡ Some (C.inode held.now)) }
+{
+    if let Some(lock) = held.alone()
+        && is_open_at(calls, path, held.file())
+    {
+        return Ok(lock);
+    }
+    Err(changed_fault())
 }

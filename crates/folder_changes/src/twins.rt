@@ -12,7 +12,7 @@ ghost use Rattle.name_syncs.specs.Paths.{has_path};
 ghost use Rattle.fat_rules.specs.Aliases.{IsInCapitals};
 ghost use Rattle.folder_changes.specs.Shown.{HasCapitals, HasNoCapitals, IsShownAs, IsShownSo, is_shown};
 ghost use Rattle.folder_changes.specs.Sought.{is_twins_name};
-ghost use Rattle.folder_calls.specs.Calls.{IsAloneBut, MayGoBut, inode_of, is_twin, looks_alike};
+ghost use Rattle.folder_calls.specs.Calls.{IsAloneBut, MayGoBut, alone, inode_of, is_twin, looks_alike};
 
 use fat_rules::{is_in_capitals, is_same_in_capitals, may_be_of_one_file, may_share};
 use folder_calls::{Calls, Found, Locked, changed_fault, copy_path, has_same_bytes, path_in};
@@ -157,40 +157,46 @@ fn looks_alike(found: &Found, other: &Found) -> bool
     other.is_file() && !found.is_same(other) && may_share(&found.facts, &other.facts)
 }
 
-// If what stands at a path may go: None if it is no regular file, or one that is held, and has no twin. One name isn't
-// asked.
-pub(crate) fn leave_of<C: Calls>(
+// If what stands at a path may go: no twin if it is no regular file, or one that is held alone, and has none. It gives the
+// lock on a file. One name isn't asked.
+pub(crate) fn leave_of<'a, C: Calls>(
     calls: &C,
     alloc: Global,
     path: &str,
     but: &str,
-    held: Option<&Locked<C::File>>,
-) -> io::Result<Option<Twins>>
-    ensures { IfOk result (λ twins. twins ≡ None → IsTrue C.tells
-        → MayGoBut (C.tree calls.now) path.now but.now (option_map (λ file. C.inode file.now) held.entry)) }
+    held: Option<&'a Locked<C>>,
+) -> io::Result<(Option<Twins>, Option<&'a C::Lock>)>
+    ensures lock { IfOk result (λ leave. leave.0 ≡ None → IsTrue C.tells
+        → MayGoBut (C.tree calls.now) path.now but.now (option_map (λ lock. C.locks lock.now) leave.1)) }
+    ensures held { IfOk result (λ leave. leave.0 ≡ None → IsTrue C.tells
+        → MayGoBut (C.tree calls.now) path.now but.now
+        (option_map (λ file. alone (C.inode file.now)) held.entry)) }
 {
     match calls.find_itself(path)? {
         Some(found) if found.is_file() => {
-            require_held(calls, &found, held)?;
-            twins_of(calls, alloc, path, but, &found)
+            let lock = require_held(calls, &found, held)?;
+            let twins = twins_of(calls, alloc, path, but, &found)?;
+            Ok((twins, Some(lock)))
         }
-        _ => Ok(None),
+        _ => Ok((None, None)),
     }
 }
 
-// A file that goes must be the one that this run holds.
-fn require_held<C: Calls>(
+// A file that goes must be the one that this run holds alone. It gives the lock.
+fn require_held<'a, C: Calls>(
     calls: &C,
     found: &Found,
-    held: Option<&Locked<C::File>>,
-) -> io::Result<()>
-    ensures { IfOk result (λ _. IsTrue C.tells
-        → option_map (λ file. C.inode file.now) held.entry ≡ Some (inode_of found.now)) }
+    held: Option<&'a Locked<C>>,
+) -> io::Result<&'a C::Lock>
+    ensures lock { IfOk result (λ lock. IsTrue C.tells → C.locks lock.now ≡ alone (inode_of found.now)) }
+    ensures held { IfOk result (λ _. IsTrue C.tells
+        → option_map (λ file. alone (C.inode file.now)) held.entry ≡ Some (alone (inode_of found.now))) }
 {
     if let Some(locked) = held
+        && let Some(lock) = locked.alone()
         && calls.find_open(locked.file())?.is_same(found)
     {
-        return Ok(());
+        return Ok(lock);
     }
     Err(changed_fault())
 }

@@ -7,13 +7,13 @@ use Rattle.folder_locks.specs.declared.locks.Held.{Held}
 use Rattle.folder_locks.specs.declared.locks.Locks.{Locks}
 
 -- nothing more is held
-pub holds_same : {F : Type 0} (tells : Bool) (inode : F → Inode) (old new : List (Held F)) → new ≡ old
+pub holds_same : {C F L : Type 0} (tells : Bool) (inode : F → Inode) (old new : List (Held C F L)) → new ≡ old
     → HoldsMore tells inode old new
 holds_same tells inode old new same =
     record { more = []; behind = same ∙ sym (append-nil old); found = λ told k d inside. absurd (omega arith) }
 
 -- what is held more after two calls
-pub holds_then : {F : Type 0} (tells : Bool) (inode : F → Inode) (old mid new : List (Held F))
+pub holds_then : {C F L : Type 0} (tells : Bool) (inode : F → Inode) (old mid new : List (Held C F L))
     → HoldsMore tells inode old mid → HoldsMore tells inode mid new → HoldsMore tells inode old new
 holds_then tells inode old mid new first then =
     record {
@@ -23,7 +23,7 @@ holds_then tells inode old mid new first then =
     }
 
 -- whether a folder is new, after two calls
-pub tells_then : {F : Type 0} (old mid new : Locks F) → TellsNewFolders old mid → TellsNewFolders mid new → TellsNewFolders old new
+pub tells_then : {C F L : Type 0} (old mid new : Locks C F L) → TellsNewFolders old mid → TellsNewFolders mid new → TellsNewFolders old new
 tells_then old mid new first then = record {
   none = λ none. then.none none ∙ first.none (then.before none);
   before = λ none. first.before (then.before none);

@@ -24,32 +24,32 @@ with_payloads_of folders path =
     if has_payloads (parent_folder path) then with_folder folders (parent_folder path) else folders
 
 -- this is held by that path
-abbrev pub is_held_by : {F : Type 0} → List ℕ → Held F → Bool
+abbrev pub is_held_by : {C F L : Type 0} → List ℕ → Held C F L → Bool
 is_held_by path held = bytes_eq (string_bytes held.path) path
 
 -- what is held by a path
-abbrev pub held_by : {F : Type 0} → List (Held F) → List ℕ → Option (Held F)
+abbrev pub held_by : {C F L : Type 0} → List (Held C F L) → List ℕ → Option (Held C F L)
 held_by all path = find (is_held_by path) all
 
 -- this is the file or folder that was found, maybe by another path
-abbrev pub is_held_as : {F : Type 0} → Found → Held F → Bool
+abbrev pub is_held_as : {C F L : Type 0} → Found → Held C F L → Bool
 is_held_as found held = same_inode held.found found
 
 -- what is held of the one that was found
-abbrev pub held_as : {F : Type 0} → List (Held F) → Found → Option (Held F)
+abbrev pub held_as : {C F L : Type 0} → List (Held C F L) → Found → Option (Held C F L)
 held_as all found = find (is_held_as found) all
 
 -- what is held is what was found
-abbrev pub IsHeldAs : {F : Type 0} → (F → Inode) → Held F → Type 0
+abbrev pub IsHeldAs : {C F L : Type 0} → (F → Inode) → Held C F L → Type 0
 IsHeldAs inode held = inode held.file ≡ inode_of held.found
 
 -- All that was held is held still. What more is held is what was found, if the calls tell that.
-pub record HoldsMore {F : Type 0} (tells : Bool) (inode : F → Inode) (old new : List (Held F)) : Type 0 where
-  pub more : List (Held F)
+pub record HoldsMore {C F L : Type 0} (tells : Bool) (inode : F → Inode) (old new : List (Held C F L)) : Type 0 where
+  pub more : List (Held C F L)
   pub behind : new ≡ old ++ more
   pub found : IsTrue tells → All (IsHeldAs inode) more
 
 -- if no folder is said to be new, none has come, and none was said to be new before
-pub record TellsNewFolders {F : Type 0} (old new : Locks F) : Type 0 where
+pub record TellsNewFolders {C F L : Type 0} (old new : Locks C F L) : Type 0 where
   pub none : new.has_new_folder ≡ false → new.folders.items ≡ old.folders.items
   pub before : new.has_new_folder ≡ false → old.has_new_folder ≡ false

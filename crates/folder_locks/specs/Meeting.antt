@@ -19,7 +19,7 @@ abbrev pub changed_fault : Found → Option Found → Option ErrorKind
 changed_fault held found = if option_map_or (same_inode held) found false then None else Some WouldBlock
 
 -- the error of a lock that isn't taken: the system's own, unless another run has it
-abbrev pub IsLockError : LockFault → Error → Type 0
+abbrev pub IsLockError : {L : Type 0} → LockFault L → Error → Type 0
 IsLockError Taken error = error_kind error ≡ WouldBlock
-IsLockError (KeepsNone cause) error = error ≡ cause
+IsLockError (KeepsNone cause lock) error = error ≡ cause
 IsLockError (Disk cause) error = error ≡ cause

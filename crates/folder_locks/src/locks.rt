@@ -36,29 +36,29 @@ pub fn is_payload_folder(folder: &str) -> bool
 
 /// A file or folder with its lock.
 #[derive(Drop)]
-pub struct Held<F: Drop> {
+pub struct Held<C: Calls> {
     pub path: String,
-    pub file: Locked<F>,
+    pub file: Locked<C>,
     /// what it was found to be as it was opened
     pub found: Found,
 }
 
 /// What this run holds.
 #[derive(Drop)]
-pub struct Locks<F: Drop> {
+pub struct Locks<C: Calls> {
     pub alloc: Global,
-    pub folders: Vec<Held<F>>,
+    pub folders: Vec<Held<C>>,
     /// until the next reply
-    pub files: Vec<Held<F>>,
+    pub files: Vec<Held<C>>,
     /// the files that this run has replaced or removed, until the names are synced
-    pub gone: Vec<Held<F>>,
+    pub gone: Vec<Held<C>>,
     /// the folders of payloads in which a file was looked at
     pub payloads: FolderSet,
     /// whether a folder is held since this was last asked
     pub has_new_folder: bool,
 }
 
-impl<F: Drop> Locks<F> {
+impl<C: Calls> Locks<C> {
     pub fn new(alloc: Global) -> Self
         ensures folders { result.folders.items ≡ [] }
         ensures files { result.files.items ≡ [] }
@@ -111,7 +111,7 @@ impl<F: Drop> Locks<F> {
     }
 
     /// The lock on a file that is held by that path.
-    pub fn lock_at(&self, path: &str) -> Option<&Locked<F>> {
+    pub fn lock_at(&self, path: &str) -> Option<&Locked<C>> {
         Some(&held_at(&self.files, path)?.file)
     }
 
@@ -123,12 +123,7 @@ impl<F: Drop> Locks<F> {
     }
 
     /// Holds a folder to the end of this run. One that isn't there can't be held.
-    pub fn hold_folder<C: Calls<File = F>>(
-        &mut self,
-        calls: &C,
-        folder: &str,
-        hold: Hold,
-    ) -> io::Result<()>
+    pub fn hold_folder(&mut self, calls: &C, folder: &str, hold: Hold) -> io::Result<()>
         ensures folders { HoldsMore C.tells C.inode self.old.folders.items self.new.folders.items }
         ensures new { TellsNewFolders self.old self.new }
         ensures same { self.new
@@ -152,27 +147,30 @@ impl<F: Drop> Locks<F> {
     }
 
     /// Holds a file that was read, unless its folder is held alone.
-    pub fn hold_read<C: Calls<File = F>>(&mut self, calls: &C, path: &str) -> io::Result<()>
+    pub fn hold_read(&mut self, calls: &C, path: &str) -> io::Result<()>
         ensures files { HoldsMore C.tells C.inode self.old.files.items self.new.files.items }
         ensures same { self.new ≡ record self.old { files = self.new.files } }
     {
         if self.covers(path) {
             return Ok(());
         }
-        let Some(opened) = open_known(calls, path)? else {
-            return Ok(());
-        };
-        self.hold_opened(calls, path, opened, Hold::Shared)
+        self.hold_known(calls, path, Hold::Shared)
+    }
+
+    // Holds what was a regular file at the last look, if it is one still.
+    fn hold_known(&mut self, calls: &C, path: &str, hold: Hold) -> io::Result<()>
+        ensures files { HoldsMore C.tells C.inode self.old.files.items self.new.files.items }
+        ensures same { self.new ≡ record self.old { files = self.new.files } }
+    {
+        match open_known(calls, path)? {
+            Some(opened) => self.hold_opened(calls, path, opened, hold),
+            None => Ok(()),
+        }
     }
 
     /// Holds a file that goes, if one is there, and its folder. A temporary file and the intent have locks of their own.
     /// The file that is held must be the one that stands there.
-    pub fn hold_changed<C: Calls<File = F>>(
-        &mut self,
-        calls: &C,
-        path: &str,
-        look: Option<Look>,
-    ) -> io::Result<()>
+    pub fn hold_changed(&mut self, calls: &C, path: &str, look: Option<Look>) -> io::Result<()>
         ensures folders { HoldsMore C.tells C.inode self.old.folders.items self.new.folders.items }
         ensures files { HoldsMore C.tells C.inode self.old.files.items self.new.files.items }
         ensures new { TellsNewFolders self.old self.new }
@@ -196,21 +194,19 @@ impl<F: Drop> Locks<F> {
 
     // Holds alone a file that was looked at, and is to be looked at once more. The file that is held must be the one
     // that was found.
-    fn hold_looked<C: Calls<File = F>>(
-        &mut self,
-        calls: &C,
-        path: &str,
-        look: Look,
-    ) -> io::Result<()>
+    fn hold_looked(&mut self, calls: &C, path: &str, look: Look) -> io::Result<()>
         ensures files { HoldsMore C.tells C.inode self.old.files.items self.new.files.items }
         ensures same { self.new ≡ record self.old { files = self.new.files } }
     {
         if look.found.is_none() {
             return Ok(());
         }
-        if let Some(opened) = open_known(calls, path)? {
-            self.hold_opened(calls, path, opened, Hold::Alone)?;
-        }
+        self.hold_known(calls, path, Hold::Alone)?;
+        self.require_looked(path, look)
+    }
+
+    // The file that is held at a path must be the one that was found.
+    fn require_looked(&self, path: &str, look: Look) -> io::Result<()> {
         match held_at(&self.files, path) {
             Some(held) if identity_of(Some(held.found)) == look.found => Ok(()),
             _ => Err(changed_fault(self.alloc, path)),
@@ -218,7 +214,7 @@ impl<F: Drop> Locks<F> {
     }
 
     // Holds the file at a path alone, if one is there.
-    fn hold_file<C: Calls<File = F>>(&mut self, calls: &C, path: &str) -> io::Result<()>
+    fn hold_file(&mut self, calls: &C, path: &str) -> io::Result<()>
         ensures files { HoldsMore C.tells C.inode self.old.files.items self.new.files.items }
         ensures same { self.new ≡ record self.old { files = self.new.files } }
     {
@@ -232,11 +228,11 @@ impl<F: Drop> Locks<F> {
     }
 
     // Holds a file that was opened.
-    fn hold_opened<C: Calls<File = F>>(
+    fn hold_opened(
         &mut self,
         calls: &C,
         path: &str,
-        opened: (F, Found),
+        opened: (C::File, Found),
         hold: Hold,
     ) -> io::Result<()>
         ensures files { (IsTrue C.tells → IsOpenAs C.inode opened)
@@ -248,7 +244,7 @@ impl<F: Drop> Locks<F> {
     }
 
     // A file that is held must be the one that stands at its path.
-    fn require_named<C: Calls<File = F>>(&self, calls: &C, path: &str) -> io::Result<()> {
+    fn require_named(&self, calls: &C, path: &str) -> io::Result<()> {
         match held_at(&self.files, path) {
             Some(held) => require_found(self.alloc, path, &held.found, calls.find(path)?),
             None => Ok(()),
@@ -256,7 +252,7 @@ impl<F: Drop> Locks<F> {
     }
 
     /// A file that is held, to read from it.
-    pub fn file_at(&self, path: &str) -> Option<&F>
+    pub fn file_at(&self, path: &str) -> Option<&C::File>
         ensures { option_copied result ≡ option_map (λ held. held.file) (held_by self.now.files.items path.now) }
     {
         let held = held_at(&self.files, path)?;
@@ -264,7 +260,7 @@ impl<F: Drop> Locks<F> {
     }
 
     /// The lock on the file that was found, maybe by another path.
-    pub fn lock_of(&self, found: Option<Found>) -> Option<&Locked<F>>
+    pub fn lock_of(&self, found: Option<Found>) -> Option<&Locked<C>>
         ensures { option_copied result
             ≡ option_and_then (λ found. option_map (λ held. held.file) (held_as self.now.files.items found)) found }
     {
@@ -326,27 +322,27 @@ fn require_found(alloc: Global, path: &str, held: &Found, found: Option<Found>) 
 }
 
 // What this run holds by that path.
-fn held_at<'a, F: Drop>(all: &'a Vec<Held<F>>, path: &str) -> Option<&'a Held<F>>
+fn held_at<'a, C: Calls>(all: &'a Vec<Held<C>>, path: &str) -> Option<&'a Held<C>>
     ensures { option_copied result ≡ held_by all.now.items path.now }
 {
     all.iter().find(|held| held.path.as_str() == path)
 }
 
-fn is_held<F: Drop>(all: &Vec<Held<F>>, path: &str, hold: Hold) -> bool
+fn is_held<C: Calls>(all: &Vec<Held<C>>, path: &str, hold: Hold) -> bool
     ensures { IsTrue result → IsSome (held_by all.now.items path.now) }
 {
     held_at(all, path).is_some_and(|held| held.file.is_enough(hold))
 }
 
 // What this run holds of these already, maybe by another path.
-fn held_as<'a, F: Drop>(all: &'a Vec<Held<F>>, found: &Found) -> Option<&'a Held<F>>
+fn held_as<'a, C: Calls>(all: &'a Vec<Held<C>>, found: &Found) -> Option<&'a Held<C>>
     ensures { option_copied result ≡ held_as all.now.items found.now }
 {
     all.iter().find(|held| held.found.is_same(found))
 }
 
 // Where that stands among these.
-fn place_of<F: Drop>(all: &Vec<Held<F>>, found: &Found) -> Option<usize>
+fn place_of<C: Calls>(all: &Vec<Held<C>>, found: &Found) -> Option<usize>
     ensures place { result ≡ position (is_held_as found.now) all.now.items }
     ensures within { IfSome result (λ place. place < vec_len all.now) }
 {
@@ -355,9 +351,10 @@ fn place_of<F: Drop>(all: &Vec<Held<F>>, found: &Found) -> Option<usize>
 
 // Locks what was opened at a path, and tells whether it wasn't held so before. What this run holds already is locked
 // there: else it would stop itself.
+#[tactic(auto, using(crate::proofs::MoreHeld::holds_same))]
 fn add_held<C: Calls>(
     alloc: Global,
-    all: &mut Vec<Held<C::File>>,
+    all: &mut Vec<Held<C>>,
     calls: &C,
     path: &str,
     opened: (C::File, Found),
@@ -382,7 +379,7 @@ fn add_held<C: Calls>(
 fn strengthen_at<C: Calls>(
     alloc: Global,
     calls: &C,
-    all: &mut Vec<Held<C::File>>,
+    all: &mut Vec<Held<C>>,
     place: usize,
     hold: Hold,
 ) -> io::Result<bool>
@@ -396,7 +393,7 @@ fn strengthen_at<C: Calls>(
 fn strengthen<C: Calls>(
     alloc: Global,
     calls: &C,
-    held: &mut Held<C::File>,
+    held: &mut Held<C>,
     hold: Hold,
 ) -> io::Result<bool>
     ensures { held.new ≡ held.old }
@@ -417,7 +414,7 @@ fn lock<C: Calls>(
     path: &str,
     file: C::File,
     hold: Hold,
-) -> io::Result<Locked<C::File>>
+) -> io::Result<Locked<C>>
     ensures { IfOk result (λ locked. locked ≡ file) }
 {
     match Locked::take_if_kept(calls, file, hold) {
@@ -426,11 +423,11 @@ fn lock<C: Calls>(
     }
 }
 
-fn lock_fault(alloc: Global, path: &str, fault: LockFault) -> io::Error
+fn lock_fault<L: Drop>(alloc: Global, path: &str, fault: LockFault<L>) -> io::Error
     ensures { IsLockError fault result }
 {
     match fault {
         LockFault::Taken => met_fault(alloc, "another run holds", path),
-        LockFault::KeepsNone(error) | LockFault::Disk(error) => error,
+        LockFault::KeepsNone(error, _) | LockFault::Disk(error) => error,
     }
 }

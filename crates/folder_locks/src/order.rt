@@ -16,7 +16,7 @@ pub fn hold_folders<C: Calls>(
     calls: &C,
     alloc: Global,
     looks: &RunLooks,
-    locks: &mut Locks<C::File>,
+    locks: &mut Locks<C>,
     own: Option<&str>,
     hold: Hold,
 ) -> io::Result<()>
@@ -34,10 +34,10 @@ pub fn hold_folders<C: Calls>(
 }
 
 // The folders that are to be held, by their paths. One may come twice.
-fn folders_to_hold<F: Drop>(
+fn folders_to_hold<C: Calls>(
     alloc: Global,
     looks: &RunLooks,
-    locks: &mut Locks<F>,
+    locks: &mut Locks<C>,
     own: Option<&str>,
 ) -> Result<Vec<Text>, AllocError>
     ensures { locks.new ≡ record locks.old { payloads = record { has_root = false; below = [] } } }
@@ -73,7 +73,7 @@ pub fn hold_files<C: Calls>(
     calls: &C,
     alloc: Global,
     looks: &RunLooks,
-    locks: &mut Locks<C::File>,
+    locks: &mut Locks<C>,
     goes: &[&str],
 ) -> io::Result<()>
     ensures folders { HoldsMore C.tells C.inode locks.old.folders.items locks.new.folders.items }
@@ -88,10 +88,10 @@ pub fn hold_files<C: Calls>(
 }
 
 // The files that are to be held and aren't yet, by their paths. One may come twice.
-fn files_to_hold<F: Drop>(
+fn files_to_hold<C: Calls>(
     alloc: Global,
     looks: &RunLooks,
-    locks: &Locks<F>,
+    locks: &Locks<C>,
     goes: &[&str],
 ) -> Result<Vec<Text>, AllocError> {
     let mut wanted = Vec::new(alloc);
@@ -112,7 +112,7 @@ fn files_to_hold<F: Drop>(
 fn hold_wanted<C: Calls>(
     calls: &C,
     looks: &RunLooks,
-    locks: &mut Locks<C::File>,
+    locks: &mut Locks<C>,
     path: &str,
     goes: &[&str],
 ) -> io::Result<()>

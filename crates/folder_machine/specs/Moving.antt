@@ -9,7 +9,7 @@ use Rattle.folder_calls.specs.declared.found.Found.{Found}
 use Rattle.folder_machine.specs.declared.intent.HeldIntent.{HeldIntent}
 
 -- the names in the intent that is held, if a stop has left it
-abbrev pub left_names : {F : Type 0} → Option (HeldIntent F) → Option IntentNames
+abbrev pub left_names : {C F L : Type 0} → Option (HeldIntent C F L) → Option IntentNames
 left_names None = None
 left_names (Some held) = held.left
 

@@ -52,15 +52,15 @@ fn read_own<C: Calls>(calls: &C, alloc: Global, file: &C::File) -> io::Result<Op
 
 /// An intent that this run holds by its lock.
 #[derive(Drop)]
-pub(crate) struct HeldIntent<F: Drop> {
-    file: Locked<F>,
+pub(crate) struct HeldIntent<C: Calls> {
+    file: Locked<C>,
     /// the paths in an intent that a stop has left; None in that of a move of this run, and in one without paths
     left: Option<IntentNames>,
 }
 
-impl<F: Drop> HeldIntent<F> {
+impl<C: Calls> HeldIntent<C> {
     // That of a move of this run.
-    pub(crate) fn new(file: Locked<F>) -> Self
+    pub(crate) fn new(file: Locked<C>) -> Self
         ensures { result ≡ record { file = file; left = None } }
     {
         HeldIntent { file, left: None }
@@ -68,10 +68,7 @@ impl<F: Drop> HeldIntent<F> {
 
     // The intent that a stop has left, and None if none is there. Another run's is a fault, and so is one with paths
     // that this program can't have written.
-    pub(crate) fn take<C: Calls<File = F>>(
-        calls: &C,
-        alloc: Global,
-    ) -> io::Result<Option<HeldIntent<F>>>
+    pub(crate) fn take(calls: &C, alloc: Global) -> io::Result<Option<HeldIntent<C>>>
         ensures own { IfOk result (λ taken. IfSome taken (λ held. IfSome held.left
             (λ names. is_own_move (names_of names) ≡ true))) }
         ensures plain { IfOk result (λ taken. IfSome taken (λ held. IfSome held.left
@@ -84,11 +81,11 @@ impl<F: Drop> HeldIntent<F> {
         Ok(Some(HeldIntent { file, left }))
     }
 
-    pub(crate) fn length<C: Calls<File = F>>(&self, calls: &C) -> io::Result<u64> {
+    pub(crate) fn length(&self, calls: &C) -> io::Result<u64> {
         Ok(calls.find_open(self.file.file())?.facts.length)
     }
 
-    pub(crate) fn file(&self) -> &Locked<F>
+    pub(crate) fn file(&self) -> &Locked<C>
         ensures { result.now ≡ self.now.file }
     {
         &self.file
@@ -101,7 +98,7 @@ impl<F: Drop> HeldIntent<F> {
     }
 }
 
-fn open_locked_intent<C: Calls>(calls: &C) -> io::Result<Option<Locked<C::File>>> {
+fn open_locked_intent<C: Calls>(calls: &C) -> io::Result<Option<Locked<C>>> {
     let Some((file, opened)) = open_file(calls, INTENT)? else {
         return Ok(None);
     };
@@ -111,11 +108,11 @@ fn open_locked_intent<C: Calls>(calls: &C) -> io::Result<Option<Locked<C::File>>
 
 // The intent that was locked, if what is found there now is what was opened. Its run may have ended between opening and
 // locking.
-fn if_still_there<F: Drop>(
+fn if_still_there<C: Calls>(
     found: Option<Found>,
     opened: &Found,
-    file: Locked<F>,
-) -> io::Result<Option<Locked<F>>>
+    file: Locked<C>,
+) -> io::Result<Option<Locked<C>>>
     ensures gone { found ≡ None → result ≡ Ok None }
     ensures same { IfSome found (λ found. same_inode found opened.now ≡ true → result ≡ Ok (Some file)) }
     ensures other { IfSome found (λ found. same_inode found opened.now ≡ false

@@ -27,17 +27,13 @@ const HELD: &str = "another run holds it";
 pub(crate) const GONE: &str = "another run has removed it";
 
 // Locks a file without waiting. If another run holds it, these words say so.
-pub(crate) fn lock_file<C: Calls>(
-    calls: &C,
-    file: C::File,
-    words: &str,
-) -> io::Result<Locked<C::File>>
+pub(crate) fn lock_file<C: Calls>(calls: &C, file: C::File, words: &str) -> io::Result<Locked<C>>
     ensures { IfOk result (λ locked. locked ≡ file) }
 {
     match Locked::take(calls, file, Hold::Alone) {
         Ok(locked) => Ok(locked),
         Err(LockFault::Taken) => Err(other_run(words)),
-        Err(LockFault::KeepsNone(error) | LockFault::Disk(error)) => Err(error),
+        Err(LockFault::KeepsNone(error, _) | LockFault::Disk(error)) => Err(error),
     }
 }
 
@@ -47,7 +43,7 @@ pub(crate) fn open_locked<C: Calls>(
     calls: &C,
     path: &str,
     access: Access,
-) -> io::Result<(Locked<C::File>, Found)>
+) -> io::Result<(Locked<C>, Found)>
     ensures { IfOk result (λ opened. IsTrue C.tells → IsFileAt (C.tree calls.now) path.now (C.inode opened.0)) }
 {
     match open_if_there(calls, path, access)? {
@@ -62,7 +58,7 @@ fn open_if_there<C: Calls>(
     calls: &C,
     path: &str,
     access: Access,
-) -> io::Result<Option<(Locked<C::File>, Found)>>
+) -> io::Result<Option<(Locked<C>, Found)>>
     ensures { IfOk result (λ opened. IfSome opened
         (λ opened. IsTrue C.tells → IsFileAt (C.tree calls.now) path.now (C.inode opened.0))) }
 {
@@ -91,7 +87,7 @@ fn lock_named<C: Calls>(
     path: &str,
     file: C::File,
     opened: &Found,
-) -> io::Result<Option<Locked<C::File>>>
+) -> io::Result<Option<Locked<C>>>
     ensures same { IfOk result (λ kept. IfSome kept (λ locked. locked ≡ file)) }
     ensures stands { IfOk result (λ kept. IsTrue C.tells
         → is_some kept ≡ stands_still (C.tree calls.now) path.now opened.now) }
@@ -107,8 +103,8 @@ fn lock_named<C: Calls>(
 
 /// A new temporary file with its lock.
 #[derive(Drop)]
-pub(crate) struct Created<F: Drop> {
-    pub(crate) file: Locked<F>,
+pub(crate) struct Created<C: Calls> {
+    pub(crate) file: Locked<C>,
     pub(crate) found: Found,
     /// what was found before the file was made for its owner alone, with the mode that the system gave it; None on a
     /// file system without modes
@@ -122,7 +118,7 @@ pub(crate) fn create_locked<C: Calls + Drop, E: Print + Drop>(
     changes: &mut Changes<C, E>,
     path: &str,
     mode: u32,
-) -> io::Result<Created<C::File>>
+) -> io::Result<Created<C>>
     ensures same { IfOk result (λ made. IsTrue C.tells → C.inode made.file ≡ inode_of made.found) }
     ensures stands { IfOk result (λ made. IsTrue C.tells
         → stands_still (C.tree changes.new) path.now made.found ≡ true) }

@@ -33,7 +33,7 @@ mod writing;
 /// The temporary file that is written, with its lock.
 #[derive(Drop)]
 struct Written<C: Calls + Drop> {
-    kept: KeptFile<C::File>,
+    kept: KeptFile<C>,
     /// what was found of it as it was made, with the mode that it gets in its place if it replaces no file; None if this run
     /// hasn't made it, or its file system has no modes
     made: Option<Found>,
@@ -53,9 +53,9 @@ pub(crate) struct System<C: Calls + Drop, E: Print + Drop> {
     looks: RunLooks,
     /// whether something wasn't found, or a folder was listed, since another run's move was last asked for
     has_missed: bool,
-    locks: Locks<C::File>,
+    locks: Locks<C>,
     /// the intent of this run's move, or the one that a stop has left, with its lock
-    intent: Option<HeldIntent<C::File>>,
+    intent: Option<HeldIntent<C>>,
     written: Option<Written<C>>,
     /// the file that was read last
     looked: Option<LookedFile<C::File>>,

@@ -1,7 +1,7 @@
 -- What the real folder tells: nothing.
 use Rattle.std.specs.Prelude.{false, [], None}
 use Rattle.name_syncs.specs.Waiting.{Waiting}
-use Rattle.folder_calls.specs.Calls.{Inode}
+use Rattle.folder_calls.specs.Calls.{Inode, Locking, alone}
 use Rattle.folder_calls.specs.Tree.{Tree}
 
 -- a folder of which no clause says what stands there
@@ -24,3 +24,7 @@ waits_untold = record {
 -- the number of a file of which no clause says which it is
 abbrev pub inode_untold : Inode
 inode_untold = (0, 0)
+
+-- a lock of which no clause says what it is on
+abbrev pub locks_untold : Locking
+locks_untold = alone inode_untold

@@ -7,8 +7,8 @@ use crate::found::found_of;
 use crate::growth::grow;
 use crate::streams::StandIns;
 use folder_calls::{
-    Access, Calls, Found, Hold, LockFault, Locked, folder_answer, if_allowed, if_new, if_there,
-    if_utf8, lock_answer, write_all_bytes,
+    Access, Calls, Found, Hold, LockFault, folder_answer, if_allowed, if_new, if_there, if_utf8,
+    lock_answer, write_all_bytes,
 };
 use name_syncs::FolderFault;
 use std::alloc::Global;
@@ -61,9 +61,11 @@ fn system_path(path: &str) -> &str
 
 impl<R: Runtime<File = File> + AllocGlobal> Calls for RealFolder<R> {
     ghost use Rattle.std.specs.Prelude.{◌≤◌, false, length, IfOk};
-    ghost use Rattle.host_machine.specs.Quiet.{inode_untold, tree_untold, waits_untold};
+    ghost use Rattle.host_machine.specs.Quiet.{inode_untold, locks_untold, tree_untold, waits_untold};
 
     type File = File;
+
+    type Lock = ();
 
     ghost tells = { false };
 
@@ -74,6 +76,8 @@ impl<R: Runtime<File = File> + AllocGlobal> Calls for RealFolder<R> {
     ghost written = { λ _ _. false };
 
     ghost inode = { λ _. inode_untold };
+
+    ghost locks = { λ _. locks_untold };
 
     ghost doubts = { λ _ _. false };
 
@@ -112,7 +116,7 @@ impl<R: Runtime<File = File> + AllocGlobal> Calls for RealFolder<R> {
         read_once_at(file, at, into)
     }
 
-    fn lock(&self, file: &File, hold: Hold) -> Result<(), LockFault> {
+    fn lock(&self, file: &File, hold: Hold) -> Result<(), LockFault<()>> {
         match hold {
             Hold::Shared => lock_answer(file.try_lock_shared()),
             Hold::Alone => lock_answer(file.try_lock()),
@@ -141,25 +145,19 @@ impl<R: Runtime<File = File> + AllocGlobal> Calls for RealFolder<R> {
         if_new(repeated(|| how.create(&self.rt, folder)))
     }
 
-    fn rename(&mut self, from: &str, to: &str, _held: Option<&Locked<File>>) -> io::Result<()> {
+    fn rename(&mut self, from: &str, to: &str, _held: Option<&()>) -> io::Result<()> {
         repeated(|| fs::rename(&self.rt, from, to))
     }
 
-    fn put(
-        &mut self,
-        from: &str,
-        to: &str,
-        _made: &Locked<File>,
-        _held: Option<&Locked<File>>,
-    ) -> io::Result<()> {
+    fn put(&mut self, from: &str, to: &str, _made: &(), _held: Option<&()>) -> io::Result<()> {
         repeated(|| fs::rename(&self.rt, from, to))
     }
 
-    fn unlink(&mut self, path: &str, _held: Option<&Locked<File>>) -> io::Result<()> {
+    fn unlink(&mut self, path: &str, _held: Option<&()>) -> io::Result<()> {
         repeated(|| fs::remove_file(&self.rt, path))
     }
 
-    fn take_back(&mut self, path: &str, _file: &Locked<File>) -> io::Result<()> {
+    fn take_back(&mut self, path: &str, _held: &()) -> io::Result<()> {
         repeated(|| fs::remove_file(&self.rt, path))
     }
 

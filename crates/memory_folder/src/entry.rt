@@ -1,5 +1,5 @@
 //! What stands in a folder in memory.
-ghost use Rattle.std.specs.Prelude.{◌≡◌, IfOk, IfSome, map, option_map, string_bytes};
+ghost use Rattle.std.specs.Prelude.{◌≡◌, ◌<◌, ◌==◌, IfOk, IfSome, bytes_eq, map, option_map, position, string_bytes, vec_len};
 ghost use Rattle.memory_folder.specs.Entries.{first_entry_at, first_entry_of, found_at, found_of_entry};
 ghost use Rattle.memory_folder.specs.Entries.{found_of_start, found_with, names_in_folder};
 
@@ -67,6 +67,22 @@ pub(crate) fn entry_of(entries: &[Entry], inode: u64) -> Option<&Entry>
     ensures number { IfSome result (λ entry. entry.now.inode ≡ inode) }
 {
     entries.iter().find(|entry| entry.inode == inode)
+}
+
+// Where the first entry of that path is.
+pub(crate) fn place_at(entries: &Vec<Entry>, path: &str) -> Option<usize>
+    ensures place { result ≡ position (λ entry. bytes_eq entry.path path.now) entries.now.items }
+    ensures within { IfSome result (λ place. place < vec_len entries.now) }
+{
+    entries.iter().position(|entry| entry.path.as_str() == path)
+}
+
+// Where the first entry of that number is.
+pub(crate) fn place_of(entries: &Vec<Entry>, inode: u64) -> Option<usize>
+    ensures place { result ≡ position (λ entry. entry.inode == inode) entries.now.items }
+    ensures within { IfSome result (λ place. place < vec_len entries.now) }
+{
+    entries.iter().position(|entry| entry.inode == inode)
 }
 
 // What stands at a path.

@@ -1,15 +1,18 @@
 //! The calls on a folder in memory.
-ghost use Rattle.std.specs.Prelude.{◌≡◌, ◌≤◌, IfOk, None, Some, drop, false, length, option_map, true, vec_len};
+ghost use Rattle.std.specs.Prelude.{◌≡◌, ◌≢◌, ◌≤◌, [], IfOk, None, OnOk, Some, bytes_eq, drop, false, length, option_map, position, true, vec_len};
 ghost use Rattle.name_syncs.specs.Named.{NameWaits, NothingWaits, RenameWaits};
 ghost use Rattle.folder_calls.specs.Calls.{IsOpenAt, ReadsSome, inode_of};
+ghost use Rattle.folder_calls.specs.Rows.{GoneRow, MadeRow, MovedRow, inode_at};
 ghost use Rattle.folder_calls.specs.Tree.{is_file};
-ghost use Rattle.memory_folder.specs.Entries.{found_with};
+ghost use Rattle.memory_folder.specs.Entries.{first_entry_at, found_with};
 ghost use Rattle.memory_folder.specs.Folder.{inode_of_file, memory_tree, memory_waits, memory_written};
 
-use crate::entry::{Entry, entry_of, found_at, found_of_start, names_in_folder};
+use crate::entry::{
+    Entry, entry_of, found_at, found_of_start, names_in_folder, place_at, place_of,
+};
 use crate::notes::Notes;
 use boot_base::{Text, copy_from};
-use folder_calls::{Access, Calls, Found, Hold, Kind, LockFault, Locked};
+use folder_calls::{Access, Calls, Found, Hold, Kind, LockFault};
 use name_syncs::{FolderFault, folder_of};
 use std::alloc::Global;
 use std::io;
@@ -19,6 +22,13 @@ use std::io::ErrorKind;
 #[derive(Drop)]
 pub struct MemoryFile {
     inode: u64,
+}
+
+/// That an open file or folder was locked. No other run is there to be held up.
+#[derive(Drop)]
+pub struct MemoryLock {
+    inode: u64,
+    hold: Hold,
 }
 
 /// A folder in memory, with all that is below it. It has no links, and a path leads to what has that very text for its
@@ -38,6 +48,24 @@ fn copy_some(bytes: &[u8], at: usize, into: &mut [u8]) -> usize
     ensures some { ReadsSome (drop at bytes.now) into.new result }
 {
     copy_from(bytes, at, into)
+}
+
+// Gives an entry another path. What else stood at that one and at its old one goes.
+fn move_entry(entries: &mut Vec<Entry>, at: usize, from: &str, to: &str, path: Text)
+    requires place { position (λ entry. bytes_eq entry.path from.now) entries.old.items ≡ Some at }
+    requires other { from.now ≢ to.now }
+    requires path { path ≡ to.now }
+    ensures there { option_map (λ entry. entry.inode) (first_entry_at entries.new.items to.now)
+        ≡ option_map (λ entry. entry.inode) (first_entry_at entries.old.items from.now) }
+    ensures left { first_entry_at entries.new.items from.now ≡ None }
+{
+    let entry = &mut entries[at];
+    let inode = entry.inode;
+    entry.path = path;
+    entries.retain(|entry| {
+        let path = entry.path.as_str();
+        path != from && (path != to || entry.inode == inode)
+    });
 }
 
 impl MemoryFolder {
@@ -77,6 +105,7 @@ impl MemoryFolder {
     // Puts something where nothing stands, and gives its number.
     fn add(&mut self, path: &str, kind: Kind, bytes: Vec<u8>) -> io::Result<u64>
         ensures waits { memory_waits self.new ≡ memory_waits self.old }
+        ensures row { IfOk result (λ inode. MadeRow (memory_tree self.old) (memory_tree self.new) path.now (1, inode)) }
         ensures stands { IfOk result (λ inode. (memory_tree self.new).stands path.now
             ≡ Some (found_with kind (vec_len bytes) inode)) }
     {
@@ -102,8 +131,10 @@ impl MemoryFolder {
         found_at(&self.entries, path)
     }
 
-    // Whether a folder stands there.
-    fn has_folder(&self, path: &str) -> bool {
+    // Whether a folder stands there. At the empty path one does.
+    fn has_folder(&self, path: &str) -> bool
+        ensures { path.now ≡ [] → result ≡ true }
+    {
         match self.found_at(path) {
             Some(found) => found.is_folder(),
             None => false,
@@ -131,39 +162,46 @@ impl MemoryFolder {
         Ok(())
     }
 
-    // A file stands at the one path, and can get the other one.
-    fn require_move(&self, from: &str, to: &str) -> io::Result<()> {
-        let Some(found) = self.found_at(from) else {
+    // Where the entry of a file is that stands at the one path, and can get the other one.
+    fn require_move(&self, from: &str, to: &str) -> io::Result<usize>
+        ensures named { IfOk result (λ _. (from.now ≢ []) × (to.now ≢ [])) }
+        ensures place { IfOk result (λ at. position (λ entry. bytes_eq entry.path from.now) self.now.entries.items ≡ Some at) }
+    {
+        let Some(at) = place_at(&self.entries, from) else {
             return Err(io::Error::from(ErrorKind::NotFound));
         };
-        if found.is_folder() || self.has_folder(to) {
+        if self.has_folder(from) || self.has_folder(to) {
             return Err(io::Error::from(ErrorKind::IsADirectory));
         }
         if !self.has_folder(folder_of(to)) {
             return Err(io::Error::from(ErrorKind::NotFound));
         }
-        Ok(())
+        Ok(at)
     }
 
     // Gives a file another path. What stood there goes.
     fn move_file(&mut self, from: &str, to: &str) -> io::Result<()>
-        ensures { RenameWaits (memory_waits self.old) (memory_waits self.new) from.now to.now }
+        ensures row { OnOk result (MovedRow (memory_tree self.old) (memory_tree self.new) from.now to.now) }
+        ensures waits { RenameWaits (memory_waits self.old) (memory_waits self.new) from.now to.now }
     {
-        self.require_move(from, to)?;
+        let at = self.require_move(from, to)?;
         if from == to {
             return Ok(());
         }
         let path = Text::of(self.alloc, to)?;
         self.notes.note_rename(from, to)?;
-        self.entries.retain(|entry| entry.path.as_str() != to);
-        if let Some(at) = self
-            .entries
-            .iter()
-            .position(|entry| entry.path.as_str() == from)
-        {
-            self.entries[at].path = path;
-        }
+        move_entry(&mut self.entries, at, from, to, path);
         Ok(())
+    }
+
+    // What isn't a folder goes.
+    #[tactic(auto, using(crate::proofs::Gone::gone_there))]
+    fn drop_entry(&mut self, path: &str)
+        requires { path.now ≢ [] }
+        ensures row { GoneRow (memory_tree self.new) path.now }
+        ensures waits { memory_waits self.new ≡ memory_waits self.old }
+    {
+        self.entries.retain(|entry| entry.path.as_str() != path);
     }
 
     // Whether the open file stands at a path.
@@ -179,9 +217,11 @@ impl MemoryFolder {
 
 impl Calls for MemoryFolder {
     ghost use Rattle.std.specs.Prelude.{false, true};
-    ghost use Rattle.memory_folder.specs.Folder.{inode_of_file, memory_tree, memory_waits, memory_written};
+    ghost use Rattle.memory_folder.specs.Folder.{inode_of_file, memory_tree, memory_waits, memory_written, told_by_lock};
 
     type File = MemoryFile;
+
+    type Lock = MemoryLock;
 
     ghost tells = { true };
 
@@ -192,6 +232,8 @@ impl Calls for MemoryFolder {
     ghost written = { memory_written };
 
     ghost inode = { inode_of_file };
+
+    ghost locks = { told_by_lock };
 
     ghost doubts = { λ _ _. false };
 
@@ -246,8 +288,9 @@ impl Calls for MemoryFolder {
         }
     }
 
-    fn lock(&self, _file: &MemoryFile, _hold: Hold) -> Result<(), LockFault> {
-        Ok(())
+    fn lock(&self, file: &MemoryFile, hold: Hold) -> Result<MemoryLock, LockFault<MemoryLock>> {
+        let inode = file.inode;
+        Ok(MemoryLock { inode, hold })
     }
 
     fn create(&mut self, path: &str, _mode: u32) -> io::Result<MemoryFile> {
@@ -258,8 +301,7 @@ impl Calls for MemoryFolder {
     }
 
     fn append(&mut self, file: &mut MemoryFile, bytes: &[u8]) -> io::Result<()> {
-        let inode = file.inode;
-        let Some(at) = self.entries.iter().position(|entry| entry.inode == inode) else {
+        let Some(at) = place_of(&self.entries, file.inode) else {
             return Err(io::Error::from(ErrorKind::NotFound));
         };
         let entry = &mut self.entries[at];
@@ -280,12 +322,7 @@ impl Calls for MemoryFolder {
         self.add_folder(folder)
     }
 
-    fn rename(
-        &mut self,
-        from: &str,
-        to: &str,
-        _held: Option<&Locked<MemoryFile>>,
-    ) -> io::Result<()> {
+    fn rename(&mut self, from: &str, to: &str, _held: Option<&MemoryLock>) -> io::Result<()> {
         self.move_file(from, to)
     }
 
@@ -293,29 +330,29 @@ impl Calls for MemoryFolder {
         &mut self,
         from: &str,
         to: &str,
-        _made: &Locked<MemoryFile>,
-        _held: Option<&Locked<MemoryFile>>,
+        _made: &MemoryLock,
+        _held: Option<&MemoryLock>,
     ) -> io::Result<()> {
         self.move_file(from, to)
     }
 
-    fn unlink(&mut self, path: &str, _held: Option<&Locked<MemoryFile>>) -> io::Result<()> {
+    fn unlink(&mut self, path: &str, _held: Option<&MemoryLock>) -> io::Result<()> {
         let Some(found) = self.found_at(path) else {
             return Err(io::Error::from(ErrorKind::NotFound));
         };
-        if found.is_folder() {
+        if path.is_empty() || found.is_folder() {
             return Err(io::Error::from(ErrorKind::IsADirectory));
         }
         self.notes.note_removal(path)?;
-        self.entries.retain(|entry| entry.path.as_str() != path);
+        self.drop_entry(path);
         Ok(())
     }
 
-    fn take_back(&mut self, path: &str, _file: &Locked<MemoryFile>) -> io::Result<()> {
-        if !self.notes.has_name_in(folder_of(path)) {
+    fn take_back(&mut self, path: &str, _held: &MemoryLock) -> io::Result<()> {
+        if path.is_empty() || !self.notes.has_name_in(folder_of(path)) {
             return Err(io::Error::other("no name waits there"));
         }
-        self.entries.retain(|entry| entry.path.as_str() != path);
+        self.drop_entry(path);
         Ok(())
     }
 

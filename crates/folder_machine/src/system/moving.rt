@@ -1,7 +1,8 @@
 //! Renames: of temporary files into their place, and of boot files.
-ghost use Rattle.std.specs.Prelude.{◌≡◌, ◌⊎◌, ◌++◌, IfOk, IsTrue, None, OnOk};
+ghost use Rattle.std.specs.Prelude.{◌≡◌, ◌⊎◌, ◌++◌, IfOk, IfSome, IsTrue, None, OnOk, Some, string_bytes, true};
 ghost use Rattle.boot_base.specs.Paths.{temp_end};
 ghost use Rattle.name_syncs.specs.Named.{NameWaits};
+ghost use Rattle.folder_calls.specs.Rows.{inode_at};
 ghost use Rattle.folder_locks.specs.Looking.{LooksStand};
 ghost use Rattle.folder_machine.specs.Refusing.{replace_fault};
 ghost use Rattle.folder_machine.specs.Moving.{mode_in_place};
@@ -18,6 +19,9 @@ use std::io;
 impl<C: Calls + Drop, E: Print + Drop> System<C, E> {
     // Renames a temporary file that no other run holds, under its lock.
     pub(crate) fn move_temp(&mut self, from: &str, to: &str) -> io::Result<()>
+        ensures row { OnOk result (IfSome self.old.written (λ written. string_bytes written.kept.path ≡ from.now
+            → IsTrue C.tells → written.kept.is_made ≡ true
+            → inode_at (C.tree self.new.changes) to.now ≡ Some (C.inode written.kept.file))) }
         ensures stand { IfOk result (λ _. IsTrue C.tells → LooksStand (C.tree self.old.changes) self.old.looks) }
     {
         let kept = copy_path(self.alloc, to)?;
@@ -157,7 +161,10 @@ impl<C: Calls + Drop, E: Print + Drop> System<C, E> {
         to: &str,
         written: &Written<C>,
         replaced: Option<Found>,
-    ) -> io::Result<()> {
+    ) -> io::Result<()>
+        ensures row { OnOk result (IsTrue C.tells → written.now.kept.is_made ≡ true
+            → inode_at (C.tree self.new.changes) to.now ≡ Some (C.inode written.now.kept.file)) }
+    {
         let replaced = self.make_way(from, to, written.is_fat, replaced)?;
         let held = self.locks.lock_of(replaced);
         let answer = if written.kept.is_made {

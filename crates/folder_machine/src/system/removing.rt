@@ -1,7 +1,8 @@
 //! Removals.
-ghost use Rattle.std.specs.Prelude.{◌≡◌, ◌⊎◌, IfOk, IsTrue};
+ghost use Rattle.std.specs.Prelude.{◌≡◌, ◌⊎◌, IfOk, IsTrue, OnOk};
 ghost use Rattle.boot_base.specs.Paths.{intent};
 ghost use Rattle.name_syncs.specs.Named.{NameWaits};
+ghost use Rattle.folder_calls.specs.Rows.{GoneRow};
 ghost use Rattle.folder_locks.specs.Looking.{LooksStand};
 
 use super::System;
@@ -15,6 +16,7 @@ impl<C: Calls + Drop, E: Print + Drop> System<C, E> {
     // Removes a temporary file that no other run holds, under its lock. A link isn't one.
     pub(crate) fn remove_temp(&mut self, path: &str) -> io::Result<()>
         ensures stand { IfOk result (λ _. IsTrue C.tells → LooksStand (C.tree self.old.changes) self.old.looks) }
+        ensures row { OnOk result (IsTrue C.tells → GoneRow (C.tree self.new.changes) path.now) }
     {
         self.begin_change(path)?;
         match self.changes.calls().find_itself(path)? {
@@ -27,7 +29,7 @@ impl<C: Calls + Drop, E: Print + Drop> System<C, E> {
         }
     }
 
-    fn take_removed(&mut self, path: &str) -> io::Result<Locked<C::File>>
+    fn take_removed(&mut self, path: &str) -> io::Result<Locked<C>>
         ensures still { self.new.changes ≡ self.old.changes }
         ensures looks { self.new.looks ≡ self.old.looks }
     {
@@ -58,7 +60,8 @@ impl<C: Calls + Drop, E: Print + Drop> System<C, E> {
     // Removes a file by the lock that is held for its change, or what is no file.
     #[tactic(auto, using(crate::proofs::NameSteps::name_waits_none))]
     pub(super) fn unlink_held(&mut self, path: &str) -> io::Result<()>
-        ensures { IsTrue C.tells → NameWaits (C.waits self.old.changes) (C.waits self.new.changes) path.now }
+        ensures row { OnOk result (IsTrue C.tells → GoneRow (C.tree self.new.changes) path.now) }
+        ensures waits { IsTrue C.tells → NameWaits (C.waits self.old.changes) (C.waits self.new.changes) path.now }
     {
         self.looked = None;
         self.looks.forget(path);
@@ -77,8 +80,9 @@ impl<C: Calls + Drop, E: Print + Drop> System<C, E> {
     }
 
     // Removes a file by a lock of its own.
-    fn unlink(&mut self, path: &str, held: &Locked<C::File>) -> io::Result<()>
-        ensures { IsTrue C.tells → NameWaits (C.waits self.old.changes) (C.waits self.new.changes) path.now }
+    fn unlink(&mut self, path: &str, held: &Locked<C>) -> io::Result<()>
+        ensures row { OnOk result (IsTrue C.tells → GoneRow (C.tree self.new.changes) path.now) }
+        ensures waits { IsTrue C.tells → NameWaits (C.waits self.old.changes) (C.waits self.new.changes) path.now }
     {
         self.looked = None;
         self.looks.forget(path);

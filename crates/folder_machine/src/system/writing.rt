@@ -1,8 +1,9 @@
 //! Temporary files, until they are put in place.
-ghost use Rattle.std.specs.Prelude.{◌≡◌, false, true, IfOk, IfSome, IsSomeAnd, IsTrue, string_bytes};
+ghost use Rattle.std.specs.Prelude.{◌≡◌, false, true, IfOk, IfSome, IsSomeAnd, IsTrue, OnOk, string_bytes};
 ghost use Rattle.name_syncs.specs.Folders.{parent_folder};
 ghost use Rattle.name_syncs.specs.Named.{NameWaits};
 ghost use Rattle.folder_calls.specs.Calls.{inode_of};
+ghost use Rattle.folder_calls.specs.Rows.{WrittenRow};
 ghost use Rattle.folder_calls.specs.Tree.{is_fat_file};
 ghost use Rattle.folder_machine.specs.Opening.{IsFileAt};
 
@@ -78,7 +79,7 @@ impl<C: Calls + Drop, E: Print + Drop> System<C, E> {
 
     // Makes a temporary file with its lock, and syncs its folder on FAT. If that has grown for it, it shows old bytes of
     // the disk until then, so nothing else is to be written before.
-    pub(super) fn make_temp(&mut self, path: &str, mode: u32) -> io::Result<Created<C::File>>
+    pub(super) fn make_temp(&mut self, path: &str, mode: u32) -> io::Result<Created<C>>
         ensures same { IfOk result (λ made. IsTrue C.tells → C.inode made.file ≡ inode_of made.found) }
         ensures modes { IfOk result (λ made. IfSome made.given (λ found. is_fat_file found ≡ false)) }
         ensures open { IfOk result (λ made. IfSome made.given (λ found. IsTrue C.tells
@@ -96,7 +97,10 @@ impl<C: Calls + Drop, E: Print + Drop> System<C, E> {
 
     // Writes behind what the file has.
     pub(crate) fn append_bytes(&mut self, path: &str, bytes: &[u8]) -> io::Result<()>
-        ensures { IsTrue C.tells → C.waits self.new.changes ≡ C.waits self.old.changes }
+        ensures row { OnOk result (IfSome self.old.written (λ written. string_bytes written.kept.path ≡ path.now
+            → IsTrue C.tells → WrittenRow (C.tree self.old.changes) (C.tree self.new.changes)
+            (C.inode written.kept.file) bytes.now)) }
+        ensures quiet { IsTrue C.tells → C.waits self.new.changes ≡ C.waits self.old.changes }
     {
         let mut written = self.take_written(path)?;
         let answer = self.changes.append(&mut written.kept.file, bytes);
@@ -122,6 +126,8 @@ impl<C: Calls + Drop, E: Print + Drop> System<C, E> {
         ensures still { self.new.changes ≡ self.old.changes }
         ensures looks { self.new.looks ≡ self.old.looks }
         ensures at { IfOk result (λ written. string_bytes written.kept.path ≡ path.now) }
+        ensures own { IfOk result (λ taken. IfSome self.old.written (λ written.
+            string_bytes written.kept.path ≡ path.now → taken ≡ written)) }
     {
         match self.written.take() {
             Some(written) if written.kept.is_at(path) => Ok(written),

@@ -4,7 +4,7 @@ ghost use Rattle.std.specs.Prelude.{◌≤◌, length, IfOk};
 use super::shelf::{Kept, OpenFile, Shelf};
 use boot_base::copy_from;
 use boot_run::run;
-use folder_calls::{Access, Calls, Found, Hold, LockFault, Locked, folder_answer, if_there};
+use folder_calls::{Access, Calls, Found, Hold, LockFault, folder_answer, if_there};
 use folder_machine::FolderMachine;
 use name_syncs::FolderFault;
 use std::alloc::{AllocError, Global};
@@ -138,8 +138,11 @@ impl<T: Trouble + Drop> Handle<T> {
 
 impl<T: Trouble + Drop> Calls for Handle<T> {
     ghost use Rattle.std.specs.Prelude.{false, None, []};
+    ghost use Rattle.folder_calls.specs.Calls.{alone};
 
     type File = OpenFile;
+
+    type Lock = ();
 
     ghost tells = { false };
 
@@ -159,6 +162,8 @@ impl<T: Trouble + Drop> Calls for Handle<T> {
     ghost written = { λ _ _. false };
 
     ghost inode = { λ _. (0, 0) };
+
+    ghost locks = { λ _. alone (0, 0) };
 
     ghost doubts = { λ _ _. false };
 
@@ -190,7 +195,7 @@ impl<T: Trouble + Drop> Calls for Handle<T> {
         self.begin()?.read(file, at, into)
     }
 
-    fn lock(&self, file: &OpenFile, hold: Hold) -> Result<(), LockFault> {
+    fn lock(&self, file: &OpenFile, hold: Hold) -> Result<(), LockFault<()>> {
         match self.begin() {
             Ok(mut shelf) => shelf.lock(file, hold),
             Err(error) => Err(LockFault::Disk(error)),
@@ -214,25 +219,19 @@ impl<T: Trouble + Drop> Calls for Handle<T> {
         self.act("make folder", folder)?.make_folder(folder)
     }
 
-    fn rename(&mut self, from: &str, to: &str, _held: Option<&Locked<OpenFile>>) -> io::Result<()> {
+    fn rename(&mut self, from: &str, to: &str, _held: Option<&()>) -> io::Result<()> {
         self.act("rename to", to)?.rename(from, to)
     }
 
-    fn put(
-        &mut self,
-        from: &str,
-        to: &str,
-        _made: &Locked<OpenFile>,
-        _held: Option<&Locked<OpenFile>>,
-    ) -> io::Result<()> {
+    fn put(&mut self, from: &str, to: &str, _made: &(), _held: Option<&()>) -> io::Result<()> {
         self.act("rename to", to)?.rename(from, to)
     }
 
-    fn unlink(&mut self, path: &str, _held: Option<&Locked<OpenFile>>) -> io::Result<()> {
+    fn unlink(&mut self, path: &str, _held: Option<&()>) -> io::Result<()> {
         self.act("unlink", path)?.unlink(path)
     }
 
-    fn take_back(&mut self, path: &str, _file: &Locked<OpenFile>) -> io::Result<()> {
+    fn take_back(&mut self, path: &str, _held: &()) -> io::Result<()> {
         self.act("take back", path)?.unlink(path)
     }
 

@@ -315,7 +315,7 @@ impl Shelf {
     }
 
     /// Locks as `flock` does: a lock that the open file has already goes first.
-    pub(crate) fn lock(&mut self, file: &OpenFile, hold: Hold) -> Result<(), LockFault> {
+    pub(crate) fn lock(&mut self, file: &OpenFile, hold: Hold) -> Result<(), LockFault<()>> {
         let number = *file.number;
         self.locks.retain(|lock| is_of_other(lock, number));
         for lock in &self.locks {

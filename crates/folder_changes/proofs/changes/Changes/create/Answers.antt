@@ -12,6 +12,6 @@ invariant_of-self-2 g c tells =
       noted = note_covers c.change.result c.self.inside.is_unsure c.keep_note.new.is_unsure c.change.new.self (changed_at named c.args.path.now) new
           c.in_ok-keep_note.ensures.ok c.change.ensures
           (λ sure. (names_are_covered named (g.C.Calls.waits c.self.inside.calls) new c.args.path.now ((c.self.invariant tells).noted sure)
-          (c.create.ensures tells)).1);
-      cleared = are_ready_still (g.C.Calls.waits c.self.inside.calls) new (c.create.ensures tells).others c.self.inside.ready (c.self.invariant tells).cleared;
+          (c.create.ensures.waits tells)).1);
+      cleared = are_ready_still (g.C.Calls.waits c.self.inside.calls) new (c.create.ensures.waits tells).others c.self.inside.ready (c.self.invariant tells).cleared;
     }

@@ -12,6 +12,6 @@ invariant_of-self-2 g c tells =
       noted = note_covers c.make.result c.self.inside.is_unsure c.keep_note.new.is_unsure c.make.new.self (made_at named c.args.folder.now) new
           c.in_ok-keep_note.ensures.ok c.make.ensures
           (λ sure. (names_are_covered named (g.C.Calls.waits c.self.inside.calls) new c.args.folder.now ((c.self.invariant tells).noted sure)
-          (c.make_folder.ensures tells)).0);
-      cleared = are_ready_still (g.C.Calls.waits c.self.inside.calls) new (c.make_folder.ensures tells).others c.self.inside.ready (c.self.invariant tells).cleared;
+          (c.make_folder.ensures.waits tells)).0);
+      cleared = are_ready_still (g.C.Calls.waits c.self.inside.calls) new (c.make_folder.ensures.waits tells).others c.self.inside.ready (c.self.invariant tells).cleared;
     }

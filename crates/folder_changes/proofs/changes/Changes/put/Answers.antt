@@ -12,6 +12,6 @@ invariant_of-self-2 g c tells =
       noted = note_covers c.rename.result c.self.inside.is_unsure c.keep_note.new.is_unsure c.rename.new.self
           (renamed_to named c.args.from.now c.args.to.now) new c.in_ok-keep_note.ensures.ok c.rename.ensures
           (λ sure. (renames_are_covered named (g.C.Calls.waits c.self.inside.calls) new c.args.from.now c.args.to.now
-          ((c.self.invariant tells).noted sure) (c.put.ensures tells)));
-      cleared = are_ready_still (g.C.Calls.waits c.self.inside.calls) new (c.put.ensures tells).others c.self.inside.ready (c.self.invariant tells).cleared;
+          ((c.self.invariant tells).noted sure) (c.put.ensures.waits tells)));
+      cleared = are_ready_still (g.C.Calls.waits c.self.inside.calls) new (c.put.ensures.waits tells).others c.self.inside.ready (c.self.invariant tells).cleared;
     }

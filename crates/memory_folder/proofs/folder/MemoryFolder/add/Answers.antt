@@ -1,4 +1,5 @@
-use Rattle.std.proofs.Common.{◌≡◌, [], ◌∷◌, ◌++◌}
+use Rattle.std.proofs.Common.{◌≡◌, [], ◌∷◌, ◌++◌, ap, option_map}
+use Rattle.folder_calls.specs.Calls.{inode_of}
 use Rattle.memory_folder.specs.declared.entry.Entry.{Entry}
 use Rattle.memory_folder.proofs.Added.{added_there}
 use Rattle.memory_folder.proofs.folder.MemoryFolder.add.Goals as goal
@@ -14,3 +15,7 @@ returns-clause-stands c =
     let before = c.args.self.now.entries.items in
     let pushed : c.push.new.self.items ≡ before ++ entry ∷ [] = c.in_ok-push.ensures.items in
     rw pushed (added_there before entry c.args.path.now c.in_ok-path.ensures c.in_ok-require_new.ensures)
+
+pub returns-clause-row : goal.returns-clause-row
+returns-clause-row c =
+    record { free = c.in_ok-require_new.ensures; there = ap (option_map inode_of) (returns-clause-stands c) }
