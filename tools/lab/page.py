@@ -1,4 +1,8 @@
-"""The page: the lines that docs/DISK.md has for the morning after a cut, on a system with ext4 at `/`."""
+"""The page: the lines that docs/DISK.md has for the morning after a cut, on a system with ext4 at `/`.
+
+If the command finds a folder that takes no new name on Linux 7.2, the page's line for that comes, and the command once
+more. That is counted apart as `end-mark`.
+"""
 import contextlib
 import os
 import random
@@ -6,7 +10,7 @@ import re
 import shutil
 import subprocess
 
-from lab import TOP, Trouble, mapper
+from lab import TOP, Trouble, end_marks, mapper
 from lab.cases import LIST, start_files
 from lab.disks import MAKE_EXT4, MENDINGS, MS_BIND, ROOM, Loop, make_files, mark_reply, mount, recorded, unmount
 from lab.host import quoted, tool, write_files
@@ -29,6 +33,13 @@ def lines_of_page():
     with open(PAGE) as file:
         part = file.read().partition(HEADING)[2].partition("\n## ")[0]
     return {int(number): words for number, words in re.findall(r"^(\d+)\. `([^`]+)`", part, re.M)}
+
+
+def line_of_copy(folder):
+    """The line that puts a copy of a folder of the partition in its place."""
+    with open(PAGE) as file:
+        words = re.search(r"`(cd /boot/efi; cp -a boot_tools [^`]+)`", file.read())[1]
+    return re.sub(r"\bboot_tools\b", folder.removeprefix("boot/efi/"), words)
 
 
 class System:
@@ -234,10 +245,21 @@ class Morning:
         """The cut command once more. A boot is counted once more only if the menu shows the old count."""
         if not self.words or self.words[0] == "boot" and not self.is_old:
             return
-        self.shell(" ".join(map(quoted, ["boot_tools", *self.words])))
+        end_marks.forget()
+        folder = self.run_logged()
+        if folder:
+            self.own.add("end-mark")
+            self.shell("umount /boot/efi; mount /boot/efi")
+            self.shell(line_of_copy(folder))
+            self.run_logged()
         models = [self.guest.after(tree, self.words) for tree in (self.before, self.wanted)]
         if (self.statuses[-1], self.text) not in [(model.status, model.text) for model in models]:
             self.blame(f"line {LINE_OF_COMMAND}", f"status {self.statuses[-1]}: {self.text}")
+
+    def run_logged(self):
+        """Runs the command, and gives the folder that takes no new name, if it has ended so."""
+        self.shell("BOOT_TOOLS_LOG=1 " + " ".join(map(quoted, ["boot_tools", *self.words])))
+        return end_marks.folder_at_its_end(self.statuses[-1], self.log)
 
     def require_end(self, at, when):
         """The files are those after the command, and nothing else is left."""

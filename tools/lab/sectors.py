@@ -21,10 +21,10 @@ the folder is made anew as the page says, and the same is looked at once more.
 import itertools
 import os
 import random
-import re
 import subprocess
 import tempfile
 
+from lab import end_marks
 from lab.before import LETTERS, files_of
 from lab.cases import CASES, LIST
 from lab.disks import ROOM
@@ -38,10 +38,6 @@ OWN = ["by-check", "stopped", "away", "end-mark"]
 BY = [("case", "way"), ("fs", "start")]
 POSITIONS, QUICK = ["full0", "full3", "edge", "new"], ["full0"]
 CHOICES, QUICK_CHOICES = 30, 8
-
-# The line for a name that isn't taken, and what the kernel says if that is since old bytes stand behind the last one.
-NOT_TAKEN = re.compile(r"boot_tools: \w+ (\S+): Input/output error")
-END_MARK = "allocated dir entry found after end-of-directory marker"
 
 
 def jobs(args):
@@ -155,11 +151,11 @@ class Sectors(Trials):
     def mend(self, states, again):
         """Lets the check mend the disk, lists and runs the command again: the statuses, the log and the faults."""
         said = self.system.check()
-        tool("dmesg", "--clear")
+        end_marks.forget()
         try:
             with self.system.mounted() as at:
                 ran, states, faults = self.list_and_run(at, states, again)
-            folder = folder_at_its_end(ran[-1])
+            folder = end_marks.folder_at_its_end(ran[-1].status, ran[-1].log)
             if folder and states:
                 with self.system.mounted() as at:
                     make_anew(f"{at}/{folder}")
@@ -197,12 +193,6 @@ class Sectors(Trials):
                 yield "lost", next(path for path, other in next(iter(states)) if other == it)
         elif odd_paths(tree, states):
             yield "order", words_of(odd_paths(tree, states), tree)
-
-
-def folder_at_its_end(ran):
-    """The folder that takes no new name since old bytes stand behind its last one, if a run has ended so."""
-    name = NOT_TAKEN.search(ran.log)
-    return os.path.dirname(name[1]) if name and ran.status == 3 and END_MARK in tool("dmesg") else None
 
 
 def make_anew(folder):

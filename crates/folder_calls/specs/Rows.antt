@@ -8,14 +8,31 @@ use Rattle.folder_calls.specs.Tree.{Tree}
 abbrev pub inode_at : Tree → List ℕ → Option Inode
 inode_at tree path = option_map inode_of (tree.stands path)
 
+-- each path has the file that it had
+abbrev pub KeepsNames : Tree → Tree → Type 0
+KeepsNames old new = (path : List ℕ) → inode_at new path ≡ inode_at old path
+
+-- so has each path but this one
+abbrev pub KeepsNamesBut : List ℕ → Tree → Tree → Type 0
+KeepsNamesBut path old new = (other : List ℕ) → other ≢ path → inode_at new other ≡ inode_at old other
+
+-- and each but these two
+abbrev pub KeepsNamesButTwo : List ℕ → List ℕ → Tree → Tree → Type 0
+KeepsNamesButTwo from to old new =
+    (other : List ℕ) → other ≢ from → other ≢ to → inode_at new other ≡ inode_at old other
+
+-- each file has the bytes that it had, but for this one
+abbrev pub KeepsBytesBut : Inode → Tree → Tree → Type 0
+KeepsBytesBut inode old new = (other : Inode) → other ≢ inode → new.bytes other ≡ old.bytes other
+
 -- a new file stands at a path, at which nothing stood
 pub record MadeRow (old new : Tree) (path : List ℕ) (inode : Inode) : Type 0 where
   pub free : old.stands path ≡ None
   pub there : inode_at new path ≡ Some inode
 
--- Something stands at a path, which may have stood there before.
-abbrev pub FolderRow : Tree → List ℕ → Type 0
-FolderRow new folder = is_some (new.stands folder) ≡ true
+-- something stands at a path
+abbrev pub HasName : Tree → List ℕ → Type 0
+HasName tree path = is_some (tree.stands path) ≡ true
 
 -- A file has its new path, and has left the old one. If both are of one file a rename does nothing.
 pub record MovedRow (old new : Tree) (from to : List ℕ) : Type 0 where

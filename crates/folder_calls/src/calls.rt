@@ -6,7 +6,7 @@ ghost use Rattle.name_syncs.specs.Waiting.{Asks, FileAt, FolderAt, IsShutOut, Ke
 ghost use Rattle.boot_base.specs.Paths.{file_name_of};
 ghost use Rattle.folder_calls.specs.Calls.{Inode, IsLockedAt, IsOpenAt, Locking, MayGo, MayGoBut, ReadsSome, inode_of};
 ghost use Rattle.folder_calls.specs.Locks.{IfKeepsNone};
-ghost use Rattle.folder_calls.specs.Rows.{FolderRow, GoneRow, MadeRow, MovedRow, WrittenRow};
+ghost use Rattle.folder_calls.specs.Rows.{GoneRow, HasName, KeepsBytesBut, KeepsNames, KeepsNamesBut, KeepsNamesButTwo, MadeRow, MovedRow, WrittenRow};
 ghost use Rattle.folder_calls.specs.Ready.{IsRefusal, MaySync, TellsOfFile, TellsOfFolder};
 ghost use Rattle.folder_calls.specs.Tree.{Tree, has_link, is_fat_file};
 
@@ -123,12 +123,15 @@ pub trait Calls {
     fn create(&mut self, path: &str, mode: u32) -> io::Result<Self::File>
         ensures row { IfOk result (λ file. IsTrue tells
             → MadeRow (tree self.old) (tree self.new) path.now (inode file)) }
+        ensures kept { IsTrue tells → KeepsNamesBut path.now (tree self.old) (tree self.new) }
         ensures waits { IsTrue tells → NameWaits (waits self.old) (waits self.new) path.now };
 
     /// Writes all of the bytes behind what an open file has.
     fn append(&mut self, file: &mut Self::File, bytes: &[u8]) -> io::Result<()>
         ensures row { OnOk result (IsTrue tells
             → WrittenRow (tree self.old) (tree self.new) (inode file.old) bytes.now) }
+        ensures kept { IsTrue tells → KeepsNames (tree self.old) (tree self.new) }
+        ensures others { IsTrue tells → KeepsBytesBut (inode file.old) (tree self.old) (tree self.new) }
         ensures same { IsTrue tells → inode file.new ≡ inode file.old }
         ensures quiet { IsTrue tells → waits self.new ≡ waits self.old };
 
@@ -137,17 +140,20 @@ pub trait Calls {
     fn set_mode(&mut self, file: &Self::File, found: &Found, mode: u32) -> io::Result<bool>
         requires modes { is_fat_file found.now ≡ false }
         requires open { IsTrue tells → inode file.now ≡ inode_of found.now }
-        ensures { IsTrue tells → waits self.new ≡ waits self.old };
+        ensures kept { IsTrue tells → KeepsNames (tree self.old) (tree self.new) }
+        ensures quiet { IsTrue tells → waits self.new ≡ waits self.old };
 
     /// Makes a folder, unless something stands there.
     fn make_folder(&mut self, folder: &str) -> io::Result<()>
-        ensures row { OnOk result (IsTrue tells → FolderRow (tree self.new) folder.now) }
+        ensures row { OnOk result (IsTrue tells → HasName (tree self.new) folder.now) }
+        ensures kept { IsTrue tells → KeepsNamesBut folder.now (tree self.old) (tree self.new) }
         ensures waits { IsTrue tells → NameWaits (waits self.old) (waits self.new) folder.now };
 
     /// Gives a file another path. What stood there goes: if it is a file, it is one that is held alone.
     fn rename(&mut self, from: &str, to: &str, held: Option<&Self::Lock>) -> io::Result<()>
         requires { IsTrue tells → MayGo (tree self.old) to.now (option_map (λ lock. locks lock.now) held) }
         ensures row { OnOk result (IsTrue tells → MovedRow (tree self.old) (tree self.new) from.now to.now) }
+        ensures kept { IsTrue tells → KeepsNamesButTwo from.now to.now (tree self.old) (tree self.new) }
         ensures waits { IsTrue tells → RenameWaits (waits self.old) (waits self.new) from.now to.now };
 
     /// Gives a file that this run has made, and holds, another path. What stood there goes: if it is a file, it is
@@ -163,22 +169,26 @@ pub trait Calls {
             → MayGoBut (tree self.old) to.now (file_name_of from.now) (option_map (λ lock. locks lock.now) held) }
         requires made { IsTrue tells → IsLockedAt (tree self.old) from.now (locks made.now) }
         ensures row { OnOk result (IsTrue tells → MovedRow (tree self.old) (tree self.new) from.now to.now) }
+        ensures kept { IsTrue tells → KeepsNamesButTwo from.now to.now (tree self.old) (tree self.new) }
         ensures waits { IsTrue tells → RenameWaits (waits self.old) (waits self.new) from.now to.now };
 
     /// Removes what isn't a folder: if it is a file, it is one that is held alone.
     fn unlink(&mut self, path: &str, held: Option<&Self::Lock>) -> io::Result<()>
         requires { IsTrue tells → MayGo (tree self.old) path.now (option_map (λ lock. locks lock.now) held) }
         ensures row { OnOk result (IsTrue tells → GoneRow (tree self.new) path.now) }
+        ensures kept { IsTrue tells → KeepsNamesBut path.now (tree self.old) (tree self.new) }
         ensures waits { IsTrue tells → NameWaits (waits self.old) (waits self.new) path.now };
 
     /// Takes back the name that a file has got in this run, and that isn't synced: nothing more waits for the disk then.
     fn take_back(&mut self, path: &str, held: &Self::Lock) -> io::Result<()>
         requires { IsTrue tells → MayGo (tree self.old) path.now (Some (locks held.now)) }
         ensures row { OnOk result (IsTrue tells → GoneRow (tree self.new) path.now) }
+        ensures kept { IsTrue tells → KeepsNamesBut path.now (tree self.old) (tree self.new) }
         ensures quiet { IsTrue tells → waits self.new ≡ waits self.old };
 
     /// Syncs the file at a path, and tells whether one is there.
     fn sync_file(&mut self, path: &str) -> io::Result<bool>
+        ensures tree { IsTrue tells → tree self.new ≡ tree self.old }
         ensures asks { IsTrue tells → Asks (FileAt path.now ∷ []) (waits self.old) (waits self.new) }
         ensures synced { IfOk result (λ is_there. IsTrue tells → is_there ≡ true
             → (waits self.new).files path.now ≡ false) }
@@ -187,6 +197,7 @@ pub trait Calls {
 
     /// Syncs an open file, which is the one at that path or was.
     fn sync_open(&mut self, path: &str, file: &Self::File) -> io::Result<()>
+        ensures tree { IsTrue tells → tree self.new ≡ tree self.old }
         ensures asks { IsTrue tells → Asks (FileAt path.now ∷ []) (waits self.old) (waits self.new) }
         ensures synced { IfOk result (λ _. IsTrue tells → IsOpenAt (tree self.old) path.now (inode file.now)
             → (waits self.new).files path.now ≡ false) }
@@ -197,6 +208,7 @@ pub trait Calls {
     /// length of a file in it are written with the file, and not with the folder.
     fn sync_folder(&mut self, folder: &str) -> Result<bool, FolderFault<io::Error>>
         requires ready { IsTrue tells → MaySync (waits self.old) folder.now }
+        ensures tree { IsTrue tells → tree self.new ≡ tree self.old }
         ensures asks { IsTrue tells → Asks (FolderAt folder.now ∷ []) (waits self.old) (waits self.new) }
         ensures synced { IfOk result (λ is_there. IsTrue tells → is_there ≡ true
             → (waits self.new).folders folder.now ≡ false) }

@@ -2,7 +2,7 @@
 ghost use Rattle.std.specs.Prelude.{◌≡◌, IfOk, IfSome, IsTrue, OnOk};
 ghost use Rattle.folder_calls.specs.Calls.{alone};
 ghost use Rattle.folder_calls.specs.Locks.{is_enough, kept_lock};
-ghost use Rattle.folder_calls.specs.Rows.{WrittenRow};
+ghost use Rattle.folder_calls.specs.Rows.{KeepsBytesBut, KeepsNames, WrittenRow};
 
 use crate::calls::{Calls, Hold, LockFault};
 use std::io;
@@ -113,6 +113,8 @@ impl<C: Calls> Locked<C> {
     pub fn append(&mut self, calls: &mut C, bytes: &[u8]) -> io::Result<()>
         ensures row { OnOk result (IsTrue C.tells
             → WrittenRow (C.tree calls.old) (C.tree calls.new) (C.inode self.old) bytes.now) }
+        ensures kept { IsTrue C.tells → KeepsNames (C.tree calls.old) (C.tree calls.new) }
+        ensures others { IsTrue C.tells → KeepsBytesBut (C.inode self.old) (C.tree calls.old) (C.tree calls.new) }
         ensures quiet { IsTrue C.tells → C.waits calls.new ≡ C.waits calls.old }
         ensures same { IsTrue C.tells → C.inode self.new ≡ C.inode self.old }
     {

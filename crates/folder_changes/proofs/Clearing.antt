@@ -1,5 +1,5 @@
 -- What stays on the disk, and stays noted, after other syncs and changes.
-use Rattle.std.proofs.Common.{◌≡◌, inl, inr, ℕ, ◌+◌, ◌<◌, Bool, true, false, List, [], ◌∷◌, ◌++◌, String, Global, string_bytes, Result, Ok, Err, IfOk, codes, length, get_or, take, map, sym, subst, ap, ◌∙◌, All, if◌then◌else◌}
+use Rattle.std.proofs.Common.{◌≡◌, inl, inr, ℕ, ◌+◌, ◌<◌, Bool, true, false, List, [], ◌∷◌, ◌++◌, String, Global, string_bytes, Result, Ok, Err, IfErr, IfOk, codes, length, get_or, take, map, sym, subst, ap, ◌∙◌, All, if◌then◌else◌}
 use Rattle.std.proofs.lemmas.Bool.{cases_Bool}
 use Rattle.std.proofs.lemmas.List.{append-nil, map-append, take_more}
 use Rattle.std.proofs.lemmas.List.Elements.{All-cons, All-nil, All-push, All-weaker}
@@ -7,10 +7,11 @@ use Rattle.boot_base.specs.Layout.{entries_below, images_below}
 use Rattle.name_syncs.specs.Folders.{folders_above, has_folder, listed, path_in, with_folder, with_folders}
 use Rattle.name_syncs.specs.Named.{Covers, NothingWaits, settled_at}
 use Rattle.name_syncs.specs.Paths.{has_path}
-use Rattle.name_syncs.specs.Waiting.{Asks, AsksAmong, FileAt, HasNoneLeft, KeepsSynced, LeavesNoMore, ListsLeft, Sync, Waiting}
+use Rattle.name_syncs.specs.Waiting.{Asks, AsksAmong, FileAt, FolderAt, HasNoneLeft, IsShutOut, KeepsSynced, LeavesNoMore, ListsLeft, Sync, SyncRow, Waiting}
+use Rattle.name_syncs.specs.declared.disk.FolderFault.{FolderFault}
 use Rattle.name_syncs.specs.declared.folders.FolderSet.{FolderSet}
 use Rattle.name_syncs.specs.declared.named.Named.{Named}
-use Rattle.name_syncs.proofs.Syncing.{among_none, among_then, before, none_left_still, one_more, with_folder-has}
+use Rattle.name_syncs.proofs.Syncing.{among_none, among_then, asks_among, before, none_left_still, one_more, with_folder-has}
 use Rattle.name_syncs.proofs.Noted.{all_there, noted_are_listed, settled_are_covered}
 use Rattle.folder_calls.specs.Ready.{HasNoneReplaced, IsNearClear, MaySync, replaced_below}
 use Rattle.folder_changes.specs.Clear.{IsClear}
@@ -224,11 +225,35 @@ may_sync between new folder others own near = record {
 
 -- ---- answers
 
--- what holds whatever is told, holds if something is there
-pub if_there : {E : Type 0} (result : Result Bool E) (tells P : Type 0) → (tells → P)
-    → IfOk result (λ is_there. tells → is_there ≡ true → P)
-if_there (Ok _) tells P holds = λ told there. holds told
-if_there (Err _) tells P holds = tt
+-- what a folder's sync leaves behind what comes before it
+pub sync_row : {F : Type 0} (result : Result Bool (FolderFault F)) (tells : Type 0) (start before new : Waiting) (folder : List ℕ)
+    → tells → AsksAmong [] start before → HasNoneLeft before folder → Asks (FolderAt folder ∷ []) before new
+    → IfOk result (λ is_there. tells → is_there ≡ true → new.folders folder ≡ false)
+    → IfOk result (λ is_there. tells → is_there ≡ true → new.left (FolderAt folder) ≡ false)
+    → IfOk result (λ is_there. tells → is_there ≡ false → new.opens (FolderAt folder) ≡ false)
+    → IfErr result (λ failure. tells → failure.syncs_none ≡ true → new.syncs folder ≡ false)
+    → IfErr result (λ failure. tells → failure.is_refused ≡ true → IsShutOut new)
+    → SyncRow start new folder result
+sync_row (Ok is_there) tells start before new folder told ready none asks synced left gone unable refused = record {
+  others = others_then start before new ready (others_of (FolderAt folder ∷ []) before new asks);
+  asks = λ there. among_then [] (FolderAt folder ∷ []) start before new ready (asks_among (FolderAt folder ∷ []) before new asks);
+  synced = λ there. record {
+      names = synced told there;
+      left = left told there;
+      files = none_left_still before new asks.kept.others folder none;
+    };
+  gone = gone told;
+  unable = tt;
+  refused = tt;
+}
+sync_row (Err failure) tells start before new folder told ready none asks synced left gone unable refused = record {
+  others = others_then start before new ready (others_of (FolderAt folder ∷ []) before new asks);
+  asks = tt;
+  synced = tt;
+  gone = tt;
+  unable = unable told;
+  refused = refused told;
+}
 
 -- behind syncs nothing waits that the run has changed, whatever was noted
 pub known_done : (after : Bool) (named : Named) (ready : Ready) (waits : Waiting) → NothingWaits waits → AreReady ready waits

@@ -7,7 +7,7 @@ ghost use Rattle.name_syncs.specs.Named.{Covers, NameWaits, NothingWaits, Rename
 ghost use Rattle.name_syncs.specs.Waiting.{AsksAmong, FileAt, FolderAt, IsOnDisk, KeepsSynced};
 ghost use Rattle.folder_calls.specs.Calls.{MayGo, MayGoBut, alone, inode_of};
 ghost use Rattle.folder_calls.specs.Ready.{IsTried};
-ghost use Rattle.folder_calls.specs.Rows.{FolderRow, GoneRow, MadeRow, MovedRow, WrittenRow, inode_at};
+ghost use Rattle.folder_calls.specs.Rows.{GoneRow, HasName, KeepsBytesBut, KeepsNames, KeepsNamesBut, KeepsNamesButTwo, MadeRow, MovedRow, WrittenRow, inode_at};
 ghost use Rattle.folder_calls.specs.Tree.{is_fat_file};
 
 use crate::ready::Ready;
@@ -131,6 +131,7 @@ impl<C: Calls + Drop, E: Print + Drop> Changes<C, E> {
         ensures row { IfOk result (λ file. IsTrue C.tells
             → MadeRow (C.tree self.old) (C.tree self.new) path.now (C.inode file)) }
         ensures waits { IsTrue C.tells → NameWaits (C.waits self.old) (C.waits self.new) path.now }
+        ensures kept { IsTrue C.tells → KeepsNamesBut path.now (C.tree self.old) (C.tree self.new) }
     {
         keep_note(&mut self.is_unsure, self.named.change(path))?;
         self.calls.create(path, mode)
@@ -139,8 +140,9 @@ impl<C: Calls + Drop, E: Print + Drop> Changes<C, E> {
     /// Makes a folder, unless something stands there.
     #[tactic(auto, using(crate::proofs::Noting::name_waits_same))]
     pub fn make_folder(&mut self, folder: &str) -> io::Result<()>
-        ensures row { OnOk result (IsTrue C.tells → FolderRow (C.tree self.new) folder.now) }
+        ensures row { OnOk result (IsTrue C.tells → HasName (C.tree self.new) folder.now) }
         ensures waits { IsTrue C.tells → NameWaits (C.waits self.old) (C.waits self.new) folder.now }
+        ensures kept { IsTrue C.tells → KeepsNamesBut folder.now (C.tree self.old) (C.tree self.new) }
     {
         keep_note(&mut self.is_unsure, self.named.make(folder))?;
         self.calls.make_folder(folder)
@@ -152,6 +154,8 @@ impl<C: Calls + Drop, E: Print + Drop> Changes<C, E> {
             → WrittenRow (C.tree self.old) (C.tree self.new) (C.inode file.old) bytes.now) }
         ensures quiet { IsTrue C.tells → C.waits self.new ≡ C.waits self.old }
         ensures same { IsTrue C.tells → C.inode file.new ≡ C.inode file.old }
+        ensures kept { IsTrue C.tells → KeepsNames (C.tree self.old) (C.tree self.new) }
+        ensures others { IsTrue C.tells → KeepsBytesBut (C.inode file.old) (C.tree self.old) (C.tree self.new) }
     {
         file.append(&mut self.calls, bytes)
     }
@@ -160,7 +164,8 @@ impl<C: Calls + Drop, E: Print + Drop> Changes<C, E> {
     pub fn set_mode(&mut self, file: &C::File, found: &Found, mode: u32) -> io::Result<bool>
         requires modes { is_fat_file found.now ≡ false }
         requires open { IsTrue C.tells → C.inode file.now ≡ inode_of found.now }
-        ensures { IsTrue C.tells → C.waits self.new ≡ C.waits self.old }
+        ensures quiet { IsTrue C.tells → C.waits self.new ≡ C.waits self.old }
+        ensures kept { IsTrue C.tells → KeepsNames (C.tree self.old) (C.tree self.new) }
     {
         self.calls.set_mode(file, found, mode)
     }
@@ -182,6 +187,7 @@ impl<C: Calls + Drop, E: Print + Drop> Changes<C, E> {
         ensures leave { IfOk result (λ _. IsTrue C.tells
             → MayGoBut (C.tree self.old) to.now (file_name_of from.now)
             (option_map (λ file. alone (C.inode file.now)) held.entry)) }
+        ensures kept { IsTrue C.tells → KeepsNamesButTwo from.now to.now (C.tree self.old) (C.tree self.new) }
     {
         let (_, name) = parted(from);
         let lock = self.require_leave(to, name, held)?;
@@ -197,6 +203,7 @@ impl<C: Calls + Drop, E: Print + Drop> Changes<C, E> {
         ensures waits { IsTrue C.tells → RenameWaits (C.waits self.old) (C.waits self.new) from.now to.now }
         ensures leave { IfOk result (λ _. IsTrue C.tells
             → MayGo (C.tree self.old) to.now (option_map (λ file. alone (C.inode file.now)) held.entry)) }
+        ensures kept { IsTrue C.tells → KeepsNamesButTwo from.now to.now (C.tree self.old) (C.tree self.new) }
     {
         let lock = self.require_leave(to, "", held)?;
         keep_note(&mut self.is_unsure, self.named.rename(from, to))?;
@@ -210,6 +217,7 @@ impl<C: Calls + Drop, E: Print + Drop> Changes<C, E> {
         ensures waits { IsTrue C.tells → NameWaits (C.waits self.old) (C.waits self.new) path.now }
         ensures leave { IfOk result (λ _. IsTrue C.tells
             → MayGo (C.tree self.old) path.now (option_map (λ file. alone (C.inode file.now)) held.entry)) }
+        ensures kept { IsTrue C.tells → KeepsNamesBut path.now (C.tree self.old) (C.tree self.new) }
     {
         let lock = self.require_leave(path, "", held)?;
         let removed = copy_path(self.alloc, path)?;
@@ -297,6 +305,7 @@ impl<C: Calls + Drop, E: Print + Drop> Changes<C, E> {
         ensures written { IfOk result (λ _. IsTrue C.tells → C.written self.new path.now ≡ false) }
         ensures tried { IfErr result (λ _. IsTrue C.tells
             → IsTried (C.waits self.new) (C.doubts self.new) (parent_folder path.now)) }
+        ensures names { IfOk result (λ _. IsTrue C.tells → C.tree self.new ≡ C.tree self.old) }
     {
         let answer = self.sync_written(path, file);
         if answer.is_err() {
@@ -306,7 +315,8 @@ impl<C: Calls + Drop, E: Print + Drop> Changes<C, E> {
     }
 
     fn sync_written(&mut self, path: &str, file: &Locked<C>) -> io::Result<()>
-        ensures { IfOk result (λ _. IsTrue C.tells → C.written self.new path.now ≡ false) }
+        ensures written { IfOk result (λ _. IsTrue C.tells → C.written self.new path.now ≡ false) }
+        ensures names { IsTrue C.tells → C.tree self.new ≡ C.tree self.old }
     {
         require_sync_before(self.is_unsure)?;
         if !is_open_at(&self.calls, path, file.file()) {
@@ -325,6 +335,7 @@ impl<C: Calls + Drop, E: Print + Drop> Changes<C, E> {
         ensures file { IfOk result (λ _. IsTrue C.tells → (C.waits self.new).files path.now ≡ false) }
         ensures left { IfOk result (λ _. IsTrue C.tells → (C.waits self.new).left (FileAt path.now) ≡ false) }
         ensures folder { IfOk result (λ _. IsTrue C.tells → IsOnDisk (C.waits self.new) (parent_folder path.now)) }
+        ensures names { IfOk result (λ _. IsTrue C.tells → C.tree self.new ≡ C.tree self.old) }
     {
         match self.sync_found(path) {
             Ok(true) => {}
@@ -344,6 +355,7 @@ impl<C: Calls + Drop, E: Print + Drop> Changes<C, E> {
         ensures asks { IfOk result (λ _. IsTrue C.tells
             → AsksAmong (FolderAt folder.now ∷ []) (C.waits self.old) (C.waits self.new)) }
         ensures synced { IfOk result (λ _. IsTrue C.tells → IsOnDisk (C.waits self.new) folder.now) }
+        ensures names { IfOk result (λ _. IsTrue C.tells → C.tree self.new ≡ C.tree self.old) }
     {
         match self.sync_folder(folder) {
             Ok(true) => Ok(()),
@@ -359,6 +371,7 @@ impl<C: Calls + Drop, E: Print + Drop> Changes<C, E> {
     pub fn sync_new_folder(&mut self, folder: &str) -> io::Result<()>
         ensures kept { IsTrue C.tells → KeepsSynced (C.waits self.old) (C.waits self.new) }
         ensures tried { IfErr result (λ _. IsTrue C.tells → IsTried (C.waits self.new) (C.doubts self.new) folder.now) }
+        ensures names { IfOk result (λ _. IsTrue C.tells → C.tree self.new ≡ C.tree self.old) }
     {
         let answer = self.sync_names_in(folder_of(folder));
         if answer.is_err() {
@@ -380,6 +393,7 @@ impl<C: Calls + Drop, E: Print + Drop> Changes<C, E> {
     pub fn sync_names(&mut self) -> io::Result<()>
         ensures kept { IsTrue C.tells → KeepsSynced (C.waits self.old) (C.waits self.new) }
         ensures waits { IfOk result (λ _. IsTrue C.tells → NothingWaits (C.waits self.new)) }
+        ensures names { IfOk result (λ _. IsTrue C.tells → C.tree self.new ≡ C.tree self.old) }
     {
         let answer = require_sync_before(self.is_unsure);
         self.reports.report("sync", "", answer)?;
@@ -399,6 +413,7 @@ impl<C: Calls + Drop, E: Print + Drop> Changes<C, E> {
         ensures kept { IsTrue C.tells → KeepsSynced (C.waits self.old) (C.waits self.new) }
         ensures waits { IfOk result (λ _. IsTrue C.tells
             → Covers named.old (C.waits self.old) → NothingWaits (C.waits self.new)) }
+        ensures names { IfOk result (λ _. IsTrue C.tells → C.tree self.new ≡ C.tree self.old) }
     {
         sync_names(self, named)?;
         self.sync_replaced(named)?;

@@ -13,7 +13,7 @@ ghost use Rattle.name_syncs.specs.Waiting.{AsksAmong, FolderAt, HasNoneLeft, Kee
 ghost use Rattle.fat_rules.specs.Twins.{same_letters};
 ghost use Rattle.folder_calls.specs.Ready.{HasNoneReplaced, IsNearClear, MaySync, IsRefusal};
 ghost use Rattle.folder_calls.specs.Tree.{is_fat_file, is_fat_folder, is_folder};
-ghost use Rattle.folder_changes.specs.Clear.{IsClear};
+ghost use Rattle.folder_changes.specs.Clear.{IsClear, needs_no_try};
 
 use crate::changes::Changes;
 use boot_base::{ENTRIES, IMAGES, Text, ends_as_temp};
@@ -96,6 +96,7 @@ impl<C: Calls + Drop, E: Print + Drop> Changes<C, E> {
         ensures gone { IfOk result (λ is_there. IsTrue C.tells → is_there ≡ false
             → (C.waits self.new).opens (FolderAt folder.now) ≡ false) }
         ensures refused { IfErr result (λ error. IsTrue C.tells → IsRefusal (C.waits self.new) error) }
+        ensures names { IsTrue C.tells → needs_no_try result ≡ true → C.tree self.new ≡ C.tree self.old }
     {
         let found = self.calls.find(folder)?;
         if !is_folder(found) {
@@ -114,6 +115,7 @@ impl<C: Calls + Drop, E: Print + Drop> Changes<C, E> {
         ensures asks { IsTrue C.tells → AsksAmong [] (C.waits self.old) (C.waits self.new) }
         ensures ready { IfOk result (λ _. IsTrue C.tells → MaySync (C.waits self.new) folder.now) }
         ensures refused { IfErr result (λ error. IsTrue C.tells → IsRefusal (C.waits self.new) error) }
+        ensures names { IsTrue C.tells → needs_no_try result ≡ true → C.tree self.new ≡ C.tree self.old }
     {
         if self.ready.folders.has(folder) {
             return Ok(());
@@ -131,6 +133,7 @@ impl<C: Calls + Drop, E: Print + Drop> Changes<C, E> {
         ensures asks { IsTrue C.tells → AsksAmong [] (C.waits self.old) (C.waits self.new) }
         ensures near { IfOk result (λ _. IsTrue C.tells → IsNearClear (C.waits self.new) folder.now) }
         ensures refused { IfErr result (λ error. IsTrue C.tells → IsRefusal (C.waits self.new) error) }
+        ensures names { IsTrue C.tells → needs_no_try result ≡ true → C.tree self.new ≡ C.tree self.old }
     {
         let mut near = FolderSet::new(self.alloc);
         near.add(folder)?;
@@ -143,6 +146,7 @@ impl<C: Calls + Drop, E: Print + Drop> Changes<C, E> {
         ensures asks { IsTrue C.tells → AsksAmong [] (C.waits self.old) (C.waits self.new) }
         ensures near { IfOk result (λ _. IsTrue C.tells → All (HasNoneReplaced (C.waits self.new)) near.now) }
         ensures refused { IfErr result (λ error. IsTrue C.tells → IsRefusal (C.waits self.new) error) }
+        ensures names { IsTrue C.tells → needs_no_try result ≡ true → C.tree self.new ≡ C.tree self.old }
     {
         for above in near {
             self.clear_below(above.as_str())?;
@@ -155,6 +159,7 @@ impl<C: Calls + Drop, E: Print + Drop> Changes<C, E> {
         ensures asks { IsTrue C.tells → AsksAmong [] (C.waits self.old) (C.waits self.new) }
         ensures near { IfOk result (λ _. IsTrue C.tells → HasNoneReplaced (C.waits self.new) above.now) }
         ensures refused { IfErr result (λ error. IsTrue C.tells → IsRefusal (C.waits self.new) error) }
+        ensures names { IsTrue C.tells → needs_no_try result ≡ true → C.tree self.new ≡ C.tree self.old }
     {
         if self.ready.near.has(above) {
             return Ok(());
@@ -172,6 +177,7 @@ impl<C: Calls + Drop, E: Print + Drop> Changes<C, E> {
         ensures clear { IfOk result (λ _. IsTrue C.tells
             → HasNoneLeft (C.waits self.new) (path_in above.now below.now)) }
         ensures refused { IfErr result (λ error. IsTrue C.tells → IsRefusal (C.waits self.new) error) }
+        ensures names { IsTrue C.tells → needs_no_try result ≡ true → C.tree self.new ≡ C.tree self.old }
     {
         let folder = path_in(self.alloc, above, below)?;
         let folder = folder.as_str();
@@ -188,6 +194,7 @@ impl<C: Calls + Drop, E: Print + Drop> Changes<C, E> {
         ensures asks { IsTrue C.tells → AsksAmong [] (C.waits self.old) (C.waits self.new) }
         ensures clear { IfOk result (λ _. IsTrue C.tells → HasNoneLeft (C.waits self.new) folder.now) }
         ensures refused { IfErr result (λ error. IsTrue C.tells → IsRefusal (C.waits self.new) error) }
+        ensures names { IsTrue C.tells → needs_no_try result ≡ true → C.tree self.new ≡ C.tree self.old }
     {
         if self.ready.clear.has(folder) {
             return Ok(());
@@ -203,6 +210,7 @@ impl<C: Calls + Drop, E: Print + Drop> Changes<C, E> {
         ensures clear { IfOk result (λ _. IsTrue C.tells
             → All (IsClear (C.waits self.new) folder.now) (map string_bytes names.now)) }
         ensures refused { IfErr result (λ error. IsTrue C.tells → IsRefusal (C.waits self.new) error) }
+        ensures names { IsTrue C.tells → needs_no_try result ≡ true → C.tree self.new ≡ C.tree self.old }
     {
         for name in names {
             self.clear_name(folder, name.as_str())?;
@@ -215,6 +223,7 @@ impl<C: Calls + Drop, E: Print + Drop> Changes<C, E> {
         ensures asks { IsTrue C.tells → AsksAmong [] (C.waits self.old) (C.waits self.new) }
         ensures clear { IfOk result (λ _. IsTrue C.tells → IsClear (C.waits self.new) folder.now name.now) }
         ensures refused { IfErr result (λ error. IsTrue C.tells → IsRefusal (C.waits self.new) error) }
+        ensures names { IsTrue C.tells → needs_no_try result ≡ true → C.tree self.new ≡ C.tree self.old }
     {
         if ends_as_temp(name) {
             return Ok(());
@@ -231,7 +240,8 @@ impl<C: Calls + Drop, E: Print + Drop> Changes<C, E> {
     // Syncs the folders of the files that this program may have replaced, but for those that were synced for what this run
     // has changed or seen in them.
     pub(crate) fn sync_replaced(&mut self, named: &Named) -> io::Result<()>
-        ensures { IsTrue C.tells → KeepsSynced (C.waits self.old) (C.waits self.new) }
+        ensures kept { IsTrue C.tells → KeepsSynced (C.waits self.old) (C.waits self.new) }
+        ensures names { IfOk result (λ _. IsTrue C.tells → C.tree self.new ≡ C.tree self.old) }
     {
         let replaced = mem::replace(&mut self.ready.replaced, FolderSet::new(self.alloc));
         for folder in replaced.below.as_slice() {
@@ -244,7 +254,8 @@ impl<C: Calls + Drop, E: Print + Drop> Changes<C, E> {
     }
 
     fn sync_beside(&mut self, folder: &str) -> io::Result<()>
-        ensures { IsTrue C.tells → KeepsSynced (C.waits self.old) (C.waits self.new) }
+        ensures kept { IsTrue C.tells → KeepsSynced (C.waits self.old) (C.waits self.new) }
+        ensures names { IfOk result (λ _. IsTrue C.tells → C.tree self.new ≡ C.tree self.old) }
     {
         match self.sync_folder(folder) {
             Ok(_) => Ok(()),

@@ -2,11 +2,13 @@
 ghost use Rattle.std.specs.Prelude.{◌≡◌, [], ◌∷◌, IfErr, IfOk, IfSome, IsTrue, Some, bytes_eq, false, string_bytes, true};
 ghost use Rattle.std.specs.IoError.{error_kind};
 ghost use Rattle.name_syncs.specs.Folders.{parent_folder};
-ghost use Rattle.name_syncs.specs.Waiting.{Asks, AsksAmong, FileAt, FolderAt, IsOnDisk, IsShutOut};
+ghost use Rattle.name_syncs.specs.Waiting.{Asks, FileAt, SyncRow, is_no_failure};
 ghost use Rattle.folder_calls.specs.Answers.{says_closed};
 ghost use Rattle.folder_calls.specs.Calls.{IsLockedAt, IsOpenAt};
 ghost use Rattle.folder_calls.specs.Ready.{IsRefusal, IsTried};
 ghost use Rattle.folder_calls.specs.Rows.{inode_at};
+ghost use Rattle.folder_calls.specs.Tree.{Tree};
+ghost use Rattle.folder_changes.specs.Clear.{needs_no_try};
 
 use crate::changes::Changes;
 use crate::ready::is_fat_folder;
@@ -41,29 +43,25 @@ impl<C: Calls + Drop, E: Print + Drop> Disk for Changes<C, E> {
 
     ghost state = { λ changes. C.waits changes };
 
+    ghost Names = { Tree };
+
+    ghost names = { λ changes. C.tree changes };
+
     fn sync_file(&mut self, path: &str) -> Result<bool, io::Error>
         ensures asks { IsTrue C.tells → Asks (FileAt path.now ∷ []) (C.waits self.old) (C.waits self.new) }
         ensures synced { IfOk result (λ is_there. IsTrue C.tells → is_there ≡ true
             → (C.waits self.new).files path.now ≡ false) }
         ensures tried { IfErr result (λ error. IsTrue C.tells → says_closed (error_kind error) ≡ false
             → IsTried (C.waits self.new) (C.doubts self.new) (parent_folder path.now)) }
+        ensures names { IfOk result (λ _. IsTrue C.tells → C.tree self.new ≡ C.tree self.old) }
     {
         let answer = self.sync_at(path);
         self.try_behind(folder_of(path), answer)
     }
 
     fn sync_folder(&mut self, folder: &str) -> Result<bool, FolderFault<io::Error>>
-        ensures others { IsTrue C.tells → AsksAmong [] (C.waits self.old) (C.waits self.new) }
-        ensures asks { IfOk result (λ is_there. IsTrue C.tells → is_there ≡ true
-            → AsksAmong (FolderAt folder.now ∷ []) (C.waits self.old) (C.waits self.new)) }
-        ensures synced { IfOk result (λ is_there. IsTrue C.tells → is_there ≡ true
-            → IsOnDisk (C.waits self.new) folder.now) }
-        ensures gone { IfOk result (λ is_there. IsTrue C.tells → is_there ≡ false
-            → (C.waits self.new).opens (FolderAt folder.now) ≡ false) }
-        ensures unable { IfErr result (λ failure. IsTrue C.tells → failure.syncs_none ≡ true
-            → (C.waits self.new).syncs folder.now ≡ false) }
-        ensures refused { IfErr result (λ failure. IsTrue C.tells → failure.is_refused ≡ true
-            → IsShutOut (C.waits self.new)) }
+        ensures row { IsTrue C.tells → SyncRow (C.waits self.old) (C.waits self.new) folder.now result }
+        ensures names { IsTrue C.tells → is_no_failure result ≡ true → C.tree self.new ≡ C.tree self.old }
         ensures tried { IfErr result (λ failure. IsTrue C.tells
             → failure.syncs_none ≡ false → failure.is_refused ≡ false
             → IsTried (C.waits self.new) (C.doubts self.new) folder.now) }
@@ -97,6 +95,7 @@ impl<C: Calls + Drop, E: Print + Drop> Changes<C, E> {
         ensures asks { IsTrue C.tells → Asks (FileAt path.now ∷ []) (C.waits self.old) (C.waits self.new) }
         ensures synced { IfOk result (λ is_there. IsTrue C.tells → is_there ≡ true
             → (C.waits self.new).files path.now ≡ false) }
+        ensures names { IsTrue C.tells → C.tree self.new ≡ C.tree self.old }
     {
         match opened_at(&self.calls, path, &self.moved) {
             Some(file) => {
@@ -116,6 +115,7 @@ impl<C: Calls + Drop, E: Print + Drop> Changes<C, E> {
         ensures refused { IfErr result (λ error. IsTrue C.tells → IsRefusal (C.waits self.new) error) }
         ensures tried { IfErr result (λ error. IsTrue C.tells → says_closed (error_kind error) ≡ false
             → IsTried (C.waits self.new) (C.doubts self.new) (parent_folder path.now)) }
+        ensures names { IsTrue C.tells → needs_no_try result ≡ true → C.tree self.new ≡ C.tree self.old }
     {
         let answer = self.calls.sync_file(path);
         self.try_behind(folder_of(path), answer)
@@ -123,17 +123,8 @@ impl<C: Calls + Drop, E: Print + Drop> Changes<C, E> {
 
     // Syncs a folder behind what comes before it, and tells whether it was there.
     fn sync_ready(&mut self, folder: &str) -> Result<bool, FolderFault<io::Error>>
-        ensures others { IsTrue C.tells → AsksAmong [] (C.waits self.old) (C.waits self.new) }
-        ensures asks { IfOk result (λ is_there. IsTrue C.tells → is_there ≡ true
-            → AsksAmong (FolderAt folder.now ∷ []) (C.waits self.old) (C.waits self.new)) }
-        ensures synced { IfOk result (λ is_there. IsTrue C.tells → is_there ≡ true
-            → IsOnDisk (C.waits self.new) folder.now) }
-        ensures gone { IfOk result (λ is_there. IsTrue C.tells → is_there ≡ false
-            → (C.waits self.new).opens (FolderAt folder.now) ≡ false) }
-        ensures unable { IfErr result (λ failure. IsTrue C.tells → failure.syncs_none ≡ true
-            → (C.waits self.new).syncs folder.now ≡ false) }
-        ensures refused { IfErr result (λ failure. IsTrue C.tells → failure.is_refused ≡ true
-            → IsShutOut (C.waits self.new)) }
+        ensures row { IsTrue C.tells → SyncRow (C.waits self.old) (C.waits self.new) folder.now result }
+        ensures names { IsTrue C.tells → is_no_failure result ≡ true → C.tree self.new ≡ C.tree self.old }
     {
         match self.make_ready(folder) {
             Ok(true) => self.calls.sync_folder(folder),
@@ -152,6 +143,7 @@ impl<C: Calls + Drop, E: Print + Drop> Changes<C, E> {
         ensures quiet { IsTrue C.tells → C.waits self.new ≡ C.waits self.old }
         ensures tried { IfErr answer (λ error. IsTrue C.tells → says_closed (error_kind error) ≡ false
             → IsTried (C.waits self.new) (C.doubts self.new) folder.now) }
+        ensures names { IsTrue C.tells → needs_no_try answer ≡ true → C.tree self.new ≡ C.tree self.old }
     {
         if let Err(error) = &answer
             && !is_closed(error)

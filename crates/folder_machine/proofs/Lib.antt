@@ -1,3 +1,4 @@
 pub mod FilesIn
 pub mod NameSteps
 mod LeftNames
+pub mod NameRows

@@ -1,5 +1,5 @@
 -- Which file an open one is, and what is believed of what stands at a path.
-use Rattle.std.specs.Prelude.{◌≡◌, ℕ, ◌==◌, Bool, true, false, ◌&&◌, List, Option, Some, None, IsSomeAnd}
+use Rattle.std.specs.Prelude.{◌≡◌, ◌⊎◌, ℕ, ◌==◌, Bool, true, false, ◌&&◌, List, Option, Some, None, IsSomeAnd, is_some}
 use Rattle.std.specs.Option.{option_map_or}
 use Rattle.boot_base.specs.Intents.{names_of}
 use Rattle.boot_base.specs.Paths.{read_intent}
@@ -25,3 +25,7 @@ is_plain_file (Some found) = is_file found && (found.facts.links == 1)
 -- the bytes of some file name this move
 abbrev pub IsRead : IntentNames → Type 0
 IsRead names = (bytes : List ℕ) × (read_intent bytes ≡ Some (names_of names))
+
+-- something stands at a path, or behind the link there
+abbrev pub IsThere : Tree → List ℕ → Type 0
+IsThere tree path = (is_some (tree.stands path) ≡ true) ⊎ (is_some (tree.leads path) ≡ true)

@@ -2,7 +2,8 @@
 ghost use Rattle.std.specs.Prelude.{◌≡◌, IfErr, IfOk, IfSome, IsErrAnd, IsTrue, Ok, Some, false, is_some, true};
 ghost use Rattle.std.specs.IoError.{error_kind};
 ghost use Rattle.name_syncs.specs.Named.{NameWaits};
-ghost use Rattle.folder_calls.specs.Calls.{inode_of};
+ghost use Rattle.folder_calls.specs.Rows.{KeepsNames, KeepsNamesBut};
+ghost use Rattle.folder_calls.specs.Calls.{IsOpenAt, inode_of};
 ghost use Rattle.folder_calls.specs.Tree.{is_fat_file};
 ghost use Rattle.folder_machine.specs.Opening.{IsFileAt, stands_still};
 ghost use Rattle.folder_locks.specs.Meeting.{AnswersWith};
@@ -113,7 +114,7 @@ pub(crate) struct Created<C: Calls> {
 
 // Makes a temporary file, and locks it. Where there are modes it is for its owner alone. Another run may take a file for a leftover before it is locked, so if it is gone
 // it is made once more.
-#[tactic(auto, using(crate::proofs::NameSteps::name_waits_twice, crate::proofs::NameSteps::name_waits_none))]
+#[tactic(auto, using(crate::proofs::NameSteps::name_waits_twice, crate::proofs::NameSteps::name_waits_none, crate::proofs::NameRows::open_there))]
 pub(crate) fn create_locked<C: Calls + Drop, E: Print + Drop>(
     changes: &mut Changes<C, E>,
     path: &str,
@@ -129,6 +130,9 @@ pub(crate) fn create_locked<C: Calls + Drop, E: Print + Drop>(
     ensures waits { IsTrue C.tells → NameWaits (C.waits changes.old) (C.waits changes.new) path.now }
     ensures private { IfOk result (λ made. is_fat_file made.found ≡ false → made.found.mode ≡ PRIVATE
         → made.given ≡ Some made.found) }
+    ensures at { IfOk result (λ made. IsTrue C.tells
+        → IsOpenAt (C.tree changes.new) path.now (C.inode made.file)) }
+    ensures kept { IsTrue C.tells → KeepsNamesBut path.now (C.tree changes.old) (C.tree changes.new) }
 {
     for _ in 0..2 {
         let file = create_anew(changes, path, mode)?;
@@ -153,6 +157,7 @@ fn make_private<C: Calls + Drop, E: Print + Drop>(
     ensures private { IfOk result (λ has_modes. is_fat_file found.now ≡ false → found.now.mode ≡ PRIVATE
         → has_modes ≡ true) }
     ensures quiet { IsTrue C.tells → C.waits changes.new ≡ C.waits changes.old }
+    ensures kept { IsTrue C.tells → KeepsNames (C.tree changes.old) (C.tree changes.new) }
 {
     if found.is_fat_file() {
         return Ok(false);
@@ -170,7 +175,8 @@ fn create_anew<C: Calls + Drop, E: Print + Drop>(
     path: &str,
     mode: u32,
 ) -> io::Result<C::File>
-    ensures { IsTrue C.tells → NameWaits (C.waits changes.old) (C.waits changes.new) path.now }
+    ensures waits { IsTrue C.tells → NameWaits (C.waits changes.old) (C.waits changes.new) path.now }
+    ensures kept { IsTrue C.tells → KeepsNamesBut path.now (C.tree changes.old) (C.tree changes.new) }
 {
     match changes.create(path, mode) {
         Err(error) if error.kind() == ErrorKind::AlreadyExists => {
@@ -187,7 +193,8 @@ fn remove_leftover<C: Calls + Drop, E: Print + Drop>(
     changes: &mut Changes<C, E>,
     path: &str,
 ) -> io::Result<()>
-    ensures { IsTrue C.tells → NameWaits (C.waits changes.old) (C.waits changes.new) path.now }
+    ensures waits { IsTrue C.tells → NameWaits (C.waits changes.old) (C.waits changes.new) path.now }
+    ensures kept { IsTrue C.tells → KeepsNamesBut path.now (C.tree changes.old) (C.tree changes.new) }
 {
     match open_if_there(changes.calls(), path, Access::Append)? {
         Some((held, _)) => changes.unlink(path, Some(&held)),

@@ -2,11 +2,13 @@
 //!
 //! What is no regular file, after links, isn't there, and is never opened. "Not a directory", "is a
 //! directory" and a loop of links mean that no such file is there.
-ghost use Rattle.std.specs.Prelude.{◌≡◌, ◌≤◌, ◌++◌, false, length, IfOk, IsTrue, None, is_some, string_bytes};
+ghost use Rattle.std.specs.Prelude.{◌++◌, ◌≡◌, ◌≤◌, IfOk, IsTrue, None, OnOk, false, is_some, length, string_bytes};
 ghost use Rattle.std.specs.Option.{ForSome};
 ghost use Rattle.boot_base.specs.Paths.{intent, temp_end};
 ghost use Rattle.name_syncs.specs.Named.{NameWaits, NothingWaits};
 ghost use Rattle.name_syncs.specs.Waiting.{KeepsSynced};
+ghost use Rattle.folder_machine.specs.Opening.{IsThere};
+ghost use Rattle.folder_calls.specs.Rows.{KeepsNamesBut};
 ghost use Rattle.folder_calls.specs.Calls.{inode_of};
 ghost use Rattle.folder_calls.specs.Tree.{is_fat_file};
 ghost use Rattle.folder_locks.specs.Looking.{LooksStand};
@@ -212,7 +214,10 @@ impl<C: Calls + Drop, E: Print + Drop> System<C, E> {
     // are written with that one.
     #[tactic(auto, using(crate::proofs::NameSteps::name_waits_none, crate::proofs::NameSteps::name_waits_synced))]
     fn make_folder(&mut self, folder: &str) -> io::Result<()>
-        ensures { IsTrue C.tells → NameWaits (C.waits self.old.changes) (C.waits self.new.changes) folder.now }
+        ensures waits { IsTrue C.tells → NameWaits (C.waits self.old.changes) (C.waits self.new.changes) folder.now }
+        ensures row { OnOk result (IsTrue C.tells → IsThere (C.tree self.new.changes) folder.now) }
+        ensures kept { OnOk result (IsTrue C.tells
+            → KeepsNamesBut folder.now (C.tree self.old.changes) (C.tree self.new.changes)) }
     {
         if self.changes.calls().find(folder)?.is_some() {
             return Ok(());
@@ -233,6 +238,7 @@ impl<C: Calls + Drop, E: Print + Drop> System<C, E> {
     pub(crate) fn sync_names(&mut self) -> io::Result<()>
         ensures kept { IsTrue C.tells → KeepsSynced (C.waits self.old.changes) (C.waits self.new.changes) }
         ensures waits { IfOk result (λ _. IsTrue C.tells → NothingWaits (C.waits self.new.changes)) }
+        ensures names { IfOk result (λ _. IsTrue C.tells → C.tree self.new.changes ≡ C.tree self.old.changes) }
     {
         self.looked = None;
         let answer = self.changes.require_sure();

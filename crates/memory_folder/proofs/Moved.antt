@@ -48,7 +48,8 @@ moved_there (entry ∷ entries) (suc at) moved from to within left here same =
     by_test true is false true number later = rw is (ap Some (eqb-true entry.inode moved.inode number))
     by_test true is false false number later = later
 
-number_of : (entry : Option Entry) → option_map inode_of (option_map found_of_entry entry)
+-- the file of what was found of an entry, by the entry's number
+pub number_of : (entry : Option Entry) → option_map inode_of (option_map found_of_entry entry)
     ≡ option_map (λ number. (1, number)) (option_map (λ entry. entry.inode) entry)
 number_of None = refl
 number_of (Some entry) = refl

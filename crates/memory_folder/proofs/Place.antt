@@ -37,7 +37,7 @@ found_there test entries at entry is within there =
     find_at test entries ∙ ap (slice_get entries) (place_is _ (position_or_len test entries) at is)
     ∙ slice_get-get_or entries at entry within ∙ ap Some (sym there)
 
-found_passes : (test : Entry → Bool) (entries : List Entry) (entry : Entry) → find test entries ≡ Some entry
+pub found_passes : (test : Entry → Bool) (entries : List Entry) (entry : Entry) → find test entries ≡ Some entry
     → test entry ≡ true
 found_passes test [] entry is = absurd (none-some entry is)
 found_passes test (first ∷ entries) entry is = by_test (test first) refl (found_passes test entries entry) is

@@ -1,9 +1,10 @@
 -- What stands in a folder in memory.
-use Rattle.std.specs.Prelude.{ℕ, ◌==◌, bytes_eq, List, [], ◌∷◌, filter, map, Option, Some, pos, vec_len}
+use Rattle.std.specs.Prelude.{ℕ, ◌==◌, bytes_eq, List, [], ◌∷◌, filter, if◌then◌else◌, map, Option, Some, pos, vec_len}
 use Rattle.std.specs.List.{find}
 use Rattle.std.specs.Option.{option_map, option_map_or}
 use Rattle.boot_base.specs.Paths.{file_name_of}
 use Rattle.name_syncs.specs.Folders.{parent_folder}
+use Rattle.folder_calls.specs.Calls.{Inode}
 use Rattle.folder_calls.specs.Tree.{Tree}
 use Rattle.folder_calls.specs.declared.found.Found.{Found}
 use Rattle.folder_calls.specs.declared.found.Kind.{Kind}
@@ -52,11 +53,15 @@ first_entry_of entries number = find (λ entry. entry.inode == number) entries
 abbrev pub bytes_of_number : List Entry → ℕ → List ℕ
 bytes_of_number entries number = option_map_or (λ entry. entry.bytes.items) (first_entry_of entries number) []
 
+-- those of a file by its number and that of its file system, which is 1 for all in the folder
+abbrev pub bytes_of_inode : List Entry → Inode → List ℕ
+bytes_of_inode entries inode = if inode.0 == 1 then bytes_of_number entries inode.1 else []
+
 -- the entries as a folder with all that is below it
 abbrev pub tree_of_entries : List Entry → Tree
 tree_of_entries entries = record {
   stands = found_at entries;
   leads = found_at entries;
   names = λ folder. names_in_folder folder entries;
-  bytes = λ inode. bytes_of_number entries inode.1;
+  bytes = bytes_of_inode entries;
 }

@@ -1,8 +1,8 @@
 //! The calls on a folder in memory.
-ghost use Rattle.std.specs.Prelude.{◌≡◌, ◌≢◌, ◌≤◌, [], IfOk, None, OnOk, Some, bytes_eq, drop, false, length, option_map, position, true, vec_len};
+ghost use Rattle.std.specs.Prelude.{◌≡◌, ◌≢◌, ◌≤◌, ℕ, List, [], IfOk, None, OnOk, Some, bytes_eq, drop, false, length, option_map, position, true, vec_len};
 ghost use Rattle.name_syncs.specs.Named.{NameWaits, NothingWaits, RenameWaits};
 ghost use Rattle.folder_calls.specs.Calls.{IsOpenAt, ReadsSome, inode_of};
-ghost use Rattle.folder_calls.specs.Rows.{GoneRow, MadeRow, MovedRow, inode_at};
+ghost use Rattle.folder_calls.specs.Rows.{GoneRow, KeepsNamesBut, KeepsNamesButTwo, MadeRow, MovedRow, inode_at};
 ghost use Rattle.folder_calls.specs.Tree.{is_file};
 ghost use Rattle.memory_folder.specs.Entries.{first_entry_at, found_with};
 ghost use Rattle.memory_folder.specs.Folder.{inode_of_file, memory_tree, memory_waits, memory_written};
@@ -58,6 +58,8 @@ fn move_entry(entries: &mut Vec<Entry>, at: usize, from: &str, to: &str, path: T
     ensures there { option_map (λ entry. entry.inode) (first_entry_at entries.new.items to.now)
         ≡ option_map (λ entry. entry.inode) (first_entry_at entries.old.items from.now) }
     ensures left { first_entry_at entries.new.items from.now ≡ None }
+    ensures kept { (other : List ℕ) → other ≢ from.now → other ≢ to.now
+        → first_entry_at entries.new.items other ≡ first_entry_at entries.old.items other }
 {
     let entry = &mut entries[at];
     let inode = entry.inode;
@@ -84,6 +86,7 @@ impl MemoryFolder {
     /// Puts a file there of which nothing waits.
     pub fn add_file(&mut self, path: &str, bytes: &[u8]) -> io::Result<()>
         ensures waits { memory_waits self.new ≡ memory_waits self.old }
+        ensures kept { KeepsNamesBut path.now (memory_tree self.old) (memory_tree self.new) }
         ensures stands { IfOk result (λ _. option_map is_file ((memory_tree self.new).stands path.now) ≡ Some true) }
     {
         let bytes = bytes.to_vec(self.alloc)?;
@@ -94,6 +97,7 @@ impl MemoryFolder {
     /// Puts a folder there of which nothing waits.
     pub fn add_folder(&mut self, path: &str) -> io::Result<()>
         ensures waits { memory_waits self.new ≡ memory_waits self.old }
+        ensures kept { KeepsNamesBut path.now (memory_tree self.old) (memory_tree self.new) }
         ensures stands { IfOk result (λ _.
             option_map is_file ((memory_tree self.new).stands path.now) ≡ Some false) }
     {
@@ -105,6 +109,7 @@ impl MemoryFolder {
     // Puts something where nothing stands, and gives its number.
     fn add(&mut self, path: &str, kind: Kind, bytes: Vec<u8>) -> io::Result<u64>
         ensures waits { memory_waits self.new ≡ memory_waits self.old }
+        ensures kept { KeepsNamesBut path.now (memory_tree self.old) (memory_tree self.new) }
         ensures row { IfOk result (λ inode. MadeRow (memory_tree self.old) (memory_tree self.new) path.now (1, inode)) }
         ensures stands { IfOk result (λ inode. (memory_tree self.new).stands path.now
             ≡ Some (found_with kind (vec_len bytes) inode)) }
@@ -182,6 +187,7 @@ impl MemoryFolder {
     // Gives a file another path. What stood there goes.
     fn move_file(&mut self, from: &str, to: &str) -> io::Result<()>
         ensures row { OnOk result (MovedRow (memory_tree self.old) (memory_tree self.new) from.now to.now) }
+        ensures kept { KeepsNamesButTwo from.now to.now (memory_tree self.old) (memory_tree self.new) }
         ensures waits { RenameWaits (memory_waits self.old) (memory_waits self.new) from.now to.now }
     {
         let at = self.require_move(from, to)?;
@@ -199,6 +205,7 @@ impl MemoryFolder {
     fn drop_entry(&mut self, path: &str)
         requires { path.now ≢ [] }
         ensures row { GoneRow (memory_tree self.new) path.now }
+        ensures kept { KeepsNamesBut path.now (memory_tree self.old) (memory_tree self.new) }
         ensures waits { memory_waits self.new ≡ memory_waits self.old }
     {
         self.entries.retain(|entry| entry.path.as_str() != path);

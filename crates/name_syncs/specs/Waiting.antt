@@ -1,9 +1,10 @@
 -- What waits for the disk: changes that a power cut may still undo (POSIX, fsync).
-use Rattle.std.specs.Prelude.{◌≡◌, ◌⊎◌, ℕ, Bool, true, false, ◌&&◌, List, [], ◌∷◌, ◌++◌, filter, map}
+use Rattle.std.specs.Prelude.{◌≡◌, ◌⊎◌, ℕ, Bool, true, false, ◌&&◌, ◌||◌, IfErr, IfOk, List, [], ◌∷◌, ◌++◌, Result, Ok, Err, filter, map}
 use Rattle.std.specs.List.{list_any}
 use Rattle.boot_base.specs.Paths.{is_slash, is_temp}
 use Rattle.name_syncs.specs.Folders.{has_folder, path_in}
 use Rattle.name_syncs.specs.Paths.{has_path}
+use Rattle.name_syncs.specs.declared.disk.FolderFault.{FolderFault}
 use Rattle.name_syncs.specs.declared.folders.FolderSet.{FolderSet}
 
 -- a sync that was asked for, of the file or the folder at a path
@@ -104,6 +105,20 @@ NeedsNoSync own disk folder = IsOnDisk disk folder ⊎ ((has_folder own folder �
 -- there is a file or a folder that this run may not open
 abbrev pub IsShutOut : Waiting → Type 0
 IsShutOut disk = (sync : Sync) × (disk.opens sync ≡ false)
+
+-- What the sync of a folder leaves. On FAT others may have come before it: those of what somebody else has left.
+pub record SyncRow {F : Type 0} (old new : Waiting) (folder : List ℕ) (result : Result Bool (FolderFault F)) : Type 0 where
+  pub others : AsksAmong [] old new
+  pub asks : IfOk result (λ is_there. is_there ≡ true → AsksAmong (FolderAt folder ∷ []) old new)
+  pub synced : IfOk result (λ is_there. is_there ≡ true → IsOnDisk new folder)
+  pub gone : IfOk result (λ is_there. is_there ≡ false → new.opens (FolderAt folder) ≡ false)
+  pub unable : IfErr result (λ failure. failure.syncs_none ≡ true → new.syncs folder ≡ false)
+  pub refused : IfErr result (λ failure. failure.is_refused ≡ true → IsShutOut new)
+
+-- the sync of a folder hasn't failed: there was none to be made, or this run may not make it
+abbrev pub is_no_failure : {F : Type 0} → Result Bool (FolderFault F) → Bool
+is_no_failure (Ok is_there) = true
+is_no_failure (Err failure) = failure.syncs_none || failure.is_refused
 
 -- What a folder shows that was only looked at is on the disk. It may wait still if nothing of the folder can be synced,
 -- or if this run may not open what comes before it.

@@ -1,6 +1,6 @@
 //! The two syncs that the system makes, and what waits for the disk.
-ghost use Rattle.std.specs.Prelude.{◌≡◌, [], ◌∷◌, Bool, IfOk, IfErr, IsTrue, false, true};
-ghost use Rattle.name_syncs.specs.Waiting.{Asks, AsksAmong, FileAt, FolderAt, IsOnDisk, IsShutOut, Waiting};
+ghost use Rattle.std.specs.Prelude.{◌≡◌, [], ◌∷◌, Bool, IfOk, IsTrue, false, true};
+ghost use Rattle.name_syncs.specs.Waiting.{Asks, FileAt, SyncRow, Waiting, is_no_failure};
 
 /// Why a folder isn't synced.
 #[derive(Drop)]
@@ -23,25 +23,23 @@ pub trait Disk {
     /// What waits for the disk, and which syncs were asked for.
     ghost state: { Self → Waiting };
 
+    /// What stands there by its names.
+    ghost Names: { Type 0 };
+
+    /// It stays, unless a sync fails: behind that the file may go that has just got its name.
+    ghost names: { Self → Names };
+
     /// Syncs the file at a path, and tells whether one is there.
     fn sync_file(&mut self, path: &str) -> Result<bool, Self::Fault>
         ensures asks { IsTrue tells → Asks (FileAt path.now ∷ []) (state self.old) (state self.new) }
         ensures synced { IfOk result (λ is_there. IsTrue tells → is_there ≡ true
-            → (state self.new).files path.now ≡ false) };
+            → (state self.new).files path.now ≡ false) }
+        ensures names { IfOk result (λ _. IsTrue tells → names self.new ≡ names self.old) };
 
     /// Syncs a folder, and tells whether it was there. On FAT it syncs before it what somebody else may have left in it.
     fn sync_folder(&mut self, folder: &str) -> Result<bool, FolderFault<Self::Fault>>
-        ensures others { IsTrue tells → AsksAmong [] (state self.old) (state self.new) }
-        ensures asks { IfOk result (λ is_there. IsTrue tells → is_there ≡ true
-            → AsksAmong (FolderAt folder.now ∷ []) (state self.old) (state self.new)) }
-        ensures synced { IfOk result (λ is_there. IsTrue tells → is_there ≡ true
-            → IsOnDisk (state self.new) folder.now) }
-        ensures gone { IfOk result (λ is_there. IsTrue tells → is_there ≡ false
-            → (state self.new).opens (FolderAt folder.now) ≡ false) }
-        ensures unable { IfErr result (λ failure. IsTrue tells → failure.syncs_none ≡ true
-            → (state self.new).syncs folder.now ≡ false) }
-        ensures refused { IfErr result (λ failure. IsTrue tells → failure.is_refused ≡ true
-            → IsShutOut (state self.new)) };
+        ensures row { IsTrue tells → SyncRow (state self.old) (state self.new) folder.now result }
+        ensures names { IsTrue tells → is_no_failure result ≡ true → names self.new ≡ names self.old };
 
     /// What is said of a file that this run has renamed, or a folder in which it has changed a name, if it isn't there any
     /// more.
@@ -49,5 +47,6 @@ pub trait Disk {
 
     /// Tells of a sync that failed, and gives its fault back.
     fn report(&mut self, path: &str, fault: Self::Fault) -> Self::Fault
-        ensures asks { IsTrue tells → Asks [] (state self.old) (state self.new) };
+        ensures asks { IsTrue tells → Asks [] (state self.old) (state self.new) }
+        ensures names { IsTrue tells → names self.new ≡ names self.old };
 }

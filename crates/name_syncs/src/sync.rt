@@ -1,8 +1,8 @@
 //! The sync of names: each renamed file, then each changed folder with those above it, then what was looked at.
-ghost use Rattle.std.specs.Prelude.{◌≡◌, ◌++◌, [], ◌∷◌, All, IfErr, IfOk, IsTrue, false, true, filter, map, not};
+ghost use Rattle.std.specs.Prelude.{◌≡◌, ◌++◌, [], ◌∷◌, All, IfOk, IsTrue, false, true, filter, map, not};
 ghost use Rattle.name_syncs.specs.Folders.{has_folder, listed};
 ghost use Rattle.name_syncs.specs.Named.{AsksChanged, Covers, IsSynced, NothingWaits};
-ghost use Rattle.name_syncs.specs.Waiting.{Asks, AsksAmong, AsksFolders, FileAt, FolderAt, IsOnDisk, IsShutOut, KeepsSynced, NeedsNoSync, SettlesOnly, ShowsTruth};
+ghost use Rattle.name_syncs.specs.Waiting.{Asks, AsksAmong, AsksFolders, FileAt, KeepsSynced, NeedsNoSync, SettlesOnly, ShowsTruth, SyncRow, is_no_failure};
 
 use crate::disk::{Disk, FolderFault};
 use crate::folders::FolderSet;
@@ -23,6 +23,7 @@ pub fn sync_names<D: Disk>(disk: &mut D, named: &mut Named) -> Result<(), D::Fau
         → NothingWaits (D.state disk.new)) }
     ensures shown { IfOk result (λ _. IsTrue D.tells
         → All (ShowsTruth (D.state disk.new)) (listed named.old.changed ++ listed named.old.seen)) }
+    ensures names { IfOk result (λ _. IsTrue D.tells → D.names disk.new ≡ D.names disk.old) }
 {
     sync_changed(disk, named)?;
     sync_seen(disk, named)
@@ -43,6 +44,7 @@ pub fn sync_changed<D: Disk>(disk: &mut D, named: &mut Named) -> Result<(), D::F
     ensures noted { named.new ≡ record named.old { settled = named.new.settled } }
     ensures settled { IsTrue D.tells
         → SettlesOnly (listed named.old.changed) (D.state disk.new) named.old.settled named.new.settled }
+    ensures names { IfOk result (λ _. IsTrue D.tells → D.names disk.new ≡ D.names disk.old) }
 {
     sync_noted(disk, named)
 }
@@ -55,6 +57,7 @@ fn sync_noted<D: Disk>(disk: &mut D, named: &mut Named) -> Result<(), D::Fault>
     ensures noted { named.new ≡ record named.old { settled = named.new.settled } }
     ensures settled { IsTrue D.tells
         → SettlesOnly (listed named.old.changed) (D.state disk.new) named.old.settled named.new.settled }
+    ensures names { IfOk result (λ _. IsTrue D.tells → D.names disk.new ≡ D.names disk.old) }
 {
     sync_files(disk, named.renamed.as_slice())?;
     sync_folders(
@@ -75,6 +78,7 @@ fn sync_files<D: Disk>(disk: &mut D, paths: &[Text]) -> Result<(), D::Fault>
     ensures synced { IfOk result (λ _. IsTrue D.tells → All (λ path. (D.state disk.new).files path ≡ false) paths.now) }
     ensures order { IfOk result (λ _. IsTrue D.tells
         → Asks (map FileAt paths.now) (D.state disk.old) (D.state disk.new)) }
+    ensures names { IfOk result (λ _. IsTrue D.tells → D.names disk.new ≡ D.names disk.old) }
 {
     for path in paths {
         sync_renamed(disk, path.as_str())?;
@@ -86,6 +90,7 @@ fn sync_files<D: Disk>(disk: &mut D, paths: &[Text]) -> Result<(), D::Fault>
 fn sync_renamed<D: Disk>(disk: &mut D, path: &str) -> Result<(), D::Fault>
     ensures asks { IsTrue D.tells → Asks (FileAt path.now ∷ []) (D.state disk.old) (D.state disk.new) }
     ensures synced { IfOk result (λ _. IsTrue D.tells → (D.state disk.new).files path.now ≡ false) }
+    ensures names { IfOk result (λ _. IsTrue D.tells → D.names disk.new ≡ D.names disk.old) }
 {
     let failure = match disk.sync_file(path) {
         Ok(true) => return Ok(()),
@@ -107,6 +112,7 @@ fn sync_folders<D: Disk>(
     ensures order { IfOk result (λ _. IsTrue D.tells
         → AsksFolders folders.now (D.state disk.old) (D.state disk.new)) }
     ensures settled { IsTrue D.tells → SettlesOnly folders.now (D.state disk.new) settled.old settled.new }
+    ensures names { IfOk result (λ _. IsTrue D.tells → D.names disk.new ≡ D.names disk.old) }
 {
     for folder in folders {
         settle_changed(disk, folder.as_str(), own, settled)?;
@@ -121,17 +127,8 @@ fn settle<D: Disk>(
     folder: &str,
     settled: &mut FolderSet,
 ) -> Result<bool, FolderFault<D::Fault>>
-    ensures others { IsTrue D.tells → AsksAmong [] (D.state disk.old) (D.state disk.new) }
-    ensures asks { IfOk result (λ is_there. IsTrue D.tells → is_there ≡ true
-        → AsksAmong (FolderAt folder.now ∷ []) (D.state disk.old) (D.state disk.new)) }
-    ensures synced { IfOk result (λ is_there. IsTrue D.tells → is_there ≡ true
-        → IsOnDisk (D.state disk.new) folder.now) }
-    ensures gone { IfOk result (λ is_there. IsTrue D.tells → is_there ≡ false
-        → (D.state disk.new).opens (FolderAt folder.now) ≡ false) }
-    ensures unable { IfErr result (λ failure. IsTrue D.tells → failure.syncs_none ≡ true
-        → (D.state disk.new).syncs folder.now ≡ false) }
-    ensures refused { IfErr result (λ failure. IsTrue D.tells → failure.is_refused ≡ true
-        → IsShutOut (D.state disk.new)) }
+    ensures row { IsTrue D.tells → SyncRow (D.state disk.old) (D.state disk.new) folder.now result }
+    ensures names { IsTrue D.tells → is_no_failure result ≡ true → D.names disk.new ≡ D.names disk.old }
     ensures settled { IsTrue D.tells → SettlesOnly (folder.now ∷ []) (D.state disk.new) settled.old settled.new }
 {
     let is_there = disk.sync_folder(folder)?;
@@ -154,6 +151,7 @@ fn settle_changed<D: Disk>(
         → AsksFolders (folder.now ∷ []) (D.state disk.old) (D.state disk.new)) }
     ensures synced { IfOk result (λ _. IsTrue D.tells → NeedsNoSync own.now (D.state disk.new) folder.now) }
     ensures settled { IsTrue D.tells → SettlesOnly (folder.now ∷ []) (D.state disk.new) settled.old settled.new }
+    ensures names { IfOk result (λ _. IsTrue D.tells → D.names disk.new ≡ D.names disk.old) }
 {
     let failure = match settle(disk, folder, settled) {
         Ok(true) => return Ok(()),
@@ -178,6 +176,7 @@ pub fn sync_seen<D: Disk>(disk: &mut D, named: &mut Named) -> Result<(), D::Faul
     ensures noted { named.new ≡ record named.old { settled = named.new.settled } }
     ensures settled { IsTrue D.tells
         → SettlesOnly (listed named.old.seen) (D.state disk.new) named.old.settled named.new.settled }
+    ensures names { IfOk result (λ _. IsTrue D.tells → D.names disk.new ≡ D.names disk.old) }
 {
     settle_seen(
         disk,
@@ -202,6 +201,7 @@ fn settle_seen<D: Disk>(
     ensures shown { IfOk result (λ _. IsTrue D.tells → All (ShowsTruth (D.state disk.new))
         (filter (λ folder. not (has_folder changed.now folder)) folders.now)) }
     ensures settled { IsTrue D.tells → SettlesOnly folders.now (D.state disk.new) settled.old settled.new }
+    ensures names { IfOk result (λ _. IsTrue D.tells → D.names disk.new ≡ D.names disk.old) }
 {
     for folder in folders {
         let folder = folder.as_str();
@@ -221,6 +221,7 @@ fn settle_looked<D: Disk>(
     ensures kept { IsTrue D.tells → KeepsSynced (D.state disk.old) (D.state disk.new) }
     ensures shown { IfOk result (λ _. IsTrue D.tells → ShowsTruth (D.state disk.new) folder.now) }
     ensures settled { IsTrue D.tells → SettlesOnly (folder.now ∷ []) (D.state disk.new) settled.old settled.new }
+    ensures names { IfOk result (λ _. IsTrue D.tells → D.names disk.new ≡ D.names disk.old) }
 {
     match settle(disk, folder, settled) {
         Ok(_) => Ok(()),

@@ -2,7 +2,7 @@
 ghost use Rattle.std.specs.Prelude.{◌≡◌, ◌⊎◌, ◌++◌, IfOk, IfSome, IsTrue, None, OnOk, Some, string_bytes, true};
 ghost use Rattle.boot_base.specs.Paths.{temp_end};
 ghost use Rattle.name_syncs.specs.Named.{NameWaits};
-ghost use Rattle.folder_calls.specs.Rows.{inode_at};
+ghost use Rattle.folder_calls.specs.Rows.{HasName, KeepsNames, inode_at};
 ghost use Rattle.folder_locks.specs.Looking.{LooksStand};
 ghost use Rattle.folder_machine.specs.Refusing.{replace_fault};
 ghost use Rattle.folder_machine.specs.Moving.{mode_in_place};
@@ -94,7 +94,8 @@ impl<C: Calls + Drop, E: Print + Drop> System<C, E> {
         to: &str,
         replaced: Option<Found>,
     ) -> io::Result<()>
-        ensures { IsTrue C.tells → C.waits self.new.changes ≡ C.waits self.old.changes }
+        ensures quiet { IsTrue C.tells → C.waits self.new.changes ≡ C.waits self.old.changes }
+        ensures kept { IsTrue C.tells → KeepsNames (C.tree self.old.changes) (C.tree self.new.changes) }
     {
         let Some(made) = &written.made else {
             return Ok(());
@@ -109,6 +110,7 @@ impl<C: Calls + Drop, E: Print + Drop> System<C, E> {
     // Renames a boot file, unless another run is about to put a file in place at the new path.
     pub(crate) fn move_file(&mut self, from: &str, to: &str) -> io::Result<()>
         ensures stand { IfOk result (λ _. IsTrue C.tells → LooksStand (C.tree self.old.changes) self.old.looks) }
+        ensures there { OnOk result (IsTrue C.tells → HasName (C.tree self.new.changes) to.now) }
     {
         self.begin_move(from, to)?;
         let is_fat = self.locks.may_be_fat(from);
@@ -142,8 +144,10 @@ impl<C: Calls + Drop, E: Print + Drop> System<C, E> {
 
     // A folder of FAT grows for a new name before that comes, if it has to: an empty file with a longer name comes and
     // goes. A leftover stays as it is.
+    #[tactic(auto, using(crate::proofs::NameRows::comes_and_goes))]
     fn make_room(&mut self, to: &str) -> io::Result<()>
-        ensures { IsTrue C.tells → NameWaits (C.waits self.old.changes) (C.waits self.new.changes) (to.now ++ temp_end) }
+        ensures waits { IsTrue C.tells → NameWaits (C.waits self.old.changes) (C.waits self.new.changes) (to.now ++ temp_end) }
+        ensures kept { OnOk result (IsTrue C.tells → KeepsNames (C.tree self.old.changes) (C.tree self.new.changes)) }
     {
         let temp = temp_of(self.alloc, to)?;
         let temp = temp.as_str();
@@ -237,7 +241,9 @@ impl<C: Calls + Drop, E: Print + Drop> System<C, E> {
 
     // Renames a file that was there before the names were last synced. If the new name is the file's own short alias, the
     // system would do nothing: so it goes by another alias, which a recovery finds.
-    pub(super) fn rename_known(&mut self, from: &str, to: &str, is_fat: bool) -> io::Result<()> {
+    pub(super) fn rename_known(&mut self, from: &str, to: &str, is_fat: bool) -> io::Result<()>
+        ensures there { OnOk result (IsTrue C.tells → HasName (C.tree self.new.changes) to.now) }
+    {
         let calls = self.changes.calls();
         if !is_fat || !is_alias_of_listed(calls, self.alloc, to)? {
             return self.rename_once(from, to, is_fat);
@@ -249,7 +255,10 @@ impl<C: Calls + Drop, E: Print + Drop> System<C, E> {
         self.rename_once(alias, to, is_fat)
     }
 
-    fn rename_once(&mut self, from: &str, to: &str, is_fat: bool) -> io::Result<()> {
+    #[tactic(auto, using(crate::proofs::NameRows::moved_stands))]
+    fn rename_once(&mut self, from: &str, to: &str, is_fat: bool) -> io::Result<()>
+        ensures there { OnOk result (IsTrue C.tells → HasName (C.tree self.new.changes) to.now) }
+    {
         self.changes.change_near(to)?;
         let replaced = self.changes.calls().find_itself(to)?;
         let replaced = self.make_way(from, to, is_fat, replaced)?;

@@ -2,6 +2,8 @@
 ghost use Rattle.std.specs.Option.{option_map_or};
 ghost use Rattle.std.specs.Prelude.{◌≡◌, IfOk, IsTrue, None, OnOk, false, true, option_copied, string_bytes};
 ghost use Rattle.name_syncs.specs.Waiting.{KeepsSynced};
+ghost use Rattle.boot_base.specs.Paths.{intent};
+ghost use Rattle.folder_calls.specs.Rows.{GoneRow, HasName};
 ghost use Rattle.folder_machine.specs.Moving.{LeftAreSynced, NameIsSynced, left_names, names_path};
 
 use super::System;
@@ -14,7 +16,8 @@ use std::io;
 impl<C: Calls + Drop, E: Print + Drop> System<C, E> {
     // Removes the intent, once the file that it names has its bytes on the disk.
     pub(super) fn remove_intent(&mut self) -> io::Result<()>
-        ensures { OnOk result (self.new.intent ≡ None) }
+        ensures none { OnOk result (self.new.intent ≡ None) }
+        ensures gone { OnOk result (IsTrue C.tells → GoneRow (C.tree self.new.changes) intent) }
     {
         let answer = self.rescue_left();
         if answer.is_err() {
@@ -82,7 +85,8 @@ impl<C: Calls + Drop, E: Print + Drop> System<C, E> {
 
     // Gives the file that name, and syncs both.
     fn rescue(&mut self, rescue: Rescue) -> io::Result<()>
-        ensures { IfOk result (λ _. IsTrue C.tells → NameIsSynced (C.waits self.new.changes) (string_bytes rescue.name)) }
+        ensures synced { IfOk result (λ _. IsTrue C.tells → NameIsSynced (C.waits self.new.changes) (string_bytes rescue.name)) }
+        ensures there { OnOk result (IsTrue C.tells → HasName (C.tree self.new.changes) (string_bytes rescue.name)) }
     {
         let Rescue { path, by, name } = rescue;
         let Some(by) = by else {
@@ -111,7 +115,8 @@ impl<C: Calls + Drop, E: Print + Drop> System<C, E> {
 
     // Gives the file of an intent another name, and syncs both.
     fn rename_left(&mut self, from: &str, to: &str) -> io::Result<()>
-        ensures { IfOk result (λ _. IsTrue C.tells → NameIsSynced (C.waits self.new.changes) to.now) }
+        ensures synced { IfOk result (λ _. IsTrue C.tells → NameIsSynced (C.waits self.new.changes) to.now) }
+        ensures there { OnOk result (IsTrue C.tells → HasName (C.tree self.new.changes) to.now) }
     {
         self.locks.hold_changed(self.changes.calls(), from, None)?;
         self.locks.hold_changed(self.changes.calls(), to, None)?;
@@ -151,7 +156,9 @@ impl<C: Calls + Drop, E: Print + Drop> System<C, E> {
     }
 
     // Renames the old name of a half done rename over the new one, which has lost its bytes.
-    pub(super) fn rename_emptied(&mut self, from: &str, to: &str) -> io::Result<()> {
+    pub(super) fn rename_emptied(&mut self, from: &str, to: &str) -> io::Result<()>
+        ensures there { OnOk result (IsTrue C.tells → HasName (C.tree self.new.changes) to.now) }
+    {
         self.locks.hold_changed(self.changes.calls(), to, None)?;
         let is_fat = self.locks.may_be_fat(from);
         self.rename_known(from, to, is_fat)

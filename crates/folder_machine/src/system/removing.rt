@@ -2,7 +2,7 @@
 ghost use Rattle.std.specs.Prelude.{◌≡◌, ◌⊎◌, IfOk, IsTrue, OnOk};
 ghost use Rattle.boot_base.specs.Paths.{intent};
 ghost use Rattle.name_syncs.specs.Named.{NameWaits};
-ghost use Rattle.folder_calls.specs.Rows.{GoneRow};
+ghost use Rattle.folder_calls.specs.Rows.{GoneRow, KeepsNamesBut};
 ghost use Rattle.folder_locks.specs.Looking.{LooksStand};
 
 use super::System;
@@ -17,6 +17,7 @@ impl<C: Calls + Drop, E: Print + Drop> System<C, E> {
     pub(crate) fn remove_temp(&mut self, path: &str) -> io::Result<()>
         ensures stand { IfOk result (λ _. IsTrue C.tells → LooksStand (C.tree self.old.changes) self.old.looks) }
         ensures row { OnOk result (IsTrue C.tells → GoneRow (C.tree self.new.changes) path.now) }
+        ensures kept { IsTrue C.tells → KeepsNamesBut path.now (C.tree self.old.changes) (C.tree self.new.changes) }
     {
         self.begin_change(path)?;
         match self.changes.calls().find_itself(path)? {
@@ -43,6 +44,7 @@ impl<C: Calls + Drop, E: Print + Drop> System<C, E> {
     pub(crate) fn remove_file(&mut self, path: &str) -> io::Result<()>
         ensures stand { IfOk result (λ _. IsTrue C.tells
             → path.now ≡ intent ⊎ LooksStand (C.tree self.old.changes) self.old.looks) }
+        ensures gone { OnOk result (IsTrue C.tells → path.now ≡ intent → GoneRow (C.tree self.new.changes) intent) }
     {
         if self.left_names().is_some() {
             self.require_one_name(path)?;
@@ -62,6 +64,7 @@ impl<C: Calls + Drop, E: Print + Drop> System<C, E> {
     pub(super) fn unlink_held(&mut self, path: &str) -> io::Result<()>
         ensures row { OnOk result (IsTrue C.tells → GoneRow (C.tree self.new.changes) path.now) }
         ensures waits { IsTrue C.tells → NameWaits (C.waits self.old.changes) (C.waits self.new.changes) path.now }
+        ensures kept { IsTrue C.tells → KeepsNamesBut path.now (C.tree self.old.changes) (C.tree self.new.changes) }
     {
         self.looked = None;
         self.looks.forget(path);
@@ -83,6 +86,7 @@ impl<C: Calls + Drop, E: Print + Drop> System<C, E> {
     fn unlink(&mut self, path: &str, held: &Locked<C>) -> io::Result<()>
         ensures row { OnOk result (IsTrue C.tells → GoneRow (C.tree self.new.changes) path.now) }
         ensures waits { IsTrue C.tells → NameWaits (C.waits self.old.changes) (C.waits self.new.changes) path.now }
+        ensures kept { IsTrue C.tells → KeepsNamesBut path.now (C.tree self.old.changes) (C.tree self.new.changes) }
     {
         self.looked = None;
         self.looks.forget(path);

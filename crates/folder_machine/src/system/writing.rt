@@ -2,8 +2,8 @@
 ghost use Rattle.std.specs.Prelude.{◌≡◌, false, true, IfOk, IfSome, IsSomeAnd, IsTrue, OnOk, string_bytes};
 ghost use Rattle.name_syncs.specs.Folders.{parent_folder};
 ghost use Rattle.name_syncs.specs.Named.{NameWaits};
-ghost use Rattle.folder_calls.specs.Calls.{inode_of};
-ghost use Rattle.folder_calls.specs.Rows.{WrittenRow};
+ghost use Rattle.folder_calls.specs.Calls.{IsOpenAt, inode_of};
+ghost use Rattle.folder_calls.specs.Rows.{KeepsNames, KeepsNamesBut, WrittenRow};
 ghost use Rattle.folder_calls.specs.Tree.{is_fat_file};
 ghost use Rattle.folder_machine.specs.Opening.{IsFileAt};
 
@@ -20,8 +20,10 @@ impl<C: Calls + Drop, E: Print + Drop> System<C, E> {
     // An empty temporary file, in folders that are made if they are missing. Nothing is changed if the path that it is
     // for is a folder, if another run holds it or moves a file, or if it may be that path's own file.
     pub(crate) fn create_file(&mut self, path: &str) -> io::Result<()>
-        ensures { IfOk result (λ _. IsSomeAnd self.new.written
+        ensures own { IfOk result (λ _. IsSomeAnd self.new.written
             (λ written. (string_bytes written.kept.path ≡ path.now) × (written.kept.is_made ≡ true))) }
+        ensures at { IfOk result (λ _. IfSome self.new.written (λ written. IsTrue C.tells
+            → IsOpenAt (C.tree self.new.changes) path.now (C.inode written.kept.file))) }
     {
         self.looked = None;
         self.written = None;
@@ -87,6 +89,9 @@ impl<C: Calls + Drop, E: Print + Drop> System<C, E> {
         ensures waits { IsTrue C.tells → NameWaits (C.waits self.old.changes) (C.waits self.new.changes) path.now }
         ensures grown { IfOk result (λ made. IsTrue C.tells → is_fat_file made.found ≡ true
             → (C.waits self.new.changes).folders (parent_folder path.now) ≡ false) }
+        ensures at { IfOk result (λ made. IsTrue C.tells
+            → IsOpenAt (C.tree self.new.changes) path.now (C.inode made.file)) }
+        ensures kept { IfOk result (λ _. IsTrue C.tells → KeepsNamesBut path.now (C.tree self.old.changes) (C.tree self.new.changes)) }
     {
         let created = create_locked(&mut self.changes, path, mode)?;
         if created.found.is_fat_file() {
@@ -101,6 +106,7 @@ impl<C: Calls + Drop, E: Print + Drop> System<C, E> {
             → IsTrue C.tells → WrittenRow (C.tree self.old.changes) (C.tree self.new.changes)
             (C.inode written.kept.file) bytes.now)) }
         ensures quiet { IsTrue C.tells → C.waits self.new.changes ≡ C.waits self.old.changes }
+        ensures kept { IsTrue C.tells → KeepsNames (C.tree self.old.changes) (C.tree self.new.changes) }
     {
         let mut written = self.take_written(path)?;
         let answer = self.changes.append(&mut written.kept.file, bytes);
@@ -112,7 +118,8 @@ impl<C: Calls + Drop, E: Print + Drop> System<C, E> {
 
     // Syncs a file's contents.
     pub(crate) fn sync_contents(&mut self, path: &str) -> io::Result<()>
-        ensures { IfOk result (λ _. IsTrue C.tells → C.written self.new.changes path.now ≡ false) }
+        ensures written { IfOk result (λ _. IsTrue C.tells → C.written self.new.changes path.now ≡ false) }
+        ensures names { IfOk result (λ _. IsTrue C.tells → C.tree self.new.changes ≡ C.tree self.old.changes) }
     {
         self.changes.require_sure()?;
         let written = self.take_written(path)?;

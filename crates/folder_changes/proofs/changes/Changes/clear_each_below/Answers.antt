@@ -1,4 +1,4 @@
-use Rattle.std.proofs.Common.{All, List, subst, ℕ}
+use Rattle.std.proofs.Common.{◌∙◌, All, List, refl, subst, ℕ}
 use Rattle.std.proofs.lemmas.List.{take_all}
 use Rattle.folder_calls.specs.Ready.{HasNoneReplaced}
 use Rattle.folder_changes.proofs.Clearing.{others_then, replaced_push}
@@ -14,6 +14,7 @@ loop-above-preserved g c = record {
   asks = λ tells.
       others_then (g.C.Calls.waits c.args.self.now) (g.C.Calls.waits c.loop-above.self) (g.C.Calls.waits c.clear_below.new.self)
       (c.loop-above.invariant.asks tells) (c.in_ok-clear_below.ensures.asks tells);
+  names = λ tells. c.in_ok-clear_below.ensures.names tells refl ∙ c.loop-above.invariant.names tells;
   near = λ tells.
       replaced_push c.args.near.now c.loop-above.above-index c.above-item.result c.as_str.result.now
       (g.C.Calls.waits c.loop-above.self) (g.C.Calls.waits c.clear_below.new.self)

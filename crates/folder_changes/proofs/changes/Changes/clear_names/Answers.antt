@@ -1,4 +1,4 @@
-use Rattle.std.proofs.Common.{All, List, String, Global, map, string_bytes, subst}
+use Rattle.std.proofs.Common.{◌∙◌, All, List, String, refl, Global, map, string_bytes, subst}
 use Rattle.std.proofs.lemmas.List.{take_all}
 use Rattle.folder_changes.specs.Clear.{IsClear}
 use Rattle.folder_changes.proofs.Clearing.{clear_push, others_then}
@@ -14,6 +14,7 @@ loop-name-preserved g c = record {
   asks = λ tells.
       others_then (g.C.Calls.waits c.args.self.now) (g.C.Calls.waits c.loop-name.self) (g.C.Calls.waits c.clear_name.new.self)
       (c.loop-name.invariant.asks tells) (c.in_ok-clear_name.ensures.asks tells);
+  names = λ tells. c.in_ok-clear_name.ensures.names tells refl ∙ c.loop-name.invariant.names tells;
   clear = λ tells.
       clear_push c.args.folder.now c.args.names.now c.loop-name.name-index c.name-item.result c.as_str.result.now
       (g.C.Calls.waits c.loop-name.self) (g.C.Calls.waits c.clear_name.new.self)
