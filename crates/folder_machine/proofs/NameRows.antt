@@ -35,6 +35,14 @@ open_there tree path found inode still is = by_found (tree.stands path) still
         let parts = and_parts (other.device == found.device) (other.inode == found.inode) still in
         rw (eqb-true other.device found.device parts.0, eqb-true other.inode found.inode parts.1) (sym is)
 
+-- then something stands there
+pub open_stands : (tree : Tree) (path : List ℕ) (inode : Inode) → IsOpenAt tree path inode → HasName tree path
+open_stands tree path inode = by_found (tree.stands path)
+  where
+    by_found : (there : Option Found) → IsSomeAnd there (λ other. inode_of other ≡ inode) → is_some there ≡ true
+    by_found None there = absurd there
+    by_found (Some other) there = refl
+
 -- a name that comes and goes leaves each as it was
 pub comes_and_goes : (old mid new : Tree) (path : List ℕ) → old.stands path ≡ None → KeepsNamesBut path old mid
     → KeepsNamesBut path mid new → GoneRow new path → KeepsNames old new

@@ -110,6 +110,7 @@ impl<C: Calls + Drop, E: Print + Drop> Machine for FolderMachine<C, E> {
     ghost use Rattle.name_syncs.specs.Named.{NothingWaits};
     ghost use Rattle.name_syncs.specs.Waiting.{KeepsSynced};
     ghost use Rattle.boot_machine.specs.Prelude.{CountsDisk, CountsPipe, CountsRead, Timeline};
+    ghost use Rattle.folder_calls.specs.Rows.{GoneRow, HasName, KeepsNames, KeepsNamesBut};
     ghost use Rattle.folder_locks.specs.Looking.{LooksStand};
     ghost use Rattle.folder_machine.specs.Told.{counts_of, no_state, CountsCall, CountsDiskOnce, CountsPipeOnce, CountsNamesOnce};
     ghost use Rattle.folder_machine.specs.proofs.Silence.{silent};
@@ -163,6 +164,7 @@ impl<C: Calls + Drop, E: Print + Drop> Machine for FolderMachine<C, E> {
 
     fn create(&mut self, path: &TempPath) -> Result<(), DiskFault>
         ensures call { CountsCall (CountsDisk result) (CountsDiskOnce result) self.old.faults self.new.faults }
+        ensures there { IfOk result (λ _. IsTrue C.tells → HasName (C.tree self.new.system.changes) path.now) }
     {
         let answer = self.system.create_file(path.as_str());
         self.disk("create", path.as_str(), answer)
@@ -170,6 +172,7 @@ impl<C: Calls + Drop, E: Print + Drop> Machine for FolderMachine<C, E> {
 
     fn append(&mut self, path: &TempPath, bytes: &[u8]) -> Result<(), DiskFault>
         ensures call { CountsCall (CountsDisk result) (CountsDiskOnce result) self.old.faults self.new.faults }
+        ensures kept { IsTrue C.tells → KeepsNames (C.tree self.old.system.changes) (C.tree self.new.system.changes) }
     {
         let answer = self.system.append_bytes(path.as_str(), bytes);
         self.disk("write", path.as_str(), answer)
@@ -178,6 +181,7 @@ impl<C: Calls + Drop, E: Print + Drop> Machine for FolderMachine<C, E> {
     fn sync_file(&mut self, path: &TempPath) -> Result<(), DiskFault>
         ensures call { CountsCall (CountsDisk result) (CountsDiskOnce result) self.old.faults self.new.faults }
         ensures written { IfOk result (λ _. IsTrue C.tells → C.written self.new.system.changes path.now ≡ false) }
+        ensures names { IfOk result (λ _. IsTrue C.tells → C.tree self.new.system.changes ≡ C.tree self.old.system.changes) }
     {
         let answer = self.system.sync_contents(path.as_str());
         self.disk("sync", path.as_str(), answer)
@@ -187,6 +191,7 @@ impl<C: Calls + Drop, E: Print + Drop> Machine for FolderMachine<C, E> {
         ensures call { CountsCall (CountsDisk result) (CountsDiskOnce result) self.old.faults self.new.faults }
         ensures stand { IfOk result (λ _. IsTrue C.tells
             → LooksStand (C.tree self.old.system.changes) self.old.system.looks) }
+        ensures there { IfOk result (λ _. IsTrue C.tells → HasName (C.tree self.new.system.changes) to.now) }
     {
         let answer = self.system.move_temp(from.as_str(), to.as_str());
         self.disk("rename", from.as_str(), answer)
@@ -196,6 +201,7 @@ impl<C: Calls + Drop, E: Print + Drop> Machine for FolderMachine<C, E> {
         ensures call { CountsCall (CountsDisk result) (CountsDiskOnce result) self.old.faults self.new.faults }
         ensures stand { IfOk result (λ _. IsTrue C.tells
             → LooksStand (C.tree self.old.system.changes) self.old.system.looks) }
+        ensures there { IfOk result (λ _. IsTrue C.tells → HasName (C.tree self.new.system.changes) to.now) }
     {
         let answer = self.system.move_file(from.as_str(), to.as_str());
         self.disk("rename", from.as_str(), answer)
@@ -205,6 +211,7 @@ impl<C: Calls + Drop, E: Print + Drop> Machine for FolderMachine<C, E> {
         ensures call { CountsCall (CountsDisk result) (CountsDiskOnce result) self.old.faults self.new.faults }
         ensures stand { IfOk result (λ _. IsTrue C.tells
             → path.now ≡ intent ⊎ LooksStand (C.tree self.old.system.changes) self.old.system.looks) }
+        ensures gone { IfOk result (λ _. IsTrue C.tells → path.now ≡ intent → GoneRow (C.tree self.new.system.changes) intent) }
     {
         let answer = self.system.remove_file(path.as_str());
         self.disk("remove", path.as_str(), answer)
@@ -214,6 +221,8 @@ impl<C: Calls + Drop, E: Print + Drop> Machine for FolderMachine<C, E> {
         ensures call { CountsCall (CountsDisk result) (CountsDiskOnce result) self.old.faults self.new.faults }
         ensures stand { IfOk result (λ _. IsTrue C.tells
             → LooksStand (C.tree self.old.system.changes) self.old.system.looks) }
+        ensures gone { IfOk result (λ _. IsTrue C.tells → GoneRow (C.tree self.new.system.changes) path.now) }
+        ensures kept { IsTrue C.tells → KeepsNamesBut path.now (C.tree self.old.system.changes) (C.tree self.new.system.changes) }
     {
         let answer = self.system.remove_temp(path.as_str());
         self.disk("remove", path.as_str(), answer)
@@ -223,6 +232,7 @@ impl<C: Calls + Drop, E: Print + Drop> Machine for FolderMachine<C, E> {
         ensures call { CountsCall (CountsDisk result) (CountsDiskOnce result) self.old.faults self.new.faults }
         ensures kept { IsTrue C.tells → KeepsSynced (C.waits self.old.system.changes) (C.waits self.new.system.changes) }
         ensures waits { IfOk result (λ _. IsTrue C.tells → NothingWaits (C.waits self.new.system.changes)) }
+        ensures names { IfOk result (λ _. IsTrue C.tells → C.tree self.new.system.changes ≡ C.tree self.old.system.changes) }
     {
         let answer = self.system.sync_names();
         self.faults.disk(answer)

@@ -23,6 +23,7 @@ impl<C: Calls + Drop, E: Print + Drop> System<C, E> {
             → IsTrue C.tells → written.kept.is_made ≡ true
             → inode_at (C.tree self.new.changes) to.now ≡ Some (C.inode written.kept.file))) }
         ensures stand { IfOk result (λ _. IsTrue C.tells → LooksStand (C.tree self.old.changes) self.old.looks) }
+        ensures there { OnOk result (IsTrue C.tells → HasName (C.tree self.new.changes) to.now) }
     {
         let kept = copy_path(self.alloc, to)?;
         let written = self.take_written(from)?;
@@ -159,6 +160,7 @@ impl<C: Calls + Drop, E: Print + Drop> System<C, E> {
     }
 
     // Puts a temporary file in its place. One that this run has made may look like what it replaces.
+    #[tactic(auto, using(crate::proofs::NameRows::moved_stands))]
     fn put(
         &mut self,
         from: &str,
@@ -168,6 +170,7 @@ impl<C: Calls + Drop, E: Print + Drop> System<C, E> {
     ) -> io::Result<()>
         ensures row { OnOk result (IsTrue C.tells → written.now.kept.is_made ≡ true
             → inode_at (C.tree self.new.changes) to.now ≡ Some (C.inode written.now.kept.file)) }
+        ensures there { OnOk result (IsTrue C.tells → HasName (C.tree self.new.changes) to.now) }
     {
         let replaced = self.make_way(from, to, written.is_fat, replaced)?;
         let held = self.locks.lock_of(replaced);

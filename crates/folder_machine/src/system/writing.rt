@@ -3,7 +3,7 @@ ghost use Rattle.std.specs.Prelude.{◌≡◌, false, true, IfOk, IfSome, IsSome
 ghost use Rattle.name_syncs.specs.Folders.{parent_folder};
 ghost use Rattle.name_syncs.specs.Named.{NameWaits};
 ghost use Rattle.folder_calls.specs.Calls.{IsOpenAt, inode_of};
-ghost use Rattle.folder_calls.specs.Rows.{KeepsNames, KeepsNamesBut, WrittenRow};
+ghost use Rattle.folder_calls.specs.Rows.{HasName, KeepsNames, KeepsNamesBut, WrittenRow};
 ghost use Rattle.folder_calls.specs.Tree.{is_fat_file};
 ghost use Rattle.folder_machine.specs.Opening.{IsFileAt};
 
@@ -19,11 +19,13 @@ use std::io;
 impl<C: Calls + Drop, E: Print + Drop> System<C, E> {
     // An empty temporary file, in folders that are made if they are missing. Nothing is changed if the path that it is
     // for is a folder, if another run holds it or moves a file, or if it may be that path's own file.
+    #[tactic(auto, using(crate::proofs::NameRows::open_stands))]
     pub(crate) fn create_file(&mut self, path: &str) -> io::Result<()>
         ensures own { IfOk result (λ _. IsSomeAnd self.new.written
             (λ written. (string_bytes written.kept.path ≡ path.now) × (written.kept.is_made ≡ true))) }
         ensures at { IfOk result (λ _. IfSome self.new.written (λ written. IsTrue C.tells
             → IsOpenAt (C.tree self.new.changes) path.now (C.inode written.kept.file))) }
+        ensures there { IfOk result (λ _. IsTrue C.tells → HasName (C.tree self.new.changes) path.now) }
     {
         self.looked = None;
         self.written = None;
