@@ -238,10 +238,10 @@ sync_row (Ok is_there) tells start before new folder told ready none asks synced
   others = others_then start before new ready (others_of (FolderAt folder ∷ []) before new asks);
   asks = λ there. among_then [] (FolderAt folder ∷ []) start before new ready (asks_among (FolderAt folder ∷ []) before new asks);
   synced = λ there. record {
-      names = synced told there;
-      left = left told there;
-      files = none_left_still before new asks.kept.others folder none;
-    };
+    names = synced told there;
+    left = left told there;
+    files = none_left_still before new asks.kept.others folder none;
+  };
   gone = gone told;
   unable = tt;
   refused = tt;

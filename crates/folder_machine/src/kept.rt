@@ -112,8 +112,8 @@ pub(crate) struct Created<C: Calls> {
     pub(crate) given: Option<Found>,
 }
 
-// Makes a temporary file, and locks it. Where there are modes it is for its owner alone. Another run may take a file for a leftover before it is locked, so if it is gone
-// it is made once more.
+// Makes a temporary file, and locks it. Where there are modes it is for its owner alone. Another run may take a file for a
+// leftover before it is locked, so if it is gone it is made once more.
 #[tactic(auto, using(crate::proofs::NameSteps::name_waits_twice, crate::proofs::NameSteps::name_waits_none, crate::proofs::NameRows::open_there))]
 pub(crate) fn create_locked<C: Calls + Drop, E: Print + Drop>(
     changes: &mut Changes<C, E>,

@@ -181,7 +181,8 @@ impl<C: Calls + Drop, E: Print + Drop> Machine for FolderMachine<C, E> {
     fn sync_file(&mut self, path: &TempPath) -> Result<(), DiskFault>
         ensures call { CountsCall (CountsDisk result) (CountsDiskOnce result) self.old.faults self.new.faults }
         ensures written { IfOk result (λ _. IsTrue C.tells → C.written self.new.system.changes path.now ≡ false) }
-        ensures names { IfOk result (λ _. IsTrue C.tells → C.tree self.new.system.changes ≡ C.tree self.old.system.changes) }
+        ensures names { IfOk result (λ _. IsTrue C.tells
+            → C.tree self.new.system.changes ≡ C.tree self.old.system.changes) }
     {
         let answer = self.system.sync_contents(path.as_str());
         self.disk("sync", path.as_str(), answer)
@@ -211,7 +212,8 @@ impl<C: Calls + Drop, E: Print + Drop> Machine for FolderMachine<C, E> {
         ensures call { CountsCall (CountsDisk result) (CountsDiskOnce result) self.old.faults self.new.faults }
         ensures stand { IfOk result (λ _. IsTrue C.tells
             → path.now ≡ intent ⊎ LooksStand (C.tree self.old.system.changes) self.old.system.looks) }
-        ensures gone { IfOk result (λ _. IsTrue C.tells → path.now ≡ intent → GoneRow (C.tree self.new.system.changes) intent) }
+        ensures gone { IfOk result (λ _. IsTrue C.tells
+            → path.now ≡ intent → GoneRow (C.tree self.new.system.changes) intent) }
     {
         let answer = self.system.remove_file(path.as_str());
         self.disk("remove", path.as_str(), answer)
@@ -222,7 +224,8 @@ impl<C: Calls + Drop, E: Print + Drop> Machine for FolderMachine<C, E> {
         ensures stand { IfOk result (λ _. IsTrue C.tells
             → LooksStand (C.tree self.old.system.changes) self.old.system.looks) }
         ensures gone { IfOk result (λ _. IsTrue C.tells → GoneRow (C.tree self.new.system.changes) path.now) }
-        ensures kept { IsTrue C.tells → KeepsNamesBut path.now (C.tree self.old.system.changes) (C.tree self.new.system.changes) }
+        ensures kept { IsTrue C.tells
+            → KeepsNamesBut path.now (C.tree self.old.system.changes) (C.tree self.new.system.changes) }
     {
         let answer = self.system.remove_temp(path.as_str());
         self.disk("remove", path.as_str(), answer)
@@ -230,9 +233,11 @@ impl<C: Calls + Drop, E: Print + Drop> Machine for FolderMachine<C, E> {
 
     fn sync_names(&mut self) -> Result<(), DiskFault>
         ensures call { CountsCall (CountsDisk result) (CountsDiskOnce result) self.old.faults self.new.faults }
-        ensures kept { IsTrue C.tells → KeepsSynced (C.waits self.old.system.changes) (C.waits self.new.system.changes) }
+        ensures kept { IsTrue C.tells
+            → KeepsSynced (C.waits self.old.system.changes) (C.waits self.new.system.changes) }
         ensures waits { IfOk result (λ _. IsTrue C.tells → NothingWaits (C.waits self.new.system.changes)) }
-        ensures names { IfOk result (λ _. IsTrue C.tells → C.tree self.new.system.changes ≡ C.tree self.old.system.changes) }
+        ensures names { IfOk result (λ _. IsTrue C.tells
+            → C.tree self.new.system.changes ≡ C.tree self.old.system.changes) }
     {
         let answer = self.system.sync_names();
         self.faults.disk(answer)

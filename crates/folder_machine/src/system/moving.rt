@@ -147,7 +147,8 @@ impl<C: Calls + Drop, E: Print + Drop> System<C, E> {
     // goes. A leftover stays as it is.
     #[tactic(auto, using(crate::proofs::NameRows::comes_and_goes))]
     fn make_room(&mut self, to: &str) -> io::Result<()>
-        ensures waits { IsTrue C.tells → NameWaits (C.waits self.old.changes) (C.waits self.new.changes) (to.now ++ temp_end) }
+        ensures waits { IsTrue C.tells
+            → NameWaits (C.waits self.old.changes) (C.waits self.new.changes) (to.now ++ temp_end) }
         ensures kept { OnOk result (IsTrue C.tells → KeepsNames (C.tree self.old.changes) (C.tree self.new.changes)) }
     {
         let temp = temp_of(self.alloc, to)?;

@@ -85,7 +85,8 @@ impl<C: Calls + Drop, E: Print + Drop> System<C, E> {
 
     // Gives the file that name, and syncs both.
     fn rescue(&mut self, rescue: Rescue) -> io::Result<()>
-        ensures synced { IfOk result (λ _. IsTrue C.tells → NameIsSynced (C.waits self.new.changes) (string_bytes rescue.name)) }
+        ensures synced { IfOk result (λ _. IsTrue C.tells
+            → NameIsSynced (C.waits self.new.changes) (string_bytes rescue.name)) }
         ensures there { OnOk result (IsTrue C.tells → HasName (C.tree self.new.changes) (string_bytes rescue.name)) }
     {
         let Rescue { path, by, name } = rescue;

@@ -93,7 +93,8 @@ impl<C: Calls + Drop, E: Print + Drop> System<C, E> {
             → (C.waits self.new.changes).folders (parent_folder path.now) ≡ false) }
         ensures at { IfOk result (λ made. IsTrue C.tells
             → IsOpenAt (C.tree self.new.changes) path.now (C.inode made.file)) }
-        ensures kept { IfOk result (λ _. IsTrue C.tells → KeepsNamesBut path.now (C.tree self.old.changes) (C.tree self.new.changes)) }
+        ensures kept { IfOk result (λ _. IsTrue C.tells
+            → KeepsNamesBut path.now (C.tree self.old.changes) (C.tree self.new.changes)) }
     {
         let created = create_locked(&mut self.changes, path, mode)?;
         if created.found.is_fat_file() {

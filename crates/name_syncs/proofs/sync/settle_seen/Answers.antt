@@ -18,13 +18,18 @@ loop-folder-preserved g c tells =
     let middle = c.loop-folder.settled in
     elim c.if-not-has.branch [
       | then-not-has+in_ok-settle_looked w ↦
-          rw (w.disk-is, w.settled-is) (seen_push changed (take i folders) (take (i + 1) folders) folder more start here (g.D.Disk.state w.settle_looked.new.disk) before middle w.settle_looked.new.settled
-          (c.loop-folder.invariant tells).0 (sym c.has.ensures ∙ w.if-not-has.true) (w.in_ok-settle_looked.ensures.kept tells)
-          (w.in_ok-settle_looked.ensures.shown tells) (w.in_ok-settle_looked.ensures.settled tells),
-          w.in_ok-settle_looked.ensures.names tells ∙ (c.loop-folder.invariant tells).1)
+          rw (w.disk-is, w.settled-is) (
+            seen_push changed (take i folders) (take (i + 1) folders) folder more start here (g.D.Disk.state w.settle_looked.new.disk) before middle w.settle_looked.new.settled
+                (c.loop-folder.invariant tells).0 (sym c.has.ensures ∙ w.if-not-has.true) (w.in_ok-settle_looked.ensures.kept tells)
+                (w.in_ok-settle_looked.ensures.shown tells) (w.in_ok-settle_looked.ensures.settled tells),
+            w.in_ok-settle_looked.ensures.names tells ∙ (c.loop-folder.invariant tells).1,
+          )
       | else-not-has w ↦
-          rw (w.disk-is, w.settled-is) (seen_skip changed (take i folders) (take (i + 1) folders) folder more start here here before middle middle
-          (c.loop-folder.invariant tells).0 (sym c.has.ensures ∙ w.if-not-has.false), (c.loop-folder.invariant tells).1)
+          rw (w.disk-is, w.settled-is) (
+            seen_skip changed (take i folders) (take (i + 1) folders) folder more start here here before middle middle
+                (c.loop-folder.invariant tells).0 (sym c.has.ensures ∙ w.if-not-has.false),
+            (c.loop-folder.invariant tells).1,
+          )
     ]
 
 pub returns-in_err-settle_looked-clause-settled : goal.returns-in_err-settle_looked-clause-settled
