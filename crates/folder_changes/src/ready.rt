@@ -61,30 +61,21 @@ impl Ready {
 fn is_folder(found: Option<Found>) -> bool
     ensures { result ≡ option_map_or is_folder found false }
 {
-    match found {
-        Some(found) => found.is_folder(),
-        None => false,
-    }
+    found.is_some_and(|found| found.is_folder())
 }
 
 // Whether a folder was found that may be of FAT.
 pub(crate) fn is_fat_folder(found: Option<Found>) -> bool
     ensures { result ≡ option_map_or is_fat_folder found false }
 {
-    match found {
-        Some(found) => found.is_fat_folder(),
-        None => false,
-    }
+    found.is_some_and(|found| found.is_fat_folder())
 }
 
 // Whether a file was found that may stand on FAT.
 fn is_fat_file(found: Option<Found>) -> bool
     ensures { result ≡ option_map_or is_fat_file found false }
 {
-    match found {
-        Some(found) => found.is_fat_file(),
-        None => false,
-    }
+    found.is_some_and(|found| found.is_fat_file())
 }
 
 impl<C: Calls + Drop, E: Print + Drop> Changes<C, E> {

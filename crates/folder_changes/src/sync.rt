@@ -51,9 +51,9 @@ impl<C: Calls + Drop, E: Print + Drop> Disk for Changes<C, E> {
         ensures asks { IsTrue C.tells → Asks (FileAt path.now ∷ []) (C.waits self.old) (C.waits self.new) }
         ensures synced { IfOk result (λ is_there. IsTrue C.tells → is_there ≡ true
             → (C.waits self.new).files path.now ≡ false) }
+        ensures names { IfOk result (λ _. IsTrue C.tells → C.tree self.new ≡ C.tree self.old) }
         ensures tried { IfErr result (λ error. IsTrue C.tells → says_closed (error_kind error) ≡ false
             → IsTried (C.waits self.new) (C.doubts self.new) (parent_folder path.now)) }
-        ensures names { IfOk result (λ _. IsTrue C.tells → C.tree self.new ≡ C.tree self.old) }
     {
         let answer = self.sync_at(path);
         self.try_behind(folder_of(path), answer)
@@ -197,15 +197,9 @@ fn opened_at<'a, C: Calls>(
 ) -> Option<&'a C::File>
     ensures { IfSome result (λ file. IsTrue C.tells → IsOpenAt (C.tree calls.now) path.now (C.inode file.now)) }
 {
-    let Some(moved) = moved else {
-        return None;
-    };
+    let moved = moved.as_ref()?;
     let file = moved.file.file();
-    if moved.is_at(path) && is_open_at(calls, path, file) {
-        Some(file)
-    } else {
-        None
-    }
+    (moved.is_at(path) && is_open_at(calls, path, file)).then_some(file)
 }
 
 // Whether the open file stands at a path.
