@@ -1,7 +1,9 @@
 """The page: the lines that docs/DISK.md has for the morning after a cut, on a system with ext4 at `/`.
 
-If the command finds a folder that takes no new name on Linux 7.2, the page's line for that comes, and the command once
-more. That is counted apart as `end-mark`.
+If line 0 says that the check would take old bytes for names, the page's lines for that come, and what they must copy is
+what the cut command leaves be. That is counted apart as `stopped`, and what the check then spoils as `by-check`, which is its
+own fault. If the command finds a folder that takes no new name on Linux 7.2, the page's line for that comes, and the
+command once more. That is counted apart as `end-mark`.
 """
 import contextlib
 import os
@@ -17,12 +19,14 @@ from lab.host import quoted, tool, write_files
 from lab.looks import Guest
 from lab.recordings import moments
 from lab.trees import EMPTY, PASSING, View, told
+from lab.trials import CHECK_ERRS
 
 PAGE = f"{TOP}/docs/DISK.md"
 HEADING = "## The morning after a power cut"
 PARTITION = "/dev/sda1"  # what the page calls it
 LINES_UNTIL_0 = [1]  # those that the page tells to repeat until they end with 0
-LINE_OF_LIST, LINE_OF_COMMAND, LINE_OF_TIDY, LINE_OF_REST = 3, 4, 5, 6
+LINE_OF_COPY, LINE_OF_LIST, LINE_OF_COMMAND, LINE_OF_TIDY, LINE_OF_REST = 0, 3, 4, 5, 6
+COPIES = "var/tmp/esp-files"  # where the page copies the files to
 ROOT_SIZE = 10 << 20
 # What fsck says, and what is counted for it.
 SAID_BY_FSCK = {"share clusters": "shared", "Contains a free cluster": "growing", "Reclaimed": "reclaimed"}
@@ -33,6 +37,13 @@ def lines_of_page():
     with open(PAGE) as file:
         part = file.read().partition(HEADING)[2].partition("\n## ")[0]
     return {int(number): words for number, words in re.findall(r"^(\d+)\. `([^`]+)`", part, re.M)}
+
+
+def lines_of_copies():
+    """The commands that copy the files of a partition one by one, as one line."""
+    with open(PAGE) as file:
+        block = re.search(r"^```console\n((?:# .*\n)*# .*--parents .*\n(?:# .*\n)*)```", file.read(), re.M)[1]
+    return "; ".join(line.removeprefix("# ") for line in block.splitlines())
 
 
 def line_of_copy(folder):
@@ -94,7 +105,7 @@ class Page(Guest):
         tool(*self.fs.make.split(), partition)
         with Loop(0, root) as first, Loop(1, partition) as second:
             mount(first.path, System.at, "ext4")
-            for name in (*System.shared, "etc", "boot/efi"):
+            for name in (*System.shared, "etc", "boot/efi", os.path.dirname(COPIES)):
                 os.makedirs(f"{System.at}/{name}")
             for name in ("bin", "sbin", "lib", "lib64"):
                 os.symlink(f"usr/{name}", f"{System.at}/{name}")
@@ -152,6 +163,7 @@ class Morning:
         disk = moment.disk
         write_files({"first": disk[:ROOT_SIZE], "look": disk[ROOT_SIZE:]}, ROOM)
         self.own, self.broken, self.statuses, self.text = set(), [], [], ""
+        self.is_by_check = False  # whether what is wrong from now on is the check's own fault
 
     @contextlib.contextmanager
     def started(self):
@@ -178,7 +190,10 @@ class Morning:
         return is_new
 
     def blame(self, when, words):
-        self.broken.append(("page", f"{when}: {words}"))
+        if self.is_by_check:
+            self.own.add("by-check")
+        else:
+            self.broken.append(("page", f"{when}: {words}"))
 
     def shell(self, line):
         """The status of a line that is typed in `/`. What it prints is kept."""
@@ -218,7 +233,9 @@ class Morning:
 
     def judge_line(self, number, at):
         """Judges what a line has printed. What the last one lists is removed, as the page says."""
-        if number == LINE_OF_LIST:
+        if number == LINE_OF_COPY and CHECK_ERRS.search(self.text):
+            self.copy_files(at)
+        elif number == LINE_OF_LIST:
             self.require_menu(at)
         elif number == LINE_OF_TIDY and "cleaned" not in self.text:
             self.blame(f"line {number}", self.text)
@@ -226,6 +243,18 @@ class Morning:
             self.own |= {"rest"} if self.text else set()
             for path in self.text.splitlines():
                 os.unlink(f"{at}{path}")
+
+    def copy_files(self, at):
+        """Copies the files one by one. Each that the cut command leaves be must be copied."""
+        self.own.add("stopped")
+        self.shell(lines_of_copies())
+        tree = View(f"{at}/{COPIES}").tree
+        for path, it in sorted(self.before & self.wanted):
+            name = path.removeprefix("boot/efi/")
+            if name != path and tree.get(name) != it and it not in tree.values():
+                self.blame("the copy", f"{path} {told(tree.get(name))}")
+        shutil.rmtree(f"{at}/{COPIES}")
+        self.is_by_check = not self.broken
 
     def require_menu(self, at):
         """The list is that of before the command or after it. An empty file may be passed over."""
